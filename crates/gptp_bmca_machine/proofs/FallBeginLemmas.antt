@@ -1,17 +1,11 @@
 -- A link of a network at rest goes down, which cuts a tree off: its top answers, and it begins to fall back.
-use Rattle.std.proofs.Common.{◌≡◌, ◌≢◌, ◌⊎◌, ◌<◌, ◌≤◌, ◌+◌, ℕ, suc, true, List, ◌∷◌, Some, slice_get, length, refl, reverse, sym, ap, subst, ◌∙◌, inl, inr, arith}
-use Rattle.std.proofs.lemmas.List.{reverse-reverse}
+use Rattle.std.proofs.Common.{◌≡◌, ◌≢◌, ◌⊎◌, ◌<◌, ◌≤◌, ◌+◌, ℕ, suc, true, List, Some, slice_get, length, sym, ap, subst, ◌∙◌, inl, inr, arith}
 use native.Mathlib.Decide.{ℕ_discrete}
 use Rattle.gptp_lists.specs.Members.{In}
-use Rattle.gptp_lists.proofs.ReverseLemmas.{In-reverse}
 use Rattle.gptp_lists.proofs.SystemSpecLemmas.{In-left, In-parts}
 use Rattle.gptp_graph.specs.Best.{IsBest}
 use Rattle.gptp_graph.specs.Snapshot.{IsLinked, Joins, PortIdentity, Snapshot, System, port_of}
-use Rattle.gptp_graph.proofs.DecisionLemmas.{in_dec}
 use Rattle.gptp_graph.proofs.LinkLemmas.{Joins-sym}
-use Rattle.gptp_graph.proofs.PathBoundLemmas.{IsDistance-within}
-use Rattle.gptp_graph.proofs.PathLemmas.{Route-end}
-use Rattle.gptp_graph.proofs.SystemLemmas.{same_clock, system_of}
 use Rattle.gptp_bmca_machine.specs.Acts.{LaneStep}
 use Rattle.gptp_bmca_machine.specs.Calm.{Calm, IsCalmPort}
 use Rattle.gptp_bmca_machine.specs.Clean.{Whole}
@@ -25,19 +19,17 @@ use Rattle.gptp_bmca_machine.specs.Reacts.{PortStep}
 use Rattle.gptp_bmca_machine.specs.RestLaws.{LinkStays, SameWiring}
 use Rattle.gptp_bmca_machine.specs.Station.{Disabled, HoldsAt, MachineState, Mine, Port, Received, Reception, Station}
 use Rattle.gptp_bmca_machine.specs.Touch.{Disable, Hear, HeldInTouch, IsUsable, Replaces}
-use Rattle.gptp_bmca_machine.proofs.CutTreeLemmas.{beside, stays_left}
-use Rattle.gptp_bmca_machine.proofs.EndsLemmas.{clear_at, is_station}
+use Rattle.gptp_bmca_machine.proofs.CutTreeLemmas.{beside}
 use Rattle.gptp_bmca_machine.proofs.FallLeaveLemmas.{TreeAnswers, leaves_old, tells_now}
 use Rattle.gptp_bmca_machine.proofs.FallLemmas.{DownStage, HoldsInTree, HoldsLeft, IsAftermath, IsFalling, IsFreeAt, RootIs, RootIsNot, falls_by, follows_old, holds_by}
+use Rattle.gptp_bmca_machine.proofs.FallRestLemmas.{came_whole, chosen, held_before, masters, stays0, was_x}
 use Rattle.gptp_bmca_machine.proofs.FallLevelLemmas.{TreeSettles, not_ready, show}
 use Rattle.gptp_bmca_machine.proofs.LinkEndsLemmas.{teller_on, telling}
 use Rattle.gptp_bmca_machine.proofs.LinkStageLemmas.{begins}
 use Rattle.gptp_bmca_machine.proofs.LinkStepLemmas.{lives_at}
 use Rattle.gptp_bmca_machine.proofs.PlaceLemmas.{same_there}
 use Rattle.gptp_bmca_machine.proofs.ReactsLemmas.{held_from}
-use Rattle.gptp_bmca_machine.proofs.RestLemmas.{Chooses, is_master}
-use Rattle.gptp_bmca_machine.proofs.RestingLemmas.{all_choose, by_then_at, links_stay, stays_so}
-use Rattle.gptp_bmca_machine.proofs.StillLemmas.{live_before, port_there, still, still_stays}
+use Rattle.gptp_bmca_machine.proofs.StillLemmas.{port_there, still}
 
 module _ (says : Spelling) (n0 n : Network) (top : ℕ) (best next : System) (base : ℕ) (depth : ℕ → ℕ)
     (t : CutsTree n0.graph n top best next base depth) (net0 : IsSettlingNetwork n0) (w : MachineState)
@@ -53,69 +45,10 @@ module _ (says : Spelling) (n0 n : Network) (top : ℕ) (best next : System) (ba
   abbrev g : Snapshot
   g = n0.graph
 
-  -- ---- at rest
-
-  module _ (x : ℕ) (in_x : IsBest n.graph x next) (s : Station) (at : slice_get w.stations (n.place x) ≡ Some s) where
-    at0 : slice_get w.stations (n0.place x) ≡ Some s
-    at0 = subst (λ i. slice_get w.stations i ≡ Some s) (same.place x) at
-
-    was_x : (s.live ≡ true) × (s.clock ≡ x)
-    was_x =
-        is_station n0 net0 w calm0 invariant0.sound x s
-        (live_before g n t.well t.left x in_x.reached.1.begins) at0
-
-    chosen : Chooses s best (base + depth x)
-    chosen =
-        all_choose says n0 net0 w calm0 invariant0 late0 (base + depth x) (t.near x in_x)
-        (by_then_at says n0 net0 w calm0 invariant0 late0 (base + depth x)
-        (IsDistance-within g n0.reach x (base + depth x) net0.paths (t.was x in_x))) x best s at0 (t.was_best x in_x)
-        (t.was x in_x)
-
-    -- a port towards one that is deeper is master
-    masters : (i : ℕ) (q : Port) (u : ℕ) (k : ℕ) → slice_get s.ports i ≡ Some q → q.held ≢ Disabled
-        → Joins n.graph (port_of x (suc i)) (port_of u k) → IsBest n.graph u next → depth u ≡ suc (depth x)
-        → q.held ≡ Mine best.identity (base + depth x)
-    masters i q u k there on joins in_u deeper =
-        is_master g net0.graph s (clear_at n0 net0 w calm0 invariant0.sound (n.place x) s at was_x.0
-        (omega (arith, late0))) best (subst (λ c. IsBest g c best) (sym was_x.1) (t.was_best x in_x)) (base + depth x)
-        (base + depth u) i q (port_of u k) chosen there on
-        (subst (λ c. Joins g (port_of c (suc i)) (port_of u k)) (sym was_x.1)
-        (t.left.links (port_of x (suc i)) (port_of u k) joins)) (t.was u in_u) (inl (omega (arith, deeper)))
-
-  -- what was told before is held, and stays
-  stays0 : (v p u q : ℕ) → IsBest n.graph v next → (joins : Joins n.graph (port_of v (suc p)) (port_of u (suc q)))
-      → depth u ≡ suc (depth v) → LinkStays says (still n (base + depth v) best v p u q) w
-  stays0 v p u q in_v joins deeper pv pu l stand =
-      still_stays says n (base + depth v) best v p u q pv.announce pu.held l.frames
-      (stays_so says n0 n same (base + depth v) best best v p u q refl pv.announce pu.held l.frames
-      (links_stay says n0 net0 w calm0 invariant0 late0 (base + depth v) best v p u q (t.near v in_v) leads pv pu l
-      (record {
-        v = stand.v;
-        u = stand.u;
-        teller = subst (λ i. slice_get w.stations i ≡ Some stand.v) (same.place v) stand.teller;
-        teller_port = stand.teller_port;
-        hearer = subst (λ i. slice_get w.stations i ≡ Some stand.u) (same.place u) stand.hearer;
-        hearer_port = stand.hearer_port;
-        lane = subst (λ i. slice_get w.lanes i ≡ Some l) (same.lane (port_of v (suc p))) stand.lane;
-      })))
-    where
-      in_u : IsBest n.graph u next
-      in_u = beside g n top best next base depth t v u (suc p, suc q, joins) in_v
-
-      leads : LeadsFarther g (base + depth v) best v p u q
-      leads = record {
-        is_best = t.was_best v in_v;
-        here = t.was v in_v;
-        joins = t.left.links (port_of v (suc p)) (port_of u (suc q)) joins;
-        far = base + depth u;
-        there = t.was u in_u;
-        farther = inl (omega (arith, deeper));
-      }
-
   -- ---- who isn't the top stands as it did
 
   top_is : z.s.clock ≡ top
-  top_is = (was_x top in_top z.s z.here).1
+  top_is = (was_x says n0 n top best next base depth t net0 w calm0 invariant0 late0 same top in_top z.s z.here).1
 
   below_top : (u : ℕ) (d : ℕ) → depth u ≡ suc d → u ≢ top
   below_top u d deeper is = let none = ap depth is ∙ t.first in omega (arith, deeper, none)
@@ -148,25 +81,19 @@ module _ (says : Spelling) (n0 n : Network) (top : ℕ) (best next : System) (ba
     in_u : IsBest n.graph u next
     in_u = beside g n top best next base depth t v u (suc p, suc q, joins) in_v
 
-    -- nothing was held
-    held_none0 : (s : Station) (pu : Port) (r : Reception) → slice_get w.stations (n.place u) ≡ Some s
-        → slice_get s.ports q ≡ Some pu → pu.held ≡ Received r → ⊥
-    held_none0 s pu r at there holds =
-        let mine = masters u in_u s at q pu v (suc p) there
-        (λ off. absurd (let both : Received r ≡ Disabled = sym holds ∙ off in cc)) back in_v higher in
-        absurd (let both : Received r ≡ Mine best.identity (base + depth u) = sym holds ∙ mine in cc)
-
     held_none : (s : Station) (pu : Port) (r : Reception) → slice_get w'.stations (n.place u) ≡ Some s
         → slice_get s.ports q ≡ Some pu → pu.held ≡ Received r → ⊥
     held_none s pu r at there holds = elim (ℕ_discrete u top) [
-      | no apart ↦ held_none0 s pu r (z.others u s in_u apart at) there holds
+      | no apart ↦ held_before says n0 n top best next base depth t net0 w calm0 invariant0 late0 same v p u q in_v
+          joins higher s pu r (z.others u s in_u apart at) there holds
       | yes is ↦
           let one : s ≡ z.s' = same_there w'.stations (n.place top) s z.s'
           (subst (λ c. slice_get w'.stations (n.place c) ≡ Some s) is at) z.there in
           elim (held_from says z.s z.s' z.touch w.time z.sends z.reacts q r
           (subst (λ (y : Station). HoldsAt y q r) one (pu, there, holds))) [
             | inl (old, stood, was) ↦
-                held_none0 z.s old r (subst (λ c. slice_get w.stations (n.place c) ≡ Some z.s) (sym is) z.here) stood
+                held_before says n0 n top best next base depth t net0 w calm0 invariant0 late0 same v p u q in_v joins
+                higher z.s old r (subst (λ c. slice_get w.stations (n.place c) ≡ Some z.s) (sym is) z.here) stood
                 was
             | inr just ↦ absurd (let both : Disable (suc lost) ≡ Hear (suc q) just.said =
                 sym touch_is ∙ just.touched in cc)
@@ -175,33 +102,6 @@ module _ (says : Spelling) (n0 n : Network) (top : ℕ) (best next : System) (ba
 
     pub up_left : HoldsLeft says n v p u q w'
     up_left s pu l at there lane r holds = absurd (held_none s pu r at there holds)
-
-    -- what is on its way is of what is left, or names whoever hears it
-    came_whole : (a : Announce) → Whole g v a → Whole n.graph v a ⊎ In u a.path
-    came_whole a whole = elim (in_dec u (v ∷ whole.others)) [
-      | yes names ↦
-          inr (subst (In u) (reverse-reverse a.path)
-          (In-reverse u (reverse a.path) (subst (In u) (sym whole.is) names)))
-      | no past ↦
-          let route = stays_left g n top best next base depth t u v (suc q, suc p, back) in_u higher 0 v
-          whole.first.clock whole.others refl in_v whole.way.route past in
-          let known = Route-end n.graph v whole.first.clock whole.others t.well in_v.reached.1.begins route in
-          let (s, live, clock) = system_of n.graph whole.first.clock known in
-          let one = same_clock g s whole.first t.left.graph (t.left.systems s live) whole.known clock in
-          inl (record {
-            others = whole.others;
-            first = whole.first;
-            is = whole.is;
-            way = record {
-              begins = in_v.reached.1.begins;
-              route = route;
-              different = whole.way.different;
-            };
-            known = subst (λ (y : System). In y n.graph.systems) one live;
-            root = whole.root;
-            steps = whole.steps;
-          })
-    ]
 
     pub up_free : IsFreeAt says n v p u q w'
     up_free s pu l' at there lane' = record {
@@ -224,7 +124,8 @@ module _ (says : Spelling) (n0 n : Network) (top : ℕ) (best next : System) (ba
                   let before = t.left.links (port_of v (suc p)) (port_of u (suc q)) joins in
                   let whole = whole0 (n.lane (port_of v (suc p))) l f a at_l old said
                   (subst (λ k. Joins g k l.to) (sym from) (subst (Joins g (port_of v (suc p))) (sym to) before)) in
-                  came_whole a (subst (λ (k : PortIdentity). Whole g k.clock a) from whole)
+                  came_whole says n0 n top best next base depth t net0 w calm0 invariant0 late0 same v p u q in_v joins
+                      higher a (subst (λ (k : PortIdentity). Whole g k.clock a) from whole)
             ]
 
   -- ---- links down the tree, but from its top
@@ -233,7 +134,8 @@ module _ (says : Spelling) (n0 n : Network) (top : ℕ) (best next : System) (ba
       (joins : Joins n.graph (port_of v (suc p)) (port_of u (suc q))) (deeper : depth u ≡ suc (depth v))
       (apart : v ≢ top) where
     root_led : RootIs n w' v best
-    root_led s at = (chosen v in_v s (z.others v s in_v apart at)).root
+    root_led s at = (chosen says n0 n top best next base depth t net0 w calm0 invariant0 late0 same v in_v s (z.others v
+        s in_v apart at)).root
 
     stays_led : LinkStays says (still n (base + depth v) best v p u q) w'
     stays_led pv pu l' stand =
@@ -262,7 +164,8 @@ module _ (says : Spelling) (n0 n : Network) (top : ℕ) (best next : System) (ba
             })
           where
             stay : FinalAnnounceStays says (still n (base + depth v) best v p u q) pv.announce pu.held l.frames
-            stay = stays0 v p u q in_v joins deeper pv pu l (record {
+            stay = stays0 says n0 n top best next base depth t net0 w calm0 invariant0 late0 same v p u q in_v joins
+                deeper pv pu l (record {
               v = stand.v;
               u = stand.u;
               teller = z.others v stand.v in_v apart stand.teller;
@@ -308,7 +211,7 @@ module _ (says : Spelling) (n0 n : Network) (top : ℕ) (best next : System) (ba
     was_mine pv stood = (mine, (is_port.timer best.identity (base + depth top) mine).0)
       where
         lives : (z.s.live ≡ true) × (z.s.clock ≡ top)
-        lives = was_x top in_top z.s z.here
+        lives = was_x says n0 n top best next base depth t net0 w calm0 invariant0 late0 same top in_top z.s z.here
 
         is_port : IsCalmPort n0 w.time (port_of z.s.clock (suc p)) pv
         is_port = (calm0.stations (n.place top) z.s z.here lives.0).ports p pv stood
@@ -342,14 +245,16 @@ module _ (says : Spelling) (n0 n : Network) (top : ℕ) (best next : System) (ba
                     ]
 
         mine : pv.held ≡ Mine best.identity (base + depth top)
-        mine = masters top in_top z.s z.here p pv u (suc q) stood on joins in_below deeper
+        mine = masters says n0 n top best next base depth t net0 w calm0 invariant0 late0 same top in_top z.s z.here p
+            pv u (suc q) stood on joins in_below deeper
 
     -- it has left the root of before, and told so
     top_left : DownStage says n best (base + depth top) (falls_by n w.time (suc (depth top))) top p u q w'
     top_left = inr (inl (
       root_not,
       leaves_old says g n top best next base depth t w.time w w' m' top in_top z holds_top not_top p u q joins in_below
-          deeper (base + depth top) was_mine (stays0 top p u q in_top joins deeper) refuses_top
+          deeper (base + depth top) was_mine (stays0 says n0 n top best next base depth t net0 w calm0 invariant0 late0
+          same top p u q in_top joins deeper) refuses_top
           (let none = t.first in omega arith),
     ))
 
@@ -405,7 +310,8 @@ module _ (says : Spelling) (n0 n : Network) (top : ℕ) (best next : System) (ba
           by_lane (l, at_l, step) (pv, stood, answer) =
               let (f', among, said, soon) = tells_now says g n top best next base depth t w.time w w' m' top in_top z
               holds_top not_top p u q leads.joins (in_below p u q leads.joins deeper) deeper (base + depth top)
-              (was_mine p u q leads.joins deeper) (stays0 top p u q in_top leads.joins deeper)
+              (was_mine p u q leads.joins deeper) (stays0 says n0 n top best next base depth t net0 w calm0 invariant0
+              late0 same top p u q in_top leads.joins deeper)
               (refuses_top p u q leads.joins deeper) (let none = t.first in omega arith) l l' stand.lane step pv pv'
               stood there' answer in
               let more = room f in
@@ -448,7 +354,8 @@ module _ (says : Spelling) (n0 n : Network) (top : ℕ) (best next : System) (ba
     pub settles_begin : TreeSettles says g n top best next base depth t w.time last before room w'
     settles_begin f v p u q close leads = elim (ℕ_discrete v top) [
       | no apart ↦ not_ready says g n top best next base depth t w.time last before room f v p u q close leads w'
-          (λ s at. (chosen v leads.is_best s (z.others v s leads.is_best apart at)).root)
+          (λ s at. (chosen says n0 n top best next base depth t net0 w calm0 invariant0 late0 same v leads.is_best s
+          (z.others v s leads.is_best apart at)).root)
       | yes is ↦
           let here = subst (λ c. LeadsFarther n.graph f next c p u q) is leads in
           subst (λ c. LinkSettles says (telling n (before f) f next c p u q) w') (sym is)

@@ -36,7 +36,9 @@ pub mod FallLeaveLemmas
 pub mod FallKeptLemmas
 pub mod FallLevelLemmas
 pub mod FallEndLemmas
+pub mod FallRestLemmas
 pub mod FallBeginLemmas
+pub mod FallFailLemmas
 pub mod RunLemmas
 pub mod MatchingLemmas
 pub mod SyncStepLemmas
