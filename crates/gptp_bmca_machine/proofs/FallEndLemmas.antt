@@ -50,7 +50,7 @@ module _ (says : Spelling) (g : Snapshot) (n : Network) (best : System) (IsCut :
   TopsHaveLeft w = (t : Tree) → IsCut t → RootIsNot n w t.top best
 
   pub falls_on : (w w' : MachineState) → FallsBack w → IsAfterLoss n w' → UnlinkedHoldOld g n w'
-      → UnlinkedDrop n w w' → AreSooner w' → MachineSteps says w w' → FallsBack w'
+      → UnlinkedDrop g n w w' → AreSooner w' → MachineSteps says w w' → FallsBack w'
   falls_on w w' is kept' dark' drops sooner' step = record {
     after = after';
     still = λ f.

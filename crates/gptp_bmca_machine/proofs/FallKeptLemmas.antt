@@ -17,7 +17,7 @@ use Rattle.gptp_bmca_machine.specs.Station.{MachineState, Mine, Port, Received, 
 use Rattle.gptp_bmca_machine.specs.Touch.{Hear, IsUsable, Replaces}
 use Rattle.gptp_bmca_machine.proofs.CutTreeLemmas.{beside}
 use Rattle.gptp_bmca_machine.proofs.FallLeaveLemmas.{TreeAnswers, answers_or_stands, leaves_old, tells_new}
-use Rattle.gptp_bmca_machine.proofs.FallLemmas.{DownStage, FollowsOld, HoldsInTree, HoldsLeft, IsAftermath, IsFalling, IsFreeAt, IsLed, IsLeft, IsNewTold, IsToldAtTop, IsToldByNearer, RootIs, RootIsNot, UnlinkedDrop, falls_by, follows_old, holds_by, holds_in_tree, old_in_time, root_by_held, says_whole, told_nearer, was_clear, whole_root}
+use Rattle.gptp_bmca_machine.proofs.FallLemmas.{DownStage, FollowsOld, HoldsInTree, HoldsLeft, IsAftermath, IsFalling, IsFreeAt, IsLed, IsLeft, IsNewTold, IsToldAtTop, IsToldByNearer, RootIs, RootIsNot, UnlinkedDrop, falls_by, follows_old, holds_by, holds_in_tree, loses_best, old_in_time, root_by_held, says_whole, told_nearer, was_clear, whole_root}
 use Rattle.gptp_bmca_machine.proofs.FallStepLemmas.{SaysSo, free_held, free_kept, old_kept, old_or_free}
 use Rattle.gptp_bmca_machine.proofs.ClearLemmas.{tells_clear, weaker_clear}
 use Rattle.gptp_bmca_machine.proofs.LinkEndsLemmas.{ShowEnds, ends_by, telling_kept, teller_on}
@@ -129,7 +129,7 @@ module _ (says : Spelling) (g : Snapshot) (n : Network) (top : ℕ) (best next :
     hearer_root far last (inr (inr free)) = inr free
 
   module _ (w w' : MachineState) (m : IsAftermath says g n w) (m' : IsAftermath says g n w')
-      (step : MachineSteps says w w') (drops : UnlinkedDrop n w w')
+      (step : MachineSteps says w w') (drops : UnlinkedDrop g n w w')
       (falling : IsFalling says g n top best next base depth t start w) where
     holds_w : (x : ℕ) → IsBest n.graph x next → HoldsInTree says g n top best next base depth t start x w
     holds_w x in_x = holds_in_tree says g n top best next base depth t start w m falling x in_x
@@ -175,7 +175,8 @@ module _ (says : Spelling) (g : Snapshot) (n : Network) (top : ℕ) (best next :
           by_lost lost =
               let (s, at, live, clock) = has in
               let is = lives_at n w' m'.kept.calm v in_v.reached.1.begins s' at' in
-              let (r, holds) = drops v s s' old.i old.r at at' is.0 is.1 lost.bare old.holds in
+              let (r, holds) = drops v s s' old.i old.r
+              (loses_best says g n top best next base depth t start v in_v) at at' is.0 is.1 lost.bare old.holds in
               elim (holds_w v in_v s old.i r at holds) [
                 | inr still ↦ not s at
                     (root_by_held says g n top best next base depth t start w m v in_v s at old.i r holds still.root)

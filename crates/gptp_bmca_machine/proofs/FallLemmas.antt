@@ -84,35 +84,40 @@ DownStage says n best far last v p u q w =
     IsLed says n best far v p u q w
     ⊎ (IsLeft says n best far last v p u q w ⊎ (RootIsNot n w v best × IsFreeAt says n v p u q w))
 
--- What a port without a link holds was told by a system that isn't beside this one any more. Where this one is moved, it
--- had its root and steps by that.
-pub record IsHeldStill (g : Snapshot) (n : Network) (v : ℕ) (r : Reception) : Type 0 where
+-- the system has another best than it had in the snapshot of before
+abbrev pub LosesBest : Snapshot → Network → ℕ → Type 0
+LosesBest g n v = (b : System) → IsBest g v b → IsBest n.graph v b → ⊥
+
+-- Who told it isn't beside the system any more; by that the system had its root and steps.
+pub record IsOldTold (g : Snapshot) (n : Network) (v : ℕ) (a : Announce) : Type 0 where
   pub from : ℕ
   pub beside : Adjacent g v from
   pub gone : Adjacent n.graph v from → ⊥
-  pub old : (b : System) (d : ℕ) → IsBest g v b → (IsBest n.graph v b → ⊥) → IsDistance g v d
-      → (r.said.root ≡ b.identity) × (suc r.said.steps ≡ d)
+  pub old : (b : System) (d : ℕ) → IsBest g v b → IsDistance g v d → (a.root ≡ b.identity) × (suc a.steps ≡ d)
 
+-- so it is of what such systems hold at ports without a link
 abbrev pub UnlinkedHoldOld : Snapshot → Network → MachineState → Type 0
 UnlinkedHoldOld g n w = (i : ℕ) (s : Station) (place : ℕ) (r : Reception) → slice_get w.stations i ≡ Some s
-    → s.live ≡ true → HoldsAt s place r → (IsLinked n.graph (port_of s.clock (suc place)) → ⊥)
-    → IsHeldStill g n s.clock r
+    → s.live ≡ true → LosesBest g n s.clock → HoldsAt s place r
+    → (IsLinked n.graph (port_of s.clock (suc place)) → ⊥)
+    → IsOldTold g n s.clock r.said
 
 -- so it is where such ports are off
 pub off_hold_none : (g : Snapshot) (n : Network) (w : MachineState) → UnlinkedAreOff n.graph w → UnlinkedHoldOld g n w
-off_hold_none g n w dark i s place r at live (q, there, holds) none =
+off_hold_none g n w dark i s place r at live loses (q, there, holds) none =
     let off = dark i s place q at live there none in
     absurd (let both : Received r ≡ Disabled = sym holds ∙ off in cc)
 
--- In a step a port without a link doesn't come to hold something where it held nothing.
-abbrev pub UnlinkedDrop : Network → MachineState → MachineState → Type 0
-UnlinkedDrop n w w' = (v : ℕ) (s s' : Station) (place : ℕ) (r' : Reception) → slice_get w.stations (n.place v) ≡ Some s
+-- In a step such a port doesn't come to hold something where it held nothing.
+abbrev pub UnlinkedDrop : Snapshot → Network → MachineState → MachineState → Type 0
+UnlinkedDrop g n w w' = (v : ℕ) (s s' : Station) (place : ℕ) (r' : Reception) → LosesBest g n v
+    → slice_get w.stations (n.place v) ≡ Some s
     → slice_get w'.stations (n.place v) ≡ Some s' → s'.live ≡ true → s'.clock ≡ v
     → (IsLinked n.graph (port_of v (suc place)) → ⊥) → HoldsAt s' place r'
     → (r : Reception) × HoldsAt s place r
 
-pub off_drop : (n : Network) (w w' : MachineState) → UnlinkedAreOff n.graph w' → UnlinkedDrop n w w'
-off_drop n w w' dark v s s' place r' at at' live clock none (q, there, holds) =
+pub off_drop : (g : Snapshot) (n : Network) (w w' : MachineState) → UnlinkedAreOff n.graph w' → UnlinkedDrop g n w w'
+off_drop g n w w' dark v s s' place r' loses at at' live clock none (q, there, holds) =
     let off = dark (n.place v) s' place q at' live there
     (λ linked. none (subst (λ c. IsLinked n.graph (port_of c (suc place))) clock linked)) in
     absurd (let both : Received r' ≡ Disabled = sym holds ∙ off in cc)
@@ -204,6 +209,10 @@ module _ (says : Spelling) (g : Snapshot) (n : Network) (top : ℕ) (best next :
       let one = ap (λ (b : System). b.identity) (IsBest-unique n.graph x best next t.well is in_x) in
       let worse = t.worse in
       omega (arith, one, worse)
+
+  pub loses_best : (x : ℕ) → IsBest n.graph x next → LosesBest g n x
+  loses_best x in_x b was is =
+      not_best x in_x (subst (IsBest n.graph x) (IsBest-unique g x b best t.left.graph was (t.was_best x in_x)) is)
 
   module _ (w : MachineState) (m : IsAftermath says g n w) (x : ℕ) (in_x : IsBest n.graph x next) (s : Station)
       (at : slice_get w.stations (n.place x) ≡ Some s) where
@@ -441,9 +450,9 @@ module _ (says : Spelling) (g : Snapshot) (n : Network) (top : ℕ) (best next :
 
         by_link : Dec ((to : PortIdentity) × Joins n.graph (port_of s.clock (suc i)) to) → HeldInTree x i r
         by_link (no none) =
-            let h = m.dark (n.place x) s i r at is.0 (q, there, holds) none in
+            let h = m.dark (n.place x) s i r at is.0
+            (subst (LosesBest g n) (sym is.1) (loses_best x in_x)) (q, there, holds) none in
             let (root, steps) = h.old best (base + depth x) (was_best w m x in_x s at)
-            (subst (λ c. IsBest n.graph c best → ⊥) (sym is.1) (not_best x in_x))
             (subst (λ c. IsDistance g c (base + depth x)) (sym is.1) (t.was x in_x)) in
             inr (record {
               is_top = elim (t.lost x h.from in_x (subst (λ c. Adjacent g c h.from) is.1 h.beside)) [

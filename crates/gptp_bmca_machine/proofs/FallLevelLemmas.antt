@@ -100,7 +100,7 @@ module _ (says : Spelling) (g : Snapshot) (n : Network) (top : ℕ) (best next :
         absurd (omega (arith, is, has, worse))
 
     module _ (w w' : MachineState) (m : IsAftermath says g n w) (m' : IsAftermath says g n w')
-        (step : MachineSteps says w w') (drops : UnlinkedDrop n w w')
+        (step : MachineSteps says w w') (drops : UnlinkedDrop g n w w')
         (falling : IsFalling says g n top best next base depth t start w)
         (falling' : IsFalling says g n top best next base depth t start w') (in_time : w.time ≤ last)
         (in_time' : w'.time ≤ last) (link : LinkSettles says (telling n (before f) f next v p u q) w) where
@@ -168,7 +168,7 @@ module _ (says : Spelling) (g : Snapshot) (n : Network) (top : ℕ) (best next :
 
   -- so every step keeps them, until that time
   pub tree_settles_on : (w w' : MachineState) (m : IsAftermath says g n w) (m' : IsAftermath says g n w')
-      → MachineSteps says w w' → UnlinkedDrop n w w' → IsFalling says g n top best next base depth t start w
+      → MachineSteps says w w' → UnlinkedDrop g n w w' → IsFalling says g n top best next base depth t start w
       → IsFalling says g n top best next base depth t start w' → w.time ≤ last → TreeSettles w → TreeSettles w'
   tree_settles_on w w' m m' (inl wait) drops falling falling' in_time all f v p u q close leads =
       subst (LinkSettles says (telling n (before f) f next v p u q)) (sym wait.is)
