@@ -36,6 +36,7 @@ pub mod FallLeaveLemmas
 pub mod FallKeptLemmas
 pub mod FallLevelLemmas
 pub mod FallEndLemmas
+pub mod LostPortLemmas
 pub mod FallRestLemmas
 pub mod FallBeginLemmas
 pub mod FallFailLemmas
