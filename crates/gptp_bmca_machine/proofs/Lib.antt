@@ -37,6 +37,7 @@ pub mod FallKeptLemmas
 pub mod FallLevelLemmas
 pub mod FallEndLemmas
 pub mod LostPortLemmas
+pub mod LostTopLemmas
 pub mod FallRestLemmas
 pub mod FallBeginLemmas
 pub mod FallFailLemmas

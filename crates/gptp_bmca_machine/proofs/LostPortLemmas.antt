@@ -10,7 +10,7 @@ use Rattle.gptp_graph.proofs.LinkLemmas.{Joins-sym}
 use Rattle.gptp_graph.proofs.SystemLemmas.{In-clocks}
 use Rattle.gptp_bmca_machine.specs.Acts.{MachineSteps, StationAnswers}
 use Rattle.gptp_bmca_machine.specs.Facts.{station_system}
-use Rattle.gptp_bmca_machine.specs.Frame.{Announce, AnnounceFrame, Send, Spelling}
+use Rattle.gptp_bmca_machine.specs.Frame.{Announce, AnnounceFrame, Lane, Send, Spelling}
 use Rattle.gptp_bmca_machine.specs.Link.{HearsSettled}
 use Rattle.gptp_bmca_machine.specs.LinkStage.{AllFinal, FrameSaysAnnounce, IsFinal, Wiring}
 use Rattle.gptp_bmca_machine.specs.LossLaws.{IsAfterLoss, IsWhatIsLeft}
@@ -22,6 +22,7 @@ use Rattle.gptp_bmca_machine.specs.Touch.{Disable, Enable, Grow, Hear, HeldInTou
 use Rattle.gptp_bmca_machine.proofs.ClearLemmas.{weaker_clear}
 use Rattle.gptp_bmca_machine.proofs.HearingLemmas.{final_kept, final_taken}
 use Rattle.gptp_bmca_machine.proofs.LinkStepLemmas.{AtLink, LaneStands, StandsAtEnd, lane_steps, lives_at}
+use Rattle.gptp_bmca_machine.proofs.PlaceLemmas.{same_there}
 use Rattle.gptp_bmca_machine.proofs.ReactsLemmas.{mid_from}
 use Rattle.gptp_bmca_machine.proofs.StillLemmas.{clear_at, still}
 
@@ -72,6 +73,13 @@ kept_deaf says c n now root steps touch q q' sends r deaf answer holds = elim an
   ]
   | inr becomes ↦ absurd (let both : Mine root steps ≡ Received r = sym becomes.mine ∙ holds in cc)
 ]
+
+-- whether a port is disabled
+off_dec : (held : Held) → Dec (held ≡ Disabled)
+off_dec Disabled = yes refl
+off_dec Aged = no (λ is. cc)
+off_dec (Mine root steps) = no (λ is. cc)
+off_dec (Received r) = no (λ is. cc)
 
 -- ---- a step
 
@@ -279,3 +287,89 @@ module _ (says : Spelling) (g : Snapshot) (n : Network) (wf : IsWellFormed n.gra
         on pu end off =
             let last = is end.s pu m.lane.lane end.at end.there m.lane.there in
             absurd (let both : Disabled ≡ Received last.r = sym off ∙ last.holds in cc)
+
+    -- it holds nothing, and nothing comes that it could hear
+    abbrev IsQuiet : Held → List AnnounceFrame → Type 0
+    IsQuiet held fs =
+        ((r : Reception) → held ≡ Received r → ⊥)
+        × ((h : AnnounceFrame) → In h fs → FrameSaysAnnounce says h → ⊥)
+
+    -- so it stays
+    quiet_on : AtLink says n f p x i IsQuiet w
+        → ((pu : Port) → StandsAtEnd says n f p x i w pu → pu.held ≢ Disabled)
+        → AtLink says n f p x i (HasLetGo says) w'
+    quiet_on is on s' pu' l' at' there' lane' =
+        let (none, quiet) = lane_steps says n f p x i known w w' m.kept.calm m'.kept.calm m.lane m'.lane on
+        m.kept.lapses IsQuiet IsQuiet (λ a. ⊥)
+        (record {
+          news = none_says;
+          stays = λ held fs so. so;
+          enters = λ held fs news no so. (
+            so.0,
+            (λ h among said. elim (In-parts h fs news among) [
+              | inl old ↦ so.1 h old said
+              | inr new ↦ no h said.0 new said.1
+            ]),
+          );
+          misses = λ held h fs dumb so. (so.0, (λ g among. so.1 g (inr among)));
+          answers = λ touch now root steps pu pu' sends fs end end' time comes answer deaf aged so. (
+            (λ r holds. so.0 r (kept_deaf says x (suc i) now root steps touch pu pu' sends r deaf answer holds)),
+            so.1,
+          );
+          hears = λ now root steps pu pu' sends l h fs a end end' time at frames said answer so.
+              absurd (so.1 h (inl refl) (a, said));
+        }) step is s' pu' l' at' there' lane' in
+        record { none = none; silent = inr quiet }
+
+    -- a port that isn't capable stays so
+    abbrev pub StaysOff : Type 0
+    StaysOff = (s s' : Station) (pu pu' : Port) → slice_get w.stations (n.place x) ≡ Some s
+        → slice_get s.ports i ≡ Some pu → slice_get w'.stations (n.place x) ≡ Some s'
+        → slice_get s'.ports i ≡ Some pu' → pu.held ≡ Disabled
+        → pu'.held ≡ Disabled
+
+    module _ (stays_off : StaysOff) (s : Station) (at : slice_get w.stations (n.place x) ≡ Some s) (pu : Port)
+        (there : slice_get s.ports i ≡ Some pu) where
+      -- there is one port and one lane
+      at_one : (P : Held → List AnnounceFrame → Type 0) → P pu.held m.lane.lane.frames → AtLink says n f p x i P w
+      at_one P is s2 pu2 l2 at2 there2 lane2 =
+          let same = same_there w.stations (n.place x) s s2 at at2 in
+          let port = same_there s2.ports i pu pu2
+          (subst (λ (z : Station). slice_get z.ports i ≡ Some pu) same there) there2 in
+          let lane = same_there w.lanes (n.lane (port_of f (suc p))) m.lane.lane l2 m.lane.there lane2 in
+          subst (λ (z : Lane). P pu2.held z.frames) lane
+          (subst (λ (z : Port). P z.held m.lane.lane.frames) port is)
+
+      goes_on : HasLetGo says pu.held m.lane.lane.frames → AtLink says n f p x i (HasLetGo says) w'
+      goes_on go = by (off_dec pu.held)
+        where
+          still_off : pu.held ≡ Disabled → AtLink says n f p x i (HasLetGo says) w'
+          still_off off s' pu' l' at' there' lane' =
+              let off' = stays_off s s' pu pu' at there at' there' off in
+              record {
+                none = λ r holds. absurd (let both : Disabled ≡ Received r = sym off' ∙ holds in cc);
+                silent = inl off';
+              }
+
+          by : Dec (pu.held ≡ Disabled) → AtLink says n f p x i (HasLetGo says) w'
+          by (yes off) = still_off off
+          by (no on) = elim go.silent [
+            | inl off ↦ still_off off
+            | inr quiet ↦ quiet_on (at_one IsQuiet (go.none, quiet))
+                (λ pu2 end. at_one (λ held fs. held ≢ Disabled) on end.s pu2 m.lane.lane end.at end.there m.lane.there)
+          ]
+
+      -- so every step keeps it, and what has let go has let go for good
+      pub last_on : AtLink says n f p x i (λ held fs. HoldsLast says k gone held fs ⊎ HasLetGo says held fs) w
+          → AtLink says n f p x i (λ held fs. HoldsLast says k gone held fs ⊎ HasLetGo says held fs) w'
+          × (((r : Reception) → pu.held ≡ Received r → ⊥) → AtLink says n f p x i (HasLetGo says) w')
+      last_on is = elim (is s pu m.lane.lane at there m.lane.there) [
+        | inl last ↦ (
+          holds_on (at_one (HoldsLast says k gone) last),
+          (λ none. absurd (none last.r last.holds)),
+        )
+        | inr go ↦ (
+          (λ s' pu' l' at' there' lane'. inr (goes_on go s' pu' l' at' there' lane')),
+          (λ none. goes_on go),
+        )
+      ]

@@ -43,4 +43,12 @@ pub record CutsTrees (g : Snapshot) (n : Network) (best : System) (IsCut : Tree 
   pub well : IsWellFormed n.graph
   pub left : IsWhatIsLeft g n
   pub each : (t : Tree) → IsCut t → CutsTree g n t.top best t.next t.base t.depth
+  pub tops : (t : Tree) → IsCut t → IsBest n.graph t.top t.next
   pub all : (v : ℕ) → In v (clocks n.graph) → Unmoved g n v ⊎ ((t : Tree) × IsCut t × IsBest n.graph v t.next)
+
+-- The snapshot loses one system, and no link between two others.
+pub record LosesSystem (g : Snapshot) (n : Network) (lost : ℕ) : Type 0 where
+  pub dead : In lost (clocks n.graph) → ⊥
+  pub others : (v : ℕ) → In v (clocks g) → In v (clocks n.graph) ⊎ (v ≡ lost)
+  pub links : (p q : PortIdentity) → Joins g p q → In p.clock (clocks n.graph) → In q.clock (clocks n.graph)
+      → Joins n.graph p q
