@@ -22,7 +22,7 @@ use Rattle.gptp_bmca_machine.specs.Network.{Network, since, wiring}
 use Rattle.gptp_bmca_machine.specs.Sound.{ReceivedFits}
 use Rattle.gptp_bmca_machine.specs.Station.{MachineState, Reception, Station}
 use Rattle.gptp_bmca_machine.proofs.FallKeptLemmas.{falling_kept}
-use Rattle.gptp_bmca_machine.proofs.FallLemmas.{IsAftermath, IsFalling, RootIs, RootIsNot, UnlinkedDrop, UnlinkedHoldOld, falls_by, free_clear, holds_in_tree, not_best, old_in_time}
+use Rattle.gptp_bmca_machine.proofs.FallLemmas.{IsAftermath, IsFalling, RootIsNot, UnlinkedDrop, UnlinkedHoldNone, UnlinkedHoldOld, falls_by, free_clear, holds_in_tree, not_best, old_in_time}
 use Rattle.gptp_bmca_machine.proofs.FallLevelLemmas.{TreeSettles}
 use Rattle.gptp_bmca_machine.proofs.LossLemmas.{fits_kept}
 use Rattle.gptp_bmca_machine.proofs.PlaceLemmas.{same_there}
@@ -41,24 +41,16 @@ module _ (says : Spelling) (g : Snapshot) (n : Network) (best : System) (IsCut :
     pub still : (f : ℕ) → StillSettles says g n f w
     pub falling : (t : Tree) → (is : IsCut t) → Falling t is w
 
-  -- the tops have the root of before until that time at most
-  abbrev pub AreSooner : MachineState → Type 0
-  AreSooner w = (t : Tree) → IsCut t → RootIs n w t.top best → w.time ≤ start
-
-  -- no top has the root of before
-  abbrev pub TopsHaveLeft : MachineState → Type 0
-  TopsHaveLeft w = (t : Tree) → IsCut t → RootIsNot n w t.top best
-
   pub falls_on : (w w' : MachineState) → FallsBack w → IsAfterLoss n w' → UnlinkedHoldOld g n w'
-      → UnlinkedDrop g n w w' → AreSooner w' → MachineSteps says w w' → FallsBack w'
-  falls_on w w' is kept' dark' drops sooner' step = record {
+      → UnlinkedDrop g n w w' → UnlinkedHoldNone g n start w' → MachineSteps says w w' → FallsBack w'
+  falls_on w w' is kept' dark' drops none' step = record {
     after = after';
     still = λ f.
         levels_below says g n cuts.well cuts.left w w' is.after.kept kept' is.after.fits.stations fits'.stations step
         is.still (suc f) f (omega arith);
     falling = λ t cut.
         falling_kept says g n t.top best t.next t.base t.depth (cuts.each t cut) start w w' is.after after' step drops
-        (is.falling t cut) (sooner' t cut);
+        (is.falling t cut) (cuts.tops t cut) none';
   }
     where
       fits' : EverythingFits says g n w'

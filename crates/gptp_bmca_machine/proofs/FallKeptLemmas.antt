@@ -1,6 +1,6 @@
 -- A tree that is cut off falls back: every step keeps what is known of its links.
 use Rattle.std.proofs.Common.{◌≡◌, ◌≢◌, ◌⊎◌, ◌<◌, ◌≤◌, ◌+◌, ℕ, zero, suc, true, Some, slice_get, refl, sym, ap, subst, ◌∙◌, inl, inr, arith}
-use native.Mathlib.Decide.{ℕ_discrete}
+use native.Mathlib.Decide.{dec_le, ℕ_discrete}
 use Rattle.gptp_lists.specs.Members.{In}
 use Rattle.gptp_graph.specs.Best.{IsBest}
 use Rattle.gptp_graph.specs.Snapshot.{Joins, PortIdentity, Snapshot, System, port_of}
@@ -17,7 +17,7 @@ use Rattle.gptp_bmca_machine.specs.Station.{MachineState, Mine, Port, Received, 
 use Rattle.gptp_bmca_machine.specs.Touch.{Hear, IsUsable, Replaces}
 use Rattle.gptp_bmca_machine.proofs.CutTreeLemmas.{beside}
 use Rattle.gptp_bmca_machine.proofs.FallLeaveLemmas.{TreeAnswers, answers_or_stands, leaves_old, tells_new}
-use Rattle.gptp_bmca_machine.proofs.FallLemmas.{DownStage, FollowsOld, HoldsInTree, HoldsLeft, IsAftermath, IsFalling, IsFreeAt, IsLed, IsLeft, IsNewTold, IsToldAtTop, IsToldByNearer, RootIs, RootIsNot, UnlinkedDrop, falls_by, follows_old, holds_by, holds_in_tree, loses_best, old_in_time, root_by_held, says_whole, told_nearer, was_clear, whole_root}
+use Rattle.gptp_bmca_machine.proofs.FallLemmas.{DownStage, FollowsOld, HoldsInTree, HoldsLeft, IsAftermath, IsFalling, IsFreeAt, IsLed, IsLeft, IsNewTold, IsToldAtTop, IsToldByNearer, RootIs, RootIsNot, UnlinkedDrop, UnlinkedHoldNone, falls_by, follows_old, holds_by, holds_in_tree, loses_best, old_in_time, root_by_held, says_whole, told_nearer, was_clear, whole_root}
 use Rattle.gptp_bmca_machine.proofs.FallStepLemmas.{SaysSo, free_held, free_kept, old_kept, old_or_free}
 use Rattle.gptp_bmca_machine.proofs.ClearLemmas.{tells_clear, weaker_clear}
 use Rattle.gptp_bmca_machine.proofs.LinkEndsLemmas.{ShowEnds, ends_by, telling_kept, teller_on}
@@ -379,10 +379,37 @@ module _ (says : Spelling) (g : Snapshot) (n : Network) (top : ℕ) (best next :
         led_then v p u q in_v joins deeper (λ v0 p0 i in0 joined below.
         then_below (depth v) v0 p0 v i in0 joined below (omega (arith, below))) led
 
-    pub falling_kept : (RootIs n w' top best → w'.time ≤ start)
+    -- the top has left the root of before by that time
+    top_then : IsBest n.graph top next → UnlinkedHoldNone g n start w' → RootIs n w' top best → w'.time ≤ start
+    top_then in_top none root = elim (dec_le w'.time start) [
+      | yes by ↦ by
+      | no over ↦ absurd (gone (omega (arith, over)) (station_of g n t.well t.left w' m'.kept m'.fits.stations top
+          in_top.reached.1.begins))
+    ]
+      where
+        holds' : HoldsInTree says g n top best next base depth t start top w'
+        holds' =
+            holds_by says g n top best next base depth t start w' m' top in_top
+            (λ v p i in_v joins deeper. absurd (let none = t.first in omega (arith, deeper, none)))
+            (λ v p i in_v joins higher. up_held v p top i in_v joins higher)
+
+        gone : start < w'.time
+            → ((s : Station) × (slice_get w'.stations (n.place top) ≡ Some s) × (s.live ≡ true) × (s.clock ≡ top))
+            → ⊥
+        gone over (s, at, live, clock) =
+            let old = follows_old says g n top best next base depth t start w' m' top in_top s at holds' (root s at) in
+            elim old.told [
+              | inl above ↦
+                  let deeper = above.deeper in let first = t.first in absurd (omega (arith, deeper, first))
+              | inr lost ↦
+                  none over top s old.i old.r (loses_best says g n top best next base depth t start top in_top) at live
+                  clock lost.bare old.holds
+            ]
+
+    pub falling_kept : IsBest n.graph top next → UnlinkedHoldNone g n start w'
         → IsFalling says g n top best next base depth t start w'
-    falling_kept sooner' = record {
-      sooner = sooner';
+    falling_kept in_top none = record {
+      sooner = top_then in_top none;
       down = λ v p u q in_v joins deeper.
           (then_below (suc (depth v)) v p u q in_v joins deeper (omega arith)).0;
       up = up_then;

@@ -116,6 +116,20 @@ UnlinkedDrop g n w w' = (v : ℕ) (s s' : Station) (place : ℕ) (r' : Reception
     → (IsLinked n.graph (port_of v (suc place)) → ⊥) → HoldsAt s' place r'
     → (r : Reception) × HoldsAt s place r
 
+-- once that time is over such ports hold nothing
+abbrev pub UnlinkedHoldNone : Snapshot → Network → ℕ → MachineState → Type 0
+UnlinkedHoldNone g n start w = start < w.time → (v : ℕ) (s : Station) (place : ℕ) (r : Reception) → LosesBest g n v
+    → slice_get w.stations (n.place v) ≡ Some s → s.live ≡ true → s.clock ≡ v
+    → (IsLinked n.graph (port_of v (suc place)) → ⊥) → HoldsAt s place r
+    → ⊥
+
+pub off_none : (g : Snapshot) (n : Network) (start : ℕ) (w : MachineState) → UnlinkedAreOff n.graph w
+    → UnlinkedHoldNone g n start w
+off_none g n start w dark over v s place r loses at live clock none (q, there, holds) =
+    let off = dark (n.place v) s place q at live there
+    (λ linked. none (subst (λ c. IsLinked n.graph (port_of c (suc place))) clock linked)) in
+    absurd (let both : Received r ≡ Disabled = sym holds ∙ off in cc)
+
 pub off_drop : (g : Snapshot) (n : Network) (w w' : MachineState) → UnlinkedAreOff n.graph w' → UnlinkedDrop g n w w'
 off_drop g n w w' dark v s s' place r' loses at at' live clock none (q, there, holds) =
     let off = dark (n.place v) s' place q at' live there
