@@ -1,6 +1,6 @@
 -- Trees that the failure of a system cuts off: what the system at the top of one holds that was told over a lost link.
 -- That is what the failed system told last, which was the nearer one.
-use Rattle.std.proofs.Common.{◌≡◌, ◌⊎◌, ◌<◌, ◌≤◌, ◌+◌, ℕ, ℤ, zero, suc, pred, true, Some, length, slice_get, refl, sym, ap, subst, ◌∙◌, inl, inr, arith}
+use Rattle.std.proofs.Common.{◌≡◌, ◌⊎◌, ◌<◌, ◌≤◌, ◌+◌, ℕ, ℤ, zero, suc, pred, true, Some, slice_get, refl, sym, ap, subst, ◌∙◌, inl, inr, arith}
 use Rattle.gptp_lists.specs.Members.{In}
 use Rattle.gptp_graph.specs.Best.{IsBest}
 use Rattle.gptp_graph.specs.Distance.{IsDistance}
@@ -123,27 +123,33 @@ module _ (says : Spelling) (g : Snapshot) (n : Network) (lost top : ℕ) (best n
         → slice_get s'.ports i ≡ Some pu' → pu.held ≡ Disabled
         → pu'.held ≡ Disabled
 
+    -- the port of the top stands
+    pub record PortStands (w : MachineState) (m : IsTopState w) (i : ℕ) : Type 0 where
+      pub s : Station
+      pub at : slice_get w.stations (n.place top) ≡ Some s
+      pub pu : Port
+      pub there : slice_get s.ports i ≡ Some pu
+
+    port_stands : (w : MachineState) (m : IsTopState w) (p i : ℕ)
+        → Joins g (port_of lost (suc p)) (port_of top (suc i)) → PortStands w m i
+    port_stands w m p i joins = by (station_of g n t.well t.left w m.kept m.fits.stations top known)
+      where
+        by : ((s : Station) × (slice_get w.stations (n.place top) ≡ Some s) × (s.live ≡ true) × (s.clock ≡ top))
+            → PortStands w m i
+        by (s, at, live, clock) =
+            let (y, in_y, is_port) = t.left.graph.ends (port_of top (suc i)) (port_of lost (suc p))
+            (Joins-sym g (port_of lost (suc p)) (port_of top (suc i)) joins) in
+            let same : y ≡ station_system s =
+            same_clock g y (station_system s) t.left.graph in_y
+            (t.left.systems (station_system s) (m.kept.calm.facts.stations (n.place top) s at live).known)
+            (is_port.clock ∙ sym clock) in
+            let (pu, there) = there_within s.ports i (subst (λ (z : System). suc i ≤ z.ports) same is_port.last) in
+            record { s = s; at = at; pu = pu; there = there }
+
     module _ (w w' : MachineState) (m : IsTopState w) (m' : IsTopState w') (step : MachineSteps says w w')
         (off : LostStayOff w w') (is : TopHolds w) where
       module _ (p i : ℕ) (joins : Joins g (port_of lost (suc p)) (port_of top (suc i)))
           (bare : IsLinked n.graph (port_of top (suc i)) → ⊥) where
-        has : (s : Station) × (slice_get w.stations (n.place top) ≡ Some s) × (s.live ≡ true) × (s.clock ≡ top)
-        has = station_of g n t.well t.left w m.kept m.fits.stations top known
-
-        has_port : (pu : Port) × (slice_get has.0.ports i ≡ Some pu)
-        has_port = there_within has.0.ports i within
-          where
-            within : i < length has.0.ports
-            within =
-                let (y, in_y, is_port) = t.left.graph.ends (port_of top (suc i)) (port_of lost (suc p))
-                (Joins-sym g (port_of lost (suc p)) (port_of top (suc i)) joins) in
-                let same : y ≡ station_system has.0 =
-                same_clock g y (station_system has.0) t.left.graph in_y
-                (t.left.systems (station_system has.0)
-                (m.kept.calm.facts.stations (n.place top) has.0 has.1 has.2).known)
-                (is_port.clock ∙ sym has.3) in
-                subst (λ (z : System). suc i ≤ z.ports) same is_port.last
-
         state_at : (x : MachineState) → IsTopState x
             → IsLastState says g n t.well t.left lost p top i joins known loses.dead best (pred base)
             (t.was_best top in_top) (top_far (suc (pred base)) base_is) stay since delay (long p i joins) shorter x
@@ -155,12 +161,12 @@ module _ (says : Spelling) (g : Snapshot) (n : Network) (lost top : ℕ) (best n
           later = m_x.later;
         }
 
-        goes_on : HoldsOrNot p i w'
-            × (((r : Reception) → has_port.0.held ≡ Received r → ⊥) → AtLink says n lost p top i (HasLetGo says) w')
-        goes_on =
+        goes_on : (here : PortStands w m i) → HoldsOrNot p i w'
+            × (((r : Reception) → here.pu.held ≡ Received r → ⊥) → AtLink says n lost p top i (HasLetGo says) w')
+        goes_on here =
             last_on says g n t.well t.left lost p top i joins known loses.dead best (pred base)
             (t.was_best top in_top) (top_far (suc (pred base)) base_is) stay since delay (long p i joins) shorter w w'
-            (state_at w m) (state_at w' m') step (off p i joins bare) has.0 has.1 has_port.0 has_port.1
+            (state_at w m) (state_at w' m') step (off p i joins bare) here.s here.at here.pu here.there
             (is.last p i joins bare)
 
       -- nothing is heard at a port that never had a link
@@ -188,7 +194,7 @@ module _ (says : Spelling) (g : Snapshot) (n : Network) (lost top : ℕ) (best n
               ]
 
       pub top_holds_on : TopHolds w'
-      top_holds_on = record { last = λ p i joins bare. (goes_on p i joins bare).0; bare = bare_then }
+      top_holds_on = record { last = λ p i joins bare. (goes_on p i joins bare (port_stands w m p i joins)).0; bare = bare_then }
 
     -- ---- so what such a port holds was told last
 
@@ -249,3 +255,49 @@ module _ (says : Spelling) (g : Snapshot) (n : Network) (lost top : ℕ) (best n
                       omega (arith, steps, same, none, above),
                 );
               }
+
+    -- ---- and what it holds after a step it held
+
+    module _ (w w' : MachineState) (m : IsTopState w) (m' : IsTopState w') (step : MachineSteps says w w')
+        (off : LostStayOff w w') (is : TopHolds w) where
+      pub top_drops : (x : ℕ) → IsBest n.graph x next → (s s' : Station) (i : ℕ) (r' : Reception)
+          → slice_get w.stations (n.place x) ≡ Some s → slice_get w'.stations (n.place x) ≡ Some s'
+          → (IsLinked n.graph (port_of x (suc i)) → ⊥) → HoldsAt s' i r'
+          → (r : Reception) × HoldsAt s i r
+      top_drops x in_x s s' i r' at at' bare holds = by (is.last link.p i link.joins bare_top port.s port.pu lane.lane
+          port.at port.there lane.there)
+        where
+          link : LostLink w' m' (top_holds_on w w' m m' step off is) x in_x s' at' i r' holds bare
+          link = lost_link w' m' (top_holds_on w w' m m' step off is) x in_x s' at' i r' holds bare
+
+          bare_top : IsLinked n.graph (port_of top (suc i)) → ⊥
+          bare_top = subst (λ c. IsLinked n.graph (port_of c (suc i)) → ⊥) link.is_top bare
+
+          lane : LaneStands says n lost link.p top i w
+          lane = m.lanes link.p i link.joins
+
+          lane' : LaneStands says n lost link.p top i w'
+          lane' = m'.lanes link.p i link.joins
+
+          port : PortStands w m i
+          port = port_stands w m link.p i link.joins
+
+          same : port.s ≡ s
+          same = same_there w.stations (n.place top) port.s s port.at
+              (subst (λ c. slice_get w.stations (n.place c) ≡ Some s) link.is_top at)
+
+          by : HoldsLast says (still n (pred base) best lost link.p top i) (since + delay) port.pu.held lane.lane.frames
+              ⊎ HasLetGo says port.pu.held lane.lane.frames → (r : Reception) × HoldsAt s i r
+          by (inl last) = (
+            last.r,
+            (
+              port.pu,
+              subst (λ (y : Station). slice_get y.ports i ≡ Some port.pu) same port.there,
+              last.holds,
+            ),
+          )
+          by (inr go) =
+              let gone = (goes_on w w' m m' step off is link.p i link.joins bare_top port).1 go.none in
+              absurd ((gone s' holds.0 lane'.lane
+              (subst (λ c. slice_get w'.stations (n.place c) ≡ Some s') link.is_top at') holds.1 lane'.there).none r'
+              holds.2)
