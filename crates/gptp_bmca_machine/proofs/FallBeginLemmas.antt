@@ -125,7 +125,7 @@ module _ (says : Spelling) (n0 n : Network) (top : ℕ) (best next : System) (ba
                   let whole = whole0 (n.lane (port_of v (suc p))) l f a at_l old said
                   (subst (λ k. Joins g k l.to) (sym from) (subst (Joins g (port_of v (suc p))) (sym to) before)) in
                   came_whole says n0 n top best next base depth t net0 w calm0 invariant0 late0 same v p u q in_v joins
-                      higher a (subst (λ (k : PortIdentity). Whole g k.clock a) from whole)
+                  higher a (subst (λ (k : PortIdentity). Whole g k.clock a) from whole)
             ]
 
   -- ---- links down the tree, but from its top
@@ -166,14 +166,14 @@ module _ (says : Spelling) (n0 n : Network) (top : ℕ) (best next : System) (ba
             stay : FinalAnnounceStays says (still n (base + depth v) best v p u q) pv.announce pu.held l.frames
             stay = stays0 says n0 n top best next base depth t net0 w calm0 invariant0 late0 same v p u q in_v joins
                 deeper pv pu l (record {
-              v = stand.v;
-              u = stand.u;
-              teller = z.others v stand.v in_v apart stand.teller;
-              teller_port = stand.teller_port;
-              hearer = z.others u stand.u in_u' (below_top u (depth v) deeper) stand.hearer;
-              hearer_port = stand.hearer_port;
-              lane = at_l;
-            })
+                  v = stand.v;
+                  u = stand.u;
+                  teller = z.others v stand.v in_v apart stand.teller;
+                  teller_port = stand.teller_port;
+                  hearer = z.others u stand.u in_u' (below_top u (depth v) deeper) stand.hearer;
+                  hearer_port = stand.hearer_port;
+                  lane = at_l;
+                })
 
   -- ---- the top
 

@@ -76,15 +76,15 @@ module _ (says : Spelling) (g : Snapshot) (n : Network) (best : System) (IsCut :
   out_beside : (v u : ℕ) (i k : ℕ) → Unmoved g n v → Joins n.graph (port_of v i) (port_of u k) → Unmoved g n u
   out_beside v u i k unmoved joins = elim (cuts.all u (Joins-clock n.graph (port_of u k) (port_of v i) cuts.well
       back)) [
-    | inl too ↦ too
-    | inr (t, cut, in_u) ↦
-        let tree = cuts.each t cut in
-        let was = tree.was_best u in_u in
-        let was_v : IsBest g v best =
-        IsBest-neighbour g u v best cuts.left.graph (k, i, cuts.left.links (port_of u k) (port_of v i) back) was in
-        let in_v = IsBest-neighbour n.graph u v t.next cuts.well (k, i, back) in_u in
-        absurd (not_best says g n t.top best t.next t.base t.depth tree start v in_v (unmoved.best best was_v))
-  ]
+        | inl too ↦ too
+        | inr (t, cut, in_u) ↦
+            let tree = cuts.each t cut in
+            let was = tree.was_best u in_u in
+            let was_v : IsBest g v best =
+            IsBest-neighbour g u v best cuts.left.graph (k, i, cuts.left.links (port_of u k) (port_of v i) back) was in
+            let in_v = IsBest-neighbour n.graph u v t.next cuts.well (k, i, back) in_u in
+            absurd (not_best says g n t.top best t.next t.base t.depth tree start v in_v (unmoved.best best was_v))
+      ]
     where
       back : Joins n.graph (port_of u k) (port_of v i)
       back = Joins-sym n.graph (port_of v i) (port_of u k) joins

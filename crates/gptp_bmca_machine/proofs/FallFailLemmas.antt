@@ -25,84 +25,84 @@ module _ (says : Spelling) (n0 n : Network) (net0 : IsSettlingNetwork n0) (w w' 
   g = n0.graph
 
   module _ (top : ℕ) (best next : System) (base : ℕ) (depth : ℕ → ℕ) (t : CutsTree g n top best next base depth)
-      where
-    -- each system of the tree stands as it did
-    stood : (x : ℕ) → IsBest n.graph x next → (s : Station) → slice_get w'.stations (n.place x) ≡ Some s
-        → slice_get w.stations (n.place x) ≡ Some s
-    stood x in_x s at =
-        loss.stations (n.place x) s at (lives_at n w' m'.kept.calm x in_x.reached.1.begins s at).0
+    where
+      -- each system of the tree stands as it did
+      stood : (x : ℕ) → IsBest n.graph x next → (s : Station) → slice_get w'.stations (n.place x) ≡ Some s
+          → slice_get w.stations (n.place x) ≡ Some s
+      stood x in_x s at =
+          loss.stations (n.place x) s at (lives_at n w' m'.kept.calm x in_x.reached.1.begins s at).0
 
-    stood_lane : (v p u q : ℕ) → Joins n.graph (port_of v (suc p)) (port_of u (suc q)) → (l : Lane)
-        → slice_get w'.lanes (n.lane (port_of v (suc p))) ≡ Some l
-        → slice_get w.lanes (n.lane (port_of v (suc p))) ≡ Some l
-    stood_lane v p u q joins l there =
-        subst (λ i. slice_get w.lanes i ≡ Some l) (sym (loss.same.lane (port_of v (suc p))))
-        (loss.lanes (port_of v (suc p)) (port_of u (suc q)) l joins
-        (subst (λ i. slice_get w'.lanes i ≡ Some l) (loss.same.lane (port_of v (suc p))) there))
+      stood_lane : (v p u q : ℕ) → Joins n.graph (port_of v (suc p)) (port_of u (suc q)) → (l : Lane)
+          → slice_get w'.lanes (n.lane (port_of v (suc p))) ≡ Some l
+          → slice_get w.lanes (n.lane (port_of v (suc p))) ≡ Some l
+      stood_lane v p u q joins l there =
+          subst (λ i. slice_get w.lanes i ≡ Some l) (sym (loss.same.lane (port_of v (suc p))))
+          (loss.lanes (port_of v (suc p)) (port_of u (suc q)) l joins
+          (subst (λ i. slice_get w'.lanes i ≡ Some l) (loss.same.lane (port_of v (suc p))) there))
 
-    root_still : (v : ℕ) → IsBest n.graph v next → RootIs n w' v best
-    root_still v in_v s at =
-        (chosen says n0 n top best next base depth t net0 w loss.rests.calm loss.rests.invariant loss.rests.late
-        loss.same v in_v s (stood v in_v s at)).root
+      root_still : (v : ℕ) → IsBest n.graph v next → RootIs n w' v best
+      root_still v in_v s at =
+          (chosen says n0 n top best next base depth t net0 w loss.rests.calm loss.rests.invariant loss.rests.late
+          loss.same v in_v s (stood v in_v s at)).root
 
-    down_led : (v p u q : ℕ) → IsBest n.graph v next → Joins n.graph (port_of v (suc p)) (port_of u (suc q))
-        → depth u ≡ suc (depth v) → IsLed says n best (base + depth v) v p u q w'
-    down_led v p u q in_v joins deeper = (
-      root_still v in_v,
-      (λ pv pu l stand.
-          stays0 says n0 n top best next base depth t net0 w loss.rests.calm loss.rests.invariant loss.rests.late
-          loss.same v p u q in_v joins deeper pv pu l (record {
-            v = stand.v;
-            u = stand.u;
-            teller = stood v in_v stand.v stand.teller;
-            teller_port = stand.teller_port;
-            hearer = stood u (beside g n top best next base depth t v u (suc p, suc q, joins) in_v) stand.u
-                stand.hearer;
-            hearer_port = stand.hearer_port;
-            lane = stood_lane v p u q joins l stand.lane;
-          })),
-    )
+      down_led : (v p u q : ℕ) → IsBest n.graph v next → Joins n.graph (port_of v (suc p)) (port_of u (suc q))
+          → depth u ≡ suc (depth v) → IsLed says n best (base + depth v) v p u q w'
+      down_led v p u q in_v joins deeper = (
+        root_still v in_v,
+        (λ pv pu l stand.
+            stays0 says n0 n top best next base depth t net0 w loss.rests.calm loss.rests.invariant loss.rests.late
+            loss.same v p u q in_v joins deeper pv pu l (record {
+              v = stand.v;
+              u = stand.u;
+              teller = stood v in_v stand.v stand.teller;
+              teller_port = stand.teller_port;
+              hearer = stood u (beside g n top best next base depth t v u (suc p, suc q, joins) in_v) stand.u
+                  stand.hearer;
+              hearer_port = stand.hearer_port;
+              lane = stood_lane v p u q joins l stand.lane;
+            })),
+      )
 
-    up_free : (v p u q : ℕ) → IsBest n.graph v next → Joins n.graph (port_of v (suc p)) (port_of u (suc q))
-        → depth v ≡ suc (depth u) → IsFreeAt says n v p u q w'
-    up_free v p u q in_v joins higher s pu l at there lane = record {
-      hears = λ r holds.
-          absurd (held_before says n0 n top best next base depth t net0 w loss.rests.calm loss.rests.invariant
-          loss.rests.late loss.same v p u q in_v joins higher s pu r (stood u in_u s at) there holds);
-      flight = λ f a among said.
-          came_whole says n0 n top best next base depth t net0 w loss.rests.calm loss.rests.invariant loss.rests.late
-          loss.same v p u q in_v joins higher a (flown f a among said);
-    }
-      where
-        in_u : IsBest n.graph u next
-        in_u = beside g n top best next base depth t v u (suc p, suc q, joins) in_v
+      up_free : (v p u q : ℕ) → IsBest n.graph v next → Joins n.graph (port_of v (suc p)) (port_of u (suc q))
+          → depth v ≡ suc (depth u) → IsFreeAt says n v p u q w'
+      up_free v p u q in_v joins higher s pu l at there lane = record {
+        hears = λ r holds.
+            absurd (held_before says n0 n top best next base depth t net0 w loss.rests.calm loss.rests.invariant
+            loss.rests.late loss.same v p u q in_v joins higher s pu r (stood u in_u s at) there holds);
+        flight = λ f a among said.
+            came_whole says n0 n top best next base depth t net0 w loss.rests.calm loss.rests.invariant loss.rests.late
+            loss.same v p u q in_v joins higher a (flown f a among said);
+      }
+        where
+          in_u : IsBest n.graph u next
+          in_u = beside g n top best next base depth t v u (suc p, suc q, joins) in_v
 
-        flown : (f : AnnounceFrame) (a : Announce) → In f l.frames → says f.octets a → Whole g v a
-        flown f a among said =
-            let has = m'.kept.calm.lanes (port_of v (suc p)) (port_of u (suc q)) joins in
-            let one = same_there w'.lanes (n.lane (port_of v (suc p))) has.lane l has.there lane in
-            let from : l.from ≡ port_of v (suc p) = ap (λ (y : Lane). y.from) (sym one) ∙ has.from in
-            let to : l.to ≡ port_of u (suc q) = ap (λ (y : Lane). y.to) (sym one) ∙ has.to in
-            let before = t.left.links (port_of v (suc p)) (port_of u (suc q)) joins in
-            let came = loss.rests.whole.lanes (n.lane (port_of v (suc p))) l f a (stood_lane v p u q joins l lane)
-            among said
-            (subst (λ k. Joins g k l.to) (sym from) (subst (Joins g (port_of v (suc p))) (sym to) before)) in
-            subst (λ (k : PortIdentity). Whole g k.clock a) from came.whole
+          flown : (f : AnnounceFrame) (a : Announce) → In f l.frames → says f.octets a → Whole g v a
+          flown f a among said =
+              let has = m'.kept.calm.lanes (port_of v (suc p)) (port_of u (suc q)) joins in
+              let one = same_there w'.lanes (n.lane (port_of v (suc p))) has.lane l has.there lane in
+              let from : l.from ≡ port_of v (suc p) = ap (λ (y : Lane). y.from) (sym one) ∙ has.from in
+              let to : l.to ≡ port_of u (suc q) = ap (λ (y : Lane). y.to) (sym one) ∙ has.to in
+              let before = t.left.links (port_of v (suc p)) (port_of u (suc q)) joins in
+              let came = loss.rests.whole.lanes (n.lane (port_of v (suc p))) l f a (stood_lane v p u q joins l lane)
+              among said
+              (subst (λ k. Joins g k l.to) (sym from) (subst (Joins g (port_of v (suc p))) (sym to) before)) in
+              subst (λ (k : PortIdentity). Whole g k.clock a) from came.whole
 
-    pub failing_begins : (start : ℕ) → w'.time ≤ start
-        → IsFalling says g n top best next base depth t start w'
-    failing_begins start now = record {
-      sooner = λ root. now;
-      down = λ v p u q in_v joins deeper. inl (down_led v p u q in_v joins deeper);
-      up = up_free;
-    }
+      pub failing_begins : (start : ℕ) → w'.time ≤ start
+          → IsFalling says g n top best next base depth t start w'
+      failing_begins start now = record {
+        sooner = λ root. now;
+        down = λ v p u q in_v joins deeper. inl (down_led v p u q in_v joins deeper);
+        up = up_free;
+      }
 
-    -- nobody of the tree has settled yet
-    pub failing_settles : (start last : ℕ) (before : ℕ → ℕ) (room : (f : ℕ) → last + n.most < before f)
-        → TreeSettles says g n top best next base depth t start last before room w'
-    failing_settles start last before room f v p u q close leads =
-        not_ready says g n top best next base depth t start last before room f v p u q close leads w'
-        (root_still v leads.is_best)
+      -- nobody of the tree has settled yet
+      pub failing_settles : (start last : ℕ) (before : ℕ → ℕ) (room : (f : ℕ) → last + n.most < before f)
+          → TreeSettles says g n top best next base depth t start last before room w'
+      failing_settles start last before room f v p u q close leads =
+          not_ready says g n top best next base depth t start last before room f v p u q close leads w'
+          (root_still v leads.is_best)
 
   -- so all trees fall back
   pub fails_back : (best : System) (IsCut : Tree → Type 0) (cuts : CutsTrees g n best IsCut) (start : ℕ)

@@ -38,6 +38,7 @@ pub mod FallLevelLemmas
 pub mod FallEndLemmas
 pub mod LostPortLemmas
 pub mod LostTopLemmas
+pub mod FailsBackLemmas
 pub mod LostBeginLemmas
 pub mod FallRestLemmas
 pub mod FallBeginLemmas

@@ -87,7 +87,7 @@ module _ (says : Spelling) (g : Snapshot) (n : Network) (lost top : ℕ) (best n
           ]),
           is_lost,
         )
-  ]
+      ]
 
   module _ (stay : ℤ → ℕ) (since delay : ℕ) (shorter : n.most ≤ delay)
       (long : (p i : ℕ) → Joins g (port_of lost (suc p)) (port_of top (suc i))
@@ -176,7 +176,7 @@ module _ (says : Spelling) (g : Snapshot) (n : Network) (lost top : ℕ) (best n
           s' at') [
             | inl stood ↦ is.bare x in_x s' i r stood holds
             | inr z ↦ answered z (same_there w'.stations (n.place x) z.s' s' z.there at')
-      ]
+          ]
         where
           answered : (z : TreeAnswers says n next x w w') → z.s' ≡ s' → IsLinked g (port_of x (suc i))
           answered z one = elim (held_from says z.s z.s' z.touch w.time z.sends z.reacts i r
