@@ -36,6 +36,7 @@ pub mod FallLeaveLemmas
 pub mod FallKeptLemmas
 pub mod FallLevelLemmas
 pub mod FallEndLemmas
+pub mod FallSoonerLemmas
 pub mod LostPortLemmas
 pub mod LostTopLemmas
 pub mod FailsBackLemmas

@@ -183,7 +183,7 @@ module _ (says : Spelling) (n0 n : Network) (net0 : IsSettlingNetwork n0) (w w' 
             let late = told.late in
             let interval = loss.same.interval (port_of lost (suc p)) in
             omega (arith, timer, late, more, interval))
-        | inr (h, among, said, soon) ↦ inr (h, among, said, soon)
+        | inr (h, among, said, soon) ↦ inr (inl (h, among, said, soon))
       ];
     }
       where

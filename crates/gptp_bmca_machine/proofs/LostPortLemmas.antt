@@ -1,6 +1,6 @@
 -- A port whose link is lost since the system at its other end failed. It holds what that told last, and what is on its
 -- way from there is so. Once it has let it go it doesn't come to hold anything again.
-use Rattle.std.proofs.Common.{◌≡◌, ◌≢◌, ◌⊎◌, ◌<◌, ◌≤◌, ◌+◌, ℕ, ℤ, suc, true, List, ◌∷◌, Some, slice_get, refl, sym, ap, subst, ◌∙◌, inl, inr, arith}
+use Rattle.std.proofs.Common.{◌≡◌, ◌≢◌, ◌⊎◌, ◌<◌, ◌≤◌, ◌+◌, ◌++◌, ℕ, ℤ, suc, true, List, ◌∷◌, Some, slice_get, refl, sym, ap, subst, ◌∙◌, inl, inr, arith}
 use Rattle.gptp_lists.specs.Members.{In}
 use Rattle.gptp_lists.proofs.SystemSpecLemmas.{In-left, In-parts}
 use Rattle.gptp_graph.specs.Best.{IsBest}
@@ -28,9 +28,13 @@ use Rattle.gptp_bmca_machine.proofs.StillLemmas.{clear_at, still}
 
 -- ---- what the port holds
 
+-- no frame says an Announce
+abbrev pub NoneSays : Spelling → List AnnounceFrame → Type 0
+NoneSays says fs = (f : AnnounceFrame) → In f fs → FrameSaysAnnounce says f → ⊥
+
 module _ (says : Spelling) (k : Wiring) (gone : ℕ) where
   -- The port holds what was told last. All that is on its way is so, and comes by that time; and what is held doesn't age
-  -- before all of it has come, or before some of it has.
+  -- before all of it has come, or before some of it has. Or nothing is on its way.
   pub record HoldsLast (held : Held) (fs : List AnnounceFrame) : Type 0 where
     pub r : Reception
     pub holds : held ≡ Received r
@@ -38,12 +42,13 @@ module _ (says : Spelling) (k : Wiring) (gone : ℕ) where
     pub flight : AllFinal says k fs
     pub by : (f : AnnounceFrame) → In f fs → FrameSaysAnnounce says f → f.due ≤ gone
     pub young : (gone < r.at + r.span)
-        ⊎ ((h : AnnounceFrame) × In h fs × FrameSaysAnnounce says h × (h.due < r.at + r.span))
+        ⊎ (((h : AnnounceFrame) × In h fs × FrameSaysAnnounce says h × (h.due < r.at + r.span))
+        ⊎ NoneSays says fs)
 
 -- it has let that go, and nothing comes that it could hear
 pub record HasLetGo (says : Spelling) (held : Held) (fs : List AnnounceFrame) : Type 0 where
   pub none : (r : Reception) → held ≡ Received r → ⊥
-  pub silent : (held ≡ Disabled) ⊎ ((f : AnnounceFrame) → In f fs → FrameSaysAnnounce says f → ⊥)
+  pub silent : (held ≡ Disabled) ⊎ NoneSays says fs
 
 -- a touch that is no Hear leaves what a port received, or it ages, or the port is disabled
 mid_goes : (c n now : ℕ) (touch : StationTouch) (held mid : Held) (r : Reception)
@@ -149,6 +154,13 @@ module _ (says : Spelling) (g : Snapshot) (n : Network) (wf : IsWellFormed n.gra
         (In-clocks n.graph (station_system call.s')
         (m'.kept.calm.facts.stations call.place call.s' call.there (call.reacts.live ∙ call.live)).known))
 
+    more_silent : (fs news : List AnnounceFrame) → NoneSays says fs
+        → ((h : AnnounceFrame) (a : Announce) → In h news → says h.octets a → ⊥) → NoneSays says (fs ++ news)
+    more_silent fs news none nothing h among said = elim (In-parts h fs news among) [
+      | inl old ↦ none h old said
+      | inr new ↦ nothing h said.0 new said.1
+    ]
+
     -- what it holds stays, or is let go
     deaf_last : (touch : StationTouch) (now root steps : ℕ) (pu pu' : Port) (sends : List Send)
         (fs : List AnnounceFrame) → StandsAtEnd says n f p x i w' pu'
@@ -186,8 +198,9 @@ module _ (says : Spelling) (g : Snapshot) (n : Network) (wf : IsWellFormed n.gra
             let soon = last.by h among said in
             elim last.young [
               | inl later ↦ absurd (omega (arith, old, left_h, soon, later))
-              | inr (first, in_first, said_first, due) ↦
+              | inr (inl (first, in_first, said_first, due)) ↦
                   let left_first = comes first in_first in absurd (omega (arith, old, left_first, due))
+              | inr (inr none) ↦ none h among said
             ]
 
         off : answer.mid ≡ Disabled → HasLetGo says pu'.held fs
@@ -251,17 +264,15 @@ module _ (says : Spelling) (g : Snapshot) (n : Network) (wf : IsWellFormed n.gra
               ];
               young = elim last.young [
                 | inl later ↦ inl later
-                | inr (h, among, said, due) ↦ inr (h, In-left h fs news among, said, due)
+                | inr (inl (h, among, said, due)) ↦ inr (inl (h, In-left h fs news among, said, due))
+                | inr (inr quiet) ↦ inr (inr (more_silent fs news quiet none))
               ];
             })
             | inr go ↦ inr (record {
               none = go.none;
               silent = elim go.silent [
                 | inl off ↦ inl off
-                | inr quiet ↦ inr (λ h among said. elim (In-parts h fs news among) [
-                  | inl old ↦ quiet h old said
-                  | inr new ↦ none h said.0 new said.1
-                ])
+                | inr quiet ↦ inr (more_silent fs news quiet none)
               ];
             })
           ];
@@ -273,8 +284,9 @@ module _ (says : Spelling) (g : Snapshot) (n : Network) (wf : IsWellFormed n.gra
             by = λ g among. last.by g (inr among);
             young = elim last.young [
               | inl later ↦ inl later
-              | inr (g, inl same, said, due) ↦ absurd (dumb (subst (FrameSaysAnnounce says) same said))
-              | inr (g, inr among, said, due) ↦ inr (g, among, said, due)
+              | inr (inl (g, inl same, said, due)) ↦ absurd (dumb (subst (FrameSaysAnnounce says) same said))
+              | inr (inl (g, inr among, said, due)) ↦ inr (inl (g, among, said, due))
+              | inr (inr none) ↦ inr (inr (λ g among. none g (inr among)))
             ];
           };
           answers = λ touch now root steps pu pu' sends fs end end' time comes answer deaf aged last.
@@ -288,11 +300,9 @@ module _ (says : Spelling) (g : Snapshot) (n : Network) (wf : IsWellFormed n.gra
             let last = is end.s pu m.lane.lane end.at end.there m.lane.there in
             absurd (let both : Disabled ≡ Received last.r = sym off ∙ last.holds in cc)
 
-    -- it holds nothing, and nothing comes that it could hear
+    -- it holds nothing, and hears nothing
     abbrev IsQuiet : Held → List AnnounceFrame → Type 0
-    IsQuiet held fs =
-        ((r : Reception) → held ≡ Received r → ⊥)
-        × ((h : AnnounceFrame) → In h fs → FrameSaysAnnounce says h → ⊥)
+    IsQuiet held fs = ((r : Reception) → held ≡ Received r → ⊥) × NoneSays says fs
 
     -- so it stays
     quiet_on : AtLink says n f p x i IsQuiet w
@@ -304,12 +314,9 @@ module _ (says : Spelling) (g : Snapshot) (n : Network) (wf : IsWellFormed n.gra
         (record {
           news = none_says;
           stays = λ held fs so. so;
-          enters = λ held fs news no so. (
+          enters = λ held fs news nothing so. (
             so.0,
-            (λ h among said. elim (In-parts h fs news among) [
-              | inl old ↦ so.1 h old said
-              | inr new ↦ no h said.0 new said.1
-            ]),
+            more_silent fs news so.1 nothing,
           );
           misses = λ held h fs dumb so. (so.0, (λ g among. so.1 g (inr among)));
           answers = λ touch now root steps pu pu' sends fs end end' time comes answer deaf aged so. (
