@@ -3,7 +3,8 @@
 use Rattle.std.proofs.Common.{◌≡◌, ◌<◌, ◌≤◌, ◌+◌, ℕ, suc, List, [], ◌∷◌, Some, slice_get, refl, inl, inr, arith}
 use Rattle.gptp_lists.specs.Members.{In}
 use Rattle.gptp_graph.specs.Snapshot.{Joins, Snapshot, System, port_of}
-use Rattle.gptp_bmca_machine.specs.CutTree.{CutsTree}
+use Rattle.gptp_bmca_machine.specs.CutTree.{CutsTree, CutsTrees, Tree}
+use Rattle.gptp_bmca_machine.proofs.FallEndLemmas.{FallsBack}
 use Rattle.gptp_bmca_machine.specs.Frame.{Announce, AnnounceFrame, Lane, Spelling}
 use Rattle.gptp_bmca_machine.specs.LinkStage.{FinalTail, IsFinal, LinkStage, Wiring}
 use Rattle.gptp_bmca_machine.specs.Network.{Network}
@@ -116,3 +117,15 @@ module _ (says : Spelling) (g : Snapshot) (n : Network) (top : ℕ) (best next :
           hearer_port = stand.hearer_port;
           lane = stand.lane;
         }) ready)
+
+-- so all trees do
+pub back_sooner : (says : Spelling) (g : Snapshot) (n : Network) (best : System) (IsCut : Tree → Type 0)
+    (cuts : CutsTrees g n best IsCut) (start start' : ℕ) (w : MachineState) → w.time ≤ start'
+    → FallsBack says g n best IsCut cuts start w → FallsBack says g n best IsCut cuts start' w
+back_sooner says g n best IsCut cuts start start' w now is = record {
+  after = is.after;
+  still = is.still;
+  falling = λ t cut.
+      falls_sooner says g n t.top best t.next t.base t.depth (cuts.each t cut) start start' w is.after now
+      (is.falling t cut);
+}

@@ -40,6 +40,7 @@ pub mod FallSoonerLemmas
 pub mod LostPortLemmas
 pub mod LostTopLemmas
 pub mod FailsBackLemmas
+pub mod FallEmptiedLemmas
 pub mod LostBeginLemmas
 pub mod FallRestLemmas
 pub mod FallBeginLemmas
