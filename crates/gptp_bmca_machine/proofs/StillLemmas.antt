@@ -27,7 +27,7 @@ use Rattle.gptp_bmca_machine.specs.LossLaws.{EverythingFits, IsWhatIsLeft, IsLos
 use Rattle.gptp_bmca_machine.proofs.ClearLemmas.{tells_clear, weaker_clear}
 use Rattle.gptp_bmca_machine.proofs.PlaceLemmas.{same_there, there_within}
 use Rattle.gptp_bmca_machine.proofs.LinkLemmas.{link_kept, link_settled}
-use Rattle.gptp_bmca_machine.proofs.RestLemmas.{Chooses, IsClear, zero_settles, suc_settles}
+use Rattle.gptp_bmca_machine.proofs.RestLemmas.{Chooses, IsClear, bounded, zero_settles, suc_settles}
 use Rattle.gptp_bmca_machine.proofs.LevelLemmas.{places_of}
 use Rattle.gptp_bmca_machine.proofs.RestingLemmas.{links_stay, stays_so}
 use Rattle.gptp_bmca_machine.proofs.LossLemmas.{fits_kept, loss_fits}
@@ -162,7 +162,7 @@ module _ (g : Snapshot) (n : Network) (wf : IsWellFormed n.graph) (left : IsWhat
   clear_at i s at live = record {
     rest = (calm.stations i s at live).at_rest;
     known = left.systems (station_system s) (calm.facts.stations i s at live).known;
-    held = λ place r holds. all i s place r at live holds;
+    held = λ place r holds. bounded g s.clock (suc place) r (all i s place r at live holds);
   }
 
   -- where a system of the snapshot stands
@@ -268,7 +268,8 @@ module _ (g : Snapshot) (n : Network) (wf : IsWellFormed n.graph) (left : IsWhat
     tells_settled s pv at port ready =
         let (live, clock) = is_station v s from_known at in
         tells_clear g left.graph (still n d best v p u q) best refl leads.far best_to leads.there leads.farther s
-        (clear_at (n.place v) s at live) clock leads.is_best (port_of u (suc q)) before refl
+        (clear_at (n.place v) s at live) (λ place r holds. (all (n.place v) s place r at live holds).fits) clock
+        leads.is_best (port_of u (suc q)) before refl
         (wf.apart (port_of v (suc p)) (port_of u (suc q)) leads.joins) near
         (calm.facts.stations (n.place v) s at live).follows pv port ready
 

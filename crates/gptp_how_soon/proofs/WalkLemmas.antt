@@ -1,11 +1,12 @@
 -- A walk stands as the events so far leave a document.
-use Rattle.std.proofs.Common.{◌≡◌, max, ℕ, List, [], ◌∷◌, ◌++◌, Bool, true, false, cond, filter, map, not, ◌&&◌, append_assoc, refl, sym, ap, ap₂, subst, ◌∙◌, arith}
+use Rattle.std.proofs.Common.{◌≡◌, max, ℕ, List, [], ◌∷◌, ◌++◌, Bool, true, false, cond, filter, map, not, ◌&&◌, ◌||◌, append_assoc, refl, sym, ap, ap₂, subst, ◌∙◌, arith}
 use Rattle.std.specs.List.{find}
 use Rattle.std.specs.Option.{is_some}
 use Rattle.std.proofs.lemmas.List.{append-nil}
 use Rattle.std.proofs.lemmas.List.Elements.{filter-append}
 use Rattle.gptp_scenario.specs.Calm.{last_change}
-use Rattle.gptp_scenario.specs.Network.{IsNetwork, NetworkState}
+use Rattle.gptp_setup.specs.SettlingParams.{largest_interval}
+use Rattle.gptp_scenario.specs.Network.{IsNetwork, NetworkState, pace_of}
 use Rattle.gptp_scenario.specs.SyncWait.{sync_paths}
 use Rattle.gptp_scenario.specs.declared.change.Timed.{Timed}
 use Rattle.gptp_scenario.specs.declared.network.LinkSpec.{LinkSpec}
@@ -19,9 +20,11 @@ use Rattle.gptp_how_soon.specs.Chosen.{ends_among, ends_in_use, ends_of, lost_en
 use Rattle.gptp_how_soon.specs.Far.{are_far_after, cut_far_ends_after, up_is_used}
 use Rattle.gptp_how_soon.specs.Kinds.{sets_bounds, takes_one, told_by}
 use Rattle.gptp_how_soon.specs.Links.{delay_set, longest_delay, longest_set, lost_among, new_among}
-use Rattle.gptp_how_soon.specs.Times.{last_set, told_at, told_of, view_at}
+use Rattle.gptp_how_soon.specs.Times.{last_set, moves_at, told_at, told_of, view_at}
+use Rattle.gptp_how_soon.specs.Rest.{has_rested_for}
+use Rattle.gptp_how_soon.specs.Tree.{cuts_tree_after}
 use Rattle.gptp_how_soon.specs.Turned.{turns_one_after}
-use Rattle.gptp_how_soon.specs.Walk.{IsFirstWalk, WalkGoesOn, WalkPasses, cuts_seen, far_seen, moves_any_seen, moves_seen, turns_seen, view_seen}
+use Rattle.gptp_how_soon.specs.Walk.{IsFirstWalk, WalkGoesOn, WalkPasses, moves_seen, view_seen}
 use Rattle.gptp_how_soon.specs.declared.bounds.SettlingTime.{SettlingTime}
 use Rattle.gptp_how_soon.specs.declared.chosen.Ends.{Ends}
 use Rattle.gptp_how_soon.specs.declared.walk.Walk.{Walk}
@@ -121,38 +124,19 @@ told_more n made (u ∷ now) t =
     (append_assoc made (u ∷ []) now))
 
 module _ (n : NetworkState) (network : IsNetwork n) where
-  moves_are : (made now : List Timed) (w : Walk) → WalkStands n made now w
-      → moves_seen w ≡ moves_counted (takes_one (told_of n made now)) n made (made ++ now)
-  moves_are made now w so =
+  moves_are : (made now : List Timed) (w : Walk) (at : ℕ) → WalkStands n made now w
+      → moves_seen n w at ≡ moves_at n made now w.before at
+  moves_are made now w at so =
       let used = so.used in
       let ends = so.ends in
       let told = so.told in
       let systems_before = so.systems_before in
       let systems = systems_are n (made ++ now) w.tables so.tables in
       let standings = so.tables.standings in
-      rw (used, ends, told, systems, systems_before, standings, used_are n made, used_are n (made ++ now)) refl
-
-  moves_any_are : (made now : List Timed) (w : Walk) → WalkStands n made now w
-      → moves_any_seen w ≡ moves_some n made (made ++ now)
-  moves_any_are made now w so =
-      let used = so.used in
-      let ends = so.ends in
-      let systems_before = so.systems_before in
-      let systems = systems_are n (made ++ now) w.tables so.tables in
-      let standings = so.tables.standings in
-      rw (used, ends, systems, systems_before, standings, used_are n made, used_are n (made ++ now)) refl
-
-  cuts_are : (made now : List Timed) (w : Walk) → WalkStands n made now w
-      → cuts_seen w ≡ cut_far_ends_after n made (made ++ now)
-  cuts_are made now w so =
-      let used = so.used in
-      let ends = so.ends in
-      let systems_before = so.systems_before in
-      let systems = systems_are n (made ++ now) w.tables so.tables in
-      let standings = so.tables.standings in
       rw (
         used,
         ends,
+        told,
         systems,
         systems_before,
         standings,
@@ -160,34 +144,6 @@ module _ (n : NetworkState) (network : IsNetwork n) where
         used_are n (made ++ now),
         lost_are n made (made ++ now),
       ) refl
-
-  turns_are : (made now : List Timed) (w : Walk) → WalkStands n made now w
-      → turns_seen w ≡ turns_one_after n made (made ++ now)
-  turns_are made now w so =
-      let used = so.used in
-      let ends = so.ends in
-      let systems_before = so.systems_before in
-      let systems = systems_are n (made ++ now) w.tables so.tables in
-      let standings = so.tables.standings in
-      rw (
-        used,
-        ends,
-        systems,
-        systems_before,
-        standings,
-        used_are n made,
-        used_are n (made ++ now),
-        lost_are n made (made ++ now),
-      ) refl
-
-  far_are : (made now : List Timed) (w : Walk) → WalkStands n made now w
-      → far_seen w ≡ are_far_after n made (told_of n made now)
-  far_are made now w so =
-      let used = so.used in
-      let ends = so.ends in
-      let told = so.told in
-      let systems_before = so.systems_before in
-      rw (used, ends, told, systems_before, used_are n made) refl
 
   pub view_is : (made now : List Timed) (w : Walk) (at : ℕ) → WalkStands n made now w
       → view_seen n w at ≡ view_at n made now w.before at
@@ -203,11 +159,7 @@ module _ (n : NetworkState) (network : IsNetwork n) where
         used_before = so.all_used i;
         new = new i;
         told = so.told i;
-        moved = moves_are made now w so i;
-        moves_any = moves_any_are made now w so i;
-        cut = cuts_are made now w so i;
-        turned = turns_are made now w so i;
-        far = far_are made now w so i;
+        moves = moves_are made now w at so i;
         used = up_is_used (so.tables.standings i);
         paths = crossed_is n network (made ++ now) w.tables so.tables i;
         calm = calm_is n network (made ++ now) w.tables so.tables i;

@@ -12,7 +12,7 @@ use Rattle.gptp_topology.specs.declared.course.Cable.{Cable}
 use Rattle.gptp_how_soon.specs.Kinds.{recovers}
 use Rattle.gptp_how_soon.specs.Links.{varies}
 use Rattle.gptp_how_soon.specs.declared.bounds.Row.{Row}
-use Rattle.gptp_how_soon.specs.declared.bounds.Row.TheVariants.{AnyLosses, AnyPast, CutOff, FailedEnd, FailedHeard, FailureCutsOff, Gained, LostEnd, LostPower, Lowered, OneTurned, PowerCutsOff, Unchanged}
+use Rattle.gptp_how_soon.specs.declared.bounds.Row.TheVariants.{AnyLosses, AnyPast, CutOff, FailedEnd, FailedHeard, FailureCutsOff, Gained, LostEnd, LostPower, Lowered, OneTurned, PowerCutsOff, TreeCutOff, Unchanged}
 use Rattle.gptp_how_soon.specs.declared.bounds.Settling.{Settling}
 use Rattle.gptp_how_soon.specs.declared.bounds.SettlingTime.{SettlingTime}
 use Rattle.gptp_how_soon.specs.declared.kinds.Told.{Told}
@@ -93,6 +93,7 @@ choice_of_row n before paths PowerCutsOff gained = 2 * way_span paths
 choice_of_row n before paths FailedHeard gained = held_span n before
 choice_of_row n before paths FailureCutsOff gained = held_span n before + 2 * way_span paths
 choice_of_row n before paths OneTurned gained = 2 * way_span paths
+choice_of_row n before paths TreeCutOff gained = 2 * way_span paths
 choice_of_row n before paths AnyLosses gained = loss_span n before paths
 choice_of_row n before paths Gained gained = gained
 
@@ -122,6 +123,7 @@ roles_of_row n before paths silent FailedHeard gained = silence_span n.params
 roles_of_row n before paths silent FailureCutsOff gained =
     max (choice_of_row n before paths FailureCutsOff gained) (silence_span n.params)
 roles_of_row n before paths silent OneTurned gained = choice_of_row n before paths OneTurned gained
+roles_of_row n before paths silent TreeCutOff gained = choice_of_row n before paths TreeCutOff gained
 roles_of_row n before paths silent AnyLosses gained = roles_after_losses n before paths silent
 roles_of_row n before paths silent Gained gained = gained
 
@@ -153,7 +155,7 @@ aged_echo_span n before paths =
 -- moved, or a
 -- system that others heard loses its power, traces have to be told anew first. So they do once the choice stands where
 -- one system turns, or one fails that others heard. After losses without a row of their own all is sound once roles
--- stand. After others it is as soon as the choice stands from any past.
+-- stand. After a tree has fallen off, and after others, it is as soon as the choice stands from any past.
 abbrev pub sound_of_row : NetworkState → SyncPaths → SyncPaths → Bool → Bool → Row → ℕ → ℕ
 sound_of_row n before paths silent used_before AnyPast gained = settling_span_at_once (pace_of n) paths
 sound_of_row n before paths silent used_before Unchanged gained = 0
@@ -169,6 +171,7 @@ sound_of_row n before paths silent used_before FailedHeard gained = aged_echo_sp
 sound_of_row n before paths silent used_before FailureCutsOff gained =
     max (held_span n before + 2 * way_span paths) (aged_echo_span n before paths)
 sound_of_row n before paths silent used_before OneTurned gained = 2 * way_span paths + echo_span n paths
+sound_of_row n before paths silent used_before TreeCutOff gained = settling_span_at_once (pace_of n) paths
 sound_of_row n before paths silent used_before AnyLosses gained = roles_after_losses n before paths silent
 sound_of_row n before paths silent used_before Gained gained = gained
 

@@ -3,6 +3,7 @@ pub mod Links
 pub mod Chosen
 pub mod Far
 pub mod Turned
+pub mod Tree
 pub mod Bounds
 pub mod Rest
 pub mod Times

@@ -3,6 +3,7 @@
 ghost use Rattle.std.specs.Prelude.{◌≡◌, ◌≤◌, ◌+◌, IfSome};
 ghost use Rattle.std.specs.List.{list_any};
 ghost use Rattle.gptp_network.specs.declared.keys.TheConstants.{LATEST_EVENT};
+ghost use Rattle.gptp_setup.specs.SettlingParams.{largest_interval};
 ghost use Rattle.gptp_scenario.specs.Network.{pace_of};
 ghost use Rattle.gptp_scenario.specs.SettlingAtOnce.{settling_span_at_once};
 ghost use Rattle.gptp_scenario.specs.SettlingTime.{capability_span};
@@ -67,6 +68,8 @@ pub enum Row {
     FailureCutsOff,
     /// By its one event a link goes down that moves one system alone. That keeps its root, and turns to others for it.
     OneTurned,
+    /// By its one event a link goes down that cuts off a tree, whose systems have a worse root then.
+    TreeCutOff,
     /// Some of its events are losses, the others make nothing of what stands, and no other row of a loss is so.
     AnyLosses,
     /// None of its events is a loss.
@@ -147,16 +150,24 @@ fn any_hard_to_hear(told: &[Told], new: &[Cable]) -> bool
     new.iter().any(|cable| is_hard_to_hear(told, cable))
 }
 
+/// The largest announce interval, in ns.
+pub(crate) fn announce_interval(network: &Network) -> u64
+    ensures is { result ≡ largest_interval (pace_of network.now) }
+    ensures bound { result ≤ 16000000000 }
+{
+    network.well_formed();
+    interval_of(network.largest())
+}
+
 /// How much longer it takes where something may not be heard at once, in ns: an announce interval.
 pub(crate) fn heard(network: &Network, followed: bool, told: &[Told], new: &[Cable]) -> u64
     ensures is { result ≡ heard_by network.now followed told.now new.now }
     ensures bound { result ≤ 16000000000 }
 {
-    network.well_formed();
     if followed && !any_hard_to_hear(told, new) {
         0
     } else {
-        interval_of(network.largest())
+        announce_interval(network)
     }
 }
 
@@ -250,7 +261,7 @@ fn choice_by(network: &Network, before: SyncPaths, paths: SyncPaths, row: Row, g
         Row::Unchanged | Row::Lowered | Row::LostEnd | Row::FailedEnd | Row::LostPower => 0,
         Row::FailedHeard => held_span(network, before),
         Row::FailureCutsOff => held_span(network, before) + 2 * way_span(paths),
-        Row::CutOff | Row::PowerCutsOff | Row::OneTurned => 2 * way_span(paths),
+        Row::CutOff | Row::PowerCutsOff | Row::OneTurned | Row::TreeCutOff => 2 * way_span(paths),
         Row::AnyLosses => loss_span(network, before, paths),
         Row::Gained => gained,
     }
@@ -298,7 +309,7 @@ fn roles_by(
         Row::FailureCutsOff => {
             (held_span(network, before) + 2 * way_span(paths)).max(silence_span(network))
         }
-        Row::CutOff | Row::PowerCutsOff | Row::OneTurned => 2 * way_span(paths),
+        Row::CutOff | Row::PowerCutsOff | Row::OneTurned | Row::TreeCutOff => 2 * way_span(paths),
         Row::AnyLosses => roles_after_losses(network, before, paths, silent),
         Row::Gained => gained,
     }
@@ -364,7 +375,7 @@ fn sound_by(
         return network.settling_span_with(paths);
     }
     match row {
-        Row::AnyPast => settling_span_at_once(network, paths),
+        Row::AnyPast | Row::TreeCutOff => settling_span_at_once(network, paths),
         Row::Unchanged => 0,
         Row::Lowered => echo_span(network, paths).max(gone_by(network, paths, used_before)),
         Row::CutOff => (2 * way_span(paths)).max(gone_by(network, paths, used_before)),

@@ -13,6 +13,7 @@ mod rest;
 #[cfg(test)]
 mod tests;
 mod times;
+mod tree;
 mod turned;
 mod walk;
 

@@ -424,6 +424,93 @@ fn a_system_that_a_link_moves_alone_turns_within_two_ways(rt: HostRuntime) -> Re
 }
 
 #[test]
+fn a_tree_that_a_link_cuts_off_settles_within_two_ways(rt: HostRuntime) -> Result<(), Fail> {
+    // In each row the first link goes down; in the last it leaves no tree.
+    for (case, clocks, links, choice) in [
+        (
+            "a line behind its first link",
+            &["a", "b", "c", "d"] as &[&str],
+            &[
+                ("a", "1", "b", "1"),
+                ("b", "2", "c", "1"),
+                ("c", "2", "d", "1"),
+            ] as &[(&str, &str, &str, &str)],
+            1_640,
+        ),
+        (
+            "a line behind its middle",
+            &["a", "b", "c", "d"] as &[&str],
+            &[
+                ("b", "2", "c", "1"),
+                ("a", "1", "b", "1"),
+                ("c", "2", "d", "1"),
+            ] as &[(&str, &str, &str, &str)],
+            820,
+        ),
+        (
+            "a line whose best isn't at its top",
+            &["a", "b", "c"] as &[&str],
+            &[("a", "1", "c", "1"), ("c", "2", "b", "1")] as &[(&str, &str, &str, &str)],
+            820,
+        ),
+        (
+            "a star",
+            &["a", "b", "c", "d", "e"] as &[&str],
+            &[
+                ("a", "1", "b", "1"),
+                ("b", "2", "c", "1"),
+                ("b", "3", "d", "1"),
+                ("b", "4", "e", "1"),
+            ] as &[(&str, &str, &str, &str)],
+            1_640,
+        ),
+        (
+            "a triangle",
+            &["a", "b", "c", "d"] as &[&str],
+            &[
+                ("a", "1", "b", "1"),
+                ("b", "2", "c", "1"),
+                ("b", "3", "d", "1"),
+                ("c", "2", "d", "2"),
+            ] as &[(&str, &str, &str, &str)],
+            15_000_000_820,
+        ),
+    ] {
+        let times = cut(rt.alloc(), clocks, links)?;
+        assert_eq!(rt;
+            soon(&times, 30_000_000_000).map(|bound| bound.0),
+            Some(choice),
+            "{case}"
+        );
+    }
+    Ok(())
+}
+
+#[test]
+fn a_tree_falls_off_an_announce_interval_after_rest(rt: HostRuntime) -> Result<(), Fail> {
+    // The line rests 1000003460 ns after its start.
+    for (at, choice) in [(2_000_003_460, 15_000_000_820), (2_000_003_461, 1_640)] {
+        let mut event = String::new(rt.alloc());
+        writeln!(
+            event,
+            "[[event]]\nat = {at}\nkind = \"link_down\"\nclock = \"000000000000000a\"\nport = 1"
+        )?;
+        let times = joined(
+            rt.alloc(),
+            &["a", "b", "c", "d"],
+            &[
+                ("a", "1", "b", "1"),
+                ("b", "2", "c", "1"),
+                ("c", "2", "d", "1"),
+            ],
+            event.as_str(),
+        )?;
+        assert_eq!(rt; soon(&times, at).map(|bound| bound.0), Some(choice));
+    }
+    Ok(())
+}
+
+#[test]
 fn a_far_end_that_fails_costs_the_choice_nothing(rt: HostRuntime) -> Result<(), Fail> {
     // Both neighbours of c are nearer to the root than it is; c is farther from it than d is.
     let far = ring(

@@ -75,7 +75,7 @@ fn has_fewer_steps(chosen: &[Chosen], near: usize, far: usize) -> bool
 }
 
 /// Whether a link leads from the system at a place to one that has chosen fewer steps.
-fn leads_nearer(chosen: &[Chosen], place: usize, ends: &Ends) -> bool
+pub(crate) fn leads_nearer(chosen: &[Chosen], place: usize, ends: &Ends) -> bool
     ensures { result ≡ leads_nearer chosen.now place ends.now }
 {
     (ends.a == place && has_fewer_steps(chosen, ends.b, place))

@@ -1,6 +1,6 @@
 -- What is told of each time of a document is so: its choice and roles are choice bounds or loss bounds. The network has
 -- come to rest by a rest bound.
-use Rattle.std.proofs.Common.{◌≡◌, ◌<◌, ◌≤◌, ◌⊎◌, inl, inr, ◌+◌, ◌*◌, max, ℕ, Bool, true, false, cond, List, [], ◌∷◌, ◌++◌, Some, None, refl, sym, ap, subst, ◌∙◌, arith}
+use Rattle.std.proofs.Common.{◌≡◌, ◌<◌, ◌≤◌, ◌⊎◌, inl, inr, ◌+◌, ◌*◌, max, pred, ℕ, Bool, true, false, cond, List, [], ◌∷◌, ◌++◌, Some, None, refl, sym, ap, subst, ◌∙◌, arith}
 use Rattle.std.specs.Prelude.{◌==◌, min, nat_le}
 use Rattle.std.proofs.lemmas.Bool.{eqb-false, eqb-true}
 use Rattle.std.proofs.lemmas.Bool.Decides.{nat_tests}
@@ -16,11 +16,11 @@ use Rattle.gptp_network.specs.Document.{DocumentState}
 use Rattle.gptp_network.specs.Snapshot.{events_by}
 use Rattle.gptp_network.proofs.SnapshotLemmas.{from_filter}
 use Rattle.gptp_theorem.specs.PlayedLaws.{IsPlayable}
-use Rattle.gptp_how_soon.specs.Bounds.{aged_echo_span, choice_by, choice_of_row, echo_span, gone_by, held_span, loss_span, roles_of_row, sound_by}
+use Rattle.gptp_how_soon.specs.Bounds.{aged_echo_span, choice_by, choice_of_row, echo_span, gone_by, held_span, loss_span, roles_of_row, sound_by, way_span}
 use Rattle.gptp_how_soon.specs.Rest.{leaves_silent}
 use Rattle.gptp_how_soon.specs.Times.{View, events_at, gained_at, last_set, ready_at, row_at, settling_time, settling_times, settling_times_from, time_at, view_at}
 use Rattle.gptp_how_soon.specs.declared.bounds.Row.{Row}
-use Rattle.gptp_how_soon.specs.declared.bounds.Row.TheVariants.{AnyLosses, AnyPast, CutOff, FailedEnd, FailedHeard, FailureCutsOff, Gained, LostEnd, LostPower, Lowered, OneTurned, PowerCutsOff, Unchanged}
+use Rattle.gptp_how_soon.specs.declared.bounds.Row.TheVariants.{AnyLosses, AnyPast, CutOff, FailedEnd, FailedHeard, FailureCutsOff, Gained, LostEnd, LostPower, Lowered, OneTurned, PowerCutsOff, TreeCutOff, Unchanged}
 use Rattle.gptp_how_soon.specs.declared.bounds.Settling.{Settling}
 use Rattle.gptp_how_soon.specs.declared.bounds.SettlingTime.{SettlingTime}
 use Rattle.gptp_settling_time.specs.HowSoon.{BoundsAging, BoundsAnyLoss, BoundsChoice, BoundsEvents, BoundsLoss, BoundsStart, FailsHeardFirst, HeldFor, IsChoiceBoundAfter, IsLossBoundAfter, IsRestBoundAfter, NoneBetween, RestsAfterLoss}
@@ -31,7 +31,7 @@ use Rattle.gptp_settling_time.proofs.SilentSpanLemmas.{failures_within}
 use Rattle.gptp_settling_time.proofs.WellFormedLemmas.{after_well}
 use Rattle.gptp_how_soon_laws.specs.Choice.{SettlingsAreChoiceBounds}
 use Rattle.gptp_how_soon_laws.proofs.RowBoundLemmas.{HasOwnBounds, IsSoundSooner, IsTelling, bounds_choice, choice_or_own, past_row, sound_or_sooner, tells}
-use Rattle.gptp_how_soon_laws.proofs.RowLemmas.{HasComeToRest, any_losses, cut_off, failed, gained, heard, lost_end, lost_power, lowered, turned, unchanged}
+use Rattle.gptp_how_soon_laws.proofs.RowLemmas.{CutsLate, HasComeToRest, any_losses, cut_off, failed, gained, heard, lost_end, lost_power, lowered, tree_cut, turned, unchanged}
 use Rattle.gptp_how_soon_laws.proofs.StartRowLemmas.{first_past, first_roles, first_sound, never_unchanged, started}
 use Rattle.gptp_how_soon_laws.proofs.UnmovedLemmas.{AreWell}
 use Rattle.gptp_how_soon_laws.proofs.TimesLemmas.{AreTimes, later_times, times_after, times_parts}
@@ -252,12 +252,36 @@ module _ (d : DocumentState) (playable : IsPlayable d) where
           ⊎ ((roles : ℕ) × IsLossBoundAfter n all (b.at ∷ earlier) at s.choice roles)
       sooner : s.choice ≤ s.roles
 
+    -- What a loss asks for from rest, or a tree that falls off an announce interval later.
+    abbrev Asks : ℕ → ℕ → Type 0
+    Asks choice roles =
+        (HasComeToRest b at × BoundsLoss n made now choice roles)
+        ⊎ ((rest : HasComeToRest b at) × CutsLate n playable.network all b at late rest
+        × (choice ≡ 2 * way_span v.paths) × (roles ≡ choice))
+
     lost : (s : Settling) → IsChoiceBoundAfter n all (b.at ∷ earlier) at settled_by → NothingLapses n.params
-        → HasComeToRest b at → BoundsLoss n made now s.choice s.roles
+        → Asks s.choice s.roles
         → IsLossBoundAfter n all (b.at ∷ earlier) at s.choice s.roles
-    lost s settles off rest loses =
+    lost s settles off (inl (rest, loses)) =
         let (bound, past) = sound_before rest in
-        (late, between, settles.2.0, off, (rest.settling.sound, bound, past), loses)
+        inl (late, between, settles.2.0, off, (rest.settling.sound, bound, past), loses)
+    lost s settles off (inr (rest, tree, choice, roles)) =
+        let bound = (sound_before rest).0 in
+        let then = so rest.settling rest.is in
+        let less = then.rest in
+        let passed = tree.longer in
+        inr (
+          late,
+          between,
+          settles.2.0,
+          off,
+          (rest.settling.sound, bound, omega (arith, less, passed)),
+          tree.lowers,
+          choice
+              ∙ ap (λ es. 2 * way_span (sync_paths n es))
+              (sym (parted all b.at at playable.events.in_order late between)),
+          roles,
+        )
 
     -- what ages does no later than ports beside a failed system are off
     ages_first : (aged quiet : ℕ) → BoundsAging n made now aged quiet → aged ≤ quiet
@@ -277,54 +301,62 @@ module _ (d : DocumentState) (playable : IsPlayable d) where
     no_later choice roles (inr (inr (inr (inr (loses, is, inr later))))) =
         greater choice roles (silence_span (pace_of n)) later
 
+    asked_later : (choice roles : ℕ) → Asks choice roles → choice ≤ roles
+    asked_later choice roles (inl (rest, loses)) = no_later choice roles loses
+    asked_later choice roles (inr (rest, tree, is, same)) = omega (arith, same)
+
     -- what is lost at this time asks for what its row says
-    loses_by : (r : Row) → row_at v ≡ r → HasOwnBounds r
-        → HasComeToRest b at
-        × BoundsLoss n made now (choice_of_row n v.paths_before v.paths r (gained_at n v))
+    asks_by : (r : Row) → row_at v ≡ r → HasOwnBounds r
+        → Asks (choice_of_row n v.paths_before v.paths r (gained_at n v))
         (roles_of_row n v.paths_before v.paths silent r (gained_at n v))
-    loses_by AnyPast row own = absurd own
-    loses_by Unchanged row own = absurd own
-    loses_by Gained row own = absurd own
-    loses_by Lowered row own =
+    asks_by AnyPast row own = absurd own
+    asks_by Unchanged row own = absurd own
+    asks_by Gained row own = absurd own
+    asks_by Lowered row own =
         let (rest, lowers, flight) = lowered n playable.network all b at late well row in
-        (rest, inl (lowers, refl, inl refl))
-    loses_by CutOff row own =
+        inl (rest, inl (lowers, refl, inl refl))
+    asks_by CutOff row own =
         let x = cut_off n playable.network all b at late well row in
-        (x.rested, inl (x.lowers, refl, inr (x.cuts, refl)))
-    loses_by LostEnd row own =
+        inl (x.rested, inl (x.lowers, refl, inr (x.cuts, refl)))
+    asks_by LostEnd row own =
         let x = lost_end n playable.network all b at late well row in
-        (x.rested, inr (inl (x.fails, refl, inl (x.used, refl))))
-    loses_by FailedEnd row own =
+        inl (x.rested, inr (inl (x.fails, refl, inl (x.used, refl))))
+    asks_by FailedEnd row own =
         let (rest, fails, flight) = failed n playable.network all b at late well row in
-        (rest, inr (inl (fails, refl, inr refl)))
-    loses_by LostPower row own =
+        inl (rest, inr (inl (fails, refl, inr refl)))
+    asks_by LostPower row own =
         let (rest, fails, used) = lost_power n playable.network all b at late well (inl row) in
-        (rest, inr (inr (inr (inl (fails, (0, 0, inl (used, refl, refl), inl (refl, refl)))))))
-    loses_by PowerCutsOff row own =
+        inl (rest, inr (inr (inr (inl (fails, (0, 0, inl (used, refl, refl), inl (refl, refl)))))))
+    asks_by PowerCutsOff row own =
         let (rest, fails, used) = lost_power n playable.network all b at late well (inr row) in
-        (rest, inr (inr (inr (inl (fails, (0, 0, inl (used, refl, refl), inr (omega arith, omega arith)))))))
-    loses_by OneTurned row own =
+        inl (rest, inr (inr (inr (inl (fails, (0, 0, inl (used, refl, refl), inr (omega arith, omega arith)))))))
+    asks_by OneTurned row own =
         let (rest, turns) = turned n playable.network all b at late well row in
-        (rest, inr (inr (inl (turns, refl, refl))))
-    loses_by FailedHeard row own =
-        let (rest, fails) = heard n playable.network all b at late well (inl row) in (
+        inl (rest, inr (inr (inl (turns, refl, refl))))
+    asks_by TreeCutOff row own =
+        let (rest, tree) = tree_cut n playable.network all b at late well row in
+        inr (rest, tree, refl, refl)
+    asks_by FailedHeard row own =
+        let (rest, fails) = heard n playable.network all b at late well (inl row) in
+        inl (
           rest,
           inr (inr (inr (inl (
             fails,
             (held_span n v.paths_before, silence_span (pace_of n), inr (held_for fails, refl), inl (refl, refl)),
           )))),
         )
-    loses_by FailureCutsOff row own =
-        let (rest, fails) = heard n playable.network all b at late well (inr row) in (
+    asks_by FailureCutsOff row own =
+        let (rest, fails) = heard n playable.network all b at late well (inr row) in
+        inl (
           rest,
           inr (inr (inr (inl (
             fails,
             (held_span n v.paths_before, silence_span (pace_of n), inr (held_for fails, refl), inr (refl, refl)),
           )))),
         )
-    loses_by AnyLosses row own =
+    asks_by AnyLosses row own =
         let (rest, loses, roles) = any_losses n playable.network all b at late row in
-        (rest, inr (inr (inr (inr (loses, refl, roles (loss_span n v.paths_before v.paths))))))
+        inl (rest, inr (inr (inr (inr (loses, refl, roles (loss_span n v.paths_before v.paths))))))
 
     sooner_so : (s : Settling) → IsTelling n v s → IsChoiceBoundAfter n all (b.at ∷ earlier) at settled_by → IsSooner s
     sooner_so s it settles = elim (choice_or_own n v.paths_before v.paths silent (row_at v) (gained_at n v)) [
@@ -337,17 +369,16 @@ module _ (d : DocumentState) (playable : IsPlayable d) where
             sooner = omega (arith, choice, roles);
           }
       | inr (off, own, choice_is, roles_is) ↦
-          let (rest, by_row) = loses_by (row_at v) refl own in
-          let loses =
-          subst (λ roles. BoundsLoss n made now s.choice roles) (sym (it.roles ∙ roles_is))
-          (subst (λ choice. BoundsLoss n made now choice
+          let asks =
+          subst (λ roles. Asks s.choice roles) (sym (it.roles ∙ roles_is))
+          (subst (λ choice. Asks choice
           (roles_of_row n v.paths_before v.paths silent (row_at v) (gained_at n v))) (sym (it.choice ∙ choice_is))
-          by_row) in
-          let bound = lost s settles off rest loses in
+          (asks_by (row_at v) refl own)) in
+          let bound = lost s settles off asks in
           record {
             bounds = inr (s.choice, bound);
             choice = inr (s.roles, bound);
-            sooner = no_later s.choice s.roles loses;
+            sooner = asked_later s.choice s.roles asks;
           }
     ]
 

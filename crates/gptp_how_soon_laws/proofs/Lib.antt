@@ -8,6 +8,7 @@ mod UnmovedLemmas
 mod LoweredLemmas
 mod FailedLemmas
 mod CutOffLemmas
+mod TreeLemmas
 mod TurnedLemmas
 mod RowBoundLemmas
 mod RowReasonLemmas

@@ -23,10 +23,11 @@ use Rattle.gptp_how_soon.specs.Bounds.{is_hard_to_hear, gone_by}
 use Rattle.gptp_how_soon.specs.Chosen.{moves_counted, moves_joined, moves_some}
 use Rattle.gptp_how_soon.specs.Kinds.{are_heard, brings_nothing, fails_and_recovers, fails_first, is_better, is_failing, is_gain, is_idle, is_loss, is_lowering, is_other, is_recovery, leaves_links, lowers_one, lowers_unused, makes_nothing, recovers, takes_one, begins_wider, first_wider_by, is_wider}
 use Rattle.gptp_how_soon.specs.Links.{delay_set, longest_among, longest_delay, longest_set}
-use Rattle.gptp_how_soon.specs.Rest.{are_events_followed, are_losses_followed, are_recoveries_followed, are_turns_followed, heard_at_once, is_failing_followed, is_from_rest, is_lowering_followed, keeps_paths, leaves_silent, rested, rested_by, is_wider_followed, settles_wider_by}
+use Rattle.gptp_how_soon.specs.Rest.{are_events_followed, are_losses_followed, are_recoveries_followed, are_turns_followed, has_rested_for, heard_at_once, is_failing_followed, is_from_rest, is_lowering_followed, keeps_paths, leaves_silent, rested, rested_by, rested_for_by, is_wider_followed, settles_wider_by}
 use Rattle.gptp_how_soon.specs.Times.{View, events_at, gained_at, ready_at, row_at, view_at}
+use Rattle.gptp_how_soon.specs.Tree.{cuts_tree_after}
 use Rattle.gptp_how_soon.specs.declared.bounds.Row.{Row}
-use Rattle.gptp_how_soon.specs.declared.bounds.Row.TheVariants.{AnyLosses, CutOff, FailedEnd, FailedHeard, FailureCutsOff, Gained, LostEnd, LostPower, Lowered, OneTurned, PowerCutsOff, Unchanged}
+use Rattle.gptp_how_soon.specs.declared.bounds.Row.TheVariants.{AnyLosses, CutOff, FailedEnd, FailedHeard, FailureCutsOff, Gained, LostEnd, LostPower, Lowered, OneTurned, PowerCutsOff, TreeCutOff, Unchanged}
 use Rattle.gptp_how_soon.specs.declared.bounds.Settling.{Settling}
 use Rattle.gptp_how_soon.specs.declared.bounds.SettlingTime.{SettlingTime}
 use Rattle.gptp_how_soon.specs.declared.kinds.Kind.{Kind}
@@ -35,10 +36,11 @@ use Rattle.gptp_how_soon.specs.declared.kinds.Told.{Told}
 use Rattle.gptp_how_soon.specs.declared.kinds.What.{What}
 use Rattle.gptp_how_soon.specs.declared.kinds.What.TheVariants as whats
 use Rattle.gptp_settling_time.specs.Gains.{HasDelaysWithin}
-use Rattle.gptp_settling_time.specs.HowSoon.{AreWiderEvents, BoundsGains, CutsOneEnd, EachEvent, FailsEndFirst, FailsHeardFirst, IsStillEvent, LosesEvents, LowersOneLink, RolesAfterLoss, TurnsOneLink, way_span}
+use Rattle.gptp_settling_time.specs.HowSoon.{AreWiderEvents, BoundsGains, CutsOneEnd, EachEvent, FailsEndFirst, FailsHeardFirst, IsStillEvent, LosesEvents, LowersOneLink, OneEvent, RolesAfterLoss, TurnsOneLink, way_span}
 use Rattle.gptp_settling_time.specs.InTurn.{FlightIsGone}
 use Rattle.gptp_invariants.specs.FailedUnanswered.{silence_span}
 use Rattle.gptp_settling_time.specs.Losses.{UpIsUsed}
+use Rattle.gptp_settling_time.specs.TreeLosses.{LowersTree}
 use Rattle.gptp_settling_time.proofs.CutLemmas.{IsBy, all_by}
 use Rattle.gptp_settling_time.proofs.LeadOnLemmas.{all_still}
 use Rattle.gptp_settling_time.proofs.MomentLemmas.{all_at}
@@ -48,6 +50,7 @@ use Rattle.gptp_how_soon_laws.proofs.KindLemmas.{told}
 use Rattle.gptp_how_soon_laws.proofs.FailedLemmas.{fails_end_first, fails_heard_first, used_up}
 use Rattle.gptp_how_soon_laws.proofs.CutOffLemmas.{cuts_one_end}
 use Rattle.gptp_how_soon_laws.proofs.LoweredLemmas.{lowers_one_link, used_on}
+use Rattle.gptp_how_soon_laws.proofs.TreeLemmas.{lowers_tree}
 use Rattle.gptp_how_soon_laws.proofs.TurnedLemmas.{turns_one_link}
 use Rattle.gptp_how_soon_laws.proofs.UnmovedLemmas.{AreWell, all_still_unmoved}
 use Rattle.gptp_how_soon_laws.proofs.RowReasonLemmas.{ReasonOf, reason_of}
@@ -115,6 +118,14 @@ rested_so : (b : SettlingTime) (at : ℕ) (o : Option Settling) → b.settling �
 rested_so b at None is rested = absurd cc
 rested_so b at (Some s) is rested = record { settling = s; is = is; passed = grind (arith, nat_tests) }
 
+rested_for_so : (span : ℕ) (b : SettlingTime) (at : ℕ) (s : Settling) → b.settling ≡ Some s
+    → has_rested_for span (Some b) at ≡ true → b.at + (s.rest + span) < at
+rested_for_so span b at s is test =
+    below (b.at + (s.rest + span)) at ((λ k. rested_for_by span b at (sym is k)) ∙ test)
+  where
+    below : (x y : ℕ) → nat_lt x y ≡ true → x < y
+    below x y less = grind (arith, nat_tests)
+
 at_most : (a b : ℕ) → nat_le a b ≡ true → a ≤ b
 at_most a b is = grind (arith, nat_tests)
 
@@ -177,19 +188,21 @@ module _ (n : NetworkState) (network : IsNetwork n) (events : List Timed) (b : S
   abbrev Why : Row → Type 0
   Why =
       ReasonOf (is_from_rest v.longest at v.paths_before v.paths v.told (Some b))
-      (list_all makes_nothing v.told || begins_wider v.told) (are_losses_followed v.paths_before v.told && not v.moved)
-      (is_lowering_followed v.paths_before v.paths v.told && not v.moved) v.cut
-      (is_lowering_followed v.paths_before v.paths v.told && v.turned)
-      (is_failing_followed v.paths_before v.paths v.told && not v.moved) v.far v.moves_any v.used
+      (list_all makes_nothing v.told || begins_wider v.told) (are_losses_followed v.paths_before v.told && not v.moves.moved)
+      (is_lowering_followed v.paths_before v.paths v.told && not v.moves.moved) v.moves.cut
+      (is_lowering_followed v.paths_before v.paths v.told && v.moves.turned)
+      (is_lowering_followed v.paths_before v.paths v.told && v.moves.falls)
+      (is_failing_followed v.paths_before v.paths v.told && not v.moves.moved) v.moves.far v.moves.any v.used
       (list_any is_loss v.told) (list_all brings_nothing v.told)
 
   why : (row : Row) → row_at v ≡ row → Why row
   why row is =
       reason_of (is_from_rest v.longest at v.paths_before v.paths v.told (Some b))
-      (list_all makes_nothing v.told || begins_wider v.told) (are_losses_followed v.paths_before v.told && not v.moved)
-      (is_lowering_followed v.paths_before v.paths v.told && not v.moved) v.cut
-      (is_lowering_followed v.paths_before v.paths v.told && v.turned)
-      (is_failing_followed v.paths_before v.paths v.told && not v.moved) v.far v.moves_any v.used
+      (list_all makes_nothing v.told || begins_wider v.told) (are_losses_followed v.paths_before v.told && not v.moves.moved)
+      (is_lowering_followed v.paths_before v.paths v.told && not v.moves.moved) v.moves.cut
+      (is_lowering_followed v.paths_before v.paths v.told && v.moves.turned)
+      (is_lowering_followed v.paths_before v.paths v.told && v.moves.falls)
+      (is_failing_followed v.paths_before v.paths v.told && not v.moves.moved) v.moves.far v.moves.any v.used
       (list_any is_loss v.told) (list_all brings_nothing v.told) row is
 
   -- it is from rest
@@ -271,14 +284,14 @@ module _ (n : NetworkState) (network : IsNetwork n) (events : List Timed) (b : S
       below x y test = grind (arith, nat_tests)
 
   -- what stands is left, as no system is moved
-  unmoved : AreWell n (made ++ now) → (are_losses_followed v.paths_before v.told && not v.moved) ≡ true
+  unmoved : AreWell n (made ++ now) → (are_losses_followed v.paths_before v.told && not v.moves.moved) ≡ true
       → EachEvent (IsStillEvent n) made now
   unmoved well left =
-      let (followed, none) = and_parts (are_losses_followed v.paths_before v.told) (not v.moved) left in
+      let (followed, none) = and_parts (are_losses_followed v.paths_before v.told) (not v.moves.moved) left in
       let (few, leaves) =
       and_parts (nat_le v.paths_before.systems 255) (list_all leaves_links v.told) followed in
       all_still_unmoved n network made now well (at_most v.paths_before.systems 255 few)
-      (counts_all (takes_one v.told) n made (made ++ now) (leaves_all v.told leaves) (not-true v.moved none))
+      (counts_all (takes_one v.told) n made (made ++ now) (leaves_all v.told leaves) (not-true v.moves.moved none))
       leaves
 
   pub unchanged : AreWell n (made ++ now) → row_at v ≡ Unchanged
@@ -390,47 +403,47 @@ module _ (n : NetworkState) (network : IsNetwork n) (events : List Timed) (b : S
     pub keeps : KeepsPaths
 
   takes_so : (kind : List Told → Bool) → ((es : List Told) → kind es ≡ true → takes_one es ≡ true)
-      → (keeps_paths v.paths_before v.paths && kind v.told && not v.moved) ≡ true → TakesOne kind
+      → (keeps_paths v.paths_before v.paths && kind v.told && not v.moves.moved) ≡ true → TakesOne kind
   takes_so kind takes is =
-      let (followed, none) = and_parts (keeps_paths v.paths_before v.paths && kind v.told) (not v.moved) is in
+      let (followed, none) = and_parts (keeps_paths v.paths_before v.paths && kind v.told) (not v.moves.moved) is in
       let (keeps, one) = and_parts (keeps_paths v.paths_before v.paths) (kind v.told) followed in
       record {
         one = one;
-        unmoved = counts_joined (takes_one v.told) n made (made ++ now) (takes v.told one) (not-true v.moved none);
+        unmoved = counts_joined (takes_one v.told) n made (made ++ now) (takes v.told one) (not-true v.moves.moved none);
         keeps = keeps_so keeps;
       }
 
   -- a system fails by the first event
-  fails_so : (is_failing_followed v.paths_before v.paths v.told && not v.moved) ≡ true → TakesOne fails_first
+  fails_so : (is_failing_followed v.paths_before v.paths v.told && not v.moves.moved) ≡ true → TakesOne fails_first
   fails_so = takes_so fails_first failing_takes
 
   failing_heard : AreWell n (made ++ now)
-      → (is_failing_followed v.paths_before v.paths v.told && not v.moved) ≡ true → FailsHeardFirst n made now
+      → (is_failing_followed v.paths_before v.paths v.told && not v.moves.moved) ≡ true → FailsHeardFirst n made now
   failing_heard well fails =
       let x = fails_so fails in
       fails_heard_first n network made now well x.unmoved x.keeps.delay x.keeps.paths x.keeps.few x.one
 
   -- which is a far end
   failing_end : AreWell n (made ++ now)
-      → (is_failing_followed v.paths_before v.paths v.told && not v.moved) ≡ true → v.far ≡ true
+      → (is_failing_followed v.paths_before v.paths v.told && not v.moves.moved) ≡ true → v.moves.far ≡ true
       → FailsEndFirst n made now
   failing_end well fails far =
       let x = fails_so fails in
       fails_end_first n network made now well x.unmoved x.keeps.delay x.keeps.paths x.keeps.few x.one far
 
   -- a link goes down by the one event
-  goes_down : (is_lowering_followed v.paths_before v.paths v.told && not v.moved) ≡ true → TakesOne lowers_one
+  goes_down : (is_lowering_followed v.paths_before v.paths v.told && not v.moves.moved) ≡ true → TakesOne lowers_one
   goes_down = takes_so lowers_one lowering_takes
 
-  lowers_so : AreWell n (made ++ now) → (is_lowering_followed v.paths_before v.paths v.told && not v.moved) ≡ true
+  lowers_so : AreWell n (made ++ now) → (is_lowering_followed v.paths_before v.paths v.told && not v.moves.moved) ≡ true
       → LowersOneLink n made now
   lowers_so well lowers =
       let x = goes_down lowers in
       lowers_one_link n network made now well x.unmoved x.keeps.delay x.keeps.paths x.keeps.few x.one
 
   -- and it cuts off a far end
-  cuts_so : AreWell n (made ++ now) → (is_lowering_followed v.paths_before v.paths v.told && not v.moved) ≡ true
-      → v.cut ≡ true → CutsOneEnd n made now
+  cuts_so : AreWell n (made ++ now) → (is_lowering_followed v.paths_before v.paths v.told && not v.moves.moved) ≡ true
+      → v.moves.cut ≡ true → CutsOneEnd n made now
   cuts_so well lowers cut =
       let x = goes_down lowers in
       cuts_one_end n network made now well x.unmoved cut x.keeps.delay x.keeps.paths x.keeps.few x.one
@@ -509,10 +522,32 @@ module _ (n : NetworkState) (network : IsNetwork n) (events : List Timed) (b : S
       → HasComeToRest b at × TurnsOneLink n made now
   turned well row =
       let (from, turns) = why OneTurned row in
-      let (followed, one) = and_parts (is_lowering_followed v.paths_before v.paths v.told) v.turned turns in
+      let (followed, one) = and_parts (is_lowering_followed v.paths_before v.paths v.told) v.moves.turned turns in
       let (keeps, lowers) = and_parts (keeps_paths v.paths_before v.paths) (lowers_one v.told) followed in
       let x = keeps_so keeps in
       ((from_rest from).rested, turns_one_link n network made now well one x.delay x.paths x.few lowers)
+
+  -- or a tree is cut off, an announce interval after all came to rest
+  pub record CutsLate (rest : HasComeToRest b at) : Type 0 where
+    pub lowers : OneEvent (LowersTree n) made now
+    pub longer : b.at + (rest.settling.rest + largest_interval (pace_of n)) < at
+
+  pub tree_cut : AreWell n (made ++ now) → row_at v ≡ TreeCutOff → (rest : HasComeToRest b at) × CutsLate rest
+  tree_cut well row =
+      let (from, falls) = why TreeCutOff row in
+      let (followed, both) = and_parts (is_lowering_followed v.paths_before v.paths v.told) v.moves.falls falls in
+      let (keeps, lowers) = and_parts (keeps_paths v.paths_before v.paths) (lowers_one v.told) followed in
+      let (late, tree) =
+      and_parts (has_rested_for (largest_interval (pace_of n)) (Some b) at) (cuts_tree_after n made (made ++ now))
+      both in
+      let x = keeps_so keeps in
+      let rest = (from_rest from).rested in (
+        rest,
+        record {
+          lowers = lowers_tree n network made now well tree x.delay x.paths x.few lowers;
+          longer = rested_for_so (largest_interval (pace_of n)) b at rest.settling rest.is late;
+        },
+      )
 
   -- or a far end hangs
   pub failed : AreWell n (made ++ now) → row_at v ≡ FailedEnd

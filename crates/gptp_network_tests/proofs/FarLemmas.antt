@@ -315,7 +315,7 @@ none_between t (inl same) later = subst (λ (x : Timed). 30000000000 ≤ x.at) (
 none_between t (inr none) later = absurd none
 
 lost : IsLossBoundAfter ring_network far_document.events (0 ∷ []) 30000000000 0 11000000000
-lost = (
+lost = inl (
   omega arith,
   none_between,
   record { links = links_rest; lapses = inl refl },

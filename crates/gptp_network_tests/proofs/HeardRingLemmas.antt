@@ -160,7 +160,7 @@ none_between t (inl same) later = subst (λ (x : Timed). 30000000000 ≤ x.at) (
 none_between t (inr none) later = absurd none
 
 lost : IsLossBoundAfter ring_network heard_document.events (0 ∷ []) 30000000000 3000000410 11000000000
-lost = (
+lost = inl (
   omega arith,
   none_between,
   record { links = links_rest; lapses = inl refl },

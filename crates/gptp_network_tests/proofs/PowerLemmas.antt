@@ -199,7 +199,7 @@ none_between t member later =
     by t x same late = let at = ap (λ (y : Timed). y.at) same in omega (arith, late, at)
 
 lost : IsLossBoundAfter ring_network dark_document.events (0 ∷ []) 30000000000 0 0
-lost = (
+lost = inl (
   omega arith,
   none_between,
   record { links = links_rest; lapses = inl refl },

@@ -278,7 +278,7 @@ none_between t (inl same) later = subst (λ (x : Timed). 30000000000 ≤ x.at) (
 none_between t (inr none) later = absurd none
 
 lost : IsLossBoundAfter ring_network ring_document.events (0 ∷ []) 30000000000 2460 2460
-lost = (
+lost = inl (
   omega arith,
   none_between,
   record { links = links_rest; lapses = inl refl },

@@ -1,5 +1,5 @@
--- A world since a system failed that others hear: what they hold of it ages by the link over which it came. Where some of
--- these links are down too it has aged by the greatest time of the others.
+-- A world since a system failed that others hear: what they hold of it ages by the link over which it came. Where some
+-- of these links are down too it has aged by the greatest time of the others.
 use Rattle.std.proofs.Common.{◌≡◌, ◌≤◌, ℕ, List, refl, sym, subst, inl, inr}
 use Rattle.gptp_graph.specs.Snapshot.{PortIdentity, Snapshot}
 use Rattle.gptp_links.specs.Fate.{Draw}

@@ -22,8 +22,8 @@ StaysAsNamed stay w = (i : ℕ) (s : Station) (place : ℕ) (r : Reception) → 
     → s.live ≡ true → HoldsAt s place r
     → r.span ≡ stay r.said.log
 
--- This is so of each Announce that is held, at its port, and of the time when it has aged there; and of each in flight to
--- a live system, at the port to which it comes, and of when it has aged there once it has come.
+-- This is so of each Announce that is held, at its port, and of the time when it has aged there; and of each in flight
+-- to a live system, at the port to which it comes, and of when it has aged there once it has come.
 pub record EachAges (says : Spelling) (g : Snapshot) (stay : ℤ → ℕ) (So : PortIdentity → Announce → ℕ → Type 0)
     (w : MachineState) : Type 0 where
   pub held : (i : ℕ) (s : Station) (place : ℕ) (r : Reception) → slice_get w.stations i ≡ Some s → s.live ≡ true
@@ -157,7 +157,8 @@ module _ (says : Spelling) (k : NetworkSetting) (stay : ℤ → ℕ) (So : PortI
   each_ages (inr (inl act)) all =
       called act.touch act.mid act.call (popped act.j act.l act.f act.fs act.mid act.pops all) (arrived act all)
   each_ages (inr (inr (inl act))) all = popped act.j act.l act.f act.fs w' act.pops all
-  each_ages (inr (inr (inr act))) all = called act.touch w act.call all (heard_none w.time act.call.s act.touch act.deaf)
+  each_ages (inr (inr (inr act))) all =
+      called act.touch w act.call all (heard_none w.time act.call.s act.touch act.deaf)
 
 -- ---- where no link is
 

@@ -4,6 +4,7 @@ use Rattle.gptp_graph.specs.Snapshot.{Snapshot}
 use Rattle.gptp_links.specs.declared.bounds.Bounds.{Bounds}
 use Rattle.gptp_scenario.specs.Calm.{IsCalm, NothingLapses}
 use Rattle.gptp_scenario.specs.Network.{pace_of}
+use Rattle.gptp_scenario.specs.SettlingTime.{silence_span}
 use Rattle.gptp_scenario.specs.declared.change.Timed.{Timed}
 use Rattle.gptp_model.specs.Acts.{at}
 use Rattle.gptp_model.specs.Course.{WasDone}
@@ -15,7 +16,6 @@ use Rattle.gptp_world.proofs.SettlingInvariantLemmas.{next_octet}
 use Rattle.gptp_network.specs.Document.{DocumentState}
 use Rattle.gptp_invariants.specs.ChoiceCalm.{HaveQuietLinks}
 use Rattle.gptp_invariants.specs.ChoiceSettled.{Settled}
-use Rattle.gptp_invariants.specs.FailedUnanswered.{silence_span}
 use Rattle.gptp_invariants.specs.WorldBounded.{IsBoundedWorld}
 use Rattle.gptp_theorem.specs.PlayedLaws.{IsPlayable}
 use Rattle.gptp_theorem.proofs.CalmLemmas.{quiet_stands}
@@ -127,6 +127,6 @@ module _ (d : DocumentState) (ago events : List Timed) (aged silent : ℕ) where
         since = aged_claimed p so.before aged silent rest.by rest.flight w so.since so.sound rest.gone
             (omega (arith, last, since)) (omega (arith, told)) (goes_to d playable events w so.keeps rest.flight
             rest.is_gone) (omega (arith, told, echo)) (quiet w so playable rest.calm rest.off) rest.off start
-            (omega (arith, last, later))
+            (omega (arith, last, since, later))
             (silent_from_now p start silent w so.since.standing.world so.since.standing.silent rest.unlinked);
       }

@@ -1,5 +1,5 @@
--- A world that is left, in which all that is held becomes sound: links tell right traces by distance, and what they told
--- before is gone. Once that is so claims are made of it as of one since news.
+-- A world that is left, in which all that is held becomes sound: links tell right traces by distance, and what they
+-- told before is gone. Once that is so claims are made of it as of one since news.
 use Rattle.std.proofs.Common.{◌≡◌, ◌⊎◌, ◌<◌, ◌≤◌, ◌+◌, ◌*◌, ℕ, suc, pred, Some, slice_get, refl, sym, subst, ◌∙◌, inl, inr, arith}
 use Rattle.gptp_graph.specs.Best.{IsBest}
 use Rattle.gptp_graph.specs.Distance.{IsDistance}

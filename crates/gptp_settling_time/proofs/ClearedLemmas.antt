@@ -1,5 +1,5 @@
--- A world since a far end was lost, or a link went down that moved none: all that is held is sound, and what is in flight
--- is so but for what is old; or it becomes so.
+-- A world since a far end was lost, or a link went down that moved none: all that is held is sound, and what is in
+-- flight is so but for what is old; or it becomes so.
 use Rattle.std.proofs.Common.{◌<◌, ◌≤◌, ℕ, List, refl, inl, inr}
 use Rattle.gptp_graph.specs.Snapshot.{Snapshot}
 use Rattle.gptp_links.specs.Fate.{Draw}

@@ -12,6 +12,7 @@ use Rattle.gptp_graph.proofs.LinkLemmas.{Joins-clock}
 use Rattle.gptp_links.specs.declared.link.Direction.TheVariants.{FromA}
 use Rattle.gptp_links.specs.Fate.{Draw}
 use Rattle.gptp_scenario.specs.Params.{KeepPace}
+use Rattle.gptp_scenario.specs.SettlingTime.{silence_span}
 use Rattle.gptp_scenario.specs.declared.change.Act.TheVariants.{Change as Changing}
 use Rattle.gptp_scenario.specs.declared.change.Change.TheVariants.{Fail}
 use Rattle.gptp_setup.specs.SettlingParams.{SettlingParams, longest_span}
@@ -35,7 +36,6 @@ use Rattle.gptp_invariants.specs.DelayMeasured.{LinkIsMeasured}
 use Rattle.gptp_invariants.specs.WorldNews.{AreReadyBy, AreSilentBy}
 use Rattle.gptp_invariants.specs.WorldSound.{IsSoundWorld}
 use Rattle.gptp_invariants.specs.WorldStanding.{channel_is_used, live_stations, snapshot_of}
-use Rattle.gptp_invariants.specs.FailedUnanswered.{silence_span}
 use Rattle.gptp_invariants.proofs.ChoiceSettlesAsMachineLemmas.{paths_bound}
 use Rattle.gptp_invariants.proofs.WorldStandsLemmas.{stands_well}
 use Rattle.gptp_invariants.proofs.ChoiceCalmFactLemmas.{frame_from}
@@ -312,5 +312,6 @@ module _ (p : SettlingParams) (number : ℕ) (w : WorldState) (draws : List Draw
           n_set : Network
           n_set = set_network p w
 
-      pub failed_ages_by : IsAgingAlways p g aged silent w' × WorldAgesBy p (ByLink w.time (StaysLongest p) (OverWay w)) w'
+      pub failed_ages_by : IsAgingAlways p g aged silent w'
+          × WorldAgesBy p (ByLink w.time (StaysLongest p) (OverWay w)) w'
       failed_ages_by = (failed_aging, failed_by)

@@ -7,22 +7,22 @@ use Rattle.gptp_setup.specs.SettlingParams.{largest_interval}
 use Rattle.gptp_scenario.specs.Calm.{IsCalm, NothingLapses}
 use Rattle.gptp_scenario.specs.Network.{IsNetwork, NetworkState, pace_of}
 use Rattle.gptp_scenario.specs.SettlingAtOnce.{settling_span_at_once}
-use Rattle.gptp_scenario.specs.SettlingTime.{settling_span_with}
+use Rattle.gptp_scenario.specs.SettlingTime.{loss_span, settling_span_with, silence_span, way_span}
 use Rattle.gptp_scenario.specs.SyncWait.{sync_paths}
 use Rattle.gptp_scenario.specs.declared.change.Timed.{Timed}
 use Rattle.gptp_network.specs.Document.{DocumentState}
 use Rattle.gptp_network.specs.Events.{AreInOrder}
 use Rattle.gptp_network.specs.Snapshot.{events_by}
-use Rattle.gptp_settling_time.specs.HowSoon.{AreGainEvents, AreHeardEvents, AreReadyAtStart, AreStartEvents, BoundsAging, BoundsAnyLoss, BoundsEvents, BoundsLoss, BoundsStart, IsChoiceAloneBound, IsChoiceBound, IsChoiceBoundAfter, IsLossBoundAfter, IsRestBoundAfter, EachEvent, NoneBetween, OneEvent, RestsAfterLoss, events_at, way_span}
-use Rattle.gptp_settling_time.specs.InTurn.{Aging, AnyPast, AreCapableSoon, BeginsBy, ChoosesAfter, ChoosesByEvents, ComesByEvents, EventLeads, Gained, Heard, LeadOn, Left, Lost, Past, SettlesAfter, SettlesByEvents, Starting, StartsWith, TellsNothing, Turned, UsedVaryLittle}
-use Rattle.gptp_settling_time.specs.Losses.{AgesWithin, FailsHeard, LowersLink, LowersUnused, TurnsLink, UpIsUsed, loss_span}
+use Rattle.gptp_settling_time.specs.HowSoon.{AreGainEvents, AreHeardEvents, AreReadyAtStart, AreStartEvents, BoundsAging, BoundsAnyLoss, BoundsEvents, BoundsLoss, BoundsStart, IsChoiceAloneBound, IsChoiceBound, IsChoiceBoundAfter, IsLossBoundAfter, IsRestBoundAfter, EachEvent, NoneBetween, OneEvent, RestsAfterLoss, events_at}
+use Rattle.gptp_settling_time.specs.InTurn.{Aging, AnyPast, AreCapableSoon, BeginsBy, ChoosesAfter, ChoosesByEvents, ComesByEvents, EventLeads, Fallen, Gained, Heard, LeadOn, Left, Lost, Past, SettlesAfter, SettlesByEvents, Starting, StartsWith, TellsNothing, Turned, UsedVaryLittle}
+use Rattle.gptp_settling_time.specs.TreeLosses.{LowersTree}
+use Rattle.gptp_settling_time.specs.Losses.{AgesWithin, FailsHeard, LowersLink, LowersUnused, TurnsLink, UpIsUsed}
 use Rattle.gptp_settling_time.proofs.CalmLessLemmas.{fails_calm}
 use Rattle.gptp_settling_time.proofs.CutLemmas.{IsBy, all_by}
 use Rattle.gptp_settling_time.proofs.MomentLemmas.{all_at, last_by, parted}
 use Rattle.gptp_settling_time.proofs.LeadOnLemmas.{HasRested, HasSettled, IsLed, after_idle, any_leads, gains_led, heard_led, idle_led, lead_as, leads_on, led_as, next, rested_so, settled_later, taken_later, wider_led}
 use Rattle.gptp_settling_time.proofs.LosesLeadLemmas.{LosesBy, any_rests, loses_by}
-use Rattle.gptp_settling_time.proofs.LossLeadLemmas.{IsLeftBy, cleared_led, dead_lead, heard_lead, loss_leads, settles_chooses, turn_leads}
-use Rattle.gptp_invariants.specs.FailedUnanswered.{silence_span}
+use Rattle.gptp_settling_time.proofs.LossLeadLemmas.{IsLeftBy, cleared_led, dead_lead, fall_leads, heard_lead, loss_leads, settles_chooses, turn_leads}
 
 -- ---- a document
 
@@ -440,9 +440,52 @@ module _ (d : DocumentState) (network : IsNetwork d.network) (order : AreInOrder
             heard held quiet (omega (arith, is_later)) (omega (arith, roles_later, more)) fails others bounds
         by (inr (inr (inr (inr any)))) = any_lost any
 
+    -- a tree is cut off, an interval after the time before has come to rest
+    tree_by : (last choice_then : ℕ) (now : List Timed) → NothingLapses d.network.params
+        → events_at time d.events ≡ now → events_by time d.events ≡ events_by last d.events ++ now
+        → IsCalm d.network (events_by last d.events) → IsCalm d.network (events_by time d.events)
+        → IsFollowedTo d.network (events_by last d.events) last choice_then
+        → last + choice_then + largest_interval (pace_of d.network) < time
+        → OneEvent (LowersTree d.network) (events_by last d.events) now
+        → choice ≡ 2 * way_span (sync_paths d.network (events_by time d.events)) → roles ≡ choice → IsLost
+    tree_by last choice_then [] off is parts calm_then calm before soon none is_choice same = absurd none
+    tree_by last choice_then (event ∷ other ∷ now) off is parts calm_then calm before soon none is_choice same =
+        absurd none
+    tree_by last choice_then (event ∷ []) off is parts calm_then calm before soon lowers is_choice same =
+        let here : event.at ≡ time =
+        (subst (AllByRecursion (λ (t : Timed). t.at ≡ time)) is (all_at time d.events)).0 in
+        let seen = before.settles.0 in
+        let earlier = events_by last d.events in
+        let over = last_by last d.events in
+        let (silent, leads) = fall_leads d.network earlier event (suc (last + choice_then)) (omega (arith, over))
+        (omega (arith, soon, here)) seen before.settles.2
+        (record { lowers = lowers; calm = calm_then; off = off }) in
+        let past : Past = Fallen silent event.at in
+        record {
+          first = before.first;
+          begins = before.begins;
+          last = past;
+          lead = subst (λ es. LeadOn d.network [] before.first es past) (sym parts)
+              (leads_on d.network [] before.first before.last past earlier (event ∷ []) before.lead (
+                seen,
+                taken_later d.network earlier before.last seen (suc (last + choice_then)) event.at
+                    (omega (arith, soon, here)) before.settles.1,
+                past,
+                leads,
+                refl,
+              ));
+          calm = calm;
+          settles = λ settled late. (off, omega (arith, here, is_choice, same, late));
+          chooses = λ settled late. (off, omega (arith, here, is_choice, late));
+        }
+
     lost_after : (earlier : List ℕ) → IsLossBoundAfter d.network d.events earlier time choice roles → IsLost
     lost_after [] none = absurd none
-    lost_after (last ∷ earlier) (less, between, calm, off, (choice_then, bound, soon), loses) =
+    lost_after (last ∷ earlier) (inr (less, between, calm, off, (choice_then, bound, soon), lowers, is_choice, same)) =
+        tree_by last choice_then (events_at time d.events) off refl (parted d.events last time order less between)
+        (bound_calm d.network network off d.events order earlier last choice_then bound) calm
+        (followed d.network network off d.events order earlier last choice_then bound) soon lowers is_choice same
+    lost_after (last ∷ earlier) (inl (less, between, calm, off, (choice_then, bound, soon), loses)) =
         lost_by last choice_then (events_at time d.events) off refl (parted d.events last time order less between)
         (bound_calm d.network network off d.events order earlier last choice_then bound) calm
         (followed d.network network off d.events order earlier last choice_then bound) soon loses

@@ -33,7 +33,7 @@ use Rattle.gptp_theorem.proofs.CalmLemmas.{quiet_stands}
 use Rattle.gptp_theorem.proofs.SettlingInvariantLemmas.{IsFitEvent, least_of}
 use Rattle.gptp_theorem.proofs.SyncPathLemmas.{paths_stand}
 use Rattle.gptp_settling_time.specs.Gains.{ChangesNothing, LeavesCapable, TakesNothing}
-use Rattle.gptp_settling_time.specs.InTurn.{AddsHeard, AgesSooner, Aging, AnyPast, BettersClock, BringsUp, Cleared, ClearsBy, EventLeads, FailsNow, Gained, HasSettledAnyhow, HasSettledHeard, HasSettledSince, Heard, LeavesSettled, LeavesStanding, Left, LosesNow, Lost, LowersUnusedCalm, MakesNothing, Past, RecoversAlone, Starting, Turned, TurnsInVain, TurnsNow, WidensFrom}
+use Rattle.gptp_settling_time.specs.InTurn.{AddsHeard, AgesSooner, Aging, AnyPast, BettersClock, BringsUp, Cleared, ClearsBy, EventLeads, FailsNow, Fallen, FallsNow, Gained, HasSettledAnyhow, HasSettledHeard, HasSettledSince, Heard, LeavesSettled, LeavesStanding, Left, LosesNow, Lost, LowersUnusedCalm, MakesNothing, Past, RecoversAlone, Starting, Turned, TurnsInVain, TurnsNow, WidensFrom}
 use Rattle.gptp_settling_time.proofs.AgingDownLemmas.{down_ages}
 use Rattle.gptp_settling_time.proofs.AgesByLemmas.{by_map}
 use Rattle.gptp_settling_time.proofs.AgesByWorldLemmas.{WorldAgesBy, aging_by}
@@ -49,6 +49,10 @@ use Rattle.gptp_settling_time.proofs.GainLemmas.{better_lives, down_so, few_so, 
 use Rattle.gptp_settling_time.proofs.DeadDownLemmas.{asked_on, dead_left, reduced as dead_reduced, snapshot_now}
 use Rattle.gptp_settling_time.proofs.FailedDownLemmas.{lowered_claimed, lowered_news}
 use Rattle.gptp_settling_time.proofs.FailedUpLemmas.{raised_claimed, raised_from}
+use Rattle.gptp_settling_time.proofs.FallMadeLemmas.{fallen_to}
+use Rattle.gptp_settling_time.proofs.FallenToLemmas.{IsFallenTo}
+use Rattle.gptp_settling_time.proofs.NamedAfterLemmas.{NamesAfter}
+use Rattle.gptp_settling_time.proofs.NamedLemmas.{IsNamedFrom}
 use Rattle.gptp_settling_time.proofs.HeardLemmas.{heard_on}
 use Rattle.gptp_settling_time.proofs.KeptToLemmas.{KeepsTo, keeps_later}
 use Rattle.gptp_settling_time.proofs.LinkUpLemmas.{link_up_claimed}
@@ -407,6 +411,7 @@ module _ {F : Type 0} (answers : Bounds → ℕ → F → Option ℕ → F → T
         (left_so start (since_later p start event.at w k.ready.timely.now k.ready.timely.first so.since) nothing)
     leads_to_heard (Left start) next none so = absurd none
     leads_to_heard (Turned silent now) next none so = absurd none
+    leads_to_heard (Fallen silent now) next none so = absurd none
     leads_to_heard (Cleared since silent right old) next none so = absurd none
     leads_to_heard (Aging ago aged silent) next none so = absurd none
     leads_to_heard (Lost since most silent) next none so = absurd none
@@ -532,6 +537,7 @@ module _ {F : Type 0} (answers : Bounds → ℕ → F → Option ℕ → F → T
           since = fallen_left left.before silent falls left.since;
         })
     leads_to_left (Turned silent now) next none so = absurd none
+    leads_to_left (Fallen silent now) next none so = absurd none
     leads_to_left (Cleared since silent right old) next none so = absurd none
     leads_to_left (Aging ago aged silent) next none so = absurd none
     leads_to_left (Lost since most silent) next none so = absurd none
@@ -547,6 +553,7 @@ module _ {F : Type 0} (answers : Bounds → ℕ → F → Option ℕ → F → T
         turns start silent now (rested_heard start settled so.since) by
     leads_to_turned (Left start) silent now none so = absurd none
     leads_to_turned (Turned start was) silent now none so = absurd none
+    leads_to_turned (Fallen start was) silent now none so = absurd none
     leads_to_turned (Cleared since start right old) silent now none so = absurd none
     leads_to_turned (Aging ago aged start) silent now none so = absurd none
     leads_to_turned (Lost since most start) silent now none so = absurd none
@@ -579,7 +586,8 @@ module _ {F : Type 0} (answers : Bounds → ℕ → F → Option ℕ → F → T
         (λ port until. AgesOver n ago made then_so.failed port until × IsUpAt w' port)
         (AgesOver n ago more then_so.failed) (view w')
         (λ port until unlinked (is_over, is_up).
-        over_down n ago made event x w' after.stands world'.sound world'.encodable then_so.failed port until is_over is_up)
+        over_down n ago made event x w' after.stands world'.sound world'.encodable then_so.failed port until is_over
+        is_up)
         (by_up p w' world' (AgesOver n ago made then_so.failed) by_down links) in
         record {
           keeps = after;
@@ -622,6 +630,7 @@ module _ {F : Type 0} (answers : Bounds → ℕ → F → Option ℕ → F → T
         clears start since silent right old (rested_heard start settled so.since) by
     leads_to_cleared (Left start) since silent right old none so = absurd none
     leads_to_cleared (Turned start now) since silent right old none so = absurd none
+    leads_to_cleared (Fallen start now) since silent right old none so = absurd none
     leads_to_cleared (Cleared start dark clean last) since silent right old (falls, past, (begun, by, is, gone)) so =
         let x = cleared_to_later d made start dark clean last w event.at k.ready.timely.now k.ready.timely.first so in
         subst (λ t. IsClearedTo d more t silent right old w') (sym begun)
@@ -658,6 +667,7 @@ module _ {F : Type 0} (answers : Bounds → ℕ → F → Option ℕ → F → T
         ages ago start aged silent (rested_heard start settled so.since) same now
     leads_to_aging (Left start) ago aged silent none so = absurd none
     leads_to_aging (Turned start was) ago aged silent none so = absurd none
+    leads_to_aging (Fallen start was) ago aged silent none so = absurd none
     leads_to_aging (Cleared since start right old) ago aged silent none so = absurd none
     leads_to_aging (Aging old gone start) ago aged silent (falls, same_ago, same_silent, sooner) so =
         subst (λ es. IsAgingTo d es more aged silent w') (sym same_ago)
@@ -685,6 +695,7 @@ module _ {F : Type 0} (answers : Bounds → ℕ → F → Option ℕ → F → T
         loses_now start since most silent (rested_heard start settled so.since) now
     leads_to_lost (Left start) since most silent none so = absurd none
     leads_to_lost (Turned start was) since most silent none so = absurd none
+    leads_to_lost (Fallen start was) since most silent none so = absurd none
     leads_to_lost (Cleared begun start right old) since most silent none so = absurd none
     leads_to_lost (Aging ago aged start) since most silent none so = absurd none
     leads_to_lost (Lost begun delay start) since most silent (more_now, same_since, same_most, same_silent) so =
@@ -708,6 +719,7 @@ module _ {F : Type 0} (answers : Bounds → ℕ → F → Option ℕ → F → T
         (record { keeps = keeps; news = inl so.since.news }) nothing capable
     leads_to_gain (Left start) next (inl (nothing, none)) so = absurd none
     leads_to_gain (Turned silent now) next (inl (nothing, none)) so = absurd none
+    leads_to_gain (Fallen silent now) next (inl (nothing, none)) so = absurd none
     leads_to_gain (Cleared since silent right old) next (inl (nothing, none)) so = absurd none
     leads_to_gain (Aging ago aged silent) next (inl (nothing, none)) so = absurd none
     leads_to_gain (Lost since most silent) next (inl (nothing, none)) so = absurd none
@@ -716,6 +728,7 @@ module _ {F : Type 0} (answers : Bounds → ℕ → F → Option ℕ → F → T
     leads_to_gain Starting next (inr (inl (nothing, stays))) so = absurd stays
     leads_to_gain (Left start) next (inr (inl (nothing, stays))) so = absurd stays
     leads_to_gain (Turned silent now) next (inr (inl (nothing, stays))) so = absurd stays
+    leads_to_gain (Fallen silent now) next (inr (inl (nothing, stays))) so = absurd stays
     leads_to_gain (Cleared since silent right old) next (inr (inl (nothing, stays))) so = absurd stays
     leads_to_gain (Aging ago aged silent) next (inr (inl (nothing, stays))) so = absurd stays
     leads_to_gain (Lost since most silent) next (inr (inl (nothing, stays))) so = absurd stays
@@ -730,6 +743,7 @@ module _ {F : Type 0} (answers : Bounds → ℕ → F → Option ℕ → F → T
     leads_to_gain (Heard start) next (inr (inr none)) so = absurd none
     leads_to_gain (Left start) next (inr (inr none)) so = absurd none
     leads_to_gain (Turned silent now) next (inr (inr none)) so = absurd none
+    leads_to_gain (Fallen silent now) next (inr (inr none)) so = absurd none
     leads_to_gain (Cleared since silent right old) next (inr (inr none)) so = absurd none
     leads_to_gain (Aging ago aged silent) next (inr (inr none)) so = absurd none
     leads_to_gain (Lost since most silent) next (inr (inr none)) so = absurd none
@@ -744,18 +758,51 @@ module _ {F : Type 0} (answers : Bounds → ℕ → F → Option ℕ → F → T
     leads_to_start (Heard start) none so = absurd none
     leads_to_start (Left start) none so = absurd none
     leads_to_start (Turned silent now) none so = absurd none
+    leads_to_start (Fallen silent now) none so = absurd none
     leads_to_start (Cleared since silent right old) none so = absurd none
     leads_to_start (Aging ago aged silent) none so = absurd none
     leads_to_start (Lost since most silent) none so = absurd none
 
-    pub leads_to : (past next : Past) → EventLeads n made past event next → IsAfter d made past w
-        → IsAfter d more next w'
-    leads_to past AnyPast leads so = after
-    leads_to past Starting leads so = leads_to_start past leads so
-    leads_to past (Gained next) leads so = record { keeps = after; news = leads_to_gain past next leads so }
-    leads_to past (Heard next) leads so = leads_to_heard past next leads so
-    leads_to past (Left next) leads so = leads_to_left past next leads so
-    leads_to past (Turned silent now) leads so = leads_to_turned past silent now leads so
-    leads_to past (Cleared since silent right old) leads so = leads_to_cleared past since silent right old leads so
-    leads_to past (Aging ago aged silent) leads so = leads_to_aging past ago aged silent leads so
-    leads_to past (Lost since most silent) leads so = leads_to_lost past since most silent leads so
+    -- a tree is cut off
+    falls_back : (start stood silent now : ℕ) → HasRestedSo p start event.at then → IsNamedFrom p stood w
+        → FallsNow n made event start stood silent now → IsFallenTo d more silent now w'
+    falls_back start stood silent now rest named (later, since, falls, by, here) =
+        subst (λ t. IsFallenTo d more silent t w') (sym here)
+        (subst (λ t. IsFallenTo d more t event.at w') (sym by)
+        (fallen_to d playable made event then k.draws done w' k.acts refl time_now keeps_then after start rest stood
+        named since falls))
+
+    leads_to_fallen : (past : Past) (silent now : ℕ) → EventLeads n made past event (Fallen silent now)
+        → NamesAfter d made past w → IsAfter d made past w → IsFallenTo d more silent now w'
+    leads_to_fallen AnyPast silent now (stood, settled, (later, since, falls, by, here)) named so =
+        let passed = settled.passed in
+        falls_back (last_change made + capability_span p) stood silent now
+        (rested_any (record { calm = settled.calm; passed = omega (arith, passed, since) }))
+        (named stood falls.calm falls.lowers.few (inl (falls.off, passed)) later) (later, since, falls, by, here)
+    leads_to_fallen Starting silent now none named so = absurd none
+    leads_to_fallen (Gained start) silent now (stood, settled, (later, since, falls, by, here)) named so =
+        falls_back start stood silent now (rested_gained start (omega (arith, settled, since)) so.news)
+        (named stood falls.calm falls.lowers.few (inl (falls.off, settled)) later) (later, since, falls, by, here)
+    leads_to_fallen (Heard start) silent now (stood, settled, (later, since, falls, by, here)) named so =
+        falls_back start stood silent now (rested_heard start (omega (arith, settled, since)) so.since)
+        (named stood falls.calm falls.lowers.few (falls.off, settled) later) (later, since, falls, by, here)
+    leads_to_fallen (Left start) silent now none named so = absurd none
+    leads_to_fallen (Turned start was) silent now none named so = absurd none
+    leads_to_fallen (Fallen start was) silent now none named so = absurd none
+    leads_to_fallen (Cleared since start right old) silent now none named so = absurd none
+    leads_to_fallen (Aging ago aged start) silent now none named so = absurd none
+    leads_to_fallen (Lost since most start) silent now none named so = absurd none
+
+    pub leads_to : (past next : Past) → EventLeads n made past event next → NamesAfter d made past w
+        → IsAfter d made past w → IsAfter d more next w'
+    leads_to past AnyPast leads named so = after
+    leads_to past Starting leads named so = leads_to_start past leads so
+    leads_to past (Gained next) leads named so = record { keeps = after; news = leads_to_gain past next leads so }
+    leads_to past (Heard next) leads named so = leads_to_heard past next leads so
+    leads_to past (Left next) leads named so = leads_to_left past next leads so
+    leads_to past (Turned silent now) leads named so = leads_to_turned past silent now leads so
+    leads_to past (Fallen silent now) leads named so = leads_to_fallen past silent now leads named so
+    leads_to past (Cleared since silent right old) leads named so = leads_to_cleared past since silent right old
+        leads so
+    leads_to past (Aging ago aged silent) leads named so = leads_to_aging past ago aged silent leads so
+    leads_to past (Lost since most silent) leads named so = leads_to_lost past since most silent leads so

@@ -6,6 +6,7 @@ use Rattle.gptp_graph.specs.Snapshot.{clocks}
 use Rattle.gptp_graph.proofs.SystemLemmas.{In-clocks, system_of}
 use Rattle.gptp_links.specs.declared.link.Direction.TheVariants.{FromA, FromB}
 use Rattle.gptp_links.specs.Fate.{Draw}
+use Rattle.gptp_scenario.specs.SettlingTime.{silence_span}
 use Rattle.gptp_scenario.specs.declared.change.Act.TheVariants.{Change as Changing}
 use Rattle.gptp_scenario.specs.declared.change.Change.TheVariants.{Fail}
 use Rattle.gptp_setup.specs.SettlingParams.{SettlingParams}
@@ -17,7 +18,6 @@ use Rattle.gptp_invariants.specs.ChoiceCalm.{HaveQuietLinks}
 use Rattle.gptp_invariants.specs.ChoiceSettlesAsMachine.{IsWorld}
 use Rattle.gptp_invariants.specs.DelayLinkView.{pair}
 use Rattle.gptp_invariants.specs.DelayMeasured.{LinkIsMeasured}
-use Rattle.gptp_invariants.specs.FailedUnanswered.{silence_span}
 use Rattle.gptp_invariants.specs.WorldNews.{AreReadyBy, AreSilentBy, IsSilentBy}
 use Rattle.gptp_invariants.specs.WorldStanding.{live_stations, snapshot_of, stations_have_clock}
 use Rattle.gptp_invariants.proofs.WorldNewsLemmas.{ready_goes_through}

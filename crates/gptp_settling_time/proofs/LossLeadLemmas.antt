@@ -1,25 +1,24 @@
 -- A loss leads a network that has settled to what is left, or in which a system turns, or that is cleared.
-use Rattle.std.proofs.Common.{List, [], ap, append-nil, append_assoc, arith, inl, inr, max, min, pred, refl, subst, suc, sym, zero, ℕ, ◌*◌, ◌++◌, ◌+◌, ◌∙◌, ◌∷◌, ◌≡◌, ◌≤◌, ◌⊎◌}
+use Rattle.std.proofs.Common.{List, [], ap, append-nil, append_assoc, arith, inl, inr, max, min, pred, refl, subst, suc, sym, zero, ℕ, ◌*◌, ◌++◌, ◌+◌, ◌<◌, ◌∙◌, ◌∷◌, ◌≡◌, ◌≤◌, ◌⊎◌}
 use Rattle.std.specs.List.{AllByRecursion}
 use Rattle.std.proofs.Math.Nat.{le-max_left, le-max_right, mul-le-mul_left}
 use Rattle.gptp_setup.specs.SettlingParams.{largest_interval, longest_span}
 use native.Mathlib.Decide.{dec_le}
 use Rattle.gptp_scenario.specs.Calm.{IsCalm, NothingLapses, last_change}
 use Rattle.gptp_scenario.specs.Network.{NetworkState, pace_of}
-use Rattle.gptp_scenario.specs.SettlingTime.{capability_span}
+use Rattle.gptp_scenario.specs.SettlingTime.{aging_span, capability_span, echo_span, silence_span, way_span}
 use Rattle.gptp_scenario.specs.SyncWait.{sync_paths}
 use Rattle.gptp_scenario.specs.declared.change.Timed.{Timed}
 use Rattle.gptp_scenario.specs.declared.sync_wait.SyncPaths.{SyncPaths}
 use Rattle.gptp_theorem.proofs.EventLemmas.{last_behind}
-use Rattle.gptp_settling_time.specs.HowSoon.{CutsOneEnd, EachEvent, FailsEndFirst, FailsHeardFirst, LowersOneLink, RestsAfterOneLoss, RestsOnceTold, TurnsOneLink, TurnsUnused, way_span}
-use Rattle.gptp_settling_time.specs.InTurn.{AgesSooner, Aging, AnyPast, ChoosesAfter, Cleared, CutsCalm, EventLeads, FailsCalm, FailsNow, FlightIsGone, Gained, Heard, LeadOn, Left, LosesNow, Lost, LowersCalm, Past, SettlesAfter, Starting, Turned, TurnsCalm, echo_span, nearer_echo_span, turned_echo_span}
-use Rattle.gptp_settling_time.specs.Losses.{AgesWithin, CutsFarEnd, FailsFarEnd, FailsHeard, LowersLink, LowersUnused, TurnsLink, UpIsUsed, aging_span}
+use Rattle.gptp_settling_time.specs.HowSoon.{CutsOneEnd, EachEvent, FailsEndFirst, FailsHeardFirst, LowersOneLink, RestsAfterOneLoss, RestsOnceTold, TurnsOneLink, TurnsUnused}
+use Rattle.gptp_settling_time.specs.InTurn.{AgesSooner, Aging, AnyPast, ChoosesAfter, Cleared, CutsCalm, EventLeads, FailsCalm, FailsNow, Fallen, FallsCalm, FlightIsGone, Gained, Heard, LeadOn, Left, LosesNow, Lost, LowersCalm, Past, SettlesAfter, Starting, Turned, TurnsCalm, nearer_echo_span, turned_echo_span}
+use Rattle.gptp_settling_time.specs.Losses.{AgesWithin, CutsFarEnd, FailsFarEnd, FailsHeard, LowersLink, LowersUnused, TurnsLink, UpIsUsed}
 use Rattle.gptp_settling_time.proofs.CalmLessLemmas.{failure_calm, fails_calm, lowers_calm}
 use Rattle.gptp_settling_time.proofs.SamePathsLemmas.{turned_paths}
 use Rattle.gptp_settling_time.proofs.LeftToLemmas.{less_way}
 use Rattle.gptp_settling_time.proofs.LeadOnLemmas.{HasSettled, IsLed}
 use Rattle.gptp_settling_time.proofs.SilentSpanLemmas.{failure_within}
-use Rattle.gptp_invariants.specs.FailedUnanswered.{silence_span}
 
 module _ (n : NetworkState) (made : List Timed) (event : Timed) (roles : ℕ) where
   -- after a loss by which no system is moved the network is left so that its choice stands
@@ -64,9 +63,27 @@ module _ (n : NetworkState) (made : List Timed) (event : Timed) (roles : ℕ) wh
   }
   loss_leads (Left silent) settled loses = absurd settled
   loss_leads (Turned silent now) settled loses = absurd settled
+  loss_leads (Fallen silent now) settled loses = absurd settled
   loss_leads (Cleared begun silent right old) settled loses = absurd settled
   loss_leads (Aging ago aged silent) settled loses = absurd settled
   loss_leads (Lost since most silent) settled loses = absurd settled
+
+-- after one by which a tree is cut off it falls back, where the choice had stood for an announce interval
+module _ (n : NetworkState) (made : List Timed) (event : Timed) (stood : ℕ) (later : last_change made < stood)
+    (quiet : stood + largest_interval (pace_of n) ≤ event.at) where
+  pub fall_leads : (past : Past) → HasSettled n made past stood → FallsCalm n made event
+      → (silent : ℕ) × EventLeads n made past event (Fallen silent event.at)
+  fall_leads AnyPast settled falls =
+      (last_change made + capability_span (pace_of n), (stood, settled, (later, quiet, falls, refl, refl)))
+  fall_leads Starting settled falls = absurd settled
+  fall_leads (Gained start) settled falls = (start, (stood, settled, (later, quiet, falls, refl, refl)))
+  fall_leads (Heard start) settled falls = (start, (stood, settled, (later, quiet, falls, refl, refl)))
+  fall_leads (Left silent) settled falls = absurd settled
+  fall_leads (Turned silent now) settled falls = absurd settled
+  fall_leads (Fallen silent now) settled falls = absurd settled
+  fall_leads (Cleared begun silent right old) settled falls = absurd settled
+  fall_leads (Aging ago aged silent) settled falls = absurd settled
+  fall_leads (Lost since most silent) settled falls = absurd settled
 
 -- after one by which a system turns it has turned
 module _ (n : NetworkState) (made : List Timed) (event : Timed) where
@@ -92,6 +109,7 @@ module _ (n : NetworkState) (made : List Timed) (event : Timed) where
       record { silent = start; leads = (settled, (turns, refl, refl)); early = omega (arith, settled) }
   turn_leads (Left silent) settled turns = absurd settled
   turn_leads (Turned silent now) settled turns = absurd settled
+  turn_leads (Fallen silent now) settled turns = absurd settled
   turn_leads (Cleared begun silent right old) settled turns = absurd settled
   turn_leads (Aging ago aged silent) settled turns = absurd settled
   turn_leads (Lost since most silent) settled turns = absurd settled
@@ -105,6 +123,7 @@ module _ (n : NetworkState) (made : List Timed) (event : Timed) where
   ages_leads (Heard start) aged silent settled now = (settled, refl, now)
   ages_leads (Left start) aged silent settled now = absurd settled
   ages_leads (Turned start was) aged silent settled now = absurd settled
+  ages_leads (Fallen start was) aged silent settled now = absurd settled
   ages_leads (Cleared begun start right old) aged silent settled now = absurd settled
   ages_leads (Aging ago gone start) aged silent settled now = absurd settled
   ages_leads (Lost since most start) aged silent settled now = absurd settled
@@ -118,6 +137,7 @@ module _ (n : NetworkState) (made : List Timed) (event : Timed) where
   loses_leads (Heard start) since most silent settled now = (settled, now)
   loses_leads (Left start) since most silent settled now = absurd settled
   loses_leads (Turned start was) since most silent settled now = absurd settled
+  loses_leads (Fallen start was) since most silent settled now = absurd settled
   loses_leads (Cleared begun start right old) since most silent settled now = absurd settled
   loses_leads (Aging ago aged start) since most silent settled now = absurd settled
   loses_leads (Lost begun delay start) since most silent settled now = absurd settled
@@ -131,6 +151,7 @@ settles_chooses n events (Gained start) settled is = is
 settles_chooses n events (Heard start) settled is = is
 settles_chooses n events (Left silent) settled (off, late) = off
 settles_chooses n events (Turned silent now) settled so = so
+settles_chooses n events (Fallen silent now) settled so = so
 settles_chooses n events (Cleared begun silent right old) settled (off, late) = off
 settles_chooses n events (Aging ago aged silent) settled (off, late) = (off, inr late)
 settles_chooses n events (Lost since most silent) settled (off, passed, late) = (off, passed)
@@ -191,8 +212,8 @@ aging_lead n ago made (event ∷ now) other gone aged silent off calm (lowers, o
       (subst (λ es. AgesSooner n ago es aged silent) (sym (append_assoc made (other ∷ []) (event ∷ now))) sooner),
 )
 
--- So it does from when a system fails that others hear, as long as what came over the links that are silent after all of
--- the events.
+-- So it does from when a system fails that others hear, as long as what came over the links that are silent after all
+-- of the events.
 pub heard_lead : (n : NetworkState) (made : List Timed) (event : Timed) (now : List Timed) (past : Past) (span : ℕ)
     → NothingLapses n.params → IsCalm n made → HasSettled n made past event.at → FailsHeard n made event
     → EachEvent (LowersUnused n) (made ++ event ∷ []) now → AgesWithin n made (made ++ event ∷ now) span
@@ -282,6 +303,7 @@ module _ (n : NetworkState) (made : List Timed) (event : Timed) (gone : ℕ) whe
   }
   cut_leads flight (Left silent) settled cuts = absurd settled
   cut_leads flight (Turned silent now) settled cuts = absurd settled
+  cut_leads flight (Fallen silent now) settled cuts = absurd settled
   cut_leads flight (Cleared begun silent right last) settled cuts = absurd settled
   cut_leads flight (Aging ago aged silent) settled cuts = absurd settled
   cut_leads flight (Lost since most silent) settled cuts = absurd settled
@@ -317,6 +339,7 @@ module _ (n : NetworkState) (made : List Timed) (event : Timed) (gone : ℕ) whe
   }
   fail_leads flight (Left silent) settled fails = absurd settled
   fail_leads flight (Turned silent now) settled fails = absurd settled
+  fail_leads flight (Fallen silent now) settled fails = absurd settled
   fail_leads flight (Cleared begun silent right last) settled fails = absurd settled
   fail_leads flight (Aging ago aged silent) settled fails = absurd settled
   fail_leads flight (Lost since most silent) settled fails = absurd settled
@@ -355,6 +378,7 @@ module _ (n : NetworkState) (made : List Timed) (event : Timed) (gone : ℕ)
   }
   right_leads (Left silent) settled lowers = absurd settled
   right_leads (Turned silent now) settled lowers = absurd settled
+  right_leads (Fallen silent now) settled lowers = absurd settled
   right_leads (Cleared begun silent right last) settled lowers = absurd settled
   right_leads (Aging ago aged silent) settled lowers = absurd settled
   right_leads (Lost since most silent) settled lowers = absurd settled
@@ -374,12 +398,14 @@ module _ (n : NetworkState) (made : List Timed) (event : Timed) (aged silent : �
   power_leads (Heard start) settled = (settled, inr (aged, now, (used, refl, refl, refl)))
   power_leads (Left start) settled = absurd settled
   power_leads (Turned start was) settled = absurd settled
+  power_leads (Fallen start was) settled = absurd settled
   power_leads (Cleared begun start right last) settled = absurd settled
   power_leads (Aging ago gone start) settled = absurd settled
   power_leads (Lost since most start) settled = absurd settled
 
 -- Else it goes on to age until the last link goes down of which an end has failed, at this time.
-power_lead : (n : NetworkState) (ago made now : List Timed) (other : Timed) (time aged silent : ℕ) → NothingLapses n.params
+power_lead : (n : NetworkState) (ago made now : List Timed) (other : Timed) (time aged silent : ℕ)
+    → NothingLapses n.params
     → IsCalm n made → AllByRecursion (λ (t : Timed). t.at ≡ time) (other ∷ now)
     → EachEvent (LowersUnused n) made (other ∷ now) → UpIsUsed n (made ++ other ∷ now)
     → LeadOn n made (Aging ago aged silent) (other ∷ now)
@@ -455,7 +481,7 @@ module _ (n : NetworkState) (off : NothingLapses n.params) (time : ℕ) (made no
           (past, inl refl, Cleared since silent right old, leads, lead);
       settles = (
         Heard since,
-        inr (record {
+        inr (since, refl, record {
           calm = calm;
           off = off;
           gone = omega (arith, less);
@@ -501,22 +527,24 @@ module _ (n : NetworkState) (off : NothingLapses n.params) (time : ℕ) (made no
 
     -- what was in flight is gone as right traces are told
     gone_within : (gone : ℕ) → FlightIsGone n (made ++ now) gone
-        → nearer_echo_span n (made ++ now) + gone ≤ max (echo_span n (made ++ now)) gone
+        → nearer_echo_span n (made ++ now) + gone ≤ max (echo_span (pace_of n) (sync_paths n (made ++ now))) gone
     gone_within gone flight =
         nearer_within (sync_paths n (made ++ now)).systems
         (largest_interval (pace_of n) + (sync_paths n (made ++ now)).delay) gone (soon flight)
       where
-        soon : FlightIsGone n (made ++ now) gone → gone ≤ largest_interval (pace_of n) + (sync_paths n (made ++ now)).delay
+        soon : FlightIsGone n (made ++ now) gone
+            → gone ≤ largest_interval (pace_of n) + (sync_paths n (made ++ now)).delay
         soon (inl (used, delay)) = omega (arith, delay)
         soon (inr interval) = omega (arith, interval)
 
     -- the way is part of what they take
-    way_short : way_span (sync_paths n (made ++ now)) ≤ echo_span n (made ++ now)
+    way_short : way_span (sync_paths n (made ++ now)) ≤ echo_span (pace_of n) (sync_paths n (made ++ now))
     way_short = mul-le-mul_left (pred (sync_paths n (made ++ now)).systems) (omega arith)
 
     -- another such link goes down
     right_led : LowersLink n made event → others ≡ [] → (gone : ℕ) → FlightIsGone n (made ++ now) gone
-        → rest ≡ max (echo_span n (made ++ now)) gone → IsLed n made now past (suc (time + rest))
+        → rest ≡ max (echo_span (pace_of n) (sync_paths n (made ++ now))) gone
+        → IsLed n made now past (suc (time + rest))
     right_led lowers alone gone flight is =
         let one : made ++ now ≡ made ++ event ∷ [] =
         ap (λ es. made ++ es) (same ∙ ap (λ es. event ∷ es) alone) in
@@ -526,8 +554,9 @@ module _ (n : NetworkState) (off : NothingLapses n.params) (time : ℕ) (made no
         lowers.paths in
         let last : Past = Cleared x.since x.since (event.at + 1 + nearer_echo_span n (made ++ event ∷ []))
         (event.at + nearer_echo_span n (made ++ event ∷ []) + gone) in
-        let within : nearer_echo_span n (made ++ event ∷ []) + gone ≤ max (echo_span n (made ++ now)) gone =
-        subst (λ es. nearer_echo_span n es + gone ≤ max (echo_span n (made ++ now)) gone) one (gone_within gone flight) in
+        let echo = echo_span (pace_of n) (sync_paths n (made ++ now)) in
+        let within : nearer_echo_span n (made ++ event ∷ []) + gone ≤ max echo gone =
+        subst (λ es. nearer_echo_span n es + gone ≤ max echo gone) one (gone_within gone flight) in
         let before = here in
         let early = x.early in
         led x.since x.since (event.at + 1 + nearer_echo_span n (made ++ event ∷ []))
@@ -571,20 +600,21 @@ module _ (n : NetworkState) (off : NothingLapses n.params) (time : ℕ) (made no
         let x = turn_leads n made event past settled_then (record { turns = turns; calm = calm_then; off = off }) in
         let last : Past = Turned x.silent event.at in
         let before = here in
-        let over : event.at + way_span (sync_paths n (made ++ now)) ≤ suc (time + rest) =
+        let early = x.early in
+        let over : suc event.at + way_span (sync_paths n (made ++ now)) ≤ suc (time + rest) =
         omega (arith, before, is) in
         record {
           last = last;
           lead = subst (λ es. LeadOn n made past es last) (sym (same ∙ ap (λ es. event ∷ es) alone))
               (past, inl refl, last, x.leads, refl);
           settles = (
-            Heard event.at,
-            inr (record {
+            Heard (suc event.at),
+            inr (suc event.at, refl, record {
               calm = calm;
               off = off;
               told = omega (arith, before, is);
               later = omega arith;
-              unlinked = x.early;
+              unlinked = omega (arith, early);
               over = over;
             }),
             over,
@@ -593,7 +623,8 @@ module _ (n : NetworkState) (off : NothingLapses n.params) (time : ℕ) (made no
 
     -- a system fails that others hear
     power_led : FailsHeard n made event → EachEvent (LowersUnused n) (made ++ event ∷ []) others
-        → UpIsUsed n (made ++ now) → max (echo_span n (made ++ now)) (sync_paths n (made ++ now)).delay ≤ rest
+        → UpIsUsed n (made ++ now)
+        → max (echo_span (pace_of n) (sync_paths n (made ++ now))) (sync_paths n (made ++ now)).delay ≤ rest
         → IsLed n made now past (suc (time + rest))
     power_led fails lowers used long = by others refl
       where
@@ -636,7 +667,7 @@ module _ (n : NetworkState) (off : NothingLapses n.params) (time : ℕ) (made no
               lead = lead;
               settles = (
                 Heard time,
-                inr (record {
+                inr (time, refl, record {
                   calm = calm;
                   off = off;
                   gone = omega (arith, within);
@@ -660,7 +691,8 @@ module _ (n : NetworkState) (off : NothingLapses n.params) (time : ℕ) (made no
               last,
               subst (λ t. EventLeads n made past event (Cleared t silent (t + 1 + nearer_echo_span n (made ++ now))
                   (t + nearer_echo_span n (made ++ now) + (sync_paths n (made ++ now)).delay))) here
-                  (subst (λ es. EventLeads n made past event (Cleared event.at silent (event.at + 1 + nearer_echo_span n es)
+                  (subst (λ es. EventLeads n made past event
+                  (Cleared event.at silent (event.at + 1 + nearer_echo_span n es)
                   (event.at + nearer_echo_span n es + (sync_paths n es).delay))) (sym one) leads),
               refl,
             ))
@@ -695,8 +727,8 @@ module _ (n : NetworkState) (off : NothingLapses n.params) (time : ℕ) (made no
           (heard_lead n made event others past span off calm_then settled_then fails lowers
           (subst (λ es. AgesWithin n made (made ++ es) span) same within));
       settles = (
-        Heard time,
-        inr (record {
+        Heard (suc (time + min span b)),
+        inr (suc (time + min span b), refl, record {
           calm = calm;
           off = off;
           by = suc (time + min span b);
@@ -708,7 +740,7 @@ module _ (n : NetworkState) (off : NothingLapses n.params) (time : ℕ) (made no
           flight = gone;
           is_gone = flight;
           told = let within = gone_within gone flight in omega (arith, long, within, told_most, is);
-          later = omega (arith, last);
+          later = omega arith;
           unlinked = omega (arith, before, long, silent_most);
           over = over_way;
         }),
@@ -734,7 +766,7 @@ module _ (n : NetworkState) (off : NothingLapses n.params) (time : ℕ) (made no
             ∙ last_at made event others time (subst (AllByRecursion (λ (t : Timed). t.at ≡ time)) same at)
 
         more : ℕ
-        more = held + 1 + max (echo_span n (made ++ now)) gone
+        more = held + 1 + max (echo_span (pace_of n) (sync_paths n (made ++ now))) gone
 
         silent_most : b ≤ max b more
         silent_most = le-max_left b more
@@ -742,12 +774,12 @@ module _ (n : NetworkState) (off : NothingLapses n.params) (time : ℕ) (made no
         told_most : more ≤ max b more
         told_most = le-max_right b more
 
-        over_way : time + way_span (sync_paths n (made ++ now)) ≤ suc (time + rest)
+        over_way : suc (time + min span b) + way_span (sync_paths n (made ++ now)) ≤ suc (time + rest)
         over_way =
             let way = way_short in
-            let echo = le-max_left (echo_span n (made ++ now)) gone in
+            let echo = le-max_left (echo_span (pace_of n) (sync_paths n (made ++ now))) gone in
             let most = told_most in
-            omega (arith, way, echo, most, long)
+            omega (arith, way, echo, most, long, is)
 
   lost_led : (es : List Timed) → now ≡ es
       → (CutsOneEnd n made es
@@ -757,7 +789,8 @@ module _ (n : NetworkState) (off : NothingLapses n.params) (time : ℕ) (made no
       × ((UpIsUsed n (made ++ now) × FlightIsGone n made rest)
       ⊎ ((gone : ℕ) × FlightIsGone n made gone × (rest ≡ max (silence_span (pace_of n)) gone))))
       ⊎ ((LowersOneLink n made es
-      × ((gone : ℕ) × FlightIsGone n (made ++ now) gone × (rest ≡ max (echo_span n (made ++ now)) gone)))
+      × ((gone : ℕ) × FlightIsGone n (made ++ now) gone
+      × (rest ≡ max (echo_span (pace_of n) (sync_paths n (made ++ now))) gone)))
       ⊎ ((TurnsOneLink n made es × (rest ≡ turned_echo_span n (made ++ now)))
       ⊎ (FailsHeardFirst n made es × RestsOnceTold n made now rest))))
       → IsLed n made now past (suc (time + rest))

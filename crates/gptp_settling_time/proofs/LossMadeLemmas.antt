@@ -8,6 +8,7 @@ use Rattle.gptp_links.specs.Fate.{Draw}
 use Rattle.gptp_setup.specs.SettlingParams.{SettlingParams}
 use Rattle.gptp_scenario.specs.Calm.{IsCalm, NothingLapses, IsUsed}
 use Rattle.gptp_scenario.specs.Network.{NetworkState, pace_of, IsEnd}
+use Rattle.gptp_scenario.specs.SettlingTime.{aging_span, silence_span}
 use Rattle.gptp_scenario.specs.SyncWait.{sync_paths}
 use Rattle.gptp_scenario.specs.declared.change.Act.TheVariants.{Change as Changing}
 use Rattle.gptp_scenario.specs.declared.change.Change.TheVariants.{LinkDown, Fail}
@@ -55,8 +56,7 @@ use Rattle.gptp_settling_time.proofs.TurnsBeginLemmas.{act_turned}
 use Rattle.gptp_settling_time.proofs.WorldMovesLemmas.{cut_off_so, far_end_so, near_so, stays_joined, turns_so}
 use Rattle.gptp_bmca_machine.specs.SoundLaws.{AllAreNear}
 use Rattle.gptp_invariants.specs.ChoiceView.{says_announce, view}
-use Rattle.gptp_invariants.specs.FailedUnanswered.{silence_span}
-use Rattle.gptp_settling_time.specs.Losses.{FailsFarEnd, IsCutOff, IsFarEnd, LowersLink, aging_span}
+use Rattle.gptp_settling_time.specs.Losses.{FailsFarEnd, IsCutOff, IsFarEnd, LowersLink}
 use Rattle.gptp_settling_time.proofs.BecomesSoundLemmas.{GoesBy, goes_due, nearer_echo}
 use Rattle.gptp_settling_time.proofs.ClearedLemmas.{IsCleared}
 use Rattle.gptp_settling_time.proofs.ClearedToLemmas.{IsClearedTo}
@@ -356,7 +356,8 @@ module _ (d : DocumentState) (playable : IsPlayable d) (made : List Timed) (even
         → IsClearedTo d more since silent right old w'
     cleared_to since silent right old (inl (begun, which)) = ends_to since silent right old begun which
     cleared_to since silent right old (inr (aged, now, anew)) =
-        told_anew d playable made more event.at aged silent since right old w' after time last (aging_so aged silent now) anew
+        told_anew d playable made more event.at aged silent since right old w' after time last
+        (aging_so aged silent now) anew
 
     -- a link goes down that so moves one system
     turned_to : TurnsCalm n made event → IsTurnedTo d more start event.at w'

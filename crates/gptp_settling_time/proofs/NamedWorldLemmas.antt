@@ -1,6 +1,6 @@
--- What is held in a world, and what is in flight, names the interval of the port that told it, but for what is older than
--- the last change. That is gone by an announce interval and a receipt timeout after it.
-use Rattle.std.proofs.Common.{◌≡◌, ◌⊎◌, ◌≤◌, ◌<◌, ◌+◌, ◌*◌, ℕ, suc, List, Some, slice_get, refl, sym, ap, subst, ◌∙◌, inl, inr, arith}
+-- What is held in a world, and what is in flight, names the interval of the port that told it, but for what is older
+-- than the last change. That is gone by an announce interval and a receipt timeout after it.
+use Rattle.std.proofs.Common.{◌≡◌, ◌≤◌, ◌+◌, ℕ, suc, List, Some, slice_get, refl, sym, ap, subst, ◌∙◌, inl, inr, arith}
 use Rattle.gptp_links.specs.Fate.{Draw}
 use Rattle.gptp_setup.specs.Intervals.{IsLog}
 use Rattle.gptp_scenario.specs.declared.change.Act.{Act}
@@ -41,7 +41,8 @@ abbrev pub old_by : SettlingParams → WorldState → ℕ
 old_by p w = suc (w.last_change + largest_interval p + longest_span p)
 
 abbrev pub IsNamedWorld : SettlingParams → WorldState → Type 0
-IsNamedWorld p w = EachAges says_announce (set_network p w).graph (stay_of p) (NamedOrOld (set_network p w) (old_by p w))
+IsNamedWorld p w =
+    EachAges says_announce (set_network p w).graph (stay_of p) (NamedOrOld (set_network p w) (old_by p w))
     (view w)
 
 module _ (p : SettlingParams) (w : WorldState) (is : IsWorld p w) where
@@ -82,7 +83,8 @@ named_step p w w' is is' keeps step named =
     let n = set_network p w in
     subst (λ t. EachAges says_announce (set_network p w').graph (stay_of p) (NamedOrOld (set_network p w')
     (suc (t + largest_interval p + longest_span p))) (view w')) (sym keeps.change)
-    (subst (λ (x : Network). EachAges says_announce x.graph (stay_of p) (NamedOrOld x (old_by p w)) (view w')) (sym same)
+    (subst (λ (x : Network). EachAges says_announce x.graph (stay_of p) (NamedOrOld x (old_by p w)) (view w'))
+    (sym same)
     (named_kept says_announce n (stay_of p) (old_by p w) (view w) (view w') (set_facts p w is)
     (subst (λ (x : Network). StationFacts (network_setting x) (view w')) same (set_facts p w' is'))
     (subst (λ (x : Network). AnnounceAsSet x (view w')) same (announce_set p w' is')) (named_in p w' is') step named))

@@ -1,6 +1,6 @@
--- An Announce names the interval of the port that sent it, or it is old, as one that was put onto a link: it has aged by
--- a time. Then each that is held, and each in flight, names that interval.
-use Rattle.std.proofs.Common.{◌≡◌, ◌⊎◌, ◌≤◌, ◌<◌, ◌+◌, ℕ, ℤ, suc, true, Some, slice_get, sym, ap, ◌∙◌, inl, inr, arith}
+-- An Announce names the interval of the port that sent it, or it is old, as one that was put onto a link: it has aged
+-- by a time. Then each that is held, and each in flight, names that interval.
+use Rattle.std.proofs.Common.{◌≡◌, ◌⊎◌, ◌≤◌, ◌<◌, ℕ, ℤ, suc, true, Some, slice_get, sym, ap, ◌∙◌, inl, inr, arith}
 use Rattle.gptp_lists.specs.Members.{In}
 use Rattle.gptp_graph.specs.Snapshot.{PortIdentity, clocks, port_of}
 use Rattle.gptp_bmca_machine.specs.Acts.{MachineSteps}

@@ -73,9 +73,11 @@ module _ (n : NetworkState) (ago made : List Timed) (event : Timed) (lowers : Lo
   }
 
   -- what came to a port at which a link is up came over one that is silent still
-  pub over_down : (failed : ℕ) (port : PortIdentity) (until : ℕ) → AgesOver n ago made failed port until → IsUpAt w' port
+  pub over_down : (failed : ℕ) (port : PortIdentity) (until : ℕ) → AgesOver n ago made failed port until
+      → IsUpAt w' port
       → AgesOver n ago more failed port until
-  over_down failed port until (place, v, there, (used, up, unused), (end, is_end, port_is), is) (from, begins, at_port) =
+  over_down failed port until (place, v, there, (used, up, unused), (end, is_end, port_is), is)
+      (from, begins, at_port) =
       let (channel, here, same) = alike channel_wire (link_after more) w'.net.channels n.links stands'.links place v
       there in
       let ends = ends_stay end v is_end in

@@ -8,6 +8,7 @@ use Rattle.gptp_scenario.specs.Calm.{IsLive, IsUsed}
 use Rattle.gptp_scenario.specs.Change.{is_at, link_acted, link_after, system_after, with_up}
 use Rattle.gptp_scenario.specs.InUse.{greatest_delay, is_used, lives}
 use Rattle.gptp_scenario.specs.Network.{NetworkState, pace_of}
+use Rattle.gptp_scenario.specs.SettlingTime.{aging_span}
 use Rattle.gptp_scenario.specs.SyncWait.{sync_paths}
 use Rattle.gptp_scenario.specs.declared.change.Timed.{Timed}
 use Rattle.gptp_scenario.specs.declared.network.LinkSpec.{LinkSpec}
@@ -16,7 +17,7 @@ use Rattle.gptp_lists.proofs.SystemSpecLemmas.{In-slice_get}
 use Rattle.gptp_network.proofs.PassLemmas.{passes_at}
 use Rattle.gptp_theorem.proofs.EventLemmas.{link_behind}
 use Rattle.gptp_settling_time.specs.HowSoon.{EachEvent, FailsHeardFirst}
-use Rattle.gptp_settling_time.specs.Losses.{AgesWithin, FailsHeard, LowersUnused, aging_span}
+use Rattle.gptp_settling_time.specs.Losses.{AgesWithin, FailsHeard, LowersUnused}
 
 module _ (systems : List SystemSpec) (events : List Timed) where
   lives_from : (clock : ℕ) → IsLive systems events clock → lives systems events clock ≡ true
@@ -35,7 +36,8 @@ module _ (systems : List SystemSpec) (events : List Timed) where
 
   -- a link in use is no slower than the greatest delay
   pub greatest_most : (links : List LinkSpec) (place : ℕ) (v : LinkSpec) → slice_get links place ≡ Some v
-      → IsUsed systems events (link_after events v) → (link_after events v).bounds.max ≤ greatest_delay systems events links
+      → IsUsed systems events (link_after events v)
+      → (link_after events v).bounds.max ≤ greatest_delay systems events links
   greatest_most [] place v there used = absurd cc
   greatest_most (w ∷ ws) zero v there used =
       let same : w ≡ v = same_Some w v there in

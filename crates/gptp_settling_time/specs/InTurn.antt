@@ -11,9 +11,11 @@
 --   system of a path but one later. It has come to rest, as if all had been heard, once right traces have been told by
 --   distance since.
 -- - Cleared: a system was lost that was the far end of its links, so that nobody holds what names it. Or another link
---   went down that moved none, or a system that others heard lost its power, and right traces have been told by distance
---   since. When what was in flight is gone, and ports without a link aren't capable, the network has come to rest as if
---   all had been heard.
+--   went down that moved none, or a system that others heard lost its power, and right traces have been told by
+--   distance since. When what was in flight is gone, and ports without a link aren't capable, the network has come to
+--   rest as if all had been heard.
+-- - Fallen: a link went down and so cut a tree off. The network settles 1 ns and twice the greatest delay for each
+--   system of a path but one later.
 -- - Aging: a system failed that others heard. What they hold of it ages, and the choice stands once that is gone. The
 --   network has come to rest, as if all had been heard, once right traces have been told by distance since, what was in
 --   flight is gone, and ports without a link aren't capable.
@@ -35,7 +37,8 @@
 -- A settled network is left where a link goes down by which no system is moved but such as are cut off. It is left,
 -- too, where a system fails that is the far end of each of its links. Then roles stand once the ports beside it aren't
 -- capable any more, or at once where each link that is up is in use. A network that is left stays so where a link goes
--- down of which an end has failed.
+-- down of which an end has failed. A tree that a link cuts off falls back where what is in flight names the best: where
+-- the choice had stood for an announce interval.
 use Rattle.std.specs.Prelude.{◌≡◌, ◌<◌, ◌≤◌, ◌⊎◌, ◌+◌, ◌*◌, ℕ, ⊤, pred, suc, List, [], ◌∷◌, ◌++◌, Option, Some, slice_get}
 use Rattle.gptp_lists.specs.Members.{In}
 use Rattle.gptp_vector.specs.declared.port.PortId.{PortId}
@@ -45,7 +48,7 @@ use Rattle.gptp_scenario.specs.Calm.{IsCalm, IsUsed, NothingLapses, last_change}
 use Rattle.gptp_scenario.specs.Change.{link_after}
 use Rattle.gptp_scenario.specs.Network.{IsEnd, NetworkState, pace_of}
 use Rattle.gptp_scenario.specs.SettlingAtOnce.{settling_span_at_once}
-use Rattle.gptp_scenario.specs.SettlingTime.{capability_span, settling_span_with}
+use Rattle.gptp_scenario.specs.SettlingTime.{capability_span, echo_span, loss_span, settling_span_with, silence_span, way_span}
 use Rattle.gptp_scenario.specs.SyncWait.{sync_paths}
 use Rattle.gptp_scenario.specs.declared.change.Act.{Act}
 use Rattle.gptp_scenario.specs.declared.change.Act.TheVariants.{Change as Changing}
@@ -61,8 +64,8 @@ use Rattle.gptp_settling_time.specs.ChoiceAlone.{ChoiceStandsAs}
 use Rattle.gptp_settling_time.specs.Documents.{IsSettledAs}
 use Rattle.gptp_settling_time.specs.Exactly.{SettlesBy}
 use Rattle.gptp_settling_time.specs.Gains.{AreCapableAnyway, AreCapableNext, AreCapableStill, ChangesNothing, EndHasFailed, HasRested, IsDownAfter, IsNoWorse, JoinsLive, LeavesCapable, TakesNothing, UsesNoLink, exchanged_from}
-use Rattle.gptp_invariants.specs.FailedUnanswered.{silence_span}
-use Rattle.gptp_settling_time.specs.Losses.{AgesWithin, AreSilentAfter, CutsFarEnd, FailsFarEnd, FailsHeard, LeavesChoice, LosesAny, LowersLink, LowersUnused, TurnsLink, UpIsUsed, loss_span}
+use Rattle.gptp_settling_time.specs.Losses.{AgesWithin, AreSilentAfter, CutsFarEnd, FailsFarEnd, FailsHeard, LeavesChoice, LosesAny, LowersLink, LowersUnused, TurnsLink, UpIsUsed}
+use Rattle.gptp_settling_time.specs.TreeLosses.{LowersTree}
 
 -- What a network came from. The numbers are times, but for the second of a loss.
 pub data Past : Type 0 where
@@ -75,6 +78,8 @@ pub data Past : Type 0 where
   Left : ℕ → Past
   -- from the first on ports without a link aren't capable; at the second a system turned
   Turned : ℕ → ℕ → Past
+  -- from the first on ports without a link aren't capable; at the second a tree was cut off
+  Fallen : ℕ → ℕ → Past
   -- from the first on its ports are capable; from the second on those without a link aren't; from the third on what is
   -- held is right; and by the fourth what was in flight is gone
   Cleared : ℕ → ℕ → ℕ → ℕ → Past
@@ -220,6 +225,12 @@ pub record TurnsCalm (n : NetworkState) (before : List Timed) (event : Timed) : 
   pub calm : IsCalm n before
   pub off : NothingLapses n.params
 
+-- a link goes down that so cuts a tree off, in such a network
+pub record FallsCalm (n : NetworkState) (before : List Timed) (event : Timed) : Type 0 where
+  pub lowers : LowersTree n before event
+  pub calm : IsCalm n before
+  pub off : NothingLapses n.params
+
 -- a system fails that is the far end of each of its links, in such a network
 pub record FailsCalm (n : NetworkState) (before : List Timed) (event : Timed) : Type 0 where
   pub fails : FailsFarEnd n before event
@@ -263,12 +274,6 @@ ClearsFarEnd n before event start silent right old =
     × ((CutsCalm n before event × (silent ≡ start) × FlightIsGoneBy n (before ++ event ∷ []) event.at old)
     ⊎ (FailsCalm n before event × (silent ≡ suc (event.at + silence_span (pace_of n)))
     × FlightIsGoneBy n before event.at old))
-
--- An announce interval and the greatest delay for each system of a path but one: so much later who is told a right
--- trace holds it, and tells it.
-abbrev pub echo_span : NetworkState → List Timed → ℕ
-echo_span n events =
-    pred (sync_paths n events).systems * (largest_interval (pace_of n) + (sync_paths n events).delay)
 
 -- The best always tells a right trace, so that its neighbours do at once. All others do so much later.
 abbrev pub nearer_echo_span : NetworkState → List Timed → ℕ
@@ -338,6 +343,7 @@ LeadsToGain n before (Gained start) event next = AreCapableStill n before start 
 LeadsToGain n before (Heard start) event next = AreCapableStill n before start event next
 LeadsToGain n before (Left silent) event next = ⊥
 LeadsToGain n before (Turned silent time) event next = ⊥
+LeadsToGain n before (Fallen silent time) event next = ⊥
 LeadsToGain n before (Cleared since silent right old) event next = ⊥
 LeadsToGain n before (Aging ago aged silent) event next = ⊥
 LeadsToGain n before (Lost since most silent) event next = ⊥
@@ -362,6 +368,7 @@ LeadsToHeard n before (Heard start) event next =
     ⊎ (MakesNothing n before event start × (next ≡ start)))
 LeadsToHeard n before (Left silent) event next = ⊥
 LeadsToHeard n before (Turned silent time) event next = ⊥
+LeadsToHeard n before (Fallen silent time) event next = ⊥
 LeadsToHeard n before (Cleared since silent right old) event next = ⊥
 LeadsToHeard n before (Aging ago aged silent) event next = ⊥
 LeadsToHeard n before (Lost since most silent) event next = ⊥
@@ -378,6 +385,7 @@ LeadsToLeft n before (Heard start) event next =
     HasSettledHeard n before start event.at × LeavesStanding n before event start next
 LeadsToLeft n before (Left silent) event next = LowersUnusedCalm n before event × (next ≡ silent)
 LeadsToLeft n before (Turned silent time) event next = ⊥
+LeadsToLeft n before (Fallen silent time) event next = ⊥
 LeadsToLeft n before (Cleared since silent right old) event next = ⊥
 LeadsToLeft n before (Aging ago aged silent) event next = ⊥
 LeadsToLeft n before (Lost since most silent) event next = ⊥
@@ -397,12 +405,35 @@ LeadsToTurned n before (Heard start) event silent time =
     HasSettledHeard n before start event.at × TurnsNow n before event start silent time
 LeadsToTurned n before (Left start) event silent time = ⊥
 LeadsToTurned n before (Turned start now) event silent time = ⊥
+LeadsToTurned n before (Fallen start now) event silent time = ⊥
 LeadsToTurned n before (Cleared since start right old) event silent time = ⊥
 LeadsToTurned n before (Aging ago aged start) event silent time = ⊥
 LeadsToTurned n before (Lost since most start) event silent time = ⊥
 
--- A network that had settled is cleared, and one that is so stays so. One in which something ages is cleared as the last
--- link goes down of which an end has failed.
+-- in a network whose choice had stood for an announce interval a tree is cut off by it now
+abbrev pub FallsNow : NetworkState → List Timed → Timed → ℕ → ℕ → ℕ → ℕ → Type 0
+FallsNow n before event start stood silent time =
+    (last_change before < stood) × (stood + largest_interval (pace_of n) ≤ event.at)
+    × FallsCalm n before event × (silent ≡ start) × (time ≡ event.at)
+
+abbrev pub LeadsToFallen : NetworkState → List Timed → Past → Timed → ℕ → ℕ → Type 0
+LeadsToFallen n before AnyPast event silent time =
+    (stood : ℕ) × HasSettledAnyhow n before stood
+    × FallsNow n before event (last_change before + capability_span (pace_of n)) stood silent time
+LeadsToFallen n before Starting event silent time = ⊥
+LeadsToFallen n before (Gained start) event silent time =
+    (stood : ℕ) × HasSettledSince n before start stood × FallsNow n before event start stood silent time
+LeadsToFallen n before (Heard start) event silent time =
+    (stood : ℕ) × HasSettledHeard n before start stood × FallsNow n before event start stood silent time
+LeadsToFallen n before (Left start) event silent time = ⊥
+LeadsToFallen n before (Turned start now) event silent time = ⊥
+LeadsToFallen n before (Fallen start now) event silent time = ⊥
+LeadsToFallen n before (Cleared since start right old) event silent time = ⊥
+LeadsToFallen n before (Aging ago aged start) event silent time = ⊥
+LeadsToFallen n before (Lost since most start) event silent time = ⊥
+
+-- A network that had settled is cleared, and one that is so stays so. One in which something ages is cleared as the
+-- last link goes down of which an end has failed.
 abbrev pub LeadsToCleared : NetworkState → List Timed → Past → Timed → ℕ → ℕ → ℕ → ℕ → Type 0
 LeadsToCleared n before AnyPast event since silent right old =
     HasSettledAnyhow n before event.at
@@ -414,6 +445,7 @@ LeadsToCleared n before (Heard start) event since silent right old =
     HasSettledHeard n before start event.at × ClearsBy n before event start since silent right old
 LeadsToCleared n before (Left start) event since silent right old = ⊥
 LeadsToCleared n before (Turned start now) event since silent right old = ⊥
+LeadsToCleared n before (Fallen start now) event since silent right old = ⊥
 LeadsToCleared n before (Cleared start dark clean last) event since silent right old =
     LowersUnusedCalm n before event × (clean ≤ event.at)
     × ((since ≡ start) × (silent ≡ dark) × (right ≡ clean) × (old ≡ last))
@@ -440,6 +472,7 @@ LeadsToAging n before (Heard start) event ago aged silent =
     HasSettledHeard n before start event.at × (ago ≡ before) × FailsNow n before event aged silent
 LeadsToAging n before (Left start) event ago aged silent = ⊥
 LeadsToAging n before (Turned start now) event ago aged silent = ⊥
+LeadsToAging n before (Fallen start now) event ago aged silent = ⊥
 LeadsToAging n before (Cleared since start right old) event ago aged silent = ⊥
 LeadsToAging n before (Aging old gone start) event ago aged silent =
     LowersUnusedCalm n before event × (ago ≡ old) × (silent ≡ start)
@@ -471,6 +504,7 @@ LeadsToLost n before (Heard start) event since most silent =
     HasSettledHeard n before start event.at × LosesNow n before event since most silent
 LeadsToLost n before (Left start) event since most silent = ⊥
 LeadsToLost n before (Turned start now) event since most silent = ⊥
+LeadsToLost n before (Fallen start now) event since most silent = ⊥
 LeadsToLost n before (Cleared begun start right old) event since most silent = ⊥
 LeadsToLost n before (Aging ago aged start) event since most silent = ⊥
 LeadsToLost n before (Lost begun delay start) event since most silent =
@@ -484,6 +518,7 @@ StaysFrom (Gained start) next = next ≡ start
 StaysFrom (Heard start) next = next ≡ start
 StaysFrom (Left silent) next = ⊥
 StaysFrom (Turned silent time) next = ⊥
+StaysFrom (Fallen silent time) next = ⊥
 StaysFrom (Cleared since silent right old) next = ⊥
 StaysFrom (Aging ago aged silent) next = ⊥
 StaysFrom (Lost since most silent) next = ⊥
@@ -496,6 +531,7 @@ StartsFrom n before (Gained start) event next = ⊥
 StartsFrom n before (Heard start) event next = ⊥
 StartsFrom n before (Left silent) event next = ⊥
 StartsFrom n before (Turned silent time) event next = ⊥
+StartsFrom n before (Fallen silent time) event next = ⊥
 StartsFrom n before (Cleared since silent right old) event next = ⊥
 StartsFrom n before (Aging ago aged silent) event next = ⊥
 StartsFrom n before (Lost since most silent) event next = ⊥
@@ -508,6 +544,7 @@ StartsStill (Gained start) event = ⊥
 StartsStill (Heard start) event = ⊥
 StartsStill (Left silent) event = ⊥
 StartsStill (Turned silent time) event = ⊥
+StartsStill (Fallen silent time) event = ⊥
 StartsStill (Cleared since silent right old) event = ⊥
 StartsStill (Aging ago aged silent) event = ⊥
 StartsStill (Lost since most silent) event = ⊥
@@ -521,6 +558,7 @@ EventLeads n before past event (Gained next) =
 EventLeads n before past event (Heard next) = LeadsToHeard n before past event next
 EventLeads n before past event (Left next) = LeadsToLeft n before past event next
 EventLeads n before past event (Turned silent time) = LeadsToTurned n before past event silent time
+EventLeads n before past event (Fallen silent time) = LeadsToFallen n before past event silent time
 EventLeads n before past event (Cleared since silent right old) = LeadsToCleared n before past event since silent right
     old
 EventLeads n before past event (Aging ago aged silent) = LeadsToAging n before past event ago aged silent
@@ -543,23 +581,23 @@ pub record HasCleared (n : NetworkState) (events : List Timed) (since silent old
 -- delay for each system of a path but one, and then they are by distance.
 abbrev pub turned_echo_span : NetworkState → List Timed → ℕ
 turned_echo_span n events =
-    2 * (pred (sync_paths n events).systems * (sync_paths n events).delay) + echo_span n events
+    2 * way_span (sync_paths n events) + echo_span (pace_of n) (sync_paths n events)
 
--- A network in which a system turned at a time has come to rest by another, as one whose ports are capable from a start
--- on. Traces are told anew, and what was in flight is gone by then. Ports without a link aren't capable from the start
--- on. And the greatest delay has passed for each system of a path but one.
+-- A network in which a system turned at a time has come to rest by another, as one whose ports are capable from a later
+-- start on. Traces are told anew, and what was in flight is gone by then. Ports without a link aren't capable from the
+-- start on. And the greatest delay has passed since the start for each system of a path but one.
 pub record HasToldAnew (n : NetworkState) (events : List Timed) (silent turned start time : ℕ) : Type 0 where
   pub calm : IsCalm n events
   pub off : NothingLapses n.params
   pub told : turned + turned_echo_span n events < time
-  pub later : turned ≤ start
+  pub later : turned < start
   pub unlinked : silent ≤ start
   pub over : HasSettledHeard n events start time
 
--- A network in which a system failed that others heard has come to rest by a time, as one whose ports are capable from a
--- start on. What they held of it had aged by a moment, or ports without a link weren't capable. Right traces have been
--- told by distance since then, and what was in flight is gone. Ports without a link aren't capable. And the greatest
--- delay has passed since the start for each system of a path but one.
+-- A network in which a system failed that others heard has come to rest by a time, as one whose ports are capable from
+-- a start on. What they held of it had aged by a moment, no later than that start, or ports without a link weren't
+-- capable. Right traces have been told by distance since the moment, and what was in flight is gone. Ports without a
+-- link aren't capable. And the greatest delay has passed since the start for each system of a path but one.
 pub record HasAged (n : NetworkState) (events : List Timed) (aged silent start time : ℕ) : Type 0 where
   pub calm : IsCalm n events
   pub off : NothingLapses n.params
@@ -569,31 +607,32 @@ pub record HasAged (n : NetworkState) (events : List Timed) (aged silent start t
   pub flight : ℕ
   pub is_gone : FlightIsGone n events flight
   pub told : by + nearer_echo_span n events + flight < time
-  pub later : last_change events ≤ start
+  pub later : by ≤ start
   pub unlinked : silent ≤ time
   pub over : HasSettledHeard n events start time
 
--- A network that has lost at a time has come to rest by another, as one whose ports are capable from a start on: its
--- choice stands. Ports without a link aren't capable then, or no link is up that isn't in use. And the greatest delay
--- has passed since the start for each system of a path but one.
+-- A network that has lost at a time has come to rest by another, as one whose ports are capable from a start on. The
+-- greatest delay has passed since the start for each system of a path but one, and by then the choice stands. Ports
+-- without a link aren't capable by the other time, or no link is up that isn't in use.
 pub record HasToldAll (n : NetworkState) (events : List Timed) (since most silent start time : ℕ) : Type 0 where
   pub off : NothingLapses n.params
-  pub told : suc (since + loss_span (pace_of n) (sync_paths n events) most) ≤ time
-  pub later : since ≤ start
+  pub later : since + loss_span (pace_of n) (sync_paths n events) most < start + way_span (sync_paths n events)
   pub unlinked : (silent ≤ time) ⊎ UpIsUsed n events
   pub over : HasSettledHeard n events start time
 
--- then it is as if all had been heard from that start on
-abbrev pub RestsAs : NetworkState → List Timed → Past → ℕ → Past → Type 0
-RestsAs n events (Turned silent turned) time (Heard start) = HasToldAnew n events silent turned start time
-RestsAs n events (Cleared since silent right old) time (Heard start) = HasCleared n events since silent old start time
-RestsAs n events (Aging ago aged silent) time (Heard start) = HasAged n events aged silent start time
-RestsAs n events (Lost since most silent) time (Heard start) = HasToldAll n events since most silent start time
-RestsAs n events past time seen = ⊥
+-- by this time it has come to rest, as one whose ports are capable from this start on
+abbrev pub RestsFrom : NetworkState → List Timed → Past → ℕ → ℕ → Type 0
+RestsFrom n events (Turned silent turned) time start = HasToldAnew n events silent turned start time
+RestsFrom n events (Cleared since silent right old) time start = HasCleared n events since silent old start time
+RestsFrom n events (Aging ago aged silent) time start = HasAged n events aged silent start time
+RestsFrom n events (Lost since most silent) time start = HasToldAll n events since most silent start time
+RestsFrom n events past time start = ⊥
 
--- what the network is taken to come from as an event comes at this time
+-- What the network is taken to come from as an event comes at this time: what it came from, or, once it has come to
+-- rest, it is as if all had been heard.
 abbrev pub IsTakenAs : NetworkState → List Timed → Past → ℕ → Past → Type 0
-IsTakenAs n events past time seen = (seen ≡ past) ⊎ RestsAs n events past time seen
+IsTakenAs n events past time seen =
+    (seen ≡ past) ⊎ ((start : ℕ) × (seen ≡ Heard start) × RestsFrom n events past time start)
 
 -- each event leads from one to the next
 abbrev pub LeadOn : NetworkState → List Timed → Past → List Timed → Past → Type 0
@@ -613,6 +652,7 @@ BeginsBy n (Gained start) = AreCapableSoon n [] start
 BeginsBy n (Heard start) = UsedVaryLittle n [] × AreCapableSoon n [] start
 BeginsBy n (Left silent) = ⊥
 BeginsBy n (Turned silent time) = ⊥
+BeginsBy n (Fallen silent time) = ⊥
 BeginsBy n (Cleared since silent right old) = ⊥
 BeginsBy n (Aging ago aged silent) = ⊥
 BeginsBy n (Lost since most silent) = ⊥
@@ -635,10 +675,14 @@ SettlesAfter n events (Heard start) settled =
 SettlesAfter n events (Left silent) settled = NothingLapses n.params × ((silent ≤ settled) ⊎ UpIsUsed n events)
 SettlesAfter n events (Turned silent time) settled =
     NothingLapses n.params
-    × (time + 1 + pred (sync_paths n events).systems * (sync_paths n events).delay ≤ settled)
+    × (time + 1 + way_span (sync_paths n events) ≤ settled)
+SettlesAfter n events (Fallen silent time) settled =
+    NothingLapses n.params
+    × (time + 1 + 2 * way_span (sync_paths n events) ≤ settled)
 SettlesAfter n events (Cleared since silent right old) settled = NothingLapses n.params ×
     ((silent ≤ settled) ⊎ UpIsUsed n events)
-SettlesAfter n events (Aging ago aged silent) settled = NothingLapses n.params × ((silent ≤ settled) ⊎ UpIsUsed n events)
+SettlesAfter n events (Aging ago aged silent) settled =
+    NothingLapses n.params × ((silent ≤ settled) ⊎ UpIsUsed n events)
 SettlesAfter n events (Lost since most silent) settled =
     NothingLapses n.params
     × (suc (since + loss_span (pace_of n) (sync_paths n events) most) ≤ settled)
@@ -653,6 +697,7 @@ ChoosesAfter n events (Gained start) settled = SettlesAfter n events (Gained sta
 ChoosesAfter n events (Heard start) settled = SettlesAfter n events (Heard start) settled
 ChoosesAfter n events (Left silent) settled = NothingLapses n.params
 ChoosesAfter n events (Turned silent time) settled = SettlesAfter n events (Turned silent time) settled
+ChoosesAfter n events (Fallen silent time) settled = SettlesAfter n events (Fallen silent time) settled
 ChoosesAfter n events (Cleared since silent right old) settled = NothingLapses n.params
 ChoosesAfter n events (Aging ago aged silent) settled =
     NothingLapses n.params × ((aged ≤ settled) ⊎ ((silent ≤ settled) ⊎ UpIsUsed n events))

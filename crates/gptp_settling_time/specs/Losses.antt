@@ -3,7 +3,7 @@
 --
 -- An event *moves* a system that lives after it where another system, or the same with another identity, is the best of
 -- its component then, or it is nearer to that or farther from it. So its root or its steps are others.
-use Rattle.std.specs.Prelude.{◌≡◌, ◌≢◌, ◌⊎◌, ◌<◌, ◌≤◌, ◌+◌, ◌*◌, ℕ, pred, suc, true, List, [], ◌∷◌, ◌++◌, Some, slice_get}
+use Rattle.std.specs.Prelude.{◌≡◌, ◌≢◌, ◌⊎◌, ◌<◌, ◌≤◌, ◌+◌, ℕ, suc, true, List, [], ◌∷◌, ◌++◌, Some, slice_get}
 use Rattle.gptp_lists.specs.Members.{In}
 use Rattle.gptp_graph.specs.Best.{IsBest}
 use Rattle.gptp_graph.specs.Distance.{IsDistance}
@@ -12,16 +12,15 @@ use Rattle.gptp_network.specs.Snapshot.{StandsAfter}
 use Rattle.gptp_scenario.specs.Calm.{IsLive, IsUsed}
 use Rattle.gptp_scenario.specs.Change.{link_after}
 use Rattle.gptp_scenario.specs.Network.{IsEnd, NetworkState, pace_of}
+use Rattle.gptp_scenario.specs.SettlingTime.{silence_span}
 use Rattle.gptp_scenario.specs.SyncWait.{sync_paths}
 use Rattle.gptp_scenario.specs.declared.change.Act.{Act}
 use Rattle.gptp_scenario.specs.declared.change.Act.TheVariants.{Change as Changing}
 use Rattle.gptp_scenario.specs.declared.change.Change.TheVariants.{Fail, LinkDown, Priority1}
 use Rattle.gptp_scenario.specs.declared.change.Timed.{Timed}
 use Rattle.gptp_scenario.specs.declared.network.LinkSpec.{LinkSpec}
-use Rattle.gptp_scenario.specs.declared.sync_wait.SyncPaths.{SyncPaths}
 use Rattle.gptp_model.specs.World.{port_id}
-use Rattle.gptp_invariants.specs.FailedUnanswered.{silence_span}
-use Rattle.gptp_setup.specs.SettlingParams.{SettlingParams, largest_interval, longest_span}
+use Rattle.gptp_setup.specs.SettlingParams.{SettlingParams, longest_span}
 use Rattle.gptp_settling_time.specs.Gains.{EndHasFailed, IsUpAfter}
 
 -- in the second snapshot the system has the best that it has in the first, and is as far from it
@@ -126,13 +125,8 @@ pub record FailsHeard (n : NetworkState) (before : List Timed) (event : Timed) :
   pub paths : (sync_paths n (before ++ event ∷ [])).systems ≤ (sync_paths n before).systems
   pub few : (sync_paths n before).systems ≤ 255
 
--- What a failed system told comes to its neighbours within the greatest delay of a link, and they hold it for the
--- longest receipt timeout. Then it has aged.
-abbrev pub aging_span : SettlingParams → SyncPaths → ℕ
-aging_span p paths = longest_span p + paths.delay
-
--- A link was in use after the first events, and after the second ones it is up but isn't: one of its ends has failed. So
--- its other end may still be capable, and hold what came over it.
+-- A link was in use after the first events, and after the second ones it is up but isn't: one of its ends has failed.
+-- So its other end may still be capable, and hold what came over it.
 abbrev pub IsSilent : NetworkState → List Timed → List Timed → LinkSpec → Type 0
 IsSilent n made events v =
     IsUsed n.systems made (link_after made v)
@@ -202,11 +196,3 @@ LosesAny n before act = ⊥
 abbrev pub AreSilentAfter : SettlingParams → ℕ → ℕ → Act → Type 0
 AreSilentAfter p time silent (Changing (Fail number)) = time + silence_span p < silent
 AreSilentAfter p time silent act = time ≤ silent
-
--- How soon the choice stands after such events, where the paths are these then, and what was in flight is gone after a
--- greatest delay. For each system of a path what it holds ages, and what it then says comes: so all that is held is told
--- by live systems over links in use. Then an announce interval passes, and the greatest delay for each system of a path
--- but one.
-abbrev pub loss_span : SettlingParams → SyncPaths → ℕ → ℕ
-loss_span p paths most =
-    paths.systems * (longest_span p + most) + largest_interval p + pred paths.systems * paths.delay

@@ -1,0 +1,330 @@
+-- The act by which a link goes down that cuts a tree off: from then on the tree falls back.
+use Rattle.std.proofs.Common.{◌≡◌, ◌≢◌, ◌⊎◌, ◌≤◌, ◌+◌, ℕ, zero, suc, true, List, Some, slice_get, refl, sym, ap, subst, ◌∙◌, inl, inr, arith}
+use Rattle.gptp_lists.specs.Members.{In}
+use native.Mathlib.Decide.{ℕ_discrete}
+use Rattle.gptp_graph.specs.Best.{IsBest}
+use Rattle.gptp_graph.specs.PathBound.{path_bound}
+use Rattle.gptp_graph.specs.Snapshot.{IsWellFormed, System, clocks}
+use Rattle.gptp_graph.proofs.BestLemmas.{IsBest-neighbour}
+use Rattle.gptp_graph.proofs.DistanceLemmas.{IsDistance-clock, IsDistance-unique}
+use Rattle.gptp_graph.proofs.LinkLemmas.{Adjacent-clock, Adjacent-sym}
+use Rattle.gptp_links.specs.declared.link.Direction.{Direction}
+use Rattle.gptp_links.specs.declared.link.Direction.TheVariants.{FromA, FromB}
+use Rattle.gptp_links.specs.Fate.{Draw}
+use Rattle.gptp_scenario.specs.Calm.{NothingLapses}
+use Rattle.gptp_scenario.specs.Params.{KeepPace}
+use Rattle.gptp_scenario.specs.declared.change.Act.TheVariants.{Change as Changing}
+use Rattle.gptp_scenario.specs.declared.change.Change.TheVariants.{LinkDown}
+use Rattle.gptp_setup.specs.SettlingParams.{SettlingParams}
+use Rattle.gptp_system.specs.Input.{PortDown}
+use Rattle.gptp_system.specs.State.{clock}
+use Rattle.gptp_system.specs.Steps.{HasPortNumber}
+use Rattle.gptp_model.specs.Acts.{Acts}
+use Rattle.gptp_model.specs.Changing.{TellsEnds, taken_down}
+use Rattle.gptp_model.specs.World.{Channel, WorldState, sender}
+use Rattle.gptp_model.specs.declared.done.Done.{Done}
+use Rattle.gptp_model.specs.declared.station.Station.{Station}
+use Rattle.gptp_bmca_machine.specs.CutTree.{CutsTree}
+use Rattle.gptp_bmca_machine.specs.LossLaws.{IsAfterLoss, Unmoved}
+use Rattle.gptp_bmca_machine.specs.Network.{Network}
+use Rattle.gptp_bmca_machine.specs.RestLaws.{SameWiring}
+use Rattle.gptp_bmca_machine.specs.SoundEverywhere.{IsSoundEverywhere}
+use Rattle.gptp_bmca_machine.specs.SoundLaws.{AllAreNear, UnlinkedAreOff}
+use Rattle.gptp_bmca_machine.specs.Station.{Station as SeenStation}
+use Rattle.gptp_bmca_machine.proofs.FallEndLemmas.{FallsBack}
+use Rattle.gptp_bmca_machine.proofs.FallLevelLemmas.{TreeSettles}
+use Rattle.gptp_bmca_machine.proofs.LinkStepLemmas.{lives_at}
+use Rattle.gptp_bmca_machine.proofs.PlaceLemmas.{same_there as machine_there}
+use Rattle.gptp_invariants.specs.ChoiceCalm.{HaveQuietLinks, delay_in}
+use Rattle.gptp_invariants.specs.ChoiceSettlesAsMachine.{IsWorld}
+use Rattle.gptp_invariants.specs.ChoiceView.{says_announce, station_view, view}
+use Rattle.gptp_invariants.specs.DelayMeasured.{LinkIsMeasured}
+use Rattle.gptp_invariants.specs.WorldNews.{AreReadyBy, AreSilentBy}
+use Rattle.gptp_invariants.specs.WorldSound.{IsSoundWorld}
+use Rattle.gptp_invariants.specs.WorldStanding.{snapshot_of}
+use Rattle.gptp_invariants.proofs.ChoicePlaceLemmas.{station_there}
+use Rattle.gptp_invariants.proofs.ChoiceSettlesAsMachineLemmas.{paths_bound}
+use Rattle.gptp_invariants.proofs.WorldStandsLemmas.{stands_well}
+use Rattle.gptp_settling_time.specs.Losses.{IsUnmoved}
+use Rattle.gptp_settling_time.specs.TreeLosses.{IsCutTree}
+use Rattle.gptp_settling_time.proofs.AlwaysClaimedLemmas.{IsStanding}
+use Rattle.gptp_settling_time.proofs.CutDeepLemmas.{deep_within}
+use Rattle.gptp_settling_time.proofs.EndAnswersLemmas.{EndAnswers}
+use Rattle.gptp_settling_time.proofs.FallAlwaysLemmas.{IsFallenAlways, fallen_by, settles_by, settles_later}
+use Rattle.gptp_settling_time.proofs.FallDownLemmas.{FlightNames, tree_falls, tree_settles}
+use Rattle.gptp_settling_time.proofs.LeftClaimedLemmas.{HaveAskedLong, left_network}
+use Rattle.gptp_settling_time.proofs.LoweredLemmas.{ends, known, less_then, ready_on, wires}
+use Rattle.gptp_settling_time.proofs.MovedAlwaysLemmas.{after_loss, dark_now}
+use Rattle.gptp_settling_time.proofs.OneEndLemmas.{turns_a, turns_b}
+use Rattle.gptp_settling_time.proofs.ReducedLemmas.{NearerStay}
+use Rattle.gptp_settling_time.proofs.SettledSeenLemmas.{IsSettledSeen}
+use Rattle.gptp_settling_time.proofs.TakenDownLemmas.{silent_down, told_keeps}
+use Rattle.gptp_settling_time.proofs.WidenedLemmas.{ready_first}
+
+module _ (p : SettlingParams) (w : WorldState) (is : IsWorld p w) (place : ℕ) (channel : Channel)
+    (here : slice_get w.net.channels place ≡ Some channel) (draws : List Draw) (w' : WorldState) (is' : IsWorld p w')
+    (k : TellsEnds PortDown channel (record w { net = taken_down place channel w.net; last_change = w.time }) draws w')
+    (seen : IsSettledSeen p w) (near : AllAreNear (snapshot_of w)) (silent top : ℕ) (best next : System) (base : ℕ)
+    (depth : ℕ → ℕ)
+    (tree : CutsTree (snapshot_of w) (left_network p silent w') top best next base depth)
+    (in_top : IsBest (snapshot_of w') top next) where
+  abbrev n : Network
+  n = left_network p silent w'
+
+  wired : SameWiring seen.n n
+  wired = wires p w is place channel here draws w' is' k seen near n refl
+
+  -- its best is another
+  moved_top : Unmoved (snapshot_of w) n top → ⊥
+  moved_top unmoved =
+      let then = unmoved.best best (tree.was_best top in_top) in
+      let least = then.least next in_top.live in_top.reached in
+      let worse = tree.worse in
+      let back = in_top.least best then.live then.reached in
+      omega (arith, worse, back)
+
+  module _ (lost other : ℕ) (a : EndAnswers says_announce n top lost other (view w) (view w'))
+      (outside : (m : SeenStation) → slice_get (view w').stations other ≡ Some m → m.live ≡ true
+      → IsBest (snapshot_of w') m.clock next → ⊥) (pace : KeepPace p) (measured' : LinkIsMeasured w') (past : silent
+      ≤ w.time)
+      (late_then : delay_in w' ≤ w'.time) (sound : IsSoundWorld w)
+      (named : FlightNames says_announce (snapshot_of w) (view w)) (ready' : AreReadyBy p silent w')
+      (quiet_by : AreSilentBy p silent w) where
+    by_now : silent ≤ w'.time
+    by_now = let time = a.time in omega (arith, past, time)
+
+    standing' : IsStanding p silent w'
+    standing' = record {
+      pace = pace;
+      world = is';
+      measured = measured';
+      silent = silent_down p w is place channel here draws w' is' k silent quiet_by;
+    }
+
+    asked' : HaveAskedLong w'
+    asked' at stands =
+        let (first, by) = ready_first p silent w' is' by_now at (ready' at stands) in
+        let change = (told_keeps channel (record w { net = taken_down place channel w.net; last_change = w.time }) draws
+        w' k).change in
+        (first, silent, omega (arith, past, change), record { is = by; late = by_now })
+
+    -- the other end isn't of the tree
+    outside_at : (c : ℕ) (m : SeenStation) → IsBest n.graph c next → slice_get (view w').stations (n.place c) ≡ Some m
+        → IsAfterLoss n (view w') → n.place c ≢ other
+    outside_at c m in_c at kept' same =
+        let (live, named_c) = lives_at n (view w') kept'.calm c in_c.reached.1.begins m at in
+        outside m (subst (λ i. slice_get (view w').stations i ≡ Some m) same at) live
+        (subst (λ v. IsBest (snapshot_of w') v next) (sym named_c) in_c)
+
+    begins : HaveQuietLinks p.params w' → NothingLapses p.params
+        → FallsBack says_announce (snapshot_of w) n top best next base depth tree w.time (view w')
+        × TreeSettles says_announce (snapshot_of w) n top best next base depth tree w.time (fallen_by n w.time)
+        (settles_by n w.time) (settles_later n w.time) (view w')
+    begins quiet' off =
+        subst (λ h. (t : CutsTree h n top best next base depth) → (Unmoved h n top → ⊥)
+        → IsSoundEverywhere says_announce h (view w) → FlightNames says_announce h (view w)
+        → FallsBack says_announce h n top best next base depth t w.time (view w')
+        × TreeSettles says_announce h n top best next base depth t w.time (fallen_by n w.time)
+        (settles_by n w.time) (settles_later n w.time) (view w')) seen.graph
+        (λ t moved sound0 named0. (
+          tree_falls says_announce seen.n n top best next base depth t in_top moved seen.net (view w) seen.calm
+              seen.invariant seen.late sound0 named0 wired (view w') lost other a
+              (λ c m in_c at. outside_at c m in_c at kept') kept' dark',
+          tree_settles says_announce seen.n n top best next base depth t in_top moved seen.net (view w) seen.calm
+              seen.invariant seen.late sound0 named0 wired (view w') lost other a
+              (λ c m in_c at. outside_at c m in_c at kept') kept' dark' (fallen_by n w.time) (settles_by n w.time)
+              (settles_later n w.time) (let time = a.time in omega (arith, time)),
+        )) tree moved_top sound named
+      where
+        kept' : IsAfterLoss n (view w')
+        kept' = after_loss p silent w' standing' asked' quiet' by_now off late_then
+
+        dark' : UnlinkedAreOff n.graph (view w')
+        dark' = dark_now p silent w' standing' asked' quiet' by_now
+
+    pub fallen_begins : IsFallenAlways p (snapshot_of w) silent w.time w'
+    fallen_begins = record {
+      standing = standing';
+      asked = asked';
+      n = n;
+      same = refl;
+      top = top;
+      best = best;
+      next = next;
+      base = base;
+      depth = depth;
+      tree = tree;
+      past = by_now;
+      late = late_then;
+      seen = λ quiet' off.
+          let (falls, settles) = begins quiet' off in
+          let time = a.time in
+          (falls, inl (omega (arith, time), settles));
+    }
+
+-- ---- the act
+
+module _ (p : SettlingParams) (silent owner port : ℕ) (w : WorldState) (draws : List Draw) (done : Done)
+    (w' : WorldState) (pace : KeepPace p) (is : IsWorld p w) (is' : IsWorld p w') (measured : LinkIsMeasured w)
+    (measured' : LinkIsMeasured w') (acts : Acts (Changing (LinkDown owner port)) w draws done w')
+    (up : acts.1.channel.up ≡ true) (past : silent ≤ w.time) (ready : AreReadyBy p silent w)
+    (quiet_by : AreSilentBy p silent w) (seen : IsSettledSeen p w) (near : AllAreNear (snapshot_of w)) where
+  abbrev channel : Channel
+  channel = acts.1.channel
+
+  abbrev here : slice_get w.net.channels acts.1.place ≡ Some acts.1.channel
+  here = acts.1.is.here
+
+  told : TellsEnds PortDown acts.1.channel
+      (record w { net = taken_down acts.1.place acts.1.channel w.net; last_change = w.time }) draws w'
+  told = ends p silent owner port w draws done w' pace is is' measured measured' acts up
+
+  still_ready : AreReadyBy p silent w'
+  still_ready = ready_on p silent owner port w draws done w' pace is is' measured measured' acts up ready
+
+  -- both ends live, and one of them is the top of a tree
+  module _ (live : (direction : Direction) (at : ℕ) (station : Station) → slice_get w.stations at ≡ Some station
+      → clock station.system ≡ (sender direction acts.1.channel).clock → station.live ≡ true)
+      (top other : ℕ) (best next : System) (base : ℕ) (depth : ℕ → ℕ)
+      (so : IsCutTree (snapshot_of w) (snapshot_of w') top other best next base depth)
+      (few : path_bound (snapshot_of w') ≤ 255)
+      (ends_are : ((channel.a.clock ≡ top) × (channel.b.clock ≡ other))
+      ⊎ ((channel.b.clock ≡ top) × (channel.a.clock ≡ other))) (late : delay_in w' ≤ w'.time) (sound : IsSoundWorld w)
+      (named : FlightNames says_announce (snapshot_of w) (view w)) where
+    well : IsWellFormed (snapshot_of w)
+    well = stands_well w is.sound is.between is.encodable
+
+    well' : IsWellFormed (snapshot_of w')
+    well' = stands_well w' is'.sound is'.between is'.encodable
+
+    -- what the machine knows of it
+    tree : CutsTree (snapshot_of w) (left_network p silent w') top best next base depth
+    tree =
+        let less = less_then p w is acts.1.place channel here draws w' is' told seen near in
+        record {
+          well = well';
+          left = record { graph = well; systems = less.systems; links = less.links };
+          others = λ v known out.
+              let unmoved = so.others v known out in
+              record { live = known; best = unmoved.best; far = unmoved.far };
+          worse = so.worse;
+          was_best = so.was_best;
+          was = so.was;
+          near = λ v in_v.
+              let was = so.was v in_v in
+              let (far, there, close) = near v (IsDistance-clock (snapshot_of w) v (base + depth v) well was) in
+              let one = IsDistance-unique (snapshot_of w) v (base + depth v) far well was there in
+              omega (arith, one, close);
+          deep = λ v in_v.
+              deep_within (snapshot_of w) (snapshot_of w') well well' top other best next base depth so
+              (left_network p silent w').reach (paths_bound p w' is') v in_v;
+          first = so.first;
+          lost = so.lost;
+          steps = so.steps;
+          single = so.single;
+          paths = paths_bound p w' is';
+          few = few;
+        }
+
+    live_a : told.station_a.live ≡ true
+    live_a = live FromA told.place_a told.station_a told.is_a.here told.is_a.named
+
+    live_b : told.station_b.live ≡ true
+    live_b = live FromB told.place_b told.station_b told.is_b.here told.is_b.named
+
+    end_known : (way : Direction) → In (sender way channel).clock (clocks (snapshot_of w'))
+    end_known FromA =
+        subst (λ c. In c (clocks (snapshot_of w'))) told.is_a.named
+        (known p w is acts.1.place channel here draws w' is' told seen near FromA told.place_a told.station_a
+        told.is_a.here told.is_a.named live_a)
+    end_known FromB =
+        subst (λ c. In c (clocks (snapshot_of w'))) told.is_b.named
+        (known p w is acts.1.place channel here draws w' is' told seen near FromB told.place_b told.station_b
+        told.is_b.here told.is_b.named live_b)
+
+    -- the other end is unmoved, and so are its neighbours
+    other_stays : In other (clocks (snapshot_of w'))
+        → IsUnmoved (snapshot_of w) (snapshot_of w') other × NearerStay (snapshot_of w) (snapshot_of w') other
+    other_stays known_other = (
+      so.others other known_other so.outside,
+      (λ y e joined there farther.
+          so.others y (Adjacent-clock (snapshot_of w') other y well' joined)
+          (λ in_y. so.outside (IsBest-neighbour (snapshot_of w') y other next well'
+          (Adjacent-sym (snapshot_of w') other y joined) in_y))),
+    )
+
+    stays_by : (way : Direction) → (sender way channel).clock ≡ other
+        → IsUnmoved (snapshot_of w) (snapshot_of w') (sender way channel).clock
+        × NearerStay (snapshot_of w) (snapshot_of w') (sender way channel).clock
+    stays_by way is_other =
+        subst (λ v. IsUnmoved (snapshot_of w) (snapshot_of w') v × NearerStay (snapshot_of w) (snapshot_of w') v)
+        (sym is_other)
+        (other_stays (subst (λ c. In c (clocks (snapshot_of w'))) is_other (end_known way)))
+
+    stays : (way : Direction) → (sender way channel).clock ≢ top
+        → IsUnmoved (snapshot_of w) (snapshot_of w') (sender way channel).clock
+        × NearerStay (snapshot_of w) (snapshot_of w') (sender way channel).clock
+    stays FromA apart = elim ends_are [
+      | inl (is_a, is_b) ↦ absurd (apart is_a)
+      | inr (is_b, is_a) ↦ stays_by FromA is_a
+    ]
+    stays FromB apart = elim ends_are [
+      | inl (is_a, is_b) ↦ stays_by FromB is_b
+      | inr (is_b, is_a) ↦ absurd (apart is_b)
+    ]
+
+    begins_so : (lost place : ℕ) → EndAnswers says_announce (left_network p silent w') top lost place (view w) (view w')
+        → ((m : SeenStation) → slice_get (view w').stations place ≡ Some m → m.live ≡ true
+        → IsBest (snapshot_of w') m.clock next → ⊥) → IsFallenAlways p (snapshot_of w) silent w.time w'
+    begins_so lost place a outside =
+        fallen_begins p w is acts.1.place channel here draws w' is' told seen near silent top best next base depth tree
+        so.in_top lost place a outside pace measured' past late sound named still_ready quiet_by
+
+    -- what stands at the other end isn't of the tree
+    not_tree : (lost place : ℕ) (station : Station) → slice_get w.stations place ≡ Some station
+        → clock station.system ≡ other
+        → EndAnswers says_announce (left_network p silent w') top lost place (view w) (view w') → (m : SeenStation)
+        → slice_get (view w').stations place ≡ Some m → m.live ≡ true → IsBest (snapshot_of w') m.clock next → ⊥
+    not_tree lost place station stands is_other a m at lives in_m = elim (ℕ_discrete place ((left_network p silent
+        w').place top)) [
+          | yes same ↦
+              let one = machine_there (view w).stations place (station_view station) a.s
+              (station_there w.stations place station stands)
+              (subst (λ i. slice_get (view w).stations i ≡ Some a.s) (sym same) a.here) in
+              so.outside (subst (λ c. IsBest (snapshot_of w') c next)
+              (sym a.named ∙ ap (λ (z : SeenStation). z.clock) (sym one) ∙ is_other) so.in_top)
+          | no apart ↦
+              let (old, stood, less) = a.others place m at lives apart in
+              let one = machine_there (view w).stations place old (station_view station) stood
+              (station_there w.stations place station stands) in
+              so.outside (subst (λ c. IsBest (snapshot_of w') c next)
+              (less.clock ∙ ap (λ (z : SeenStation). z.clock) one ∙ is_other) in_m)
+        ]
+
+    by_a : channel.a.clock ≡ top → channel.b.clock ≡ other → (i : ℕ) → channel.a.port ≡ i
+        → HasPortNumber told.station_a.system i → IsFallenAlways p (snapshot_of w) silent w.time w'
+    by_a is_a is_b zero number of = absurd (let least = of.least in omega (arith, least))
+    by_a is_a is_b (suc i) number of =
+        let a = turns_a p w is acts.1.place channel here draws w' is' told seen near silent top stays live_a live_b
+        is_a i number in
+        begins_so i told.place_b a
+        (not_tree i told.place_b told.station_b told.is_b.here (told.is_b.named ∙ is_b) a)
+
+    by_b : channel.b.clock ≡ top → channel.a.clock ≡ other → (i : ℕ) → channel.b.port ≡ i
+        → HasPortNumber told.station_b.system i → IsFallenAlways p (snapshot_of w) silent w.time w'
+    by_b is_b is_a zero number of = absurd (let least = of.least in omega (arith, least))
+    by_b is_b is_a (suc i) number of =
+        let a = turns_b p w is acts.1.place channel here draws w' is' told seen near silent top stays live_a live_b
+        is_b i number in
+        begins_so i told.place_a a
+        (not_tree i told.place_a told.station_a told.is_a.here (told.is_a.named ∙ is_a) a)
+
+    pub act_fallen : IsFallenAlways p (snapshot_of w) silent w.time w'
+    act_fallen = elim ends_are [
+      | inl (is_a, is_b) ↦ by_a is_a is_b channel.a.port refl
+          (is.sound.wired.ports acts.1.place told.place_a FromA channel told.station_a here told.is_a.here
+          told.is_a.named)
+      | inr (is_b, is_a) ↦ by_b is_b is_a channel.b.port refl
+          (is.sound.wired.ports acts.1.place told.place_b FromB channel told.station_b here told.is_b.here
+          told.is_b.named)
+    ]
