@@ -40,6 +40,7 @@ pub mod FallLeaveLemmas
 pub mod FallKeptLemmas
 pub mod FallLevelLemmas
 pub mod FallEndLemmas
+pub mod FallRestLemmas
 pub mod FallBeginLemmas
 pub mod TurnLemmas
 pub mod TurnOutLemmas

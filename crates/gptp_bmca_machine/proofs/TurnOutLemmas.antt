@@ -1,45 +1,34 @@
 -- The end of the way out turns away from the tree: as soon as it hears that the system at the other end has left its old
 -- choice it tells that its own.
-use Rattle.std.proofs.Common.{◌≡◌, ◌≢◌, ◌⊎◌, ◌<◌, ◌≤◌, ◌+◌, ℕ, suc, true, List, [], ◌∷◌, Some, None, length, slice_get, refl, sym, ap, subst, ◌∙◌, inl, inr, arith}
-use native.Mathlib.Decide.{ℕ_discrete}
+use Rattle.std.proofs.Common.{◌≡◌, ◌≢◌, ◌⊎◌, ◌<◌, ◌≤◌, ◌+◌, ℕ, suc, true, List, [], ◌∷◌, Some, None, slice_get, refl, sym, ap, subst, ◌∙◌, inl, inr, arith}
 use Rattle.gptp_lists.specs.Members.{In}
 use Rattle.gptp_lists.proofs.SystemSpecLemmas.{In-parts}
 use Rattle.gptp_graph.specs.Best.{IsBest}
-use Rattle.gptp_graph.specs.Distance.{IsDistance}
-use Rattle.gptp_graph.specs.Order.{IsLower}
-use Rattle.gptp_graph.specs.Path.{Route}
-use Rattle.gptp_graph.specs.Snapshot.{Adjacent, IsLinked, Joins, PortIdentity, Snapshot, System, clocks, port_of}
+use Rattle.gptp_graph.specs.Snapshot.{Adjacent, IsLinked, Joins, PortIdentity, Snapshot, System, port_of}
 use Rattle.gptp_graph.proofs.BestLemmas.{IsBest-neighbour}
 use Rattle.gptp_graph.proofs.DistanceLemmas.{IsDistance-neighbour, IsDistance-unique}
 use Rattle.gptp_graph.proofs.ExistenceLemmas.{distance_exists}
 use Rattle.gptp_graph.proofs.LinkDecisions.{IsLinked-dec}
-use Rattle.gptp_graph.proofs.LinkLemmas.{Adjacent-sym, Joins-clock, Joins-sym}
-use Rattle.gptp_bmca_machine.specs.Acts.{LaneStep, MachineSteps}
+use Rattle.gptp_graph.proofs.LinkLemmas.{Joins-sym}
 use Rattle.gptp_bmca_machine.specs.AtRest.{ChoosesItself, ChoosesPort, StationIsAtRest}
 use Rattle.gptp_bmca_machine.specs.Clean.{CameSound, Whole}
 use Rattle.gptp_bmca_machine.specs.Facts.{FollowsItself, FollowsPort}
-use Rattle.gptp_bmca_machine.specs.Frame.{Announce, AnnounceFrame, Lane, Send, Spelling}
+use Rattle.gptp_bmca_machine.specs.Frame.{Announce, Lane, Spelling}
 use Rattle.gptp_bmca_machine.specs.Link.{LinkSettles, TellerIsReady, TellerIsSettled}
-use Rattle.gptp_bmca_machine.specs.LinkStage.{LinkStage, Wiring}
+use Rattle.gptp_bmca_machine.specs.LinkStage.{Wiring}
 use Rattle.gptp_bmca_machine.specs.Network.{Network}
-use Rattle.gptp_bmca_machine.specs.Reacts.{PortStep}
 use Rattle.gptp_bmca_machine.specs.Station.{Aged, Disabled, Held, HoldsAt, MachineState, Mine, Port, Received, Reception, Station}
 use Rattle.gptp_bmca_machine.specs.TurnTree.{TurnsTree}
-use Rattle.gptp_bmca_machine.specs.Vectors.{master, message, path_vector}
 use Rattle.gptp_bmca_machine.proofs.ClearLemmas.{trace_short, weaker_clear}
-use Rattle.gptp_bmca_machine.proofs.FallLeaveLemmas.{TreeAnswers, answers_or_stands}
-use Rattle.gptp_bmca_machine.proofs.FallLemmas.{DownStage, HasLeft, IsFreeAt, IsLed, IsLeft, falls_by, free_clear, holds_in_tree, own_new}
-use Rattle.gptp_bmca_machine.proofs.LinkEndsLemmas.{ShowEnds, on_time, teller_on, telling, telling_kept}
-use Rattle.gptp_bmca_machine.proofs.LinkStageLemmas.{begins}
-use Rattle.gptp_bmca_machine.proofs.LinkStepLemmas.{AtLink, lives_at}
+use Rattle.gptp_bmca_machine.proofs.FallLemmas.{HasLeft, IsFreeAt, free_clear, holds_in_tree, own_new}
+use Rattle.gptp_bmca_machine.proofs.LinkEndsLemmas.{ShowEnds, teller_on, telling}
+use Rattle.gptp_bmca_machine.proofs.LinkStepLemmas.{lives_at}
 use Rattle.gptp_bmca_machine.proofs.MovedTreeLemmas.{LeadsDown, MovesTree}
 use Rattle.gptp_bmca_machine.proofs.NearestLemmas.{on_way, steps_more, steps_not_fewer}
 use Rattle.gptp_bmca_machine.proofs.PlaceLemmas.{same_holds, same_place, same_there}
 use Rattle.gptp_bmca_machine.proofs.RestLemmas.{Chooses}
-use Rattle.gptp_bmca_machine.proofs.StillLemmas.{clear_at, port_there, station_of}
-use Rattle.gptp_bmca_machine.proofs.TellsLemmas.{master_announces, news_final}
 use Rattle.gptp_bmca_machine.proofs.TurnLemmas.{OutIsAt, TurnsBack, out_chooses, out_is, out_is_at}
-use Rattle.gptp_bmca_machine.proofs.TurnTreeLemmas.{IsOf, LeadsOut, beyond_out, out_best, out_lives, out_was_best, turns_moves}
+use Rattle.gptp_bmca_machine.proofs.TurnTreeLemmas.{IsOf, LeadsOut, beyond_out, out_was_best, turns_moves}
 
 module _ (says : Spelling) (g : Snapshot) (n : Network) (tree : List ℕ) (top other last out : ℕ) (best : System)
     (base : ℕ) (depth : ℕ → ℕ) (t : TurnsTree g n tree top other last out best base depth) (start : ℕ) (p k : ℕ)
