@@ -25,7 +25,7 @@ use Rattle.gptp_bmca_machine.specs.Network.{IsSettlingNetwork, Network, settled_
 use Rattle.gptp_bmca_machine.specs.SoundLaws.{UnlinkedAreOff}
 use Rattle.gptp_bmca_machine.proofs.CutTreeLemmas.{IsCutOff, LeadsNowhere, moves_tree}
 use Rattle.gptp_bmca_machine.proofs.FallEndLemmas.{FallsOff, fallen_back, falls_on, received_then}
-use Rattle.gptp_bmca_machine.proofs.FallLemmas.{falls_by}
+use Rattle.gptp_bmca_machine.proofs.FallLemmas.{falls_by, off_drop}
 use Rattle.gptp_bmca_machine.proofs.FallLevelLemmas.{tree_settles_on}
 use Rattle.gptp_bmca_machine.proofs.LevelLemmas.{invariant_kept, no_early_ports}
 use Rattle.gptp_bmca_machine.proofs.SettledLemmas.{systems_bounded}
@@ -243,7 +243,7 @@ module _ (p : SettlingParams) (g : Snapshot) (silent start : ℕ) (w w' : WorldS
             tree_settles_on says_announce g is.n (IsCutOff is.n is.next) LeadsNowhere is.top is.best is.next is.base
             is.depth (moves_tree g is.n is.top is.best is.next is.base is.depth is.tree) start (settles_by is.n start)
             (fallen_by is.n start) (settles_later is.n start) (view w) (view w') back.after back'.after step
-            back.falling back'.falling early settles
+            (off_drop g is.n (view w) (view w') dark') back.falling back'.falling early settles
 
         by : Dec (w'.time ≤ fallen_by is.n start) → Settling w'
         by (yes early') = inl (early', settles')

@@ -22,7 +22,7 @@ use Rattle.gptp_bmca_machine.proofs.FallBeginLemmas.{falling_begins, settles_beg
 use Rattle.gptp_bmca_machine.proofs.CutTreeLemmas.{IsCutOff, LeadsNowhere, cut_whole, moves_tree}
 use Rattle.gptp_bmca_machine.proofs.FallEndLemmas.{FallsOff}
 use Rattle.gptp_bmca_machine.proofs.FallLeaveLemmas.{TreeAnswers}
-use Rattle.gptp_bmca_machine.proofs.FallLemmas.{IsAftermath}
+use Rattle.gptp_bmca_machine.proofs.FallLemmas.{IsAftermath, off_hold_old}
 use Rattle.gptp_bmca_machine.proofs.FallLevelLemmas.{TreeSettles}
 use Rattle.gptp_bmca_machine.proofs.MovedTreeLemmas.{Around}
 use Rattle.gptp_bmca_machine.proofs.LinkStepLemmas.{lives_at}
@@ -160,7 +160,7 @@ module _ (says : Spelling) (n0 n : Network) (top : ℕ) (best next : System) (ba
   after = record {
     kept = kept';
     fits = fits' says n0 n top t.well t.left moved_top net0 w calm0 invariant0 late0 sound0 same w' lost other a kept';
-    dark = dark';
+    dark = off_hold_old g n w' dark';
   }
 
   pub tree_falls : FallsOff says g n top best next base depth t w.time w'
@@ -170,7 +170,7 @@ module _ (says : Spelling) (n0 n : Network) (top : ℕ) (best next : System) (ba
         kept';
     falling = falling_begins says n0 n (IsCutOff n next) LeadsNowhere top best next base depth
         (moves_tree g n top best next base depth t) net0 w calm0 invariant0 late0 came0 same w' in_top answer lost refl
-        lanes_so after (λ v p u q none joins. absurd none);
+        lanes_so after dark' (λ v p u q none joins. absurd none);
   }
 
   pub tree_settles : (before : ℕ → ℕ) → ((f : ℕ) → w'.time + n.most < before f)
@@ -178,4 +178,4 @@ module _ (says : Spelling) (n0 n : Network) (top : ℕ) (best next : System) (ba
   tree_settles before room =
       settles_begin says n0 n (IsCutOff n next) LeadsNowhere top best next base depth
       (moves_tree g n top best next base depth t) net0 w calm0 invariant0 late0 came0 same w' in_top answer lost refl
-      lanes_so after (λ v p u q none joins. absurd none) before room
+      lanes_so after dark' (λ v p u q none joins. absurd none) before room

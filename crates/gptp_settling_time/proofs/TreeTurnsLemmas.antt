@@ -23,7 +23,7 @@ use Rattle.gptp_bmca_machine.specs.Station.{MachineState, Port, Received, Recept
 use Rattle.gptp_bmca_machine.specs.TurnTree.{TurnsTree}
 use Rattle.gptp_bmca_machine.proofs.FallBeginLemmas.{falling_begins}
 use Rattle.gptp_bmca_machine.proofs.FallLeaveLemmas.{TreeAnswers}
-use Rattle.gptp_bmca_machine.proofs.FallLemmas.{IsAftermath, IsFreeAt}
+use Rattle.gptp_bmca_machine.proofs.FallLemmas.{IsAftermath, IsFreeAt, off_hold_old}
 use Rattle.gptp_bmca_machine.proofs.LinkStepLemmas.{lives_at}
 use Rattle.gptp_bmca_machine.proofs.MovedTreeLemmas.{Around}
 use Rattle.gptp_bmca_machine.proofs.PlaceLemmas.{same_there}
@@ -81,7 +81,7 @@ module _ (says : Spelling) (n0 n : Network) (tree : List ℕ) (top other last ou
   after = record {
     kept = kept';
     fits = fits' says n0 n top t.well t.left moved_top net0 w calm0 invariant0 late0 sound0 same w' lost place a kept';
-    dark = dark';
+    dark = off_hold_old g n w' dark';
   }
 
   -- ---- what comes in by the way out
@@ -205,7 +205,8 @@ module _ (says : Spelling) (n0 n : Network) (tree : List ℕ) (top other last ou
           kept';
       falling = falling_begins says n0 n (IsOf tree) (LeadsOut last out) top best best base depth
           (turns_moves g n tree top other last out best base depth t) net0 w calm0 invariant0 late0 came0 same w' in_top
-          answer lost refl lanes_so after inward_so;
+          answer lost refl lanes_so after dark' inward_so;
     };
+    dark = dark';
     sound = sound';
   }
