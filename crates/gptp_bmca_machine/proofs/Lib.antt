@@ -43,6 +43,7 @@ pub mod FallEndLemmas
 pub mod FallBeginLemmas
 pub mod TurnLemmas
 pub mod TurnOutLemmas
+pub mod TurnLevelLemmas
 pub mod RunLemmas
 pub mod MatchingLemmas
 pub mod SyncStepLemmas
