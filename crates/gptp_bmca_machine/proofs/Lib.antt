@@ -44,6 +44,7 @@ pub mod FallBeginLemmas
 pub mod TurnLemmas
 pub mod TurnOutLemmas
 pub mod TurnLevelLemmas
+pub mod TurnEndLemmas
 pub mod RunLemmas
 pub mod MatchingLemmas
 pub mod SyncStepLemmas

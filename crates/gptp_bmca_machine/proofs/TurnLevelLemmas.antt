@@ -40,7 +40,7 @@ module _ (says : Spelling) (g : Snapshot) (n : Network) (tree : List ℕ) (top o
   o = out_is_at says g n tree top other last out best base depth t
 
   -- the way out led down before, or it led in, to a system that was as far
-  way_leads : LeadsDown g (IsOf tree) (LeadsOut last out) base depth last out
+  pub way_leads : LeadsDown g (IsOf tree) (LeadsOut last out) base depth last out
       ⊎ ((o.d ≡ base + depth last) × (out < last))
   way_leads = by (distance_exists n.graph last t.well (t.lives last t.in_last)) t.joined
     where

@@ -145,7 +145,7 @@ module _ (says : Spelling) (g : Snapshot) (n : Network) (tree : List ℕ) (top o
         rest = (is.back.after.kept.calm.stations (n.place out) s at lives.0).at_rest
 
         -- its port is master
-        mine : pv.held ≡ Mine best.identity o.d
+        pub mine : pv.held ≡ Mine best.identity o.d
         mine = by pv.held refl
           where
             lane : (l : Lane) × (slice_get w.lanes (n.lane (port_of last (suc p))) ≡ Some l)
