@@ -30,7 +30,7 @@ use Rattle.gptp_bmca_machine.specs.TurnTree.{TurnsTree}
 use Rattle.gptp_bmca_machine.specs.Vectors.{master, message, path_vector}
 use Rattle.gptp_bmca_machine.proofs.ClearLemmas.{trace_short, weaker_clear}
 use Rattle.gptp_bmca_machine.proofs.FallLeaveLemmas.{TreeAnswers, answers_or_stands}
-use Rattle.gptp_bmca_machine.proofs.FallLemmas.{HasLeft, IsFreeAt, IsNewTold, falls_by, free_clear, holds_in_tree, old_in_time, own_new}
+use Rattle.gptp_bmca_machine.proofs.FallLemmas.{HasLeft, IsFreeAt, IsLed, IsLeft, IsNewTold, falls_by, free_clear, holds_in_tree, old_in_time, own_new}
 use Rattle.gptp_bmca_machine.proofs.LinkEndsLemmas.{ShowEnds, on_time, teller_on, telling, telling_kept}
 use Rattle.gptp_bmca_machine.proofs.LinkStageLemmas.{begins}
 use Rattle.gptp_bmca_machine.proofs.LinkStepLemmas.{AtLink, lives_at}
@@ -94,6 +94,35 @@ module _ (says : Spelling) (g : Snapshot) (n : Network) (tree : List ℕ) (top o
   abbrev pub HasTurned : MachineState → Type 0
   HasTurned w = HasLeft n w last best (base + depth last) × IsFreeAt says n last p out k w
 
+  -- before that what was told before is still told, or on its way
+  not_later : (w : MachineState) → TurnsBack says g n tree top other last out best base depth t start w
+      → IsLed says n best (base + depth last) last p out k w
+      ⊎ IsLeft says n best (base + depth last) (falls_by n start (suc (depth last))) last p out k w
+      → w.time ≤ falls_by n start (suc (depth last))
+  not_later w is (inl (old, stays)) =
+      let by = old_in_time says g n (IsOf tree) (LeadsOut last out) top best best base depth m start w is.back.after
+      is.back.falling (depth last) last refl t.in_last old in
+      omega (arith, by)
+  not_later w is (inr (not, told)) =
+      let (s, at, live, clock) = station_of g n t.well t.left w is.back.after.kept is.back.after.fits.stations out
+      (out_lives g n tree top other last out best base depth t) in
+      let (pv, there) = port_there g n t.well t.left w is.back.after.kept is.back.after.fits.stations out k
+      (port_of last (suc p)) s at back in
+      let has = is.back.after.kept.calm.lanes (port_of last (suc p)) (port_of out (suc k)) joins in
+      let old = told s pv has.lane at there has.there in
+      let (h, among, said, due) = told_due says (still n (base + depth last) best last p out k)
+      (IsNewTold n.graph (port_of last (suc p)) out) (falls_by n start (suc (depth last))) has.lane.frames old.told in
+      let now = is.back.after.kept.calm.left (n.lane (port_of last (suc p))) has.lane h has.there among in
+      omega (arith, now, due)
+
+  pub turned : (w : MachineState) → TurnsBack says g n tree top other last out best base depth t start w
+      → falls_by n start (suc (depth last)) < w.time → HasTurned w
+  turned w is late = elim (is.back.falling.down last p out k t.in_last joins leads) [
+    | inr (inr has_turned) ↦ has_turned
+    | inl led ↦ absurd (let by = not_later w is (inl led) in omega (arith, by, late))
+    | inr (inl left) ↦ absurd (let by = not_later w is (inr left) in omega (arith, by, late))
+  ]
+
   -- claims are made of the link to the tree as soon as it has turned
   module _ (before : ℕ) (delay : n.most ≤ before) where
     abbrev k_out : Wiring
@@ -116,7 +145,7 @@ module _ (says : Spelling) (g : Snapshot) (n : Network) (tree : List ℕ) (top o
         rest = (is.back.after.kept.calm.stations (n.place out) s at lives.0).at_rest
 
         -- its port is master
-        mine : pv.held ≡ Mine best.identity o.d
+        pub mine : pv.held ≡ Mine best.identity o.d
         mine = by pv.held refl
           where
             lane : (l : Lane) × (slice_get w.lanes (n.lane (port_of last (suc p))) ≡ Some l)
@@ -392,10 +421,8 @@ module _ (says : Spelling) (g : Snapshot) (n : Network) (tree : List ℕ) (top o
             is'.back.after.kept is.back.after.fits.stations is'.back.after.fits.stations (show_out w is turned)
             (show_out w' is' turned') step (link turned)
         | inl (old, stays) ↦
-            let by = old_in_time says g n (IsOf tree) (LeadsOut last out) top best best base depth m start w is.back.after
-            is.back.falling (depth last) last refl t.in_last old in
-            turn_now (held_led stays) (omega (arith, by)) turned'
-        | inr (inl (not, told)) ↦ turn_now (held_left told) (left_time told) turned'
+            turn_now (held_led stays) (not_later w is (inl (old, stays))) turned'
+        | inr (inl (not, told)) ↦ turn_now (held_left told) (not_later w is (inr (not, told))) turned'
       ]
         where
           lane : (l : Lane) × (slice_get w.lanes (n.lane (port_of last (suc p))) ≡ Some l)
@@ -425,16 +452,3 @@ module _ (says : Spelling) (g : Snapshot) (n : Network) (tree : List ℕ) (top o
           held_left : Told w → (s : Station) (pv : Port) → slice_get w.stations (n.place out) ≡ Some s
               → slice_get s.ports k ≡ Some pv → (r : Reception) × (pv.held ≡ Received r)
           held_left told s pv at there = let old = told s pv lane.0 at there lane.1 in (old.r, old.holds)
-
-          left_time : Told w → w.time ≤ falls_by n start (suc (depth last))
-          left_time told =
-              let (s, at, live, clock) = station_of g n t.well t.left w is.back.after.kept is.back.after.fits.stations out
-              (out_lives g n tree top other last out best base depth t) in
-              let (pv, there) = port_there g n t.well t.left w is.back.after.kept is.back.after.fits.stations out k
-              (port_of last (suc p)) s at back in
-              let old = told s pv lane.0 at there lane.1 in
-              let (h, among, said, due) = told_due says (still n (base + depth last) best last p out k)
-              (IsNewTold n.graph (port_of last (suc p)) out) (falls_by n start (suc (depth last))) lane.0.frames
-              old.told in
-              let now = is.back.after.kept.calm.left (n.lane (port_of last (suc p))) lane.0 h lane.1 among in
-              omega (arith, now, due)
