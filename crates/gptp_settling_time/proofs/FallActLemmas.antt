@@ -174,7 +174,7 @@ module _ (p : SettlingParams) (w : WorldState) (is : IsWorld p w) (place : ℕ) 
         outside_begins says_announce seen.n n top peer best next base depth t has0 in_top peer_out moved seen.net (view
         w)
         seen.calm seen.invariant seen.late sound0 wired (view w') lost other a w.time back
-        (world_apart w' is'.sound is'.encodable) old
+        (world_apart w' is'.sound is'.encodable) (dark_now p silent w' standing' asked' quiet' by_now) old
         (λ v in_v. let less = falls_within n w.time (depth v) (t.deep v in_v) in omega (arith, less, fits))
         (due_gone quiet' off old gone)) tree has moved_top sound (begins quiet' off).0
 

@@ -221,7 +221,7 @@ module _ (p : SettlingParams) (g : Snapshot) (silent start : ℕ) (w w' : WorldS
     sound' old gone fits =
         outside_kept says_announce g is.n is.top is.best is.next is.base is.depth is.tree start old
         (λ v in_v. let by = reached v in_v in omega (arith, by, fits)) (view w) (view w') back back'
-        (world_apart w' standing'.world.sound standing'.world.encodable)
+        (world_apart w' standing'.world.sound standing'.world.encodable) dark'
         (is.sound old (gone_before old gone) fits quiet off) step
 
     settled_on : Settling w → Settling w'
