@@ -41,6 +41,7 @@ pub mod FallKeptLemmas
 pub mod FallLevelLemmas
 pub mod FallEndLemmas
 pub mod TreesFallLemmas
+pub mod FallSoonerLemmas
 pub mod LostPortLemmas
 pub mod LostTopLemmas
 pub mod LostBeginLemmas
