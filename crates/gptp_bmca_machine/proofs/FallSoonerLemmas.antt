@@ -86,17 +86,20 @@ module _ (says : Spelling) (g : Snapshot) (n : Network) (Tree : ℕ → Type 0) 
           → DownStage says n best (base + depth v) (falls_by n start' (suc (depth v))) v p u q w
       by v p u q joins (inl led) = inl led
       by v p u q joins (inr (inr free)) = inr (inr free)
-      by v p u q joins (inr (inl (not, told))) = inr (inl (not, (λ s pu l at there lane.
-          let old = told s pu l at there lane in
-          record {
-            r = old.r;
-            holds = old.holds;
-            final = old.final;
-            young = old.young;
-            told = told_sooner says (still n (base + depth v) best v p u q) (IsNewTold n.graph (port_of v (suc p)) u)
-                (falls_by n start (suc (depth v))) (falls_by n start' (suc (depth v))) l.frames
-                (λ f among. let soon = comes_by v p u q joins l f lane among in omega (arith, soon, now)) old.told;
-          })))
+      by v p u q joins (inr (inl (not, told))) = inr (inl (
+        not,
+        (λ s pu l at there lane.
+            let old = told s pu l at there lane in
+            record {
+              r = old.r;
+              holds = old.holds;
+              final = old.final;
+              young = old.young;
+              told = told_sooner says (still n (base + depth v) best v p u q) (IsNewTold n.graph (port_of v (suc p)) u)
+                  (falls_by n start (suc (depth v))) (falls_by n start' (suc (depth v))) l.frames
+                  (λ f among. let soon = comes_by v p u q joins l f lane among in omega (arith, soon, now)) old.told;
+            }),
+      ))
 
   -- and so does what then settles
   module _ (before before' : ℕ → ℕ) (room : (f : ℕ) → w.time + n.most < before' f) where

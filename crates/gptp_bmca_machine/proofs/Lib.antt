@@ -46,6 +46,7 @@ pub mod LostPortLemmas
 pub mod LostTopLemmas
 pub mod LostBeginLemmas
 pub mod FailsBackLemmas
+pub mod FallEmptiedLemmas
 pub mod FallRestLemmas
 pub mod FallBeginLemmas
 pub mod FallFailLemmas
