@@ -120,7 +120,8 @@ module _ (says : Spelling) (g : Snapshot) (n : Network) (lost : ℕ) (best : Sys
       pub fails_on : UnlinkedHoldNone g n start w' → FailsBack w'
       fails_on none' = record {
         state = state';
-        back = trees_fall_on says g n best IsCut cuts start w w' is.back kept' (dark_by w' kept' fits' state' tops') drops
+        back = trees_fall_on says g n best IsCut cuts start w w' is.back kept' (dark_by w' kept' fits' state' tops')
+            drops
             none' step;
         tops = tops';
       }

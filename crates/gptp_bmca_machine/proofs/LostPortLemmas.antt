@@ -218,7 +218,8 @@ module _ (says : Spelling) (g : Snapshot) (n : Network) (wf : IsWellFormed n.gra
         → says h.octets a → PortStep says x (suc i) now (Hear (suc i) a) root steps pu pu' sends
         → HoldsLast says k gone pu.held (h ∷ fs)
         → HoldsLast says k gone pu'.held fs
-    hears_again now root steps pu pu' sends h fs a end end' time said answer last = by (final_taken k now a pu answer.mid
+    hears_again now root steps pu pu' sends h fs a end end' time said answer last = by (final_taken k now a pu
+        answer.mid
         final (hears_last w m end.s end.at pu end.there) answer.before)
       where
         final : IsFinal k a

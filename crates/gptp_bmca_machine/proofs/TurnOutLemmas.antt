@@ -63,7 +63,8 @@ module _ (says : Spelling) (g : Snapshot) (n : Network) (tree : List ℕ) (top o
       let same : leads.far ≡ o.d = IsDistance-unique g out leads.far o.d t.left.graph leads.there o.there in
       let joined : Adjacent g last out =
       (suc p, suc k, t.left.links (port_of last (suc p)) (port_of out (suc k)) joins) in
-      let by = IsDistance-neighbour g last out (base + depth last) o.d t.left.graph joined (t.was last t.in_last) o.there
+      let by = IsDistance-neighbour g last out (base + depth last) o.d t.left.graph joined (t.was last t.in_last)
+      o.there
       in (
         elim leads.farther [ inl less ↦ omega (arith, less, same) | inr (equal, clock) ↦ omega (arith, equal, same) ],
         by,
@@ -75,12 +76,16 @@ module _ (says : Spelling) (g : Snapshot) (n : Network) (tree : List ℕ) (top o
   worse_out a whole = elim (own_new says g n (IsOf tree) (LeadsOut last out) top best best base depth m start last a
       t.in_last whole) [
         | inl over ↦ inl over
-        | inr (root, more) ↦ inr (root, (
-            let (far, here) = distance_exists n.graph last t.well (t.lives last t.in_last) in
-            let by = beyond_out g n tree top other last out best base depth t far last o.d t.in_last here o.now in
-            let is_best = t.is_best last t.in_last in
-            let few = steps_not_fewer n.graph t.well last a whole best is_best last far (inl refl) is_best here root in
-            omega (arith, by, few)))
+        | inr (root, more) ↦ inr (
+          root,
+          (
+              let (far, here) = distance_exists n.graph last t.well (t.lives last t.in_last) in
+              let by = beyond_out g n tree top other last out best base depth t far last o.d t.in_last here o.now in
+              let is_best = t.is_best last t.in_last in
+              let few = steps_not_fewer n.graph t.well last a whole best is_best last far (inl refl) is_best here root
+              in
+              omega (arith, by, few)),
+        )
       ]
 
   -- what was told before is held until what is told since comes
@@ -175,7 +180,8 @@ module _ (says : Spelling) (g : Snapshot) (n : Network) (tree : List ℕ) (top o
                 chose slave (inl (own, none)) = absurd (let both : Some (suc k) ≡ None = sym slave ∙ none in cc)
                 chose slave (inr (i, x, holds_x, path, slave_x)) =
                     let place : i ≡ k = same_place i k (sym slave_x ∙ slave) in
-                    let one : x ≡ r = same_holds s k x r (subst (λ j. HoldsAt s j x) place holds_x) (pv, there, holds) in
+                    let one : x ≡ r = same_holds s k x r (subst (λ j. HoldsAt s j x) place holds_x) (pv, there, holds)
+                    in
                     let vector = rest.is in
                     let root : x.said.root ≡ s.root = cc in
                     let steps : suc x.said.steps ≡ s.steps = cc in

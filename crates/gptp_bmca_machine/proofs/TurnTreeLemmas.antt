@@ -152,7 +152,8 @@ module _ (g : Snapshot) (n : Network) (tree : List ℕ) (top other last out : �
   pub up_whole : (v u : ℕ) (a : Announce) → In v tree → In u tree → Adjacent n.graph u v
       → depth v ≡ suc (depth u) → Whole g v a → a.root ≡ best.identity → Whole n.graph v a ⊎ In u a.path
   up_whole v u a in_v in_u joined higher whole root =
-      whole_or_named g n (IsOf tree) (LeadsOut last out) top best best base depth turns_moves u v joined in_u in_v higher
+      whole_or_named g n (IsOf tree) (LeadsOut last out) top best best base depth turns_moves u v joined in_u in_v
+      higher
       a whole after
     where
       clock : whole.first.clock ≡ best.clock
