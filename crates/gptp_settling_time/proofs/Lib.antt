@@ -173,3 +173,4 @@ pub mod RightBeginLemmas
 pub mod ToldAnewLemmas
 pub mod NamesItselfLemmas
 pub mod TreeTurnsLemmas
+pub mod TurnedTreeLemmas
