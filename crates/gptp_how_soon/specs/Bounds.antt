@@ -28,8 +28,8 @@ two_exchanges p paths = interval_of p.pdelay + (paths.delay + p.turnaround + pat
 abbrev pub asked_again : Params → SyncPaths → ℕ
 asked_again p paths = interval_of p.pdelay + two_exchanges p paths
 
--- How long a network that had come to rest takes at most to settle after losses: what was told comes within the greatest
--- delay of a link that is in use, or was just before.
+-- How long a network that had come to rest takes at most to settle after losses: what was told comes within the
+-- greatest delay of a link that is in use, or was just before.
 abbrev pub any_loss_span : NetworkState → Loss → SyncPaths → ℕ
 any_loss_span n loss paths = loss_span (pace_of n) paths (max loss.paths_before.delay paths.delay)
 
@@ -58,8 +58,13 @@ heard_by n followed told new =
 
 -- The choice, by what a loss leaves of before. Where something may lapse for want of Sync it takes the span. Else it is
 -- as the row says, with so much after gains. Where others heard a system that fails it stands once they don't hold that
+<<<<<<< HEAD
 -- any more. A system that turns tells what it chooses, and its neighbours answer: a way there, and one back. A tree that
 -- falls off, or turns, drops what it had within a way, and has another within one more.
+=======
+-- any more. A system that turns tells what it chooses, and its neighbours answer: a way there, and one back. A tree
+-- that falls off drops its root within a way, and has another within one more.
+>>>>>>> 7dc6ba3d34a9bb2b44590dc247b99be1a5b70a2f
 abbrev pub choice_of_row : NetworkState → Loss → SyncPaths → Row → ℕ → ℕ
 choice_of_row n loss paths AnyPast gained = settling_span_at_once (pace_of n) paths
 choice_of_row n loss paths Unchanged gained = 0
@@ -84,8 +89,8 @@ choice_by n loss paths row gained =
     if not (n.params.sync_timeout == 0) then settling_span_with (pace_of n) paths paths.systems
     else choice_of_row n loss paths row gained
 
--- After losses without a row of their own roles stand with the choice; but no sooner than the ports beside a system that
--- fails aren't capable any more, where a link may be left silent.
+-- After losses without a row of their own roles stand with the choice; but no sooner than the ports beside a system
+-- that fails aren't capable any more, where a link may be left silent.
 abbrev pub roles_after_losses : NetworkState → Loss → SyncPaths → ℕ
 roles_after_losses n loss paths =
     if loss.silent then max (any_loss_span n loss paths) (silence_span (pace_of n)) else any_loss_span n loss paths
@@ -134,9 +139,15 @@ aged_echo_span n loss paths =
 -- By when all that is held and in flight is sound: as soon as the choice stands, but after a loss it may name what is
 -- gone. After a far end or a tree is cut off, or a far end fails, only what was in flight does; of one that fails by
 -- links of before too. Where ports beside it may still be capable roles have to stand too. After a link goes down by
+<<<<<<< HEAD
 -- which no system is moved, or a system that others heard loses its power, traces have to be told anew first. So they do
 -- once the choice stands where one system turns, or one fails that others heard. After losses without a row of their own
 -- all is sound once roles stand. After others it is as soon as the choice stands from any past.
+=======
+-- which no system is moved, or a system that others heard loses its power, traces have to be told anew first. So they
+-- do once the choice stands where one system turns, or one fails that others heard. After losses without a row of their
+-- own all is sound once roles stand.
+>>>>>>> 7dc6ba3d34a9bb2b44590dc247b99be1a5b70a2f
 abbrev pub sound_of_row : NetworkState → Loss → SyncPaths → Row → ℕ → ℕ
 sound_of_row n loss paths AnyPast gained = settling_span_at_once (pace_of n) paths
 sound_of_row n loss paths Unchanged gained = 0

@@ -172,7 +172,8 @@ fn are_losses_followed(paths_before: SyncPaths, told: &[Told]) -> bool
     paths_before.systems <= 255 && all_leave_links(told)
 }
 
-/// Whether no path had more than 255 systems, none gets longer, and the greatest delay of a link in use gets no greater.
+/// Whether no path had more than 255 systems, none gets longer, and the greatest delay of a link in use gets no
+/// greater.
 fn keeps_paths(paths_before: SyncPaths, paths: SyncPaths) -> bool
     ensures { result ≡ keeps_paths paths_before paths }
 {
@@ -240,8 +241,8 @@ fn failed_row(far: bool, any: bool, used: bool) -> Row
 }
 
 /// What is known of a time, by whether it is from rest, whether it is the first, and what its events do: whether they
-/// What is known of a time, by whether it is from rest, whether it is the first, what its events do, whom they move, and
-/// whether each link that is up then is in use.
+/// What is known of a time, by whether it is from rest, whether it is the first, what its events do, whom they move,
+/// and whether each link that is up then is in use.
 pub(crate) fn row_of(
     from_rest: bool,
     first: bool,

@@ -568,8 +568,8 @@ fn a_system_that_others_hear_costs_the_choice_what_they_hold_it_for(
 
 #[test]
 fn what_is_held_ages_by_the_interval_of_its_port(rt: HostRuntime) -> Result<(), Fail> {
-    // d announces twice a second, the others once. Its interval counts once an announce interval and the longest receipt
-    // timeout have passed since the start.
+    // d announces twice a second, the others once. Its interval counts once an announce interval and the longest
+    // receipt timeout have passed since the start.
     for (case, at, choice) in [
         ("its own interval", 4_000_000_001, 1_500_000_410),
         ("too soon for it", 4_000_000_000, 3_000_000_410),
