@@ -58,13 +58,8 @@ heard_by n followed told new =
 
 -- The choice, by what a loss leaves of before. Where something may lapse for want of Sync it takes the span. Else it is
 -- as the row says, with so much after gains. Where others heard a system that fails it stands once they don't hold that
-<<<<<<< HEAD
--- any more. A system that turns tells what it chooses, and its neighbours answer: a way there, and one back. A tree that
--- falls off, or turns, drops what it had within a way, and has another within one more.
-=======
 -- any more. A system that turns tells what it chooses, and its neighbours answer: a way there, and one back. A tree
--- that falls off drops its root within a way, and has another within one more.
->>>>>>> 7dc6ba3d34a9bb2b44590dc247b99be1a5b70a2f
+-- that falls off, or turns, drops what it had within a way, and has another within one more.
 abbrev pub choice_of_row : NetworkState → Loss → SyncPaths → Row → ℕ → ℕ
 choice_of_row n loss paths AnyPast gained = settling_span_at_once (pace_of n) paths
 choice_of_row n loss paths Unchanged gained = 0
@@ -139,15 +134,9 @@ aged_echo_span n loss paths =
 -- By when all that is held and in flight is sound: as soon as the choice stands, but after a loss it may name what is
 -- gone. After a far end or a tree is cut off, or a far end fails, only what was in flight does; of one that fails by
 -- links of before too. Where ports beside it may still be capable roles have to stand too. After a link goes down by
-<<<<<<< HEAD
--- which no system is moved, or a system that others heard loses its power, traces have to be told anew first. So they do
--- once the choice stands where one system turns, or one fails that others heard. After losses without a row of their own
--- all is sound once roles stand. After others it is as soon as the choice stands from any past.
-=======
 -- which no system is moved, or a system that others heard loses its power, traces have to be told anew first. So they
--- do once the choice stands where one system turns, or one fails that others heard. After losses without a row of their
--- own all is sound once roles stand.
->>>>>>> 7dc6ba3d34a9bb2b44590dc247b99be1a5b70a2f
+-- do once the choice stands where one system turns, or one fails that others heard. After losses without a row of
+-- their own all is sound once roles stand. After others it is as soon as the choice stands from any past.
 abbrev pub sound_of_row : NetworkState → Loss → SyncPaths → Row → ℕ → ℕ
 sound_of_row n loss paths AnyPast gained = settling_span_at_once (pace_of n) paths
 sound_of_row n loss paths Unchanged gained = 0

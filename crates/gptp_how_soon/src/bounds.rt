@@ -85,8 +85,8 @@ pub enum Row {
     TreeCutOff,
     /// By its one event a link goes down that moves a tree. Its systems keep their root, and get it by one other link.
     TreeTurned,
-    /// A system fails, and all that are moved are trees that it cuts off. Each link that is up then is in use, as where it
-    /// loses its power.
+    /// A system fails, and all that are moved are trees that it cuts off. Each link that is up then is in use, as where
+    /// it loses its power.
     PowerCutsTrees,
     /// So it is, but a link is up then that isn't in use.
     FailureCutsTrees,
