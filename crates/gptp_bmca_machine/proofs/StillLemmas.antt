@@ -8,9 +8,9 @@ use Rattle.gptp_graph.specs.Best.{IsBest}
 use Rattle.gptp_graph.specs.Distance.{IsDistance}
 use Rattle.gptp_graph.proofs.LinkLemmas.{Joins-sym, Joins-clock, Adjacent-sym}
 use Rattle.gptp_graph.proofs.SystemLemmas as systems
-use Rattle.gptp_graph.proofs.BestLemmas.{IsBest-neighbour}
+use Rattle.gptp_graph.proofs.BestLemmas.{IsBest-neighbour, IsBest-unique}
 use Rattle.gptp_graph.proofs.DistanceLemmas.{IsDistance-unique, IsDistance-neighbour, IsDistance-clock, IsDistance-best, best_at_zero, nearer_neighbour}
-use Rattle.gptp_graph.proofs.ExistenceLemmas.{distance_exists}
+use Rattle.gptp_graph.proofs.ExistenceLemmas.{best_exists, distance_exists}
 use Rattle.gptp_bmca_machine.specs.Frame.{Announce, Spelling, AnnounceFrame, Lane}
 use Rattle.gptp_bmca_machine.specs.Station.{Reception, Held, Disabled, Mine, Received, Port, Station, MachineState, HoldsAt}
 use Rattle.gptp_bmca_machine.specs.Vectors.{master}
@@ -27,7 +27,7 @@ use Rattle.gptp_bmca_machine.specs.LossLaws.{EverythingFits, IsWhatIsLeft, IsLos
 use Rattle.gptp_bmca_machine.proofs.ClearLemmas.{tells_clear, weaker_clear}
 use Rattle.gptp_bmca_machine.proofs.PlaceLemmas.{same_there, there_within}
 use Rattle.gptp_bmca_machine.proofs.LinkLemmas.{link_kept, link_settled}
-use Rattle.gptp_bmca_machine.proofs.RestLemmas.{Chooses, IsClear, zero_settles, suc_settles}
+use Rattle.gptp_bmca_machine.proofs.RestLemmas.{Chooses, IsClear, bounded, zero_settles, suc_settles}
 use Rattle.gptp_bmca_machine.proofs.LevelLemmas.{places_of}
 use Rattle.gptp_bmca_machine.proofs.RestingLemmas.{links_stay, stays_so}
 use Rattle.gptp_bmca_machine.proofs.LossLemmas.{fits_kept, loss_fits}
@@ -82,6 +82,17 @@ module _ (g : Snapshot) (n : Network) (wf : IsWellFormed n.graph) (left : IsWhat
   live_before v known =
       let (s, here, clock) = systems.system_of n.graph v known in
       subst (λ c. In c (clocks g)) clock (systems.In-clocks g s (left.systems s here))
+
+  -- what is the best of an unmoved system was, and it was as far
+  pub best_was : (v : ℕ) (c : System) → Unmoved g n v → IsBest n.graph v c → IsBest g v c
+  best_was v c u is =
+      let (f, was) = best_exists g v left.graph (live_before v u.live) in
+      subst (IsBest g v) (IsBest-unique n.graph v f c wf (u.best f was) is) was
+
+  pub far_was : (v far : ℕ) → Unmoved g n v → IsDistance n.graph v far → IsDistance g v far
+  far_was v far u is =
+      let (f, was) = distance_exists g v left.graph (live_before v u.live) in
+      subst (IsDistance g v) (IsDistance-unique n.graph v f far wf (u.far f was) is) was
 
   -- no system was farther before
   nearer_before : (d x e : ℕ) (best : System) → IsBest g x best → IsBest n.graph x best → IsDistance n.graph x d
@@ -162,7 +173,7 @@ module _ (g : Snapshot) (n : Network) (wf : IsWellFormed n.graph) (left : IsWhat
   clear_at i s at live = record {
     rest = (calm.stations i s at live).at_rest;
     known = left.systems (station_system s) (calm.facts.stations i s at live).known;
-    held = λ place r holds. all i s place r at live holds;
+    held = λ place r holds. bounded g s.clock (suc place) r (all i s place r at live holds);
   }
 
   -- where a system of the snapshot stands
@@ -268,7 +279,8 @@ module _ (g : Snapshot) (n : Network) (wf : IsWellFormed n.graph) (left : IsWhat
     tells_settled s pv at port ready =
         let (live, clock) = is_station v s from_known at in
         tells_clear g left.graph (still n d best v p u q) best refl leads.far best_to leads.there leads.farther s
-        (clear_at (n.place v) s at live) clock leads.is_best (port_of u (suc q)) before refl
+        (clear_at (n.place v) s at live) (λ place r holds. (all (n.place v) s place r at live holds).fits) clock
+        leads.is_best (port_of u (suc q)) before refl
         (wf.apart (port_of v (suc p)) (port_of u (suc q)) leads.joins) near
         (calm.facts.stations (n.place v) s at live).follows pv port ready
 
@@ -505,7 +517,7 @@ module _ (says : Spelling) (n n' : Network) (net : IsSettlingNetwork n) (wf : Is
   all : EverythingFits says n.graph n' w'
   all = loss_fits says n n' w w' net loss
 
-  levels_found : (d : ℕ) → StillSettles says n.graph n' d w'
+  pub levels_found : (d : ℕ) → StillSettles says n.graph n' d w'
   levels_found d best v p u q close leads from pv pu l stand ready =
       inr (inr (still_stays says n' d best v p u q pv.announce pu.held l.frames
       (stays_so says n n' loss.same d best best v p u q refl pv.announce pu.held l.frames

@@ -172,3 +172,4 @@ pub mod MovedFlightLemmas
 pub mod RightBeginLemmas
 pub mod ToldAnewLemmas
 pub mod NamesItselfLemmas
+pub mod TreeTurnsLemmas
