@@ -1,5 +1,5 @@
--- The end of the way out turns away from the tree: as soon as it hears that the system at the other end has left its old
--- choice it tells that its own.
+-- The end of the way out turns away from the tree: as soon as it hears that the system at the other end has left its
+-- old choice it tells that its own.
 use Rattle.std.proofs.Common.{◌≡◌, ◌≢◌, ◌⊎◌, ◌<◌, ◌≤◌, ◌+◌, ℕ, suc, true, List, [], ◌∷◌, Some, None, slice_get, refl, sym, ap, subst, ◌∙◌, inl, inr, arith}
 use Rattle.gptp_lists.specs.Members.{In}
 use Rattle.gptp_lists.proofs.SystemSpecLemmas.{In-parts}
@@ -20,7 +20,8 @@ use Rattle.gptp_bmca_machine.specs.Network.{Network}
 use Rattle.gptp_bmca_machine.specs.Station.{Aged, Disabled, Held, HoldsAt, MachineState, Mine, Port, Received, Reception, Station}
 use Rattle.gptp_bmca_machine.specs.TurnTree.{TurnsTree}
 use Rattle.gptp_bmca_machine.proofs.ClearLemmas.{trace_short, weaker_clear}
-use Rattle.gptp_bmca_machine.proofs.FallLemmas.{HasLeft, IsFreeAt, free_clear, holds_in_tree, own_new}
+use Rattle.gptp_bmca_machine.proofs.FallHeldLemmas.{holds_in_tree}
+use Rattle.gptp_bmca_machine.proofs.FallLemmas.{HasLeft, IsFreeAt, free_clear, own_new}
 use Rattle.gptp_bmca_machine.proofs.LinkEndsLemmas.{ShowEnds, teller_on, telling}
 use Rattle.gptp_bmca_machine.proofs.LinkStepLemmas.{lives_at}
 use Rattle.gptp_bmca_machine.proofs.MovedTreeLemmas.{LeadsDown, MovesTree}
