@@ -53,6 +53,8 @@ pub mod FallBeginLemmas
 pub mod FallFailLemmas
 pub mod TurnLemmas
 pub mod TurnOutLemmas
+pub mod TurnLevelLemmas
+pub mod TurnEndLemmas
 pub mod RunLemmas
 pub mod MatchingLemmas
 pub mod SyncStepLemmas

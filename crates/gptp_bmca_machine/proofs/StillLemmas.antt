@@ -8,9 +8,9 @@ use Rattle.gptp_graph.specs.Best.{IsBest}
 use Rattle.gptp_graph.specs.Distance.{IsDistance}
 use Rattle.gptp_graph.proofs.LinkLemmas.{Joins-sym, Joins-clock, Adjacent-sym}
 use Rattle.gptp_graph.proofs.SystemLemmas as systems
-use Rattle.gptp_graph.proofs.BestLemmas.{IsBest-neighbour}
+use Rattle.gptp_graph.proofs.BestLemmas.{IsBest-neighbour, IsBest-unique}
 use Rattle.gptp_graph.proofs.DistanceLemmas.{IsDistance-unique, IsDistance-neighbour, IsDistance-clock, IsDistance-best, best_at_zero, nearer_neighbour}
-use Rattle.gptp_graph.proofs.ExistenceLemmas.{distance_exists}
+use Rattle.gptp_graph.proofs.ExistenceLemmas.{best_exists, distance_exists}
 use Rattle.gptp_bmca_machine.specs.Frame.{Announce, Spelling, AnnounceFrame, Lane}
 use Rattle.gptp_bmca_machine.specs.Station.{Reception, Held, Disabled, Mine, Received, Port, Station, MachineState, HoldsAt}
 use Rattle.gptp_bmca_machine.specs.Vectors.{master}
@@ -82,6 +82,17 @@ module _ (g : Snapshot) (n : Network) (wf : IsWellFormed n.graph) (left : IsWhat
   live_before v known =
       let (s, here, clock) = systems.system_of n.graph v known in
       subst (λ c. In c (clocks g)) clock (systems.In-clocks g s (left.systems s here))
+
+  -- what is the best of an unmoved system was, and it was as far
+  pub best_was : (v : ℕ) (c : System) → Unmoved g n v → IsBest n.graph v c → IsBest g v c
+  best_was v c u is =
+      let (f, was) = best_exists g v left.graph (live_before v u.live) in
+      subst (IsBest g v) (IsBest-unique n.graph v f c wf (u.best f was) is) was
+
+  pub far_was : (v far : ℕ) → Unmoved g n v → IsDistance n.graph v far → IsDistance g v far
+  far_was v far u is =
+      let (f, was) = distance_exists g v left.graph (live_before v u.live) in
+      subst (IsDistance g v) (IsDistance-unique n.graph v f far wf (u.far f was) is) was
 
   -- no system was farther before
   nearer_before : (d x e : ℕ) (best : System) → IsBest g x best → IsBest n.graph x best → IsDistance n.graph x d
