@@ -1,5 +1,5 @@
--- The end of the way out turns away from the tree: as soon as it hears that the system at the other end has left its old
--- choice it tells that its own.
+-- The end of the way out turns away from the tree: as soon as it hears that the system at the other end has left its
+-- old choice it tells that its own.
 use Rattle.std.proofs.Common.{◌≡◌, ◌≢◌, ◌⊎◌, ◌<◌, ◌≤◌, ◌+◌, ℕ, suc, true, List, [], ◌∷◌, Some, None, slice_get, refl, sym, ap, subst, ◌∙◌, inl, inr, arith}
 use Rattle.gptp_lists.specs.Members.{In}
 use Rattle.gptp_lists.proofs.SystemSpecLemmas.{In-parts, In-right}
