@@ -35,6 +35,7 @@ pub mod CutTreeLemmas
 pub mod TurnTreeLemmas
 pub mod MovedTreeLemmas
 pub mod FallLemmas
+pub mod FallHeldLemmas
 pub mod FallStepLemmas
 pub mod FallLeaveLemmas
 pub mod FallKeptLemmas
