@@ -41,7 +41,7 @@ use Rattle.gptp_settling_time.proofs.AlwaysClaimedLemmas.{AreHeard, IsClaimedAlw
 use Rattle.gptp_settling_time.proofs.HeardLemmas.{StaysCapableAt, stays_elsewhere, stays_link, stays_on}
 use Rattle.gptp_settling_time.specs.Idle.{Lives}
 use Rattle.gptp_settling_time.proofs.PriorityNewsLemmas.{stood}
-use Rattle.gptp_settling_time.proofs.ReactionStageLemmas.{stage_after}
+use Rattle.gptp_bmca_machine.proofs.ReactionStageLemmas.{stage_after}
 use Rattle.gptp_settling_time.proofs.ReactsLemmas.{Reacts, reacts, reacts_news}
 use Rattle.gptp_settling_time.proofs.RestClaimedLemmas.{AreOn}
 use Rattle.gptp_settling_time.proofs.SettledSeenLemmas.{HasSettledSeen, IsSettledSeen, wired_as}
@@ -189,10 +189,10 @@ module _ (p : SettlingParams) (start next owner value : ℕ) (w : WorldState) (d
     wired = wiring_same p w w' r seen.n n seen.same refl
 
     -- the port that hears is on
-    lasts : (d : ℕ) (best : System) (v pp u q : ℕ) → LeadsFarther n.graph d best v pp u q
+    lasts : (d : ℕ) (best : System) (v pp u q : ℕ) → d < 255 → LeadsFarther n.graph d best v pp u q
         → StaysOn (wiring n d best v pp u q) (view w) (view w')
     unfolding way_back
-    lasts d best v pp u q leads s s' a b from at port at' port' held =
+    lasts d best v pp u q close leads s s' a b from at port at' port' held =
         let from_port = port_of v (suc pp) in
         let to_port = port_of u (suc q) in
         let way = way_of w' from_port to_port leads.joins in
