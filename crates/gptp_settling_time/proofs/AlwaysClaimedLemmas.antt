@@ -154,7 +154,7 @@ lane_at w is from to way =
 
 -- ---- the port that asks is on exactly where it is capable
 
-not_off : (q : Port) (h : Held) (capable : Bool) → is_capable q.peer ≡ capable → IsShown h q
+pub not_off : (q : Port) (h : Held) (capable : Bool) → is_capable q.peer ≡ capable → IsShown h q
     → (h ≡ helds.Disabled → ⊥)
     → is_capable q.peer ≡ true
 not_off q h true is shown on = is
