@@ -1,5 +1,5 @@
 -- What enters a lane and says an Announce comes from a port that is capable.
-use Rattle.std.proofs.Common.{◌≡◌, ◌⊎◌, ℕ, ℤ, suc, true, List, Some, slice_get, refl, sym, ap, subst, ◌∙◌, inl, inr}
+use Rattle.std.proofs.Common.{◌≡◌, ◌⊎◌, ℕ, ℤ, suc, Bool, true, false, List, Some, slice_get, refl, sym, ap, subst, ◌∙◌, inl, inr}
 use Rattle.gptp_lists.specs.Members.{In}
 use Rattle.gptp_lists.proofs.SystemSpecLemmas.{In-parts}
 use Rattle.gptp_graph.specs.Snapshot.{port_of}
@@ -7,7 +7,7 @@ use Rattle.gptp_pdelay.specs.Peer.{is_capable}
 use Rattle.gptp_receipt.specs.declared.held.Held.{Held}
 use Rattle.gptp_receipt.specs.declared.held.Held.TheVariants as helds
 use Rattle.gptp_system.specs.declared.port.Port.{Port}
-use Rattle.gptp_system.specs.Facts.{AreShown}
+use Rattle.gptp_system.specs.Facts.{AreShown, IsShown}
 use Rattle.gptp_system.specs.State.{clock}
 use Rattle.gptp_model.specs.declared.station.Station.{Station}
 use Rattle.gptp_model.specs.World.{WorldState}
@@ -18,7 +18,6 @@ use Rattle.gptp_bmca_machine.specs.Station.{Disabled, MachineState, Mine, Port a
 use Rattle.gptp_bmca_machine.specs.Touch.{StationTouch}
 use Rattle.gptp_invariants.specs.ChoiceView.{held_view, span_at, view}
 use Rattle.gptp_invariants.proofs.ChoicePlaceLemmas.{port_from, station_from}
-use Rattle.gptp_settling_time.proofs.AlwaysClaimedLemmas.{not_off}
 
 -- ---- the machine
 
@@ -100,6 +99,12 @@ not_mine : (keep : ℤ → ℕ) (h : Held) (root steps : ℕ) → held_view keep
 not_mine keep h root steps mine off =
     let same : Disabled ≡ Mine root steps = sym (ap (held_view keep) off) ∙ mine in cc
 
+pub on_capable : (q : Port) (h : Held) (capable : Bool) → is_capable q.peer ≡ capable → IsShown h q
+    → (h ≡ helds.Disabled → ⊥)
+    → is_capable q.peer ≡ true
+on_capable q h true is shown on = is
+on_capable q h false is shown on = absurd (on (shown.off is))
+
 pub master_capable : (w : WorldState)
     → ((place : ℕ) (station : Station) → slice_get w.stations place ≡ Some station → AreShown station.system)
     → (l : Lane) → (m : BeginsAtMaster (view w) l) → IsCapablePort w m.place m.s.clock m.port
@@ -119,7 +124,7 @@ master_capable w shown l m =
       port_is = port_is;
       state = p.port;
       there = p.port_there;
-      capable = not_off p.port p.held (is_capable p.port.peer) refl
+      capable = on_capable p.port p.held (is_capable p.port.peer) refl
           ((shown m.place at.station at.here).each i p.held p.port p.held_there p.port_there)
           (not_mine (span_at s) p.held m.s.root m.s.steps held);
     }
