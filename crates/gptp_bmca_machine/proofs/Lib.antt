@@ -24,6 +24,7 @@ pub mod StillLemmas
 pub mod FlightLemmas
 pub mod NewsLemmas
 pub mod RestingLemmas
+pub mod ReactionStageLemmas
 pub mod ReactionLemmas
 pub mod LossLemmas
 pub mod LinkStepLemmas
