@@ -1,5 +1,5 @@
--- A system of a network at rest fails, which cuts trees off: they begin to fall back. Nobody answers yet. The top of each
--- holds what the failed system told, until that ages, or its port isn't capable any more.
+-- A system of a network at rest fails, which cuts trees off: they begin to fall back. Nobody answers yet. The top of
+-- each holds what the failed system told, until that ages, or its port isn't capable any more.
 use Rattle.std.proofs.Common.{◌≡◌, ◌≤◌, ◌+◌, ◌∙◌, ℕ, suc, Some, slice_get, ap, subst, sym, inl, inr}
 use Rattle.gptp_lists.specs.Members.{In}
 use Rattle.gptp_graph.specs.Best.{IsBest}

@@ -24,6 +24,7 @@ pub mod StillLemmas
 pub mod FlightLemmas
 pub mod NewsLemmas
 pub mod RestingLemmas
+pub mod ReactionStageLemmas
 pub mod ReactionLemmas
 pub mod LossLemmas
 pub mod LinkStepLemmas
@@ -35,6 +36,7 @@ pub mod CutTreeLemmas
 pub mod TurnTreeLemmas
 pub mod MovedTreeLemmas
 pub mod FallLemmas
+pub mod FallHeldLemmas
 pub mod FallStepLemmas
 pub mod FallLeaveLemmas
 pub mod FallKeptLemmas

@@ -33,8 +33,8 @@ abbrev pub NoneSays : Spelling → List AnnounceFrame → Type 0
 NoneSays says fs = (f : AnnounceFrame) → In f fs → FrameSaysAnnounce says f → ⊥
 
 module _ (says : Spelling) (k : Wiring) (gone : ℕ) where
-  -- The port holds what was told last. All that is on its way is so, and comes by that time; and what is held doesn't age
-  -- before all of it has come, or before some of it has. Or nothing is on its way.
+  -- The port holds what was told last. All that is on its way is so, and comes by that time; and what is held doesn't
+  -- age before all of it has come, or before some of it has. Or nothing is on its way.
   pub record HoldsLast (held : Held) (fs : List AnnounceFrame) : Type 0 where
     pub r : Reception
     pub holds : held ≡ Received r

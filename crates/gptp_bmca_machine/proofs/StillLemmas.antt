@@ -2,6 +2,7 @@
 use Rattle.std.proofs.Common.{◌≡◌, ◌≢◌, ◌⊎◌, ◌≤◌, ◌<◌, ◌+◌, ℕ, zero, suc, true, List, [], ◌∷◌, Some, length, slice_get, refl, sym, ap, subst, ◌∙◌, inl, inr, arith}
 use native.Mathlib.Decide.{dec_lt}
 use Rattle.gptp_lists.specs.Members.{In}
+use Rattle.gptp_lists.proofs.PlaceLemmas.{member_there}
 use Rattle.gptp_graph.specs.Order.{IsLower}
 use Rattle.gptp_graph.specs.Snapshot.{System, PortIdentity, Snapshot, clocks, port_of, Joins, Adjacent, IsLinked, IsWellFormed}
 use Rattle.gptp_graph.specs.Best.{IsBest}
@@ -25,7 +26,7 @@ use Rattle.gptp_bmca_machine.specs.Levels.{LeadsFarther}
 use Rattle.gptp_bmca_machine.specs.Run.{last_state}
 use Rattle.gptp_bmca_machine.specs.LossLaws.{EverythingFits, IsWhatIsLeft, IsLoss, Unmoved, IsAfterLoss, IsKeptRun}
 use Rattle.gptp_bmca_machine.proofs.ClearLemmas.{tells_clear, weaker_clear}
-use Rattle.gptp_bmca_machine.proofs.PlaceLemmas.{same_there, there_within}
+use Rattle.gptp_bmca_machine.proofs.PlaceLemmas.{same_there}
 use Rattle.gptp_bmca_machine.proofs.LinkLemmas.{link_kept, link_settled}
 use Rattle.gptp_bmca_machine.proofs.RestLemmas.{Chooses, IsClear, bounded, zero_settles, suc_settles}
 use Rattle.gptp_bmca_machine.proofs.LevelLemmas.{places_of}
@@ -215,7 +216,7 @@ module _ (g : Snapshot) (n : Network) (wf : IsWellFormed n.graph) (left : IsWhat
   -- a linked port of a live system stands at its place
   pub port_there : (v p : ℕ) (to : PortIdentity) (s : Station) → slice_get w.stations (n.place v) ≡ Some s
       → Joins n.graph (port_of v (suc p)) to → (q : Port) × (slice_get s.ports p ≡ Some q)
-  port_there v p to s at joins = there_within s.ports p within
+  port_there v p to s at joins = member_there s.ports p within
     where
       known : In v (clocks n.graph)
       known = Joins-clock n.graph (port_of v (suc p)) to wf joins

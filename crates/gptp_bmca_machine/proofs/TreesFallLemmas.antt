@@ -22,7 +22,8 @@ use Rattle.gptp_bmca_machine.specs.Network.{Network, since, wiring}
 use Rattle.gptp_bmca_machine.specs.Sound.{ReceivedFits}
 use Rattle.gptp_bmca_machine.specs.Station.{MachineState, Reception, Station}
 use Rattle.gptp_bmca_machine.proofs.FallKeptLemmas.{falling_kept}
-use Rattle.gptp_bmca_machine.proofs.FallLemmas.{HasChoice, HasLeft, IsAftermath, IsFalling, UnlinkedDrop, UnlinkedHoldNone, UnlinkedHoldOld, falls_by, free_fits, holds_in_tree, is_moved, old_in_time}
+use Rattle.gptp_bmca_machine.proofs.FallHeldLemmas.{holds_in_tree, old_in_time}
+use Rattle.gptp_bmca_machine.proofs.FallLemmas.{HasChoice, HasLeft, IsAftermath, IsFalling, UnlinkedDrop, UnlinkedHoldNone, UnlinkedHoldOld, falls_by, free_fits, is_moved}
 use Rattle.gptp_bmca_machine.proofs.CutTreeLemmas.{IsCutOff, LeadsNowhere, moves_off}
 use Rattle.gptp_bmca_machine.proofs.FallLevelLemmas.{TreeSettles}
 use Rattle.gptp_bmca_machine.proofs.LossLemmas.{fits_kept}

@@ -1,11 +1,11 @@
 -- Once a tree has turned by its one way out, each near system has settled.
-use Rattle.std.proofs.Common.{◌≡◌, ◌≢◌, ◌⊎◌, ◌<◌, ◌≤◌, ◌+◌, ℕ, zero, suc, true, List, Some, slice_get, refl, sym, ap, subst, ◌∙◌, inl, inr, arith}
+use Rattle.std.proofs.Common.{◌≡◌, ◌⊎◌, ◌<◌, ◌≤◌, ◌+◌, ℕ, zero, suc, true, List, Some, slice_get, refl, sym, ap, subst, ◌∙◌, inl, inr, arith}
 use Rattle.std.specs.Bool.{⊤}
 use Rattle.gptp_lists.specs.Members.{In}
 use Rattle.gptp_graph.specs.Best.{IsBest}
-use Rattle.gptp_graph.specs.Distance.{IsDistance, IsNear}
-use Rattle.gptp_graph.specs.Snapshot.{Adjacent, IsLinked, Joins, PortIdentity, Snapshot, System, clocks, port_of}
-use Rattle.gptp_graph.proofs.BestLemmas.{IsBest-neighbour, IsBest-unique}
+use Rattle.gptp_graph.specs.Distance.{IsDistance}
+use Rattle.gptp_graph.specs.Snapshot.{IsLinked, Joins, PortIdentity, Snapshot, System, clocks, port_of}
+use Rattle.gptp_graph.proofs.BestLemmas.{IsBest-unique}
 use Rattle.gptp_graph.proofs.DecisionLemmas.{in_dec}
 use Rattle.gptp_graph.proofs.DistanceLemmas.{IsDistance-unique}
 use Rattle.gptp_graph.proofs.ExistenceLemmas.{distance_exists}
@@ -21,14 +21,14 @@ use Rattle.gptp_bmca_machine.specs.LossLaws.{Unmoved}
 use Rattle.gptp_bmca_machine.specs.Network.{Network}
 use Rattle.gptp_bmca_machine.specs.Run.{NearHaveSettled}
 use Rattle.gptp_bmca_machine.specs.Settled.{FollowsBest, HasBest, HasSettledRoles}
-use Rattle.gptp_bmca_machine.specs.Station.{Disabled, HoldsAt, MachineState, Mine, Port, Received, Reception, Station}
+use Rattle.gptp_bmca_machine.specs.Station.{HoldsAt, MachineState, Mine, Port, Received, Reception, Station}
 use Rattle.gptp_bmca_machine.specs.TurnTree.{TurnsTree}
-use Rattle.gptp_bmca_machine.proofs.FallLemmas.{falls_by, free_clear, holds_in_tree}
+use Rattle.gptp_bmca_machine.proofs.FallHeldLemmas.{holds_in_tree}
+use Rattle.gptp_bmca_machine.proofs.FallLemmas.{free_clear}
 use Rattle.gptp_bmca_machine.proofs.LevelLemmas.{places_of}
 use Rattle.gptp_bmca_machine.proofs.LinkEndsLemmas.{hearer_on}
-use Rattle.gptp_bmca_machine.proofs.MovedTreeLemmas.{LeadsDown, MovesTree}
+use Rattle.gptp_bmca_machine.proofs.MovedTreeLemmas.{MovesTree}
 use Rattle.gptp_bmca_machine.proofs.NearestLemmas.{equal_within}
-use Rattle.gptp_bmca_machine.proofs.PlaceLemmas.{same_there}
 use Rattle.gptp_bmca_machine.proofs.PortsSettledLemmas as by
 use Rattle.gptp_bmca_machine.proofs.RestLemmas.{CameBounded, Chooses, IsClear, is_master}
 use Rattle.gptp_bmca_machine.proofs.StillLemmas.{LeadsOn, best_was, chooses_still, clear_at, far_was, told}
@@ -115,7 +115,8 @@ module _ (says : Spelling) (g : Snapshot) (n : Network) (tree : List ℕ) (top o
         × (r.said.source ≡ port_of u (suc q))
 
     abbrev Settles : Type 0
-    Settles = HasBest n.graph s × (n.bare ≤ w.time → FollowsBest n.graph s) × (n.off ≤ w.time → HasSettledRoles n.graph s)
+    Settles = HasBest n.graph s × (n.bare ≤ w.time → FollowsBest n.graph s) × (n.off ≤ w.time → HasSettledRoles n.graph
+        s)
 
     has_settled : n.bare ≤ n.off → IsClear n.graph s → Chooses s here.best d → Hears → Settles
     has_settled bare clear chosen hears = (
@@ -155,8 +156,12 @@ module _ (says : Spelling) (g : Snapshot) (n : Network) (tree : List ℕ) (top o
 
       tree_hears : Hears
       tree_hears e p q u close leads told_e =
-          by_end (t.leaves s.clock u in_s (suc p, suc q, Joins-sym n.graph (port_of u (suc q)) (port_of s.clock (suc p))
-          leads.joins))
+          by_end (t.leaves s.clock u in_s (
+            suc p,
+            suc q,
+            Joins-sym n.graph (port_of u (suc q)) (port_of s.clock (suc p))
+                leads.joins,
+          ))
         where
           now : before e ≤ w.time
           now = in_time e u q s.clock p here.best leads
@@ -184,7 +189,8 @@ module _ (says : Spelling) (g : Snapshot) (n : Network) (tree : List ℕ) (top o
                   let by_then = subst (λ k. before k ≤ w.time) same now in
                   let far = IsDistance-within n.graph n.reach u (suc e') t.paths leads'.here in
                   let (r, holds, root, steps, source) = told_level says g n tree top other last out best base depth t
-                  start over before times w is e' (choose e' far) by_then u q s.clock p (omega (arith, close, same)) in_u
+                  start over before times w is e' (choose e' far) by_then u q s.clock p (omega (arith, close, same))
+                  in_u
                   in_s leads' (settles.levels (suc e') u q s.clock p (omega (arith, close, same)) in_u in_s leads') s
                   there in
                   (r, holds, root, steps ∙ sym same, source)
@@ -194,7 +200,8 @@ module _ (says : Spelling) (g : Snapshot) (n : Network) (tree : List ℕ) (top o
               let joins = subst (λ c. Joins n.graph (port_of last (suc p)) (port_of c (suc q))) is_out
               (subst (λ c. Joins n.graph (port_of c (suc p)) (port_of u (suc q))) is_last
               (Joins-sym n.graph (port_of u (suc q)) (port_of s.clock (suc p)) leads.joins)) in
-              let (r, holds, root, steps, source) = told_in says g n tree top other last out best base depth t start over
+              let (r, holds, root, steps, source) = told_in says g n tree top other last out best base depth t start
+              over
               before times w is settles.way p q joins (subst (λ k. before k ≤ w.time) same now) s
               (subst (λ c. slice_get w.stations (n.place c) ≡ Some s) is_last there) in
               name (r, holds, root, steps ∙ sym same, source ∙ ap (λ c. port_of c (suc q)) (sym is_out))
@@ -229,7 +236,8 @@ module _ (says : Spelling) (g : Snapshot) (n : Network) (tree : List ℕ) (top o
         | yes in_u ↦
             let (is_last, is_out) = from_tree u (suc q) (suc p) in_u leads.joins in
             let far = beyond_out g n tree top other last out best base depth t e u o.d in_u leads.here o.now in
-            let same = IsDistance-unique n.graph out d o.d t.well (subst (λ c. IsDistance n.graph c d) is_out here) o.now in
+            let same = IsDistance-unique n.graph out d o.d t.well (subst (λ c. IsDistance n.graph c d) is_out here)
+            o.now in
             let end = IsDistance-unique n.graph s.clock leads.far d t.well leads.there here in
             absurd (elim leads.farther [
               | inl less ↦ omega (arith, less, far, same, end)
@@ -266,14 +274,16 @@ module _ (says : Spelling) (g : Snapshot) (n : Network) (tree : List ℕ) (top o
           bounded_now place r holds = record {
             over = over_link;
             root = λ b best_b. fits.fits.root b (best_was g n t.well t.left s.clock b u_s best_b);
-            here = λ b far best_b root far_is. fits.fits.here b far (best_was g n t.well t.left s.clock b u_s best_b) root
+            here = λ b far best_b root far_is. fits.fits.here b far (best_was g n t.well t.left s.clock b u_s best_b)
+                root
                 (far_was g n t.well t.left s.clock far u_s far_is);
           }
             where
               fits : CameFits g s.clock (suc place) r
               fits = is.back.after.fits.stations i s place r at live holds
 
-              over_link : IsLinked n.graph (port_of s.clock (suc place)) → CameOverLink n.graph s.clock (suc place) r.said
+              over_link : IsLinked n.graph (port_of s.clock (suc place)) → CameOverLink n.graph s.clock (suc place)
+                  r.said
               over_link (u, joined) = record {
                 from = u;
                 joins = Joins-sym n.graph (port_of s.clock (suc place)) u joined;
@@ -303,9 +313,11 @@ module _ (says : Spelling) (g : Snapshot) (n : Network) (tree : List ℕ) (top o
                           let joins : Joins n.graph (port_of last (suc p)) (port_of out (suc place)) =
                           subst (λ c. Joins n.graph (port_of last (suc p)) (port_of c (suc place))) is_out
                           (subst (λ c. Joins n.graph (port_of c (suc p)) (port_of s.clock (suc place))) is_last
-                          (subst (λ k. Joins n.graph (port_of u.clock k) (port_of s.clock (suc place))) second back')) in
+                          (subst (λ k. Joins n.graph (port_of u.clock k) (port_of s.clock (suc place))) second back'))
+                          in
                           let (far, last_at) = distance_exists n.graph last t.well (t.lives last t.in_last) in
-                          let by = beyond_out g n tree top other last out best base depth t far last o.d t.in_last last_at
+                          let by = beyond_out g n tree top other last out best base depth t far last o.d t.in_last
+                          last_at
                           o.now in
                           let within = IsDistance-within n.graph n.reach last far t.paths last_at in
                           let is_mine = out_mine p place joins (late o.d (omega (arith, by, within))) s holds.0

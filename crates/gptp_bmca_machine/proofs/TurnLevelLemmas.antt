@@ -1,11 +1,10 @@
 -- A tree turns by its one way out: its systems choose the best by their new distances, from the way out on.
-use Rattle.std.proofs.Common.{◌≡◌, ◌≢◌, ◌⊎◌, ◌<◌, ◌≤◌, ◌+◌, ℕ, zero, suc, true, List, Some, slice_get, refl, sym, ap, subst, ◌∙◌, inl, inr, arith}
+use Rattle.std.proofs.Common.{◌≡◌, ◌≢◌, ◌⊎◌, ◌<◌, ◌≤◌, ◌+◌, ℕ, zero, suc, true, List, Some, slice_get, refl, sym, subst, ◌∙◌, inl, inr, arith}
 use native.Mathlib.Decide.{dec_le, dec_lt}
 use Rattle.gptp_lists.specs.Members.{In}
 use Rattle.gptp_graph.specs.Best.{IsBest}
 use Rattle.gptp_graph.specs.Distance.{IsDistance}
-use Rattle.gptp_graph.specs.Snapshot.{Adjacent, Joins, Snapshot, System, clocks, port_of}
-use Rattle.gptp_graph.proofs.BestLemmas.{IsBest-neighbour}
+use Rattle.gptp_graph.specs.Snapshot.{Adjacent, Joins, Snapshot, System, port_of}
 use Rattle.gptp_graph.proofs.DistanceLemmas.{IsDistance-neighbour, IsDistance-unique, nearer_neighbour}
 use Rattle.gptp_graph.proofs.ExistenceLemmas.{distance_exists}
 use Rattle.gptp_graph.proofs.LinkLemmas.{Adjacent-sym, Joins-sym}
@@ -15,10 +14,11 @@ use Rattle.gptp_bmca_machine.specs.Frame.{Spelling}
 use Rattle.gptp_bmca_machine.specs.Levels.{LeadsFarther}
 use Rattle.gptp_bmca_machine.specs.Link.{LinkSettles}
 use Rattle.gptp_bmca_machine.specs.Network.{Network}
-use Rattle.gptp_bmca_machine.specs.Station.{HoldsAt, MachineState, Port, Reception, Station}
+use Rattle.gptp_bmca_machine.specs.Station.{HoldsAt, MachineState, Reception, Station}
 use Rattle.gptp_bmca_machine.specs.TurnTree.{TurnsTree}
-use Rattle.gptp_bmca_machine.proofs.FallLemmas.{HasLeft, falls_by, free_clear, holds_in_tree, off_drop, old_in_time}
-use Rattle.gptp_bmca_machine.proofs.FallLevelLemmas.{HasTime, TreeSettles, level_kept, show}
+use Rattle.gptp_bmca_machine.proofs.FallHeldLemmas.{holds_in_tree, old_in_time}
+use Rattle.gptp_bmca_machine.proofs.FallLemmas.{HasLeft, falls_by, free_clear, off_drop}
+use Rattle.gptp_bmca_machine.proofs.FallLevelLemmas.{HasTime, level_kept, show}
 use Rattle.gptp_bmca_machine.proofs.LevelLemmas.{places_of}
 use Rattle.gptp_bmca_machine.proofs.LinkEndsLemmas.{ends_by, teller_on, telling}
 use Rattle.gptp_bmca_machine.proofs.LinkLemmas.{link_settled}
@@ -135,7 +135,8 @@ module _ (says : Spelling) (g : Snapshot) (n : Network) (tree : List ℕ) (top o
                 there = t.was last t.in_last;
                 farther = inr (same, lower);
               } in
-              let (r, holds, final) = told says g n t.well t.left w is.back.after.kept is.back.after.fits.stations o.d best
+              let (r, holds, final) = told says g n t.well t.left w is.back.after.kept is.back.after.fits.stations o.d
+              best
               out k last p o.near leads
               (chooses_still says g n t.well t.left w is.back.after.kept is.back.after.fits.stations o.d
               (λ e less. is.back.still e) o.near) (is.back.still o.d best out k last p o.near leads) s at in
@@ -152,7 +153,8 @@ module _ (says : Spelling) (g : Snapshot) (n : Network) (tree : List ℕ) (top o
               heard has_turned =
                   let (so, at_o, live, clock) = station_of g n t.well t.left w is.back.after.kept
                   is.back.after.fits.stations out (out_lives g n tree top other last out best base depth t) in
-                  let (po, there_o) = port_there g n t.well t.left w is.back.after.kept is.back.after.fits.stations out k
+                  let (po, there_o) = port_there g n t.well t.left w is.back.after.kept is.back.after.fits.stations out
+                  k
                   (port_of last (suc p)) so at_o back' in
                   let (pl, there_l) = port_there g n t.well t.left w is.back.after.kept is.back.after.fits.stations last
                   p (port_of out (suc k)) s at joins in
@@ -172,8 +174,11 @@ module _ (says : Spelling) (g : Snapshot) (n : Network) (tree : List ℕ) (top o
                     hearer = at;
                     hearer_port = there_l;
                     lane = has.there;
-                  }) ((chosen.root, chosen.steps), teller_on g n t.well t.left (before o.d) o.d best out k last p back'
-                  (delay o.d) w is.back.after.kept is.back.after.fits.stations so po at_o there_o) late in
+                  }) (
+                    (chosen.root, chosen.steps),
+                    teller_on g n t.well t.left (before o.d) o.d best out k last p back'
+                        (delay o.d) w is.back.after.kept is.back.after.fits.stations so po at_o there_o,
+                  ) late in
                   (r, (pl, there_l, holds), final.root, final.steps, final.source)
 
       -- the systems of the tree at the next distance choose by it
@@ -214,10 +219,12 @@ module _ (says : Spelling) (g : Snapshot) (n : Network) (tree : List ℕ) (top o
             hearer = at;
             hearer_port = there_u;
             lane = has.there;
-          }) (let chose = choose v sv at_v in_v leads.here in ((chose.root, chose.steps), on sv pv at_v there_v)) late in
+          }) (let chose = choose v sv at_v in_v leads.here in ((chose.root, chose.steps), on sv pv at_v there_v)) late
+          in
           (r, (pu, there_u, holds), final.root, final.steps, final.source)
 
-      choose_next : WaySettles w → (e : ℕ) → LevelSettles e w → before e ≤ w.time → ((e' : ℕ) → e ≡ suc e' → TreeChooses e')
+      choose_next : WaySettles w → (e : ℕ) → LevelSettles e w → before e ≤ w.time → ((e' : ℕ) → e ≡ suc e' → TreeChooses
+          e')
           → TreeChooses e
       choose_next way e level late sooner v s at in_v here =
           by_neighbour (nearer_neighbour n.graph v e t.well here)
@@ -279,7 +286,8 @@ module _ (says : Spelling) (g : Snapshot) (n : Network) (tree : List ℕ) (top o
                           let within = IsDistance-within n.graph n.reach v (suc e) t.paths here in
                           let few = t.few in
                           let (r, holds, root, steps, source) = told_level e2 (sooner e2 same)
-                          (subst (λ k. before k ≤ w.time) same late) x p v q (omega (arith, within, few, same)) in_x in_v
+                          (subst (λ k. before k ≤ w.time) same late) x p v q (omega (arith, within, few, same)) in_x
+                          in_v
                           (leads e2 is_there same) (subst (λ k. LevelSettles k w) same level x p v q
                           (omega (arith, within, few, same)) in_x in_v (leads e2 is_there same)) s at in
                           chosen_by q r holds root (steps ∙ sym same)
@@ -298,7 +306,8 @@ module _ (says : Spelling) (g : Snapshot) (n : Network) (tree : List ℕ) (top o
       -- who hasn't settled yet has the time
       has_time : WaySettles w → (f : ℕ) → ((e : ℕ) → e < f → LevelSettles e w) → (v p u q : ℕ) (close : f < 255)
           (in_v : In v tree) (in_u : In u tree) (leads : LeadsFarther n.graph f best v p u q)
-          → HasTime says g n (IsOf tree) (LeadsOut last out) top best best base depth m start before f v p u q close in_v
+          → HasTime says g n (IsOf tree) (LeadsOut last out) top best best base depth m start before f v p u q close
+          in_v
           in_u leads (delay f) w
       has_time way zero levels v p u q close in_v in_u leads s pv at there not =
           let more = t.farther v 0 in_v leads.here in absurd (omega (arith, more))
@@ -306,8 +315,11 @@ module _ (says : Spelling) (g : Snapshot) (n : Network) (tree : List ℕ) (top o
         | no early ↦ let more = times.grows e in omega (arith, early, more)
         | yes late ↦
             let chose = choose_by way e (λ f most. levels f (omega (arith, most))) late v s at in_v leads.here in
-            absurd (not ((chose.root, chose.steps), teller_on g n t.well t.left (before (suc e)) (suc e) best v p u q
-            leads.joins (delay (suc e)) w is.back.after.kept is.back.after.fits.stations s pv at there))
+            absurd (not (
+              (chose.root, chose.steps),
+              teller_on g n t.well t.left (before (suc e)) (suc e) best v p u q
+                  leads.joins (delay (suc e)) w is.back.after.kept is.back.after.fits.stations s pv at there,
+            ))
       ]
 
     -- ---- a step

@@ -1,5 +1,5 @@
--- A tree that turns by its one way out: it is moved, and the shortest ways of before from outside that don't pass it are
--- left.
+-- A tree that turns by its one way out: it is moved, and the shortest ways of before from outside that don't pass it
+-- are left.
 use Rattle.std.proofs.Common.{◌≡◌, ◌⊎◌, ◌<◌, ◌≤◌, ◌+◌, ℕ, zero, suc, List, [], ◌∷◌, sym, ap, subst, ◌∙◌, inl, inr, arith}
 use Rattle.gptp_lists.specs.Members.{In, Different}
 use Rattle.gptp_graph.specs.Best.{IsBest}

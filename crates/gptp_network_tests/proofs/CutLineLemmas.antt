@@ -271,14 +271,14 @@ tree = record {
 
 cuts : CutsTreeFrom ring_network before cut fourth.clock first.clock
 cuts g h stands stands_then =
-    let then : chain ≡ g = one_snapshot cut_document 30000000000 chain g chain_stands stands in
-    let last : line ≡ h = one_snapshot cut_document 60000000000 line h line_stands stands_then in (
+    let first_is : chain ≡ g = one_snapshot cut_document 30000000000 chain g chain_stands stands in
+    let last_is : line ≡ h = one_snapshot cut_document 60000000000 line h line_stands stands_then in (
       first,
       second,
       1,
       depth,
-      subst (λ x. IsCutTree x h fourth.clock first.clock first second 1 depth) then
-          (subst (λ x. IsCutTree chain x fourth.clock first.clock first second 1 depth) last tree),
+      subst (λ x. IsCutTree x h fourth.clock first.clock first second 1 depth) first_is
+          (subst (λ x. IsCutTree chain x fourth.clock first.clock first second 1 depth) last_is tree),
     )
 
 -- ---- the link
@@ -337,14 +337,14 @@ lowers = record {
 -- by then what turned first has come to rest
 rested : IsRestBoundAfter ring_network cut_document.events (0 ∷ []) 30000000000 3000003690
 rested =
-    inr (
+    inr (inl (
       omega arith,
       none_between cut_document.events 0 30000000000 ((λ later. omega arith), ((λ later. omega arith), tt)),
       record { links = turned.links_rest; lapses = inl refl },
       refl,
       (1000003050, (refl, ring_begun), omega arith),
       inl (inr (inr (inr (inl (turns, told))))),
-    )
+    ))
   where
     told : 3000003690
         ≡ 2 * way_span (sync_paths ring_network before)
@@ -364,8 +364,7 @@ lost =
       refl,
       (3000003690, rested, later),
       lowers,
-      ways,
-      refl,
+      (ways, refl),
     )
   where
     later : 30000000000 + 3000003690 + largest_interval (pace_of ring_network) < 60000000000

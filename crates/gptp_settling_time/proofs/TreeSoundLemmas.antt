@@ -22,7 +22,8 @@ use Rattle.gptp_bmca_machine.specs.Station.{Disabled, HoldsAt, MachineState, Min
 use Rattle.gptp_bmca_machine.specs.Touch.{Hear, StationTouch}
 use Rattle.gptp_bmca_machine.proofs.CutTreeLemmas.{IsCutOff, LeadsNowhere, beside, cuts_off, moves_tree, tree_dec}
 use Rattle.gptp_bmca_machine.proofs.FallEndLemmas.{FallsOff}
-use Rattle.gptp_bmca_machine.proofs.FallLemmas.{HasChoice, HeldFree, choice_dec, falls_by, free_holds, holds_in_tree, old_in_time, says_whole}
+use Rattle.gptp_bmca_machine.proofs.FallHeldLemmas.{holds_in_tree, old_in_time}
+use Rattle.gptp_bmca_machine.proofs.FallLemmas.{HasChoice, HeldFree, choice_dec, falls_by, free_holds, says_whole}
 use Rattle.gptp_bmca_machine.proofs.MovedTreeLemmas.{MovesTree}
 use Rattle.gptp_bmca_machine.proofs.PlaceLemmas.{same_there}
 use Rattle.gptp_bmca_machine.proofs.ReactsLemmas.{JustHeard, held_from}
