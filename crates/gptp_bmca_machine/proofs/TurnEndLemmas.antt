@@ -336,6 +336,10 @@ module _ (says : Spelling) (g : Snapshot) (n : Network) (tree : List ℕ) (top o
                         (far_was g n t.well t.left u.clock far u_u far_is))
                   ]
 
+    -- it is clear
+    pub system_is_clear : IsClear n.graph s
+    system_is_clear = elim (in_dec s.clock tree) [ yes in_s ↦ tree_clear in_s d refl | no out_s ↦ still_clear out_s ]
+
     -- so it has settled
     pub system_has_settled : n.bare ≤ n.off → Settles
     system_has_settled bare = elim (in_dec s.clock tree) [

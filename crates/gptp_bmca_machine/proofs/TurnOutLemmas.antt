@@ -54,7 +54,7 @@ module _ (says : Spelling) (g : Snapshot) (n : Network) (tree : List ℕ) (top o
   back = Joins-sym n.graph (port_of last (suc p)) (port_of out (suc k)) joins
 
   -- before it was as far as the system at the other end, or farther by one
-  as_far : (base + depth last ≤ o.d) × (o.d ≤ suc (base + depth last))
+  pub as_far : (base + depth last ≤ o.d) × (o.d ≤ suc (base + depth last))
   as_far =
       let same : leads.far ≡ o.d = IsDistance-unique g out leads.far o.d t.left.graph leads.there o.there in
       let joined : Adjacent g last out =
