@@ -7,7 +7,7 @@ use Rattle.gptp_graph.specs.Snapshot.{System, Snapshot, clocks, Adjacent}
 use Rattle.gptp_graph.proofs.BestLemmas.{IsBest-neighbour, IsBest-unique}
 use Rattle.gptp_graph.proofs.ExistenceLemmas.{best_exists}
 use Rattle.gptp_bmca_machine.specs.Clean.{Whole}
-use Rattle.gptp_bmca_machine.specs.CutTree.{CutsTree}
+use Rattle.gptp_bmca_machine.specs.CutTree.{CutsOff, CutsTree}
 use Rattle.gptp_bmca_machine.specs.Frame.{Announce}
 use Rattle.gptp_bmca_machine.specs.Network.{Network}
 use Rattle.gptp_bmca_machine.proofs.MovedTreeLemmas.{MovesTree, whole_or_named}
@@ -21,10 +21,10 @@ abbrev pub LeadsNowhere : ℕ → ℕ → Type 0
 LeadsNowhere v u = ⊥
 
 module _ (g : Snapshot) (n : Network) (top : ℕ) (best next : System) (base : ℕ) (depth : ℕ → ℕ)
-    (t : CutsTree g n top best next base depth) where
+    (t : CutsOff g n top best next base depth) where
   -- whether a system is one of the tree
-  pub tree_dec : (v : ℕ) → In v (clocks n.graph) → Dec (IsBest n.graph v next)
-  tree_dec v known = go (best_exists n.graph v t.well known)
+  pub off_dec : (v : ℕ) → In v (clocks n.graph) → Dec (IsBest n.graph v next)
+  off_dec v known = go (best_exists n.graph v t.well known)
     where
       go : ((b : System) × IsBest n.graph v b) → Dec (IsBest n.graph v next)
       go (b, is) = elim (ℕ_discrete b.clock next.clock) [
@@ -40,12 +40,12 @@ module _ (g : Snapshot) (n : Network) (top : ℕ) (best next : System) (base : �
       ]
 
   -- it is moved
-  pub moves_tree : MovesTree g n (IsCutOff n next) LeadsNowhere top best next base depth
-  moves_tree = record {
+  pub moves_off : MovesTree g n (IsCutOff n next) LeadsNowhere top best next base depth
+  moves_off = record {
     well = t.well;
     left = t.left;
     lives = λ v in_v. in_v.reached.1.begins;
-    within = tree_dec;
+    within = off_dec;
     was_best = t.was_best;
     is_best = λ v in_v. in_v;
     was = t.was;
@@ -66,8 +66,39 @@ module _ (g : Snapshot) (n : Network) (top : ℕ) (best next : System) (base : �
   }
 
   -- what comes to a system from below is of what is left, or names it
+  pub off_whole : (v u : ℕ) (a : Announce) → IsCutOff n next v → IsCutOff n next u → Adjacent n.graph u v
+      → depth v ≡ suc (depth u) → Whole g v a → Whole n.graph v a ⊎ In u a.path
+  off_whole v u a in_v in_u joined higher whole =
+      whole_or_named g n (IsCutOff n next) LeadsNowhere top best next base depth moves_off u v joined in_u in_v higher a
+      whole (λ b z us none. absurd none)
+
+module _ (g : Snapshot) (n : Network) (top : ℕ) (best next : System) (base : ℕ) (depth : ℕ → ℕ)
+    (t : CutsTree g n top best next base depth) where
+  -- it is one whatever becomes of others
+  pub cuts_off : CutsOff g n top best next base depth
+  cuts_off = record {
+    well = t.well;
+    left = t.left;
+    worse = t.worse;
+    was_best = t.was_best;
+    was = t.was;
+    near = t.near;
+    deep = t.deep;
+    first = t.first;
+    lost = t.lost;
+    steps = t.steps;
+    single = t.single;
+    paths = t.paths;
+    few = t.few;
+  }
+
+  -- whether a system is one of the tree
+  pub tree_dec : (v : ℕ) → In v (clocks n.graph) → Dec (IsBest n.graph v next)
+  tree_dec = off_dec g n top best next base depth cuts_off
+
+  pub moves_tree : MovesTree g n (IsCutOff n next) LeadsNowhere top best next base depth
+  moves_tree = moves_off g n top best next base depth cuts_off
+
   pub cut_whole : (v u : ℕ) (a : Announce) → IsCutOff n next v → IsCutOff n next u → Adjacent n.graph u v
       → depth v ≡ suc (depth u) → Whole g v a → Whole n.graph v a ⊎ In u a.path
-  cut_whole v u a in_v in_u joined higher whole =
-      whole_or_named g n (IsCutOff n next) LeadsNowhere top best next base depth moves_tree u v joined in_u in_v higher a
-      whole (λ b z us none. absurd none)
+  cut_whole = off_whole g n top best next base depth cuts_off

@@ -1,12 +1,11 @@
 -- A link of a network at rest goes down, which moves a tree: its top answers, and it begins to fall back.
-use Rattle.std.proofs.Common.{◌≡◌, ◌≢◌, ◌⊎◌, ◌<◌, ◌≤◌, ◌+◌, ℕ, suc, true, List, Some, slice_get, length, refl, sym, ap, subst, ◌∙◌, inl, inr, arith}
+use Rattle.std.proofs.Common.{◌≡◌, ◌≢◌, ◌⊎◌, ◌<◌, ◌≤◌, ◌+◌, ℕ, suc, true, Some, slice_get, sym, ap, subst, ◌∙◌, inl, inr, arith}
 use native.Mathlib.Decide.{ℕ_discrete}
 use Rattle.gptp_lists.specs.Members.{In}
 use Rattle.gptp_lists.proofs.SystemSpecLemmas.{In-left, In-parts}
-use Rattle.gptp_graph.specs.Best.{IsBest}
-use Rattle.gptp_graph.specs.Snapshot.{Joins, PortIdentity, Snapshot, System, clocks, port_of}
+use Rattle.gptp_bmca_machine.specs.SoundLaws.{UnlinkedAreOff}
+use Rattle.gptp_graph.specs.Snapshot.{IsLinked, Joins, PortIdentity, Snapshot, System, clocks, port_of}
 use Rattle.gptp_graph.proofs.LinkLemmas.{Joins-sym}
-use Rattle.gptp_graph.proofs.PathBoundLemmas.{IsDistance-within}
 use Rattle.gptp_bmca_machine.specs.Acts.{LaneStep}
 use Rattle.gptp_bmca_machine.specs.Calm.{Calm, IsCalmPort}
 use Rattle.gptp_bmca_machine.specs.Clean.{Whole}
@@ -20,22 +19,21 @@ use Rattle.gptp_bmca_machine.specs.RestLaws.{LinkStays, SameWiring}
 use Rattle.gptp_bmca_machine.specs.Station.{Disabled, HoldsAt, MachineState, Mine, Port, Received, Reception, Station}
 use Rattle.gptp_bmca_machine.specs.Touch.{Disable, Hear, HeldInTouch, IsUsable, Replaces}
 use Rattle.gptp_bmca_machine.proofs.MovedTreeLemmas.{Around, IsBeyond, LeadsDown, MovesTree, around, child_leads}
-use Rattle.gptp_bmca_machine.proofs.EndsLemmas.{clear_at, is_station}
 use Rattle.gptp_bmca_machine.proofs.FallLeaveLemmas.{TreeAnswers, leaves_old, tells_now}
 use Rattle.gptp_bmca_machine.proofs.FallLemmas.{DownStage, HasChoice, HasLeft, HoldsInTree, HoldsLeft, IsAftermath, IsFalling, IsFreeAt, IsOld, falls_by, follows_old, holds_by}
+use Rattle.gptp_bmca_machine.proofs.FallRestLemmas.{chosen, held_before, masters, stays0, was_x}
 use Rattle.gptp_bmca_machine.proofs.FallLevelLemmas.{TreeSettles, not_ready, show}
 use Rattle.gptp_bmca_machine.proofs.LinkEndsLemmas.{hearer_known, teller_on, telling}
 use Rattle.gptp_bmca_machine.proofs.LinkStageLemmas.{begins}
 use Rattle.gptp_bmca_machine.proofs.LinkStepLemmas.{lives_at}
 use Rattle.gptp_bmca_machine.proofs.PlaceLemmas.{same_there}
 use Rattle.gptp_bmca_machine.proofs.ReactsLemmas.{held_from}
-use Rattle.gptp_bmca_machine.proofs.RestLemmas.{Chooses, is_master}
-use Rattle.gptp_bmca_machine.proofs.RestingLemmas.{all_choose, by_then_at, links_stay, stays_so}
-use Rattle.gptp_bmca_machine.proofs.StillLemmas.{live_before, port_there, still, still_stays}
+use Rattle.gptp_bmca_machine.proofs.StillLemmas.{port_there, still}
 use Rattle.gptp_bmca_machine.proofs.TellsLemmas.{news_final}
 
 module _ (says : Spelling) (n0 n : Network) (Tree : ℕ → Type 0) (Out : ℕ → ℕ → Type 0) (top : ℕ)
-    (best next : System) (base : ℕ) (depth : ℕ → ℕ) (t : MovesTree n0.graph n Tree Out top best next base depth) (net0 : IsSettlingNetwork n0) (w : MachineState)
+    (best next : System) (base : ℕ) (depth : ℕ → ℕ) (t : MovesTree n0.graph n Tree Out top best next base depth) (net0 :
+    IsSettlingNetwork n0) (w : MachineState)
     (calm0 : Calm n0 w) (invariant0 : Invariant says n0 w) (late0 : settled_from n0 ≤ w.time)
     (came0 : (v p u q : ℕ) (l : Lane) (f : AnnounceFrame) (a : Announce) → Tree v → Tree u
     → Joins n.graph (port_of v (suc p)) (port_of u (suc q)) → depth v ≡ suc (depth u)
@@ -45,74 +43,16 @@ module _ (says : Spelling) (n0 n : Network) (Tree : ℕ → Type 0) (Out : ℕ �
     (z : TreeAnswers says n (Around Tree Out) top w w') (lost : ℕ) (touch_is : z.touch ≡ Disable (suc lost))
     (lanes_then : (p q : PortIdentity) (l' : Lane) → Joins n.graph p q → slice_get w'.lanes (n.lane p) ≡ Some l'
     → (l : Lane) × (slice_get w.lanes (n.lane p) ≡ Some l) × LaneStep z.s.clock z.sends l l')
-    (m' : IsAftermath says n0.graph n w') (inward' : (v p u q : ℕ) → Out u v
+    (m' : IsAftermath says n0.graph n w') (dark' : UnlinkedAreOff n.graph w') (inward' : (v p u q : ℕ) → Out u v
     → Joins n.graph (port_of v (suc p)) (port_of u (suc q)) → IsFreeAt says n v p u q w') where
   abbrev g : Snapshot
   g = n0.graph
 
-  -- ---- at rest
-
-  module _ (x : ℕ) (in_x : Tree x) (s : Station) (at : slice_get w.stations (n.place x) ≡ Some s) where
-    at0 : slice_get w.stations (n0.place x) ≡ Some s
-    at0 = subst (λ i. slice_get w.stations i ≡ Some s) (same.place x) at
-
-    was_x : (s.live ≡ true) × (s.clock ≡ x)
-    was_x =
-        is_station n0 net0 w calm0 invariant0.sound x s
-        (live_before g n t.well t.left x (t.lives x in_x)) at0
-
-    chosen : Chooses s best (base + depth x)
-    chosen =
-        all_choose says n0 net0 w calm0 invariant0 late0 (base + depth x) (t.near x in_x)
-        (by_then_at says n0 net0 w calm0 invariant0 late0 (base + depth x)
-        (IsDistance-within g n0.reach x (base + depth x) net0.paths (t.was x in_x))) x best s at0 (t.was_best x in_x)
-        (t.was x in_x)
-
-    -- a port of a link that leads down is master
-    masters : (i : ℕ) (q : Port) (u : ℕ) (k : ℕ) → slice_get s.ports i ≡ Some q → q.held ≢ Disabled
-        → Joins n.graph (port_of x (suc i)) (port_of u k) → LeadsDown g Tree Out base depth x u
-        → q.held ≡ Mine best.identity (base + depth x)
-    masters i q u k there on joins leads =
-        is_master g net0.graph s (clear_at n0 net0 w calm0 invariant0.sound (n.place x) s at was_x.0
-        (omega (arith, late0))) best (subst (λ c. IsBest g c best) (sym was_x.1) (t.was_best x in_x)) (base + depth x)
-        leads.far i q (port_of u k) chosen there on
-        (subst (λ c. Joins g (port_of c (suc i)) (port_of u k)) (sym was_x.1)
-        (t.left.links (port_of x (suc i)) (port_of u k) joins)) leads.there (elim leads.farther [
-          | inl less ↦ inl less
-          | inr (as_far, lower) ↦ inr (as_far, subst (λ c. c < u) (sym was_x.1) lower)
-        ])
-
-  -- what was told before is held, and stays
-  stays0 : (v p u q : ℕ) → Tree v → (joins : Joins n.graph (port_of v (suc p)) (port_of u (suc q)))
-      → LeadsDown g Tree Out base depth v u → LinkStays says (still n (base + depth v) best v p u q) w
-  stays0 v p u q in_v joins down pv pu l stand =
-      still_stays says n (base + depth v) best v p u q pv.announce pu.held l.frames
-      (stays_so says n0 n same (base + depth v) best best v p u q refl pv.announce pu.held l.frames
-      (links_stay says n0 net0 w calm0 invariant0 late0 (base + depth v) best v p u q (t.near v in_v) leads pv pu l
-      (record {
-        v = stand.v;
-        u = stand.u;
-        teller = subst (λ i. slice_get w.stations i ≡ Some stand.v) (same.place v) stand.teller;
-        teller_port = stand.teller_port;
-        hearer = subst (λ i. slice_get w.stations i ≡ Some stand.u) (same.place u) stand.hearer;
-        hearer_port = stand.hearer_port;
-        lane = subst (λ i. slice_get w.lanes i ≡ Some l) (same.lane (port_of v (suc p))) stand.lane;
-      })))
-    where
-      leads : LeadsFarther g (base + depth v) best v p u q
-      leads = record {
-        is_best = t.was_best v in_v;
-        here = t.was v in_v;
-        joins = t.left.links (port_of v (suc p)) (port_of u (suc q)) joins;
-        far = down.far;
-        there = down.there;
-        farther = down.farther;
-      }
-
   -- ---- who isn't the top stands as it did
 
   top_is : z.s.clock ≡ top
-  top_is = (was_x top in_top z.s z.here).1
+  top_is = (was_x says n0 n Tree Out top best next base depth t net0 w calm0 invariant0 late0 same top in_top z.s
+      z.here).1
 
   below_top : (u : ℕ) (d : ℕ) → depth u ≡ suc d → u ≢ top
   below_top u d deeper is = let none = ap depth is ∙ t.first in omega (arith, deeper, none)
@@ -146,26 +86,20 @@ module _ (says : Spelling) (n0 n : Network) (Tree : ℕ → Type 0) (Out : ℕ �
     back : Joins n.graph (port_of u (suc q)) (port_of v (suc p))
     back = Joins-sym n.graph (port_of v (suc p)) (port_of u (suc q)) joins
 
-    -- nothing was held
-    held_none0 : (s : Station) (pu : Port) (r : Reception) → slice_get w.stations (n.place u) ≡ Some s
-        → slice_get s.ports q ≡ Some pu → pu.held ≡ Received r → ⊥
-    held_none0 s pu r at there holds =
-        let mine = masters u in_u s at q pu v (suc p) there
-        (λ off. absurd (let both : Received r ≡ Disabled = sym holds ∙ off in cc)) back
-        (child_leads g n Tree Out top best next base depth t u v in_v higher) in
-        absurd (let both : Received r ≡ Mine best.identity (base + depth u) = sym holds ∙ mine in cc)
-
     held_none : (s : Station) (pu : Port) (r : Reception) → slice_get w'.stations (n.place u) ≡ Some s
         → slice_get s.ports q ≡ Some pu → pu.held ≡ Received r → ⊥
     held_none s pu r at there holds = elim (ℕ_discrete u top) [
-      | no apart ↦ held_none0 s pu r (z.others u s (t.lives u in_u) (inl in_u) apart at) there holds
+      | no apart ↦ held_before says n0 n Tree Out top best next base depth t net0 w calm0 invariant0 late0 same v p u q
+          in_v in_u joins higher s pu r (z.others u s (t.lives u in_u) (inl in_u) apart at) there holds
       | yes is ↦
           let one : s ≡ z.s' = same_there w'.stations (n.place top) s z.s'
           (subst (λ c. slice_get w'.stations (n.place c) ≡ Some s) is at) z.there in
           elim (held_from says z.s z.s' z.touch w.time z.sends z.reacts q r
           (subst (λ (y : Station). HoldsAt y q r) one (pu, there, holds))) [
             | inl (old, stood, was) ↦
-                held_none0 z.s old r (subst (λ c. slice_get w.stations (n.place c) ≡ Some z.s) (sym is) z.here) stood
+                held_before says n0 n Tree Out top best next base depth t net0 w calm0 invariant0 late0 same v p u q
+                in_v in_u joins higher z.s old r (subst (λ c. slice_get w.stations (n.place c) ≡ Some z.s) (sym is)
+                z.here) stood
                 was
             | inr just ↦ absurd (let both : Disable (suc lost) ≡ Hear (suc q) just.said =
                 sym touch_is ∙ just.touched in cc)
@@ -203,7 +137,8 @@ module _ (says : Spelling) (n0 n : Network) (Tree : ℕ → Type 0) (Out : ℕ �
       (apart : v ≢ top) where
     old_led : IsOld n w' v best (base + depth v)
     old_led s at =
-        let chose = chosen v in_v s (z.others v s (t.lives v in_v) (inl in_v) apart at) in (chose.root, chose.steps)
+        let chose = chosen says n0 n Tree Out top best next base depth t net0 w calm0 invariant0 late0 same v in_v s
+        (z.others v s (t.lives v in_v) (inl in_v) apart at) in (chose.root, chose.steps)
 
     stays_led : LinkStays says (still n (base + depth v) best v p u q) w'
     stays_led pv pu l' stand =
@@ -232,7 +167,8 @@ module _ (says : Spelling) (n0 n : Network) (Tree : ℕ → Type 0) (Out : ℕ �
             })
           where
             stay : FinalAnnounceStays says (still n (base + depth v) best v p u q) pv.announce pu.held l.frames
-            stay = stays0 v p u q in_v joins down pv pu l (record {
+            stay = stays0 says n0 n Tree Out top best next base depth t net0 w calm0 invariant0 late0 same v p u q in_v
+                joins down pv pu l (record {
               v = stand.v;
               u = stand.u;
               teller = z.others v stand.v (t.lives v in_v) (inl in_v) apart stand.teller;
@@ -256,10 +192,16 @@ module _ (says : Spelling) (n0 n : Network) (Tree : ℕ → Type 0) (Out : ℕ �
 
   not_top : HasChoice z.s' best (base + depth top) → ⊥
   not_top root =
-      let old = follows_old says g n Tree Out top best next base depth t w.time w' m' top in_top z.s' z.there holds_top root in
-      let deeper = old.deeper in
-      let none = t.first in
-      omega (arith, deeper, none)
+      let old = follows_old says g n Tree Out top best next base depth t w.time w' m' top in_top z.s' z.there holds_top
+      root in
+      elim old.told [
+        | inl above ↦ let deeper = above.deeper in let none = t.first in absurd (omega (arith, deeper, none))
+        | inr lost ↦
+            let lives = lives_at n w' m'.kept.calm top (t.lives top in_top) z.s' z.there in
+            let off = dark' (n.place top) z.s' old.i old.holds.0 z.there lives.0 old.holds.1
+            (λ linked. lost.bare (subst (λ c. IsLinked n.graph (port_of c (suc old.i))) lives.1 linked)) in
+            absurd (let both : Received old.r ≡ Disabled = sym old.holds.2 ∙ off in cc)
+      ]
 
   left_top : HasLeft n w' top best (base + depth top)
   left_top s at choice =
@@ -279,7 +221,8 @@ module _ (says : Spelling) (n0 n : Network) (Tree : ℕ → Type 0) (Out : ℕ �
     was_mine pv stood = (mine, (is_port.timer best.identity (base + depth top) mine).0)
       where
         lives : (z.s.live ≡ true) × (z.s.clock ≡ top)
-        lives = was_x top in_top z.s z.here
+        lives = was_x says n0 n Tree Out top best next base depth t net0 w calm0 invariant0 late0 same top in_top z.s
+            z.here
 
         is_port : IsCalmPort n0 w.time (port_of z.s.clock (suc p)) pv
         is_port = (calm0.stations (n.place top) z.s z.here lives.0).ports p pv stood
@@ -313,14 +256,16 @@ module _ (says : Spelling) (n0 n : Network) (Tree : ℕ → Type 0) (Out : ℕ �
                     ]
 
         mine : pv.held ≡ Mine best.identity (base + depth top)
-        mine = masters top in_top z.s z.here p pv u (suc q) stood on joins down
+        mine = masters says n0 n Tree Out top best next base depth t net0 w calm0 invariant0 late0 same top in_top z.s
+            z.here p pv u (suc q) stood on joins down
 
     -- it has left its old choice, and told so
     top_left : DownStage says n best (base + depth top) (falls_by n w.time (suc (depth top))) top p u q w'
     top_left = inr (inl (
       left_top,
       leaves_old says g n Tree Out top best next base depth t w.time w w' m' top in_top z holds_top not_top p u q joins
-          down.beyond was_mine (stays0 top p u q in_top joins down) refuses_top
+          down.beyond was_mine (stays0 says n0 n Tree Out top best next base depth t net0 w calm0 invariant0 late0 same
+          top p u q in_top joins down) refuses_top
           (let none = t.first in omega arith),
     ))
 
@@ -339,6 +284,7 @@ module _ (says : Spelling) (n0 n : Network) (Tree : ℕ → Type 0) (Out : ℕ �
 
   pub falling_begins : IsFalling says g n Tree Out top best next base depth t w.time w'
   falling_begins = record {
+    sooner = λ in_tree choice. absurd (not_top (choice z.s' z.there));
     down = begins_down;
     up = λ v p u q in_u joins beyond. elim beyond [
       | inl (in_v, higher) ↦ up_free v p u q in_v in_u joins higher
@@ -373,8 +319,10 @@ module _ (says : Spelling) (n0 n : Network) (Tree : ℕ → Type 0) (Out : ℕ �
 
           tells : TellerIsSettled k stand.v pv'
           tells =
-              (show says g n Tree Out top best next base depth t w.time before f top p u q close in_top in_u leads (delay f)
-              w' m' falling_begins (λ s pv at there not. room f) (inl deeper)).settled stand.v pv' stand.teller stand.teller_port ready
+              (show says g n Tree Out top best next base depth t w.time before f top p u q close in_top in_u leads
+              (delay f)
+              w' m' falling_begins (λ s pv at there not. room f) (inl deeper)).settled stand.v pv' stand.teller
+              stand.teller_port ready
 
           by_lane : ((l : Lane) × (slice_get w.lanes (n.lane (port_of top (suc p))) ≡ Some l)
               × LaneStep z.s.clock z.sends l l')
@@ -382,9 +330,11 @@ module _ (says : Spelling) (n0 n : Network) (Tree : ℕ → Type 0) (Out : ℕ �
               × PortStep says z.s.clock (suc p) w.time z.touch z.s'.root z.s'.steps pv pv' z.sends)
               → LinkStage says k pv'.announce pu.held l'.frames
           by_lane (l, at_l, step) (pv, stood, answer) =
-              let (f', among, said, soon) = tells_now says g n Tree Out top best next base depth t w.time w w' m' top in_top z
+              let (f', among, said, soon) = tells_now says g n Tree Out top best next base depth t w.time w w' m' top
+              in_top z
               holds_top not_top p u q leads.joins down.beyond
-              (was_mine p u q leads.joins down) (stays0 top p u q in_top leads.joins down)
+              (was_mine p u q leads.joins down) (stays0 says n0 n Tree Out top best next base depth t net0 w calm0
+              invariant0 late0 same top p u q in_top leads.joins down)
               (refuses_top p u q leads.joins down) (let none = t.first in omega arith) l l' stand.lane step pv pv'
               stood there' answer in
               let more = room f in
@@ -406,9 +356,11 @@ module _ (says : Spelling) (n0 n : Network) (Tree : ℕ → Type 0) (Out : ℕ �
 
     pub settles_begin : TreeSettles says g n Tree Out top best next base depth t w.time before w'
     settles_begin f v p u q close in_v in_u leads = elim (ℕ_discrete v top) [
-      | no apart ↦ not_ready says g n Tree Out top best next base depth t w.time before f v p u q close in_v in_u leads (delay f) w'
+      | no apart ↦ not_ready says g n Tree Out top best next base depth t w.time before f v p u q close in_v in_u leads
+          (delay f) w'
           (λ s at.
-          let chose = chosen v in_v s (z.others v s (t.lives v in_v) (inl in_v) apart at) in (chose.root, chose.steps))
+          let chose = chosen says n0 n Tree Out top best next base depth t net0 w calm0 invariant0 late0 same v in_v s
+          (z.others v s (t.lives v in_v) (inl in_v) apart at) in (chose.root, chose.steps))
       | yes is ↦
           let here = subst (λ c. LeadsFarther n.graph f next c p u q) is leads in
           subst (λ c. LinkSettles says (telling n (before f) f next c p u q) w') (sym is)

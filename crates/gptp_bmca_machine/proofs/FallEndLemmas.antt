@@ -27,7 +27,7 @@ use Rattle.gptp_bmca_machine.proofs.CutTreeLemmas.{IsCutOff, LeadsNowhere, moves
 use Rattle.gptp_bmca_machine.proofs.MovedTreeLemmas.{MovesTree}
 use Rattle.gptp_bmca_machine.proofs.FallStepLemmas.{SaysSo}
 use Rattle.gptp_bmca_machine.proofs.FallKeptLemmas.{falling_kept}
-use Rattle.gptp_bmca_machine.proofs.FallLemmas.{HasChoice, HasLeft, IsAftermath, IsFalling, falls_by, free_fits, holds_in_tree, old_in_time}
+use Rattle.gptp_bmca_machine.proofs.FallLemmas.{HasChoice, HasLeft, IsAftermath, IsFalling, falls_by, free_fits, holds_in_tree, off_drop, off_hold_old, off_none, old_in_time}
 use Rattle.gptp_bmca_machine.proofs.FallLevelLemmas.{TreeSettles}
 use Rattle.gptp_bmca_machine.proofs.LossLemmas.{fits_kept}
 use Rattle.gptp_bmca_machine.proofs.PlaceLemmas.{same_there}
@@ -41,7 +41,7 @@ module _ (says : Spelling) (g : Snapshot) (n : Network) (Tree : ℕ → Type 0) 
   after_step w w' calm kept' dark' step fits = record {
     kept = kept';
     fits = fits_kept says g n t.left w w' calm kept'.calm step fits;
-    dark = dark';
+    dark = off_hold_old g n w' dark';
   }
 
   -- what is known of each state since: links from unmoved systems stay, and each link of the tree is at its stage
@@ -62,8 +62,8 @@ module _ (says : Spelling) (g : Snapshot) (n : Network) (Tree : ℕ → Type 0) 
     still = λ f.
         levels_below says g n t.well t.left w w' is.after.kept kept' is.after.fits.stations fits'.stations step is.still
         (suc f) f (omega arith);
-    falling = falling_kept says g n Tree Out top best next base depth t start w w' is.after after' step is.falling
-        comes;
+    falling = falling_kept says g n Tree Out top best next base depth t start w w' is.after after' step
+        (off_drop g n w w' dark') is.falling (off_none g n start w' dark') comes;
   }
     where
       after' : IsAftermath says g n w'

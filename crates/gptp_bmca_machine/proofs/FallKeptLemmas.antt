@@ -1,5 +1,6 @@
 -- A tree that a loss moves falls back: every step keeps what is known of its links.
 use Rattle.std.proofs.Common.{◌≡◌, ◌⊎◌, ◌<◌, ◌≤◌, ◌+◌, ℕ, zero, suc, true, Some, slice_get, refl, sym, ap, subst, ◌∙◌, inl, inr, arith}
+use native.Mathlib.Decide.{dec_le}
 use Rattle.gptp_lists.specs.Members.{In}
 use Rattle.gptp_graph.specs.Best.{IsBest}
 use Rattle.gptp_graph.specs.Distance.{IsDistance}
@@ -17,7 +18,7 @@ use Rattle.gptp_bmca_machine.specs.Station.{MachineState, Mine, Port, Received, 
 use Rattle.gptp_bmca_machine.specs.Touch.{Hear, IsUsable, Replaces}
 use Rattle.gptp_bmca_machine.proofs.MovedTreeLemmas.{Around, IsBeyond, LeadsDown, MovesTree, best_beside, child_leads, was_best_beside}
 use Rattle.gptp_bmca_machine.proofs.FallLeaveLemmas.{TreeAnswers, answers_or_stands, leaves_old, tells_new}
-use Rattle.gptp_bmca_machine.proofs.FallLemmas.{DownStage, FollowsOld, HasChoice, choice_dec, HasLeft, HoldsInTree, HoldsLeft, IsAftermath, IsFalling, IsFreeAt, IsLed, IsLeft, IsNewTold, IsOld, falls_by, follows_old, holds_by, holds_in_tree, not_free_old, old_by_held, old_in_time, own_new, says_whole, was_clear}
+use Rattle.gptp_bmca_machine.proofs.FallLemmas.{DownStage, FollowsOld, HasChoice, choice_dec, HasLeft, HoldsInTree, HoldsLeft, IsAftermath, IsFalling, IsFreeAt, IsLed, IsLeft, IsNewTold, IsOld, IsToldAtTop, IsToldByNearer, UnlinkedDrop, UnlinkedHoldNone, falls_by, follows_old, holds_by, holds_in_tree, is_moved, not_free_old, old_by_held, old_by_steps, old_in_time, told_nearer, own_new, says_whole, was_clear}
 use Rattle.gptp_bmca_machine.proofs.FallStepLemmas.{SaysSo, free_held, free_kept, old_kept, old_or_free}
 use Rattle.gptp_bmca_machine.proofs.ClearLemmas.{tells_clear, weaker_clear}
 use Rattle.gptp_bmca_machine.proofs.LinkEndsLemmas.{ShowEnds, ends_by, hearer_known, telling_kept, teller_on}
@@ -191,7 +192,8 @@ module _ (says : Spelling) (g : Snapshot) (n : Network) (Tree : ℕ → Type 0) 
               ]
 
   module _ (w w' : MachineState) (m : IsAftermath says g n w) (m' : IsAftermath says g n w')
-      (step : MachineSteps says w w') (falling : IsFalling says g n Tree Out top best next base depth t start w) where
+      (step : MachineSteps says w w') (drops : UnlinkedDrop g n w w')
+      (falling : IsFalling says g n Tree Out top best next base depth t start w) where
     holds_w : (x : ℕ) → Tree x → HoldsInTree says g n Tree Out top best next base depth t start x w
     holds_w x in_x = holds_in_tree says g n Tree Out top best next base depth t start w m falling x in_x
 
@@ -221,26 +223,46 @@ module _ (says : Spelling) (g : Snapshot) (n : Network) (Tree : ℕ → Type 0) 
 
       -- who has left its old choice doesn't come back to it
       left_stays : HasLeft n w v best (base + depth v) → HasLeft n w' v best (base + depth v)
-      left_stays not s' at' old' = by (hearer_old w m old.v old.p v old.i old.in_v in_v old.joins old.deeper
-          (falls_by n start (suc (depth old.v)))
-          (falling.down old.v old.p v old.i old.in_v old.joins
-          (child_leads g n Tree Out top best next base depth t old.v v in_v old.deeper)))
+      left_stays not s' at' old' = elim old.told [ inl above ↦ by_nearer above | inr lost ↦ by_lost lost ]
         where
           old : FollowsOld says g n Tree Out top best next base depth t start w' m' v in_v s' at' holds'
           old = follows_old says g n Tree Out top best next base depth t start w' m' v in_v s' at' holds' old'
 
-          by : IsOld n w v best (base + depth v)
-              ⊎ (HasLeft n w old.v best (base + depth old.v) × IsFreeAt says n old.v old.p v old.i w) → ⊥
-          by (inl was_old) =
-              let (s, at, live, clock) = station_of g n t.well t.left w m.kept m.fits.stations v
-              (t.lives v in_v) in
-              not s at (was_old s at)
-          by (inr free) =
-              let (not_then, free_then) = (above old.v old.p old.i old.in_v old.joins old.deeper).1 free in
-              let has = m'.kept.calm.lanes (port_of old.v (suc old.p)) (port_of v (suc old.i)) old.joins in
-              let whole = (free_then s' old.holds.0 has.lane at' old.holds.1 has.there).hears old.r old.holds.2 in
-              not_free_old says g n Tree Out top best next base depth t start old.v v old.p old.i old.r.said in_v old.joins
-              whole old.deeper old.told
+          has : (s : Station) × (slice_get w.stations (n.place v) ≡ Some s) × (s.live ≡ true) × (s.clock ≡ v)
+          has = station_of g n t.well t.left w m.kept m.fits.stations v (t.lives v in_v)
+
+          -- what is held over a lost link was held
+          by_lost : IsToldAtTop says g n Tree Out top best next base depth t start v old.i → ⊥
+          by_lost lost =
+              let (s, at, live, clock) = has in
+              let is = lives_at n w' m'.kept.calm v (t.lives v in_v) s' at' in
+              let (r, holds) = drops v s s' old.i old.r (is_moved says g n Tree Out top best next base depth t start v in_v)
+              at at' is.0 is.1 lost.bare old.holds in
+              elim (holds_w v in_v s old.i r at holds) [
+                | inr still ↦ not s at
+                    (old_by_steps says g n Tree Out top best next base depth t start w m v in_v s at old.i r
+                    holds still.root still.steps)
+                | inl h ↦ absurd (lost.bare (
+                  port_of h.v (suc h.p),
+                  Joins-sym n.graph (port_of h.v (suc h.p)) (port_of v (suc old.i)) h.joins,
+                ))
+              ]
+
+          by_nearer : IsToldByNearer says g n Tree Out top best next base depth t start v old.i old.r → ⊥
+          by_nearer a = by (hearer_old w m a.v a.p v old.i a.in_v in_v a.joins a.deeper
+              (falls_by n start (suc (depth a.v)))
+              (falling.down a.v a.p v old.i a.in_v a.joins
+              (child_leads g n Tree Out top best next base depth t a.v v in_v a.deeper)))
+            where
+              by : IsOld n w v best (base + depth v)
+                  ⊎ (HasLeft n w a.v best (base + depth a.v) × IsFreeAt says n a.v a.p v old.i w) → ⊥
+              by (inl was_old) = let (s, at, live, clock) = has in not s at (was_old s at)
+              by (inr free) =
+                  let (not_then, free_then) = (above a.v a.p old.i a.in_v a.joins a.deeper).1 free in
+                  let lane = m'.kept.calm.lanes (port_of a.v (suc a.p)) (port_of v (suc old.i)) a.joins in
+                  let whole = (free_then s' old.holds.0 lane.lane at' old.holds.1 lane.there).hears old.r old.holds.2 in
+                  not_free_old says g n Tree Out top best next base depth t start a.v v a.p old.i old.r.said in_v
+                  a.joins whole a.deeper a.told
 
       -- what it says then
       new_then : HasLeft n w' v best (base + depth v)
@@ -407,8 +429,10 @@ module _ (says : Spelling) (g : Snapshot) (n : Network) (Tree : ℕ → Type 0) 
             | yes choice ↦
                 let old = follows_old says g n Tree Out top best next base depth t start w' m' v in_v call.s' at
                 (holds_then v in_v) choice in
-                let port = t.single v (suc old.i) (suc p) (port_of old.v (suc old.p)) (port_of u (suc q)) in_v old.in_v
-                in_u (Joins-sym n.graph (port_of old.v (suc old.p)) (port_of v (suc old.i)) old.joins) joins old.deeper
+                let a = told_nearer says g n Tree Out top best next base depth t start v old.i (depth u) old.r higher
+                old.told in
+                let port = t.single v (suc old.i) (suc p) (port_of a.v (suc a.p)) (port_of u (suc q)) in_v a.in_v
+                in_u (Joins-sym n.graph (port_of a.v (suc a.p)) (port_of v (suc old.i)) a.joins) joins a.deeper
                 higher in
                 let one : old.i ≡ i = let both = sym place ∙ number in omega (arith, port, both) in
                 let same = same_there call.s'.ports i old.holds.0 pv
@@ -427,12 +451,35 @@ module _ (says : Spelling) (g : Snapshot) (n : Network) (Tree : ℕ → Type 0) 
         then_below (depth v) v0 p0 v i in0 joined (child_leads g n Tree Out top best next base depth t v0 v in_v below)
         (omega (arith, below))) led
 
+    -- the top has left its old choice by that time
+    top_then : Tree top → UnlinkedHoldNone g n start w' → IsOld n w' top best (base + depth top) → w'.time ≤ start
+    top_then in_top none root = elim (dec_le w'.time start) [
+      | yes by ↦ by
+      | no over ↦ absurd (gone (omega (arith, over)) (station_of g n t.well t.left w' m'.kept m'.fits.stations top
+          (t.lives top in_top)))
+    ]
+      where
+        gone : start < w'.time
+            → ((s : Station) × (slice_get w'.stations (n.place top) ≡ Some s) × (s.live ≡ true) × (s.clock ≡ top))
+            → ⊥
+        gone over (s, at, live, clock) =
+            let old = follows_old says g n Tree Out top best next base depth t start w' m' top in_top s at
+            (holds_then top in_top) (root s at) in
+            elim old.told [
+              | inl above ↦
+                  let deeper = above.deeper in let first = t.first in absurd (omega (arith, deeper, first))
+              | inr lost ↦
+                  none over top s old.i old.r (is_moved says g n Tree Out top best next base depth t start top in_top)
+                  at live clock lost.bare old.holds
+            ]
+
     -- where what comes from outside is of what is left, or names who hears it
-    pub falling_kept : ((v p u q : ℕ) → Out u v → (joins : Joins n.graph (port_of v (suc p)) (port_of u (suc q)))
+    pub falling_kept : UnlinkedHoldNone g n start w' → ((v p u q : ℕ) → Out u v → (joins : Joins n.graph (port_of v (suc p)) (port_of u (suc q)))
         → SaysSo says g n Tree Out top best next base depth t w w' m m' step v p u q joins
         (λ a. Whole n.graph v a ⊎ In u a.path))
         → IsFalling says g n Tree Out top best next base depth t start w'
-    falling_kept comes = record {
+    falling_kept none comes = record {
+      sooner = λ in_top. top_then in_top none;
       down = λ v p u q in_v joins leads. (then_below (suc (depth v)) v p u q in_v joins leads (omega arith)).0;
       up = λ v p u q in_u joins beyond.
           free_kept says g n Tree Out top best next base depth t w w' m m' step v p u q joins (elim beyond [

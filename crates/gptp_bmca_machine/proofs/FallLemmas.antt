@@ -7,7 +7,8 @@ use Rattle.gptp_graph.specs.Best.{IsBest}
 use Rattle.gptp_graph.specs.Order.{IsLower}
 use Rattle.gptp_graph.specs.Path.{Reaches}
 use Rattle.gptp_graph.specs.Distance.{IsDistance}
-use Rattle.gptp_graph.specs.Snapshot.{Adjacent, Joins, PortIdentity, Snapshot, System, port_of}
+use Rattle.gptp_graph.specs.Snapshot.{Adjacent, IsLinked, Joins, PortIdentity, Snapshot, System, port_of}
+use Rattle.gptp_graph.proofs.BestLemmas.{IsBest-unique}
 use Rattle.gptp_graph.proofs.LinkDecisions.{IsLinked-dec}
 use Rattle.gptp_graph.proofs.DistanceLemmas.{IsDistance-best, IsDistance-neighbour}
 use Rattle.gptp_graph.proofs.ExistenceLemmas.{distance_exists}
@@ -18,7 +19,7 @@ use Rattle.gptp_bmca_machine.specs.AtRest.{StationIsAtRest}
 use Rattle.gptp_bmca_machine.specs.Clean.{CameFits, Whole}
 use Rattle.gptp_bmca_machine.specs.Facts.{FollowsItself, FollowsPort, station_system}
 use Rattle.gptp_bmca_machine.specs.Frame.{Announce, AnnounceFrame, Lane, Spelling}
-use Rattle.gptp_bmca_machine.specs.LossLaws.{EverythingFits, IsAfterLoss}
+use Rattle.gptp_bmca_machine.specs.LossLaws.{EverythingFits, IsAfterLoss, Unmoved}
 use Rattle.gptp_bmca_machine.specs.Network.{Network}
 use Rattle.gptp_bmca_machine.specs.Reacts.{IsOwn}
 use Rattle.gptp_bmca_machine.specs.RestLaws.{LinkStays}
@@ -95,18 +96,72 @@ DownStage says n best far last v p u q w =
     IsLed says n best far v p u q w
     ⊎ (IsLeft says n best far last v p u q w ⊎ (HasLeft n w v best far × IsFreeAt says n v p u q w))
 
--- What is known of each state since: it is calm, all fits the snapshot of before, and ports without a link are off.
+-- the system is moved
+abbrev pub IsMoved : Snapshot → Network → ℕ → Type 0
+IsMoved g n v = Unmoved g n v → ⊥
+
+-- Who told it isn't beside the system any more; by that the system had its root and steps.
+pub record IsOldTold (g : Snapshot) (n : Network) (v : ℕ) (a : Announce) : Type 0 where
+  pub from : ℕ
+  pub beside : Adjacent g v from
+  pub gone : Adjacent n.graph v from → ⊥
+  pub old : (b : System) (d : ℕ) → IsBest g v b → IsDistance g v d → (a.root ≡ b.identity) × (suc a.steps ≡ d)
+
+-- so it is of what such systems hold at ports without a link
+abbrev pub UnlinkedHoldOld : Snapshot → Network → MachineState → Type 0
+UnlinkedHoldOld g n w = (i : ℕ) (s : Station) (place : ℕ) (r : Reception) → slice_get w.stations i ≡ Some s
+    → s.live ≡ true → IsMoved g n s.clock → HoldsAt s place r
+    → (IsLinked n.graph (port_of s.clock (suc place)) → ⊥)
+    → IsOldTold g n s.clock r.said
+
+-- once a time is over they hold nothing there
+abbrev pub UnlinkedHoldNone : Snapshot → Network → ℕ → MachineState → Type 0
+UnlinkedHoldNone g n start w = start < w.time → (v : ℕ) (s : Station) (place : ℕ) (r : Reception) → IsMoved g n v
+    → slice_get w.stations (n.place v) ≡ Some s → s.live ≡ true → s.clock ≡ v
+    → (IsLinked n.graph (port_of v (suc place)) → ⊥) → HoldsAt s place r
+    → ⊥
+
+-- In a step such a port doesn't come to hold something where it held nothing.
+abbrev pub UnlinkedDrop : Snapshot → Network → MachineState → MachineState → Type 0
+UnlinkedDrop g n w w' = (v : ℕ) (s s' : Station) (place : ℕ) (r' : Reception) → IsMoved g n v
+    → slice_get w.stations (n.place v) ≡ Some s
+    → slice_get w'.stations (n.place v) ≡ Some s' → s'.live ≡ true → s'.clock ≡ v
+    → (IsLinked n.graph (port_of v (suc place)) → ⊥) → HoldsAt s' place r'
+    → (r : Reception) × HoldsAt s place r
+
+-- all that is so where ports without a link are off
+pub off_none : (g : Snapshot) (n : Network) (start : ℕ) (w : MachineState) → UnlinkedAreOff n.graph w
+    → UnlinkedHoldNone g n start w
+off_none g n start w dark over v s place r moved at live clock none (q, there, holds) =
+    let off = dark (n.place v) s place q at live there
+    (λ linked. none (subst (λ c. IsLinked n.graph (port_of c (suc place))) clock linked)) in
+    absurd (let both : Received r ≡ Disabled = sym holds ∙ off in cc)
+
+pub off_hold_old : (g : Snapshot) (n : Network) (w : MachineState) → UnlinkedAreOff n.graph w → UnlinkedHoldOld g n w
+off_hold_old g n w dark i s place r at live moved (q, there, holds) none =
+    let off = dark i s place q at live there none in
+    absurd (let both : Received r ≡ Disabled = sym holds ∙ off in cc)
+
+pub off_drop : (g : Snapshot) (n : Network) (w w' : MachineState) → UnlinkedAreOff n.graph w' → UnlinkedDrop g n w w'
+off_drop g n w w' dark v s s' place r' moved at at' live clock none (q, there, holds) =
+    let off = dark (n.place v) s' place q at' live there
+    (λ linked. none (subst (λ c. IsLinked n.graph (port_of c (suc place))) clock linked)) in
+    absurd (let both : Received r' ≡ Disabled = sym holds ∙ off in cc)
+
+-- What is known of each state since: it is calm, and all fits the snapshot of before. What moved systems hold at ports
+-- without a link was told before.
 pub record IsAftermath (says : Spelling) (g : Snapshot) (n : Network) (w : MachineState) : Type 0 where
   pub kept : IsAfterLoss n w
   pub fits : EverythingFits says g n w
-  pub dark : UnlinkedAreOff n.graph w
+  pub dark : UnlinkedHoldOld g n w
 
 module _ (says : Spelling) (g : Snapshot) (n : Network) (Tree : ℕ → Type 0) (Out : ℕ → ℕ → Type 0) (top : ℕ)
     (best next : System) (base : ℕ) (depth : ℕ → ℕ) (t : MovesTree g n Tree Out top best next base depth) (start : ℕ)
   where
   -- Each link that leads down is at one of its stages, and over each link to a system from one beyond it comes what is of
-  -- what is left.
+  -- what is left. The system at the top has its old choice until that time at most.
   pub record IsFalling (w : MachineState) : Type 0 where
+    pub sooner : Tree top → IsOld n w top best (base + depth top) → w.time ≤ start
     pub down : (v p u q : ℕ) → Tree v → Joins n.graph (port_of v (suc p)) (port_of u (suc q))
         → LeadsDown g Tree Out base depth v u
         → DownStage says n best (base + depth v) (falls_by n start (suc (depth v))) v p u q w
@@ -120,13 +175,63 @@ module _ (says : Spelling) (g : Snapshot) (n : Network) (Tree : ℕ → Type 0) 
   HasTold a far = (a.root ≡ best.identity) × (a.steps ≡ far)
 
   -- what a port of the system received came over its link: it is of what is left, or what was told before
-  pub record HeldInTree (x i : ℕ) (r : Reception) : Type 0 where
+  pub record HeldOverLink (x i : ℕ) (r : Reception) : Type 0 where
     pub v : ℕ
     pub p : ℕ
     pub joins : Joins n.graph (port_of v (suc p)) (port_of x (suc i))
     pub source : r.said.source ≡ port_of v (suc p)
     pub said : Whole n.graph v r.said
         ⊎ (Tree v × (depth x ≡ suc (depth v)) × HasTold r.said (base + depth v))
+
+  -- or it came over a lost link to the system at the top, and was told before
+  pub record HeldAtTop (x i : ℕ) (r : Reception) : Type 0 where
+    pub is_top : x ≡ top
+    pub bare : IsLinked n.graph (port_of x (suc i)) → ⊥
+    pub root : r.said.root ≡ best.identity
+    pub steps : suc r.said.steps ≡ base + depth x
+
+  abbrev pub HeldInTree : ℕ → ℕ → Reception → Type 0
+  HeldInTree x i r = HeldOverLink x i r ⊎ HeldAtTop x i r
+
+  -- it came over its link, and is of what is left
+  pub record HeldFree (x i : ℕ) (r : Reception) : Type 0 where
+    pub v : ℕ
+    pub p : ℕ
+    pub joins : Joins n.graph (port_of v (suc p)) (port_of x (suc i))
+    pub source : r.said.source ≡ port_of v (suc p)
+    pub whole : Whole n.graph v r.said
+
+  -- a nearer system told it over the link at this port
+  pub record IsToldByNearer (x i : ℕ) (r : Reception) : Type 0 where
+    pub v : ℕ
+    pub p : ℕ
+    pub joins : Joins n.graph (port_of v (suc p)) (port_of x (suc i))
+    pub in_v : Tree v
+    pub deeper : depth x ≡ suc (depth v)
+    pub told : HasTold r.said (base + depth v)
+
+  -- or the system is at the top, and the link at this port is lost
+  pub record IsToldAtTop (x i : ℕ) : Type 0 where
+    pub is_top : x ≡ top
+    pub bare : IsLinked n.graph (port_of x (suc i)) → ⊥
+
+  -- it isn't at the top
+  pub told_nearer : (x i d : ℕ) (r : Reception) → depth x ≡ suc d → IsToldByNearer x i r ⊎ IsToldAtTop x i
+      → IsToldByNearer x i r
+  told_nearer x i d r deep (inl above) = above
+  told_nearer x i d r deep (inr lost) =
+      let none = ap depth lost.is_top ∙ t.first in absurd (omega (arith, none, deep))
+
+  -- a system of the tree is moved
+  pub is_moved : (x : ℕ) → Tree x → IsMoved g n x
+  is_moved x in_x unmoved = elim (t.worse x in_x) [
+    | inl less ↦
+        let one = ap (λ (b : System). b.identity)
+        (IsBest-unique n.graph x best next t.well (unmoved.best best (t.was_best x in_x)) (t.is_best x in_x)) in
+        omega (arith, less, one)
+    | inr (same, more) ↦
+        let far = more (base + depth x) (unmoved.far (base + depth x) (t.was x in_x)) in omega (arith, far)
+  ]
 
   abbrev pub HoldsInTree : ℕ → MachineState → Type 0
   HoldsInTree x w = (s : Station) (i : ℕ) (r : Reception) → slice_get w.stations (n.place x) ≡ Some s
@@ -217,21 +322,25 @@ module _ (says : Spelling) (g : Snapshot) (n : Network) (Tree : ℕ → Type 0) 
         (subst (λ c. IsDistance g c (base + depth x)) (sym is_x.1) (t.was x in_x)) root
 
     -- who holds what was told before has that choice
-    pub old_by_held : (i v : ℕ) (r : Reception) → HoldsAt s i r → depth x ≡ suc (depth v)
-        → HasTold r.said (base + depth v) → HasChoice s best (base + depth x)
-    old_by_held i v r holds deeper (root, steps) = elim (dec_le s.root best.identity) [
+    pub old_by_steps : (i : ℕ) (r : Reception) → HoldsAt s i r → r.said.root ≡ best.identity
+        → suc r.said.steps ≡ base + depth x → HasChoice s best (base + depth x)
+    old_by_steps i r holds root steps = elim (dec_le s.root best.identity) [
       | no more ↦ absurd (not_lower (inl (omega (arith, more, root))))
       | yes most ↦
           let same : s.root ≡ best.identity = omega (arith, most, above) in
           let many = as_many same in
           elim (dec_le s.steps (base + depth x)) [
             | yes few ↦ (same, omega (arith, few, many))
-            | no more ↦ absurd (not_lower (inr (root ∙ sym same, inl (omega (arith, more, steps, deeper)))))
+            | no more ↦ absurd (not_lower (inr (root ∙ sym same, inl (omega (arith, more, steps)))))
           ]
     ]
       where
         not_lower : IsLower (path_vector r.said (suc i)) (s.root ∷ s.steps ∷ rest.source) → ⊥
         not_lower h = rest.held_not_lower i r holds (subst (IsLower (path_vector r.said (suc i))) (sym rest.is) h)
+
+    pub old_by_held : (i v : ℕ) (r : Reception) → HoldsAt s i r → depth x ≡ suc (depth v)
+        → HasTold r.said (base + depth v) → HasChoice s best (base + depth x)
+    old_by_held i v r holds deeper (root, steps) = old_by_steps i r holds root (omega (arith, steps, deeper))
 
     -- it is the root of before no more where it is its own
     own_not_old : s.root ≡ s.identity → s.steps ≡ 0 → HasChoice s best (base + depth x) → ⊥
@@ -252,23 +361,26 @@ module _ (says : Spelling) (g : Snapshot) (n : Network) (Tree : ℕ → Type 0) 
 
     module _ (holds_in : HoldsInTree x w) where
       -- who has left its old choice holds what is of what is left alone
-      pub free_holds : (HasChoice s best (base + depth x) → ⊥) → (i : ℕ) (r : Reception) → (holds : HoldsAt s i r)
-          → Whole n.graph (holds_in s i r at holds).v r.said
-      free_holds not i r holds = elim (holds_in s i r at holds).said [
-        | inl whole ↦ whole
-        | inr (in_v, deeper, told) ↦ absurd (not (old_by_held i (holds_in s i r at holds).v r holds deeper told))
+      pub free_holds : (HasChoice s best (base + depth x) → ⊥) → (i : ℕ) (r : Reception) → HoldsAt s i r
+          → HeldFree x i r
+      free_holds not i r holds = elim (holds_in s i r at holds) [
+        | inr lost ↦ absurd (not (old_by_steps i r holds lost.root lost.steps))
+        | inl h ↦ elim h.said [
+          | inl whole ↦ record { v = h.v; p = h.p; joins = h.joins; source = h.source; whole = whole }
+          | inr (in_v, deeper, told) ↦ absurd (not (old_by_held i h.v r holds deeper told))
+        ]
       ]
 
       -- it fits
       pub free_fits : (HasChoice s best (base + depth x) → ⊥) → (i : ℕ) (r : Reception) → HoldsAt s i r
           → CameFits n.graph s.clock (suc i) r
       free_fits not i r holds =
-          let h = holds_in s i r at holds in
+          let h = free_holds not i r holds in
           came_fits n.graph s.clock (suc i) r t.well (record {
             from = port_of h.v (suc h.p);
             joins = subst (λ c. Joins n.graph (port_of h.v (suc h.p)) (port_of c (suc i))) (sym is_x.1) h.joins;
             source = h.source;
-            sound = inr (free_holds not i r holds);
+            sound = inr h.whole;
           })
 
       pub free_clear : (HasChoice s best (base + depth x) → ⊥) → IsClear n.graph s
@@ -280,18 +392,13 @@ module _ (says : Spelling) (g : Snapshot) (n : Network) (Tree : ℕ → Type 0) 
 
       -- ---- who has its old choice
 
-      -- it follows what a nearer system told before
+      -- it follows what was told before
       pub record FollowsOld : Type 0 where
         pub i : ℕ
         pub r : Reception
         pub holds : HoldsAt s i r
         pub slave : s.slave ≡ Some (suc i)
-        pub v : ℕ
-        pub p : ℕ
-        pub joins : Joins n.graph (port_of v (suc p)) (port_of x (suc i))
-        pub in_v : Tree v
-        pub deeper : depth x ≡ suc (depth v)
-        pub told : HasTold r.said (base + depth v)
+        pub told : IsToldByNearer x i r ⊎ IsToldAtTop x i
 
       pub follows_old : HasChoice s best (base + depth x) → FollowsOld
       follows_old old = elim rest.chosen [
@@ -305,29 +412,37 @@ module _ (says : Spelling) (g : Snapshot) (n : Network) (Tree : ℕ → Type 0) 
         where
           by : (i : ℕ) (r : Reception) → HoldsAt s i r → rest.vector ≡ path_vector r.said (suc i)
               → s.slave ≡ Some (suc i) → FollowsOld
-          by i r holds path slave = elim h.said [
-            | inl whole ↦ absurd (elim (whole_new x h.v r.said in_x
-                (suc i, suc h.p, Joins-sym n.graph (port_of h.v (suc h.p)) (port_of x (suc i)) h.joins) whole) [
-                  | inl over ↦ omega (arith, over, root_r, old.0)
-                  | inr (same, many) ↦ omega (arith, many, steps_r, old.1)
-                ])
-            | inr (in_v, deeper, told) ↦ record {
+          by i r holds path slave = elim (holds_in s i r at holds) [
+            | inr lost ↦ record {
               i = i;
               r = r;
               holds = holds;
               slave = slave;
-              v = h.v;
-              p = h.p;
-              joins = h.joins;
-              in_v = in_v;
-              deeper = deeper;
-              told = told;
+              told = inr (record { is_top = lost.is_top; bare = lost.bare });
             }
+            | inl h ↦ elim h.said [
+              | inl whole ↦ absurd (elim (whole_new x h.v r.said in_x
+                  (suc i, suc h.p, Joins-sym n.graph (port_of h.v (suc h.p)) (port_of x (suc i)) h.joins) whole) [
+                    | inl over ↦ omega (arith, over, root_r, old.0)
+                    | inr (same, many) ↦ omega (arith, many, steps_r, old.1)
+                  ])
+              | inr (in_v, deeper, told) ↦ record {
+                i = i;
+                r = r;
+                holds = holds;
+                slave = slave;
+                told = inl (record {
+                  v = h.v;
+                  p = h.p;
+                  joins = h.joins;
+                  in_v = in_v;
+                  deeper = deeper;
+                  told = told;
+                });
+              }
+            ]
           ]
             where
-              h : HeldInTree x i r
-              h = holds_in s i r at holds
-
               root_r : r.said.root ≡ s.root
               root_r = let is = rest.is in let e : r.said.root ≡ s.root = cc in e
 
@@ -355,8 +470,8 @@ module _ (says : Spelling) (g : Snapshot) (n : Network) (Tree : ℕ → Type 0) 
                 (whole_own n.graph (station_system s) a known (own.root ∙ itself.root) (own.steps ∙ itself.steps)
                 (own.path ∙ itself.trace))
             by (inr port) =
-                let h = holds_in s port.place port.r at port.holds in
-                whole_on n.graph x h.v port.r.said a (free_holds not port.place port.r port.holds) (t.lives x in_x) (
+                let h = free_holds not port.place port.r port.holds in
+                whole_on n.graph x h.v port.r.said a h.whole (t.lives x in_x) (
                   suc port.place,
                   suc h.p,
                   Joins-sym n.graph (port_of h.v (suc h.p)) (port_of x (suc port.place))
@@ -373,9 +488,9 @@ module _ (says : Spelling) (g : Snapshot) (n : Network) (Tree : ℕ → Type 0) 
           apart = t.well.apart (port_of x (suc p)) (port_of u (suc q)) joins
 
           -- what it follows came from another
-          not_from : (port : FollowsPort s) → (holds_in s port.place port.r at port.holds).v ≢ u
+          not_from : (port : FollowsPort s) → (free_holds not port.place port.r port.holds).v ≢ u
           not_from port same =
-              let h = holds_in s port.place port.r at port.holds in
+              let h = free_holds not port.place port.r port.holds in
               let back : Joins n.graph (port_of u (suc h.p)) (port_of x (suc port.place)) =
               subst (λ c. Joins n.graph (port_of c (suc h.p)) (port_of x (suc port.place))) same h.joins in
               let here = Joins-sym n.graph (port_of u (suc h.p)) (port_of x (suc port.place)) back in
@@ -397,14 +512,14 @@ module _ (says : Spelling) (g : Snapshot) (n : Network) (Tree : ℕ → Type 0) 
           names_not (inr port) names =
               elim (In-parts u port.r.said.path (s.clock ∷ []) (subst (In u) (own.path ∙ port.trace) names)) [
                 | inl among ↦
-                    let h = holds_in s port.place port.r at port.holds in
+                    let h = free_holds not port.place port.r port.holds in
                     names_beyond g n Tree Out top best next base depth t x u in_x beyond (suc p, suc q, joins) h.v
                     port.r.said (
                       suc port.place,
                       suc h.p,
                       Joins-sym n.graph (port_of h.v (suc h.p)) (port_of x (suc port.place)) h.joins,
                     ) (not_from port)
-                    (free_holds not port.place port.r port.holds) (no_loop port.place port.r port.holds) among
+                    h.whole (no_loop port.place port.r port.holds) among
                 | inr (inl same) ↦ apart (sym is_x.1 ∙ sym same)
                 | inr (inr none) ↦ none
               ]
@@ -445,14 +560,25 @@ module _ (says : Spelling) (g : Snapshot) (n : Network) (Tree : ℕ → Type 0) 
 
         by_link : Dec ((to : PortIdentity) × Joins n.graph (port_of s.clock (suc i)) to) → HeldInTree x i r
         by_link (no none) =
-            let off = m.dark (n.place x) s i q at is.0 there none in
-            absurd (let both : Received r ≡ Disabled = sym holds ∙ off in cc)
+            let h = m.dark (n.place x) s i r at is.0 (subst (IsMoved g n) (sym is.1) (is_moved x in_x))
+            (q, there, holds) none in
+            let (root, steps) = h.old best (base + depth x) (was_best w m x in_x s at)
+            (subst (λ c. IsDistance g c (base + depth x)) (sym is.1) (t.was x in_x)) in
+            inr (record {
+              is_top = elim (t.lost x h.from in_x (subst (λ c. Adjacent g c h.from) is.1 h.beside)) [
+                | inr top_is ↦ top_is
+                | inl stays ↦ absurd (h.gone (subst (λ c. Adjacent n.graph c h.from) (sym is.1) stays))
+              ];
+              bare = subst (λ c. IsLinked n.graph (port_of c (suc i)) → ⊥) is.1 none;
+              root = root;
+              steps = steps;
+            })
         by_link (yes (to, joined)) =
             let here = subst (λ c. Joins n.graph (port_of c (suc i)) to) is.1 joined in
-            over to here (places_of n.graph x (suc i) to.clock to.port t.well here)
+            inl (over to here (places_of n.graph x (suc i) to.clock to.port t.well here))
           where
             over : (to : PortIdentity) → Joins n.graph (port_of x (suc i)) to
-                → ((a : ℕ) × (p : ℕ) × (suc i ≡ suc a) × (to.port ≡ suc p)) → HeldInTree x i r
+                → ((a : ℕ) × (p : ℕ) × (suc i ≡ suc a) × (to.port ≡ suc p)) → HeldOverLink x i r
             over to here (a, p, first, second) = record {
               v = to.clock;
               p = p;
@@ -529,15 +655,19 @@ module _ (says : Spelling) (g : Snapshot) (n : Network) (Tree : ℕ → Type 0) 
       -- who has its old choice has it for a way at most
       pub old_in_time : (d x : ℕ) → depth x ≡ d → Tree x → IsOld n w x best (base + depth x)
           → w.time ≤ falls_by n start d
-      old_in_time zero x deep in_x root = none (station_of g n t.well t.left w m.kept m.fits.stations x (t.lives x
+      old_in_time zero x deep in_x root = here (station_of g n t.well t.left w m.kept m.fits.stations x (t.lives x
           in_x))
         where
-          none : ((s : Station) × (slice_get w.stations (n.place x) ≡ Some s) × (s.live ≡ true) × (s.clock ≡ x))
+          here : ((s : Station) × (slice_get w.stations (n.place x) ≡ Some s) × (s.live ≡ true) × (s.clock ≡ x))
               → w.time ≤ falls_by n start 0
-          none (s, at, live, clock) =
-              let old = follows_old w m x in_x s at (holds_in_tree x in_x) (root s at) in
-              let deeper = old.deeper in
-              absurd (omega (arith, deeper, deep))
+          here (s, at, live, clock) =
+              elim (follows_old w m x in_x s at (holds_in_tree x in_x) (root s at)).told [
+                | inl above ↦ let deeper = above.deeper in absurd (omega (arith, deeper, deep))
+                | inr lost ↦
+                    let by = falling.sooner (subst Tree lost.is_top in_x)
+                    (subst (λ c. IsOld n w c best (base + depth c)) lost.is_top root) in
+                    omega (arith, by)
+              ]
       old_in_time (suc d) x deep in_x root =
           go (λ v up in_v root_v. old_in_time d v up in_v root_v)
           (station_of g n t.well t.left w m.kept m.fits.stations x (t.lives x in_x))
@@ -545,33 +675,36 @@ module _ (says : Spelling) (g : Snapshot) (n : Network) (Tree : ℕ → Type 0) 
           go : ((v : ℕ) → depth v ≡ d → Tree v → IsOld n w v best (base + depth v) → w.time ≤ falls_by n start d)
               → ((s : Station) × (slice_get w.stations (n.place x) ≡ Some s) × (s.live ≡ true) × (s.clock ≡ x))
               → w.time ≤ falls_by n start (suc d)
-          go sooner (s, at, live, clock) =
-              by (falling.down old.v old.p x old.i old.in_v old.joins (child_leads g n Tree Out top best next base depth t old.v x in_x old.deeper))
+          go sooner (s, at, live, clock) = over (told_nearer x old.i d old.r deep old.told)
             where
               old : FollowsOld w m x in_x s at (holds_in_tree x in_x)
               old = follows_old w m x in_x s at (holds_in_tree x in_x) (root s at)
 
-              up : depth old.v ≡ d
-              up = let deeper = old.deeper in omega (arith, deeper, deep)
+              over : IsToldByNearer x old.i old.r → w.time ≤ falls_by n start (suc d)
+              over a =
+                  by (falling.down a.v a.p x old.i a.in_v a.joins
+                  (child_leads g n Tree Out top best next base depth t a.v x in_x a.deeper))
+                where
+                  up : depth a.v ≡ d
+                  up = let deeper = a.deeper in omega (arith, deeper, deep)
 
-              lane : (l : Lane) × (slice_get w.lanes (n.lane (port_of old.v (suc old.p))) ≡ Some l)
-              lane = lane_there old.v old.p x old.i old.joins
+                  lane : (l : Lane) × (slice_get w.lanes (n.lane (port_of a.v (suc a.p))) ≡ Some l)
+                  lane = lane_there a.v a.p x old.i a.joins
 
-              by : DownStage says n best (base + depth old.v) (falls_by n start (suc (depth old.v))) old.v old.p x
-                  old.i w
-                  → w.time ≤ falls_by n start (suc d)
-              by (inl (root_v, stays)) =
-                  let before : w.time ≤ falls_by n start d = sooner old.v up old.in_v root_v in
-                  omega (arith, before)
-              by (inr (inl (not, told))) =
-                  let left = told s old.holds.0 lane.0 at old.holds.1 lane.1 in
-                  let (h, among, said, due) = told_due says (still n (base + depth old.v) best old.v old.p x old.i)
-                  (IsNewTold n.graph (port_of old.v (suc old.p)) x) (falls_by n start (suc (depth old.v))) lane.0.frames
-                  left.told in
-                  let now = m.kept.calm.left (n.lane (port_of old.v (suc old.p))) lane.0 h lane.1 among in
-                  let late : h.due ≤ falls_by n start (suc d) =
-                  subst (λ k. h.due ≤ falls_by n start (suc k)) up due in
-                  omega (arith, now, late)
-              by (inr (inr (not, free))) =
-                  absurd (not_free_old old.v x old.p old.i old.r.said in_x old.joins
-                  ((free s old.holds.0 lane.0 at old.holds.1 lane.1).hears old.r old.holds.2) old.deeper old.told)
+                  by : DownStage says n best (base + depth a.v) (falls_by n start (suc (depth a.v))) a.v a.p x old.i w
+                      → w.time ≤ falls_by n start (suc d)
+                  by (inl (root_v, stays)) =
+                      let before : w.time ≤ falls_by n start d = sooner a.v up a.in_v root_v in
+                      omega (arith, before)
+                  by (inr (inl (not, told))) =
+                      let left = told s old.holds.0 lane.0 at old.holds.1 lane.1 in
+                      let (h, among, said, due) = told_due says (still n (base + depth a.v) best a.v a.p x old.i)
+                      (IsNewTold n.graph (port_of a.v (suc a.p)) x) (falls_by n start (suc (depth a.v))) lane.0.frames
+                      left.told in
+                      let now = m.kept.calm.left (n.lane (port_of a.v (suc a.p))) lane.0 h lane.1 among in
+                      let late : h.due ≤ falls_by n start (suc d) =
+                      subst (λ k. h.due ≤ falls_by n start (suc k)) up due in
+                      omega (arith, now, late)
+                  by (inr (inr (not, free))) =
+                      let whole = (free s old.holds.0 lane.0 at old.holds.1 lane.1).hears old.r old.holds.2 in
+                      absurd (not_free_old a.v x a.p old.i old.r.said in_x a.joins whole a.deeper a.told)

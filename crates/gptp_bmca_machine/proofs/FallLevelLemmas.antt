@@ -14,7 +14,7 @@ use Rattle.gptp_bmca_machine.specs.Network.{Network}
 use Rattle.gptp_bmca_machine.specs.Station.{MachineState, Mine, Port, Received, Station}
 use Rattle.gptp_bmca_machine.proofs.MovedTreeLemmas.{MovesTree, child_leads}
 use Rattle.gptp_bmca_machine.proofs.FallKeptLemmas.{hearer_old, led_next, led_old, left_old}
-use Rattle.gptp_bmca_machine.proofs.FallLemmas.{DownStage, HasChoice, HasLeft, IsAftermath, IsFalling, IsOld, choice_dec, falls_by, follows_old, free_clear, free_fits, holds_in_tree}
+use Rattle.gptp_bmca_machine.proofs.FallLemmas.{DownStage, HasChoice, HasLeft, IsAftermath, IsFalling, IsOld, UnlinkedDrop, choice_dec, falls_by, follows_old, free_clear, free_fits, holds_in_tree, told_nearer}
 use Rattle.gptp_bmca_machine.proofs.ClearLemmas.{tells_clear, weaker_clear}
 use Rattle.gptp_bmca_machine.proofs.LinkEndsLemmas.{ShowEnds, telling, telling_kept}
 use Rattle.gptp_bmca_machine.proofs.LinkStepLemmas.{lives_at}
@@ -85,8 +85,10 @@ module _ (says : Spelling) (g : Snapshot) (n : Network) (Tree : ℕ → Type 0) 
           | inl deeper ↦
               let old = follows_old says g n Tree Out top best next base depth t start w m u in_u s at
               (holds_in_tree says g n Tree Out top best next base depth t start w m falling u in_u) root in
-              let port = t.single u (suc old.i) (suc q) (port_of old.v (suc old.p)) (port_of v (suc p)) in_u old.in_v in_v
-              (Joins-sym n.graph (port_of old.v (suc old.p)) (port_of u (suc old.i)) old.joins) back old.deeper deeper
+              let a = told_nearer says g n Tree Out top best next base depth t start u old.i (depth v) old.r deeper
+              old.told in
+              let port = t.single u (suc old.i) (suc q) (port_of a.v (suc a.p)) (port_of v (suc p)) in_u a.in_v in_v
+              (Joins-sym n.graph (port_of a.v (suc a.p)) (port_of u (suc old.i)) a.joins) back a.deeper deeper
               in
               let one : old.i ≡ q = omega (arith, port) in
               let same = same_there s.ports q old.holds.0 pu
@@ -101,7 +103,8 @@ module _ (says : Spelling) (g : Snapshot) (n : Network) (Tree : ℕ → Type 0) 
         absurd (settled_left stand.v ready.0 (root stand.v stand.teller))
 
     module _ (w w' : MachineState) (m : IsAftermath says g n w) (m' : IsAftermath says g n w')
-        (step : MachineSteps says w w') (falling : IsFalling says g n Tree Out top best next base depth t start w)
+        (step : MachineSteps says w w') (drops : UnlinkedDrop g n w w')
+        (falling : IsFalling says g n Tree Out top best next base depth t start w)
         (falling' : IsFalling says g n Tree Out top best next base depth t start w') (early : HasTime w)
         (early' : HasTime w') (link : LinkSettles says (telling n (before f) f next v p u q) w) where
       kept_by : ((depth u ≡ suc (depth v)) ⊎ HasLeft n w u best (base + depth u))
@@ -130,7 +133,7 @@ module _ (says : Spelling) (g : Snapshot) (n : Network) (Tree : ℕ → Type 0) 
 
           by : DownStage says n best (base + depth u) (falls_by n start (suc (depth u))) u q v p w
               → LinkSettles says (telling n (before f) f next v p u q) w'
-          by (inl led) = not_ready w' (elim (led_next says g n Tree Out top best next base depth t start w w' m m' step falling u
+          by (inl led) = not_ready w' (elim (led_next says g n Tree Out top best next base depth t start w w' m m' step drops falling u
               q v p in_u back (child_leads g n Tree Out top best next base depth t u v in_v higher) led) [
                 | inl on ↦ led_old says g n Tree Out top best next base depth t start w' m' u q v p in_u in_v back higher on
                 | inr left ↦ left_old says g n Tree Out top best next base depth t start w' m' u q v p in_u in_v back
@@ -169,14 +172,16 @@ module _ (says : Spelling) (g : Snapshot) (n : Network) (Tree : ℕ → Type 0) 
   -- so every step keeps them, until that time
   pub tree_settles_on : (last : ℕ) → ((f : ℕ) → last + n.most < before f) → (w w' : MachineState)
       (m : IsAftermath says g n w) (m' : IsAftermath says g n w')
-      → MachineSteps says w w' → IsFalling says g n Tree Out top best next base depth t start w
+      → MachineSteps says w w' → UnlinkedDrop g n w w'
+      → IsFalling says g n Tree Out top best next base depth t start w
       → IsFalling says g n Tree Out top best next base depth t start w' → w.time ≤ last → TreeSettles w → TreeSettles w'
-  tree_settles_on last room w w' m m' (inl wait) falling falling' in_time all f v p u q close in_v in_u leads =
+  tree_settles_on last room w w' m m' (inl wait) drops falling falling' in_time all f v p u q close in_v in_u leads =
       subst (LinkSettles says (telling n (before f) f next v p u q)) (sym wait.is)
       (level_waits f v p u q close in_v in_u leads (let more = room f in omega (arith, more)) w wait.time
       (all f v p u q close in_v in_u leads))
-  tree_settles_on last room w w' m m' (inr act) falling falling' in_time all f v p u q close in_v in_u leads =
-      level_kept f v p u q close in_v in_u leads (let more = room f in omega (arith, more)) w w' m m' (inr act) falling
+  tree_settles_on last room w w' m m' (inr act) drops falling falling' in_time all f v p u q close in_v in_u leads =
+      level_kept f v p u q close in_v in_u leads (let more = room f in omega (arith, more)) w w' m m' (inr act) drops
+      falling
       falling' (λ s pv at there not. let more = room f in omega (arith, more, in_time))
       (λ s pv at there not.
       let same = acts_now w w' act in

@@ -40,7 +40,14 @@ pub mod FallLeaveLemmas
 pub mod FallKeptLemmas
 pub mod FallLevelLemmas
 pub mod FallEndLemmas
+pub mod TreesFallLemmas
+pub mod LostPortLemmas
+pub mod LostTopLemmas
+pub mod LostBeginLemmas
+pub mod FailsBackLemmas
+pub mod FallRestLemmas
 pub mod FallBeginLemmas
+pub mod FallFailLemmas
 pub mod TurnLemmas
 pub mod TurnOutLemmas
 pub mod TurnLevelLemmas

@@ -517,7 +517,7 @@ module _ (says : Spelling) (n n' : Network) (net : IsSettlingNetwork n) (wf : Is
   all : EverythingFits says n.graph n' w'
   all = loss_fits says n n' w w' net loss
 
-  levels_found : (d : ℕ) → StillSettles says n.graph n' d w'
+  pub levels_found : (d : ℕ) → StillSettles says n.graph n' d w'
   levels_found d best v p u q close leads from pv pu l stand ready =
       inr (inr (still_stays says n' d best v p u q pv.announce pu.held l.frames
       (stays_so says n n' loss.same d best best v p u q refl pv.announce pu.held l.frames

@@ -1,17 +1,17 @@
 -- What a system that has settled sends is final.
-use Rattle.std.proofs.Common.{◌≡◌, ◌≢◌, ◌⊎◌, ◌<◌, ◌≤◌, ℕ, suc, true, List, Some, length, slice_get, sym, ap, subst, ◌∙◌, inl, inr}
+use Rattle.std.proofs.Common.{◌≡◌, ◌<◌, ◌≤◌, ℕ, suc, true, List, Some, length, slice_get, sym, ap, subst, ◌∙◌, inl, inr}
 use Rattle.gptp_lists.specs.Members.{In}
 use Rattle.gptp_graph.specs.Snapshot.{IsWellFormed, Joins, PortIdentity, Snapshot, System, port_of}
 use Rattle.gptp_bmca_machine.specs.Acts.{LaneStep}
 use Rattle.gptp_bmca_machine.specs.Calm.{IsCalmPort}
-use Rattle.gptp_bmca_machine.specs.Frame.{Announce, AnnounceFrame, Lane, Send, Spelling}
+use Rattle.gptp_bmca_machine.specs.Frame.{Announce, Lane, Send, Spelling}
 use Rattle.gptp_bmca_machine.specs.Link.{TellerIsReady, TellerIsSettled}
 use Rattle.gptp_bmca_machine.specs.LinkStage.{AllFinal, IsFinal}
 use Rattle.gptp_bmca_machine.specs.LossLaws.{IsAfterLoss, IsWhatIsLeft}
 use Rattle.gptp_bmca_machine.specs.Network.{Network}
 use Rattle.gptp_bmca_machine.specs.Reacts.{AnnouncesNow, IsMasterAt, IsOwn, PortStep}
 use Rattle.gptp_bmca_machine.specs.Sound.{ReceivedFits}
-use Rattle.gptp_bmca_machine.specs.Station.{Held, MachineState, Mine, Port, Received, Reception, Station}
+use Rattle.gptp_bmca_machine.specs.Station.{MachineState, Mine, Port, Received, Reception, Station}
 use Rattle.gptp_bmca_machine.specs.Touch.{StationTouch}
 use Rattle.gptp_bmca_machine.proofs.HearingLemmas.{mid_mine}
 use Rattle.gptp_bmca_machine.proofs.LinkEndsLemmas.{teller_known, telling}

@@ -1,17 +1,15 @@
 -- A tree turns by its one way out: what is known of each state since, and what comes in from outside.
-use Rattle.std.proofs.Common.{◌≡◌, ◌≢◌, ◌⊎◌, ◌<◌, ◌≤◌, ◌+◌, ℕ, suc, true, List, Some, slice_get, sym, ap, subst, ◌∙◌, inl, inr, arith}
+use Rattle.std.proofs.Common.{◌≡◌, ◌⊎◌, ◌<◌, ℕ, suc, true, List, Some, slice_get, sym, ap, subst, ◌∙◌, inl, inr, arith}
 use Rattle.gptp_lists.specs.Members.{In}
 use Rattle.gptp_graph.specs.Distance.{IsDistance}
-use Rattle.gptp_graph.specs.Snapshot.{Joins, PortIdentity, Snapshot, System, clocks, port_of}
-use Rattle.gptp_graph.proofs.DistanceLemmas.{IsDistance-unique}
+use Rattle.gptp_graph.specs.Snapshot.{PortIdentity, Snapshot, System, clocks}
 use Rattle.gptp_graph.proofs.ExistenceLemmas.{distance_exists}
 use Rattle.gptp_graph.proofs.PathBoundLemmas.{IsDistance-within}
 use Rattle.gptp_bmca_machine.specs.Acts.{MachineSteps}
 use Rattle.gptp_bmca_machine.specs.Clean.{IsWorse, Whole}
-use Rattle.gptp_bmca_machine.specs.Facts.{IsLiveStationState}
 use Rattle.gptp_bmca_machine.specs.Frame.{Announce, Spelling}
-use Rattle.gptp_bmca_machine.specs.LossLaws.{EverythingFits, IsAfterLoss}
-use Rattle.gptp_bmca_machine.specs.Network.{Network, network_setting}
+use Rattle.gptp_bmca_machine.specs.LossLaws.{IsAfterLoss}
+use Rattle.gptp_bmca_machine.specs.Network.{Network}
 use Rattle.gptp_bmca_machine.specs.Reacts.{IsOwn}
 use Rattle.gptp_bmca_machine.specs.SoundLaws.{IsSoundOnLinks, UnlinkedAreOff}
 use Rattle.gptp_bmca_machine.specs.Station.{MachineState, Station}
@@ -91,6 +89,7 @@ module _ (says : Spelling) (g : Snapshot) (n : Network) (tree : List ℕ) (top o
     -- the tree falls back, and all is sound by the snapshot of before
     pub record TurnsBack (w : MachineState) : Type 0 where
       pub back : FallsBack says g n (IsOf tree) (LeadsOut last out) top best best base depth m start w
+      pub dark : UnlinkedAreOff n.graph w
       pub sound : IsSoundOnLinks says g w
 
     -- every step keeps it
@@ -106,6 +105,7 @@ module _ (says : Spelling) (g : Snapshot) (n : Network) (tree : List ℕ) (top o
           subst (λ c. Whole n.graph v a ⊎ In c a.path) (sym is_u)
           (subst (λ c. Whole n.graph c a ⊎ In last a.path) (sym is_v)
           (out_tells w' after' still' call.s' at sound' z.port a own)));
+      dark = dark';
       sound = sound';
     }
       where
@@ -121,4 +121,4 @@ module _ (says : Spelling) (g : Snapshot) (n : Network) (tree : List ℕ) (top o
 
         sound' : IsSoundOnLinks says g w'
         sound' =
-            left_sound_kept says g n t.left w w' is.back.after.kept.calm kept'.calm is.back.after.dark step is.sound
+            left_sound_kept says g n t.left w w' is.back.after.kept.calm kept'.calm is.dark step is.sound

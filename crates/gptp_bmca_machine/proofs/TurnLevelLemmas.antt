@@ -17,7 +17,7 @@ use Rattle.gptp_bmca_machine.specs.Link.{LinkSettles}
 use Rattle.gptp_bmca_machine.specs.Network.{Network}
 use Rattle.gptp_bmca_machine.specs.Station.{HoldsAt, MachineState, Port, Reception, Station}
 use Rattle.gptp_bmca_machine.specs.TurnTree.{TurnsTree}
-use Rattle.gptp_bmca_machine.proofs.FallLemmas.{HasLeft, falls_by, free_clear, holds_in_tree, old_in_time}
+use Rattle.gptp_bmca_machine.proofs.FallLemmas.{HasLeft, falls_by, free_clear, holds_in_tree, off_drop, old_in_time}
 use Rattle.gptp_bmca_machine.proofs.FallLevelLemmas.{HasTime, TreeSettles, level_kept, show}
 use Rattle.gptp_bmca_machine.proofs.LevelLemmas.{places_of}
 use Rattle.gptp_bmca_machine.proofs.LinkEndsLemmas.{ends_by, teller_on, telling}
@@ -329,7 +329,8 @@ module _ (says : Spelling) (g : Snapshot) (n : Network) (tree : List ℕ) (top o
       level_on : (f : ℕ) → ((e : ℕ) → e < f → LevelSettles e w') → LevelSettles f w'
       level_on f below v p u q close in_v in_u leads =
           level_kept says g n (IsOf tree) (LeadsOut last out) top best best base depth m start before f v p u q close
-          in_v in_u leads (delay f) w w' is.back.after is'.back.after step is.back.falling is'.back.falling
+          in_v in_u leads (delay f) w w' is.back.after is'.back.after step (off_drop g n w w' is'.dark) is.back.falling
+          is'.back.falling
           (has_time w is settles.way f (λ e less. settles.levels e) v p u q close in_v in_u leads)
           (has_time w' is' way_on f below v p u q close in_v in_u leads)
           (settles.levels f v p u q close in_v in_u leads)

@@ -209,7 +209,7 @@ module _ (says : Spelling) (g : Snapshot) (n : Network) (tree : List ℕ) (top o
           linked = elim (IsLinked-dec n.graph (port_of s.clock (suc port.place))) [
             | yes is_linked ↦ is_linked
             | no none ↦
-                let off = is.back.after.dark (n.place out) s port.place port.holds.0 at lives.0 port.holds.1 none in
+                let off = is.dark (n.place out) s port.place port.holds.0 at lives.0 port.holds.1 none in
                 absurd (let both : Received port.r ≡ Disabled = sym port.holds.2 ∙ off in cc)
           ]
 
