@@ -52,6 +52,7 @@ pub mod TurnLemmas
 pub mod TurnOutLemmas
 pub mod TurnLevelLemmas
 pub mod TurnEndLemmas
+pub mod TurnBeginLemmas
 pub mod RunLemmas
 pub mod MatchingLemmas
 pub mod SyncStepLemmas
