@@ -169,15 +169,15 @@ module _ (says : Spelling) (n0 n : Network) (Tree : ℕ → Type 0) (Out : ℕ �
             stay : FinalAnnounceStays says (still n (base + depth v) best v p u q) pv.announce pu.held l.frames
             stay = stays0 says n0 n Tree Out top best next base depth t net0 w calm0 invariant0 late0 same v p u q in_v
                 joins down pv pu l (record {
-              v = stand.v;
-              u = stand.u;
-              teller = z.others v stand.v (t.lives v in_v) (inl in_v) apart stand.teller;
-              teller_port = stand.teller_port;
-              hearer = z.others u stand.u known_u (around Tree Out depth v u down.beyond)
-                  (beyond_top v u down.beyond) stand.hearer;
-              hearer_port = stand.hearer_port;
-              lane = at_l;
-            })
+                  v = stand.v;
+                  u = stand.u;
+                  teller = z.others v stand.v (t.lives v in_v) (inl in_v) apart stand.teller;
+                  teller_port = stand.teller_port;
+                  hearer = z.others u stand.u known_u (around Tree Out depth v u down.beyond)
+                      (beyond_top v u down.beyond) stand.hearer;
+                  hearer_port = stand.hearer_port;
+                  lane = at_l;
+                })
 
   -- ---- the top
 

@@ -6,8 +6,7 @@ use Rattle.gptp_graph.specs.Best.{IsBest}
 use Rattle.gptp_graph.specs.Distance.{IsDistance}
 use Rattle.gptp_graph.specs.Snapshot.{IsLinked, Joins, PortIdentity, Snapshot, System, clocks, port_of}
 use Rattle.gptp_graph.proofs.BestLemmas.{IsBest-neighbour, IsBest-unique}
-use Rattle.gptp_graph.proofs.DistanceLemmas.{IsDistance-clock, IsDistance-unique}
-use Rattle.gptp_graph.proofs.ExistenceLemmas.{best_exists, distance_exists}
+use Rattle.gptp_graph.proofs.DistanceLemmas.{IsDistance-clock}
 use Rattle.gptp_graph.proofs.LinkLemmas.{Joins-clock, Joins-sym}
 use Rattle.gptp_graph.proofs.SystemLemmas.{In-clocks}
 use Rattle.gptp_bmca_machine.specs.Acts.{MachineSteps}
@@ -71,7 +70,6 @@ module _ (says : Spelling) (g : Snapshot) (n : Network) (Tree : ℕ → Type 0) 
 
       fits' : EverythingFits says g n w'
       fits' = after'.fits
-
 
 -- ---- a tree that is cut off
 

@@ -1,6 +1,6 @@
 -- A system of a network at rest fails, which cuts trees off: they begin to fall back. Nobody answers yet. The top of each
 -- holds what the failed system told, until that ages, or its port isn't capable any more.
-use Rattle.std.proofs.Common.{◌≡◌, ◌<◌, ◌≤◌, ◌+◌, ◌∙◌, ℕ, suc, Some, slice_get, ap, subst, sym, inl, inr}
+use Rattle.std.proofs.Common.{◌≡◌, ◌≤◌, ◌+◌, ◌∙◌, ℕ, suc, Some, slice_get, ap, subst, sym, inl, inr}
 use Rattle.gptp_lists.specs.Members.{In}
 use Rattle.gptp_graph.specs.Best.{IsBest}
 use Rattle.gptp_graph.proofs.BestLemmas.{IsBest-neighbour}
@@ -59,7 +59,7 @@ module _ (says : Spelling) (n0 n : Network) (net0 : IsSettlingNetwork n0) (w w' 
         root_still v in_v,
         (λ pv pu l stand.
             stays0 says n0 n (IsCutOff n next) LeadsNowhere top best next base depth moved net0 w loss.rests.calm loss.rests.invariant
-          loss.rests.late loss.same
+            loss.rests.late loss.same
             v p u q in_v joins down pv pu l (record {
               v = stand.v;
               u = stand.u;
@@ -77,7 +77,7 @@ module _ (says : Spelling) (n0 n : Network) (net0 : IsSettlingNetwork n0) (w w' 
       up_free v p u q in_v joins higher s pu l at there lane = record {
         hears = λ r holds.
             absurd (held_before says n0 n (IsCutOff n next) LeadsNowhere top best next base depth moved net0 w loss.rests.calm loss.rests.invariant
-          loss.rests.late loss.same
+            loss.rests.late loss.same
             v p u q in_v in_u joins higher s pu r (stood u in_u s at) there holds);
         flight = λ f a among said.
             off_whole g n top best next base depth t v u a in_v in_u

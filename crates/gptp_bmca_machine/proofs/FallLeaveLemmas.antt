@@ -77,22 +77,22 @@ tells_new says g n Tree Out top best next base depth t start w m x in_x s at hol
 -- others.
 pub record TreeAnswers (says : Spelling) (n : Network) (Beside : ℕ → Type 0) (x : ℕ) (w w' : MachineState) : Type 0
   where
-  pub touch : StationTouch
-  pub s : Station
-  pub s' : Station
-  pub sends : List Send
-  pub time : w'.time ≡ w.time
-  pub here : slice_get w.stations (n.place x) ≡ Some s
-  pub there : slice_get w'.stations (n.place x) ≡ Some s'
-  pub reacts : StationReacts says s touch w.time s' sends
-  pub others : (c : ℕ) (z : Station) → In c (clocks n.graph) → Beside c → c ≢ x → slice_get w'.stations (n.place c) ≡ Some z
-      → slice_get w.stations (n.place c) ≡ Some z
-  pub lanes : (p q : PortIdentity) (l' : Lane) → Joins n.graph p q → q.clock ≢ x
-      → slice_get w'.lanes (n.lane p) ≡ Some l'
-      → (l : Lane) × (slice_get w.lanes (n.lane p) ≡ Some l) × LaneStep s.clock sends l l'
-  pub heard : (i : ℕ) (a : Announce) → touch ≡ Hear (suc i) a
-      → (j : ℕ) × (l : Lane) × (f : AnnounceFrame) × (slice_get w.lanes j ≡ Some l) × In f l.frames × says f.octets a
-      × (l.to ≡ port_of s.clock (suc i))
+    pub touch : StationTouch
+    pub s : Station
+    pub s' : Station
+    pub sends : List Send
+    pub time : w'.time ≡ w.time
+    pub here : slice_get w.stations (n.place x) ≡ Some s
+    pub there : slice_get w'.stations (n.place x) ≡ Some s'
+    pub reacts : StationReacts says s touch w.time s' sends
+    pub others : (c : ℕ) (z : Station) → In c (clocks n.graph) → Beside c → c ≢ x → slice_get w'.stations (n.place c) ≡ Some z
+        → slice_get w.stations (n.place c) ≡ Some z
+    pub lanes : (p q : PortIdentity) (l' : Lane) → Joins n.graph p q → q.clock ≢ x
+        → slice_get w'.lanes (n.lane p) ≡ Some l'
+        → (l : Lane) × (slice_get w.lanes (n.lane p) ≡ Some l) × LaneStep s.clock sends l l'
+    pub heard : (i : ℕ) (a : Announce) → touch ≡ Hear (suc i) a
+        → (j : ℕ) × (l : Lane) × (f : AnnounceFrame) × (slice_get w.lanes j ≡ Some l) × In f l.frames × says f.octets a
+        × (l.to ≡ port_of s.clock (suc i))
 
 module _ (says : Spelling) (g : Snapshot) (n : Network) (Tree : ℕ → Type 0) (Out : ℕ → ℕ → Type 0) (top : ℕ)
     (best next : System) (base : ℕ) (depth : ℕ → ℕ) (t : MovesTree g n Tree Out top best next base depth) (start : ℕ) (w w' : MachineState) (m' : IsAftermath says g n w')

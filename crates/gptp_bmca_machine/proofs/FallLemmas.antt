@@ -58,7 +58,7 @@ HasChoice s best far = (s.root ≡ best.identity) × (s.steps ≡ far)
 pub choice_dec : (s : Station) (best : System) (far : ℕ) → Dec (HasChoice s best far)
 choice_dec s best far = elim (ℕ_discrete s.root best.identity) [
   | no other ↦ no (λ h. other h.0)
-  | yes root ↦ elim (ℕ_discrete s.steps far) [ | no other ↦ no (λ h. other h.1) | yes steps ↦ yes (root, steps) ]
+  | yes root ↦ elim (ℕ_discrete s.steps far) [ no other ↦ no (λ h. other h.1) | yes steps ↦ yes (root, steps) ]
 ]
 
 -- whoever stands there has them, or it hasn't
@@ -158,553 +158,553 @@ pub record IsAftermath (says : Spelling) (g : Snapshot) (n : Network) (w : Machi
 module _ (says : Spelling) (g : Snapshot) (n : Network) (Tree : ℕ → Type 0) (Out : ℕ → ℕ → Type 0) (top : ℕ)
     (best next : System) (base : ℕ) (depth : ℕ → ℕ) (t : MovesTree g n Tree Out top best next base depth) (start : ℕ)
   where
-  -- Each link that leads down is at one of its stages, and over each link to a system from one beyond it comes what is of
-  -- what is left. The system at the top has its old choice until that time at most.
-  pub record IsFalling (w : MachineState) : Type 0 where
-    pub sooner : Tree top → IsOld n w top best (base + depth top) → w.time ≤ start
-    pub down : (v p u q : ℕ) → Tree v → Joins n.graph (port_of v (suc p)) (port_of u (suc q))
-        → LeadsDown g Tree Out base depth v u
-        → DownStage says n best (base + depth v) (falls_by n start (suc (depth v))) v p u q w
-    pub up : (v p u q : ℕ) → Tree u → Joins n.graph (port_of v (suc p)) (port_of u (suc q)) → IsBeyond Tree Out depth u v
-        → IsFreeAt says n v p u q w
+    -- Each link that leads down is at one of its stages, and over each link to a system from one beyond it comes what is of
+    -- what is left. The system at the top has its old choice until that time at most.
+    pub record IsFalling (w : MachineState) : Type 0 where
+      pub sooner : Tree top → IsOld n w top best (base + depth top) → w.time ≤ start
+      pub down : (v p u q : ℕ) → Tree v → Joins n.graph (port_of v (suc p)) (port_of u (suc q))
+          → LeadsDown g Tree Out base depth v u
+          → DownStage says n best (base + depth v) (falls_by n start (suc (depth v))) v p u q w
+      pub up : (v p u q : ℕ) → Tree u → Joins n.graph (port_of v (suc p)) (port_of u (suc q)) → IsBeyond Tree Out depth u v
+          → IsFreeAt says n v p u q w
 
-  -- ---- what one system holds
+    -- ---- what one system holds
 
-  -- an Announce tells the root of before, over so many steps
-  abbrev pub HasTold : Announce → ℕ → Type 0
-  HasTold a far = (a.root ≡ best.identity) × (a.steps ≡ far)
+    -- an Announce tells the root of before, over so many steps
+    abbrev pub HasTold : Announce → ℕ → Type 0
+    HasTold a far = (a.root ≡ best.identity) × (a.steps ≡ far)
 
-  -- what a port of the system received came over its link: it is of what is left, or what was told before
-  pub record HeldOverLink (x i : ℕ) (r : Reception) : Type 0 where
-    pub v : ℕ
-    pub p : ℕ
-    pub joins : Joins n.graph (port_of v (suc p)) (port_of x (suc i))
-    pub source : r.said.source ≡ port_of v (suc p)
-    pub said : Whole n.graph v r.said
-        ⊎ (Tree v × (depth x ≡ suc (depth v)) × HasTold r.said (base + depth v))
+    -- what a port of the system received came over its link: it is of what is left, or what was told before
+    pub record HeldOverLink (x i : ℕ) (r : Reception) : Type 0 where
+      pub v : ℕ
+      pub p : ℕ
+      pub joins : Joins n.graph (port_of v (suc p)) (port_of x (suc i))
+      pub source : r.said.source ≡ port_of v (suc p)
+      pub said : Whole n.graph v r.said
+          ⊎ (Tree v × (depth x ≡ suc (depth v)) × HasTold r.said (base + depth v))
 
-  -- or it came over a lost link to the system at the top, and was told before
-  pub record HeldAtTop (x i : ℕ) (r : Reception) : Type 0 where
-    pub is_top : x ≡ top
-    pub bare : IsLinked n.graph (port_of x (suc i)) → ⊥
-    pub root : r.said.root ≡ best.identity
-    pub steps : suc r.said.steps ≡ base + depth x
+    -- or it came over a lost link to the system at the top, and was told before
+    pub record HeldAtTop (x i : ℕ) (r : Reception) : Type 0 where
+      pub is_top : x ≡ top
+      pub bare : IsLinked n.graph (port_of x (suc i)) → ⊥
+      pub root : r.said.root ≡ best.identity
+      pub steps : suc r.said.steps ≡ base + depth x
 
-  abbrev pub HeldInTree : ℕ → ℕ → Reception → Type 0
-  HeldInTree x i r = HeldOverLink x i r ⊎ HeldAtTop x i r
+    abbrev pub HeldInTree : ℕ → ℕ → Reception → Type 0
+    HeldInTree x i r = HeldOverLink x i r ⊎ HeldAtTop x i r
 
-  -- it came over its link, and is of what is left
-  pub record HeldFree (x i : ℕ) (r : Reception) : Type 0 where
-    pub v : ℕ
-    pub p : ℕ
-    pub joins : Joins n.graph (port_of v (suc p)) (port_of x (suc i))
-    pub source : r.said.source ≡ port_of v (suc p)
-    pub whole : Whole n.graph v r.said
+    -- it came over its link, and is of what is left
+    pub record HeldFree (x i : ℕ) (r : Reception) : Type 0 where
+      pub v : ℕ
+      pub p : ℕ
+      pub joins : Joins n.graph (port_of v (suc p)) (port_of x (suc i))
+      pub source : r.said.source ≡ port_of v (suc p)
+      pub whole : Whole n.graph v r.said
 
-  -- a nearer system told it over the link at this port
-  pub record IsToldByNearer (x i : ℕ) (r : Reception) : Type 0 where
-    pub v : ℕ
-    pub p : ℕ
-    pub joins : Joins n.graph (port_of v (suc p)) (port_of x (suc i))
-    pub in_v : Tree v
-    pub deeper : depth x ≡ suc (depth v)
-    pub told : HasTold r.said (base + depth v)
+    -- a nearer system told it over the link at this port
+    pub record IsToldByNearer (x i : ℕ) (r : Reception) : Type 0 where
+      pub v : ℕ
+      pub p : ℕ
+      pub joins : Joins n.graph (port_of v (suc p)) (port_of x (suc i))
+      pub in_v : Tree v
+      pub deeper : depth x ≡ suc (depth v)
+      pub told : HasTold r.said (base + depth v)
 
-  -- or the system is at the top, and the link at this port is lost
-  pub record IsToldAtTop (x i : ℕ) : Type 0 where
-    pub is_top : x ≡ top
-    pub bare : IsLinked n.graph (port_of x (suc i)) → ⊥
+    -- or the system is at the top, and the link at this port is lost
+    pub record IsToldAtTop (x i : ℕ) : Type 0 where
+      pub is_top : x ≡ top
+      pub bare : IsLinked n.graph (port_of x (suc i)) → ⊥
 
-  -- it isn't at the top
-  pub told_nearer : (x i d : ℕ) (r : Reception) → depth x ≡ suc d → IsToldByNearer x i r ⊎ IsToldAtTop x i
-      → IsToldByNearer x i r
-  told_nearer x i d r deep (inl above) = above
-  told_nearer x i d r deep (inr lost) =
-      let none = ap depth lost.is_top ∙ t.first in absurd (omega (arith, none, deep))
+    -- it isn't at the top
+    pub told_nearer : (x i d : ℕ) (r : Reception) → depth x ≡ suc d → IsToldByNearer x i r ⊎ IsToldAtTop x i
+        → IsToldByNearer x i r
+    told_nearer x i d r deep (inl above) = above
+    told_nearer x i d r deep (inr lost) =
+        let none = ap depth lost.is_top ∙ t.first in absurd (omega (arith, none, deep))
 
-  -- a system of the tree is moved
-  pub is_moved : (x : ℕ) → Tree x → IsMoved g n x
-  is_moved x in_x unmoved = elim (t.worse x in_x) [
-    | inl less ↦
-        let one = ap (λ (b : System). b.identity)
-        (IsBest-unique n.graph x best next t.well (unmoved.best best (t.was_best x in_x)) (t.is_best x in_x)) in
-        omega (arith, less, one)
-    | inr (same, more) ↦
-        let far = more (base + depth x) (unmoved.far (base + depth x) (t.was x in_x)) in omega (arith, far)
-  ]
-
-  abbrev pub HoldsInTree : ℕ → MachineState → Type 0
-  HoldsInTree x w = (s : Station) (i : ℕ) (r : Reception) → slice_get w.stations (n.place x) ≡ Some s
-      → HoldsAt s i r → HeldInTree x i r
-
-  -- what is of what is left and comes to a system of the tree isn't what was told to it before, nor better
-  pub whole_new : (x v : ℕ) (a : Announce) → Tree x → Adjacent n.graph x v → Whole n.graph v a
-      → (best.identity < a.root) ⊎ ((a.root ≡ best.identity) × (base + depth x ≤ a.steps))
-  whole_new x v a in_x joined whole = elim (t.worse x in_x) [
-    | inl less ↦ inl (omega (arith, less, least))
-    | inr (same, more) ↦ elim (dec_le a.root next.identity) [
-      | no above ↦ inl (let one = ap (λ (b : System). b.identity) same in omega (arith, above, one))
-      | yes below ↦
-          let root : a.root ≡ next.identity = omega (arith, below, least) in
-          let one = ap (λ (b : System). b.identity) same in
-          let (far, here) = distance_exists n.graph x t.well (t.lives x in_x) in
-          let (near, there) = distance_exists n.graph v t.well (Adjacent-clock n.graph x v t.well joined) in
-          let by = IsDistance-neighbour n.graph v x near far t.well (Adjacent-sym n.graph x v joined) there here in
-          let few = steps_not_fewer n.graph t.well v a whole next is_next v near (inl (λ i. v)) is_next there root in
-          let farther = more far here in
-          inr (root ∙ sym one, omega (arith, by, few, farther))
+    -- a system of the tree is moved
+    pub is_moved : (x : ℕ) → Tree x → IsMoved g n x
+    is_moved x in_x unmoved = elim (t.worse x in_x) [
+      | inl less ↦
+          let one = ap (λ (b : System). b.identity)
+          (IsBest-unique n.graph x best next t.well (unmoved.best best (t.was_best x in_x)) (t.is_best x in_x)) in
+          omega (arith, less, one)
+      | inr (same, more) ↦
+          let far = more (base + depth x) (unmoved.far (base + depth x) (t.was x in_x)) in omega (arith, far)
     ]
-  ]
-    where
-      is_next : IsBest n.graph v next
-      is_next = best_beside g n Tree Out top best next base depth t x v in_x joined
 
-      least : next.identity ≤ a.root
-      least = root_not_better n.graph t.well v a whole next is_next
+    abbrev pub HoldsInTree : ℕ → MachineState → Type 0
+    HoldsInTree x w = (s : Station) (i : ℕ) (r : Reception) → slice_get w.stations (n.place x) ≡ Some s
+        → HoldsAt s i r → HeldInTree x i r
 
-  -- what a system of the tree tells of what is left is worse than what it told before
-  pub own_new : (v : ℕ) (a : Announce) → Tree v → Whole n.graph v a
-      → (best.identity < a.root) ⊎ ((a.root ≡ best.identity) × (base + depth v < a.steps))
-  own_new v a in_v whole = elim (t.worse v in_v) [
-    | inl less ↦ inl (omega (arith, less, least))
-    | inr (same, more) ↦ elim (dec_le a.root next.identity) [
-      | no above ↦ inl (let one = ap (λ (b : System). b.identity) same in omega (arith, above, one))
-      | yes below ↦
-          let root : a.root ≡ next.identity = omega (arith, below, least) in
-          let one = ap (λ (b : System). b.identity) same in
-          let (far, here) = distance_exists n.graph v t.well (t.lives v in_v) in
-          let few = steps_not_fewer n.graph t.well v a whole next is_next v far (inl (λ i. v)) is_next here root in
-          let farther = more far here in
-          inr (root ∙ sym one, omega (arith, few, farther))
-    ]
-  ]
-    where
-      is_next : IsBest n.graph v next
-      is_next = t.is_best v in_v
-
-      least : next.identity ≤ a.root
-      least = root_not_better n.graph t.well v a whole next is_next
-
-  -- what was told before isn't of what is left
-  pub not_free_old : (v x p i : ℕ) (a : Announce) → Tree x → Joins n.graph (port_of v (suc p)) (port_of x (suc i))
-      → Whole n.graph v a → depth x ≡ suc (depth v) → HasTold a (base + depth v) → ⊥
-  not_free_old v x p i a in_x joins whole deeper (root, steps) =
-      elim (whole_new x v a in_x (suc i, suc p, Joins-sym n.graph (port_of v (suc p)) (port_of x (suc i)) joins) whole) [
-        | inl over ↦ omega (arith, over, root)
-        | inr (same, many) ↦ omega (arith, many, steps, deeper)
+    -- what is of what is left and comes to a system of the tree isn't what was told to it before, nor better
+    pub whole_new : (x v : ℕ) (a : Announce) → Tree x → Adjacent n.graph x v → Whole n.graph v a
+        → (best.identity < a.root) ⊎ ((a.root ≡ best.identity) × (base + depth x ≤ a.steps))
+    whole_new x v a in_x joined whole = elim (t.worse x in_x) [
+      | inl less ↦ inl (omega (arith, less, least))
+      | inr (same, more) ↦ elim (dec_le a.root next.identity) [
+        | no above ↦ inl (let one = ap (λ (b : System). b.identity) same in omega (arith, above, one))
+        | yes below ↦
+            let root : a.root ≡ next.identity = omega (arith, below, least) in
+            let one = ap (λ (b : System). b.identity) same in
+            let (far, here) = distance_exists n.graph x t.well (t.lives x in_x) in
+            let (near, there) = distance_exists n.graph v t.well (Adjacent-clock n.graph x v t.well joined) in
+            let by = IsDistance-neighbour n.graph v x near far t.well (Adjacent-sym n.graph x v joined) there here in
+            let few = steps_not_fewer n.graph t.well v a whole next is_next v near (inl (λ i. v)) is_next there root in
+            let farther = more far here in
+            inr (root ∙ sym one, omega (arith, by, few, farther))
       ]
-
-  module _ (w : MachineState) (m : IsAftermath says g n w) (x : ℕ) (in_x : Tree x) (s : Station)
-      (at : slice_get w.stations (n.place x) ≡ Some s) where
-    pub is_x : (s.live ≡ true) × (s.clock ≡ x)
-    is_x = lives_at n w m.kept.calm x (t.lives x in_x) s at
-
-    pub rest : StationIsAtRest s
-    rest = (m.kept.calm.stations (n.place x) s at is_x.0).at_rest
-
-    pub known : In (station_system s) n.graph.systems
-    known = (m.kept.calm.facts.stations (n.place x) s at is_x.0).known
-
-    -- it is clear in the snapshot of before
-    pub was_clear : IsClear g s
-    was_clear = clear_at g n t.well t.left w m.kept m.fits.stations (n.place x) s at is_x.0
-
-    was_best : IsBest g s.clock best
-    was_best = subst (λ c. IsBest g c best) (sym is_x.1) (t.was_best x in_x)
-
-    above : best.identity ≤ s.root
-    above = root_above g t.left.graph s was_clear best was_best
-
-    -- nor are its steps fewer than they were
-    as_many : s.root ≡ best.identity → base + depth x ≤ s.steps
-    as_many root =
-        steps_above g t.left.graph s was_clear best was_best (base + depth x)
-        (subst (λ c. IsDistance g c (base + depth x)) (sym is_x.1) (t.was x in_x)) root
-
-    -- who holds what was told before has that choice
-    pub old_by_steps : (i : ℕ) (r : Reception) → HoldsAt s i r → r.said.root ≡ best.identity
-        → suc r.said.steps ≡ base + depth x → HasChoice s best (base + depth x)
-    old_by_steps i r holds root steps = elim (dec_le s.root best.identity) [
-      | no more ↦ absurd (not_lower (inl (omega (arith, more, root))))
-      | yes most ↦
-          let same : s.root ≡ best.identity = omega (arith, most, above) in
-          let many = as_many same in
-          elim (dec_le s.steps (base + depth x)) [
-            | yes few ↦ (same, omega (arith, few, many))
-            | no more ↦ absurd (not_lower (inr (root ∙ sym same, inl (omega (arith, more, steps)))))
-          ]
     ]
       where
-        not_lower : IsLower (path_vector r.said (suc i)) (s.root ∷ s.steps ∷ rest.source) → ⊥
-        not_lower h = rest.held_not_lower i r holds (subst (IsLower (path_vector r.said (suc i))) (sym rest.is) h)
+        is_next : IsBest n.graph v next
+        is_next = best_beside g n Tree Out top best next base depth t x v in_x joined
 
-    pub old_by_held : (i v : ℕ) (r : Reception) → HoldsAt s i r → depth x ≡ suc (depth v)
-        → HasTold r.said (base + depth v) → HasChoice s best (base + depth x)
-    old_by_held i v r holds deeper (root, steps) = old_by_steps i r holds root (omega (arith, steps, deeper))
+        least : next.identity ≤ a.root
+        least = root_not_better n.graph t.well v a whole next is_next
 
-    -- it is the root of before no more where it is its own
-    own_not_old : s.root ≡ s.identity → s.steps ≡ 0 → HasChoice s best (base + depth x) → ⊥
-    own_not_old own none (root, steps) = elim (t.worse x in_x) [
-      | inl less ↦
-          let least = (t.is_best x in_x).least (station_system s) known
-          (subst (Reaches n.graph x) (sym is_x.1) (Reaches-self n.graph x (t.lives x in_x))) in
-          absurd (omega (arith, least, less, own, root))
-      | inr (same, more) ↦
-          let one = same_identity n.graph next (station_system s) t.well (t.is_best x in_x).live known
-          (ap (λ (b : System). b.identity) (sym same) ∙ sym root ∙ own) in
-          let clock : next.clock ≡ x = ap (λ (b : System). b.clock) one ∙ is_x.1 in
-          let here = subst (λ c. IsDistance n.graph c 0) clock
-          (IsDistance-best n.graph next (subst (λ c. IsBest n.graph c next) (sym clock) (t.is_best x in_x))) in
-          let far = more 0 here in
-          absurd (omega (arith, far))
-    ]
-
-    module _ (holds_in : HoldsInTree x w) where
-      -- who has left its old choice holds what is of what is left alone
-      pub free_holds : (HasChoice s best (base + depth x) → ⊥) → (i : ℕ) (r : Reception) → HoldsAt s i r
-          → HeldFree x i r
-      free_holds not i r holds = elim (holds_in s i r at holds) [
-        | inr lost ↦ absurd (not (old_by_steps i r holds lost.root lost.steps))
-        | inl h ↦ elim h.said [
-          | inl whole ↦ record { v = h.v; p = h.p; joins = h.joins; source = h.source; whole = whole }
-          | inr (in_v, deeper, told) ↦ absurd (not (old_by_held i h.v r holds deeper told))
-        ]
+    -- what a system of the tree tells of what is left is worse than what it told before
+    pub own_new : (v : ℕ) (a : Announce) → Tree v → Whole n.graph v a
+        → (best.identity < a.root) ⊎ ((a.root ≡ best.identity) × (base + depth v < a.steps))
+    own_new v a in_v whole = elim (t.worse v in_v) [
+      | inl less ↦ inl (omega (arith, less, least))
+      | inr (same, more) ↦ elim (dec_le a.root next.identity) [
+        | no above ↦ inl (let one = ap (λ (b : System). b.identity) same in omega (arith, above, one))
+        | yes below ↦
+            let root : a.root ≡ next.identity = omega (arith, below, least) in
+            let one = ap (λ (b : System). b.identity) same in
+            let (far, here) = distance_exists n.graph v t.well (t.lives v in_v) in
+            let few = steps_not_fewer n.graph t.well v a whole next is_next v far (inl (λ i. v)) is_next here root in
+            let farther = more far here in
+            inr (root ∙ sym one, omega (arith, few, farther))
       ]
+    ]
+      where
+        is_next : IsBest n.graph v next
+        is_next = t.is_best v in_v
 
-      -- it fits
-      pub free_fits : (HasChoice s best (base + depth x) → ⊥) → (i : ℕ) (r : Reception) → HoldsAt s i r
-          → CameFits n.graph s.clock (suc i) r
-      free_fits not i r holds =
-          let h = free_holds not i r holds in
-          came_fits n.graph s.clock (suc i) r t.well (record {
-            from = port_of h.v (suc h.p);
-            joins = subst (λ c. Joins n.graph (port_of h.v (suc h.p)) (port_of c (suc i))) (sym is_x.1) h.joins;
-            source = h.source;
-            sound = inr h.whole;
-          })
+        least : next.identity ≤ a.root
+        least = root_not_better n.graph t.well v a whole next is_next
 
-      pub free_clear : (HasChoice s best (base + depth x) → ⊥) → IsClear n.graph s
-      free_clear not = record {
-        rest = rest;
-        known = known;
-        held = λ i r holds. bounded n.graph s.clock (suc i) r (free_fits not i r holds);
-      }
+    -- what was told before isn't of what is left
+    pub not_free_old : (v x p i : ℕ) (a : Announce) → Tree x → Joins n.graph (port_of v (suc p)) (port_of x (suc i))
+        → Whole n.graph v a → depth x ≡ suc (depth v) → HasTold a (base + depth v) → ⊥
+    not_free_old v x p i a in_x joins whole deeper (root, steps) =
+        elim (whole_new x v a in_x (suc i, suc p, Joins-sym n.graph (port_of v (suc p)) (port_of x (suc i)) joins) whole) [
+          | inl over ↦ omega (arith, over, root)
+          | inr (same, many) ↦ omega (arith, many, steps, deeper)
+        ]
 
-      -- ---- who has its old choice
+    module _ (w : MachineState) (m : IsAftermath says g n w) (x : ℕ) (in_x : Tree x) (s : Station)
+        (at : slice_get w.stations (n.place x) ≡ Some s) where
+      pub is_x : (s.live ≡ true) × (s.clock ≡ x)
+      is_x = lives_at n w m.kept.calm x (t.lives x in_x) s at
 
-      -- it follows what was told before
-      pub record FollowsOld : Type 0 where
-        pub i : ℕ
-        pub r : Reception
-        pub holds : HoldsAt s i r
-        pub slave : s.slave ≡ Some (suc i)
-        pub told : IsToldByNearer x i r ⊎ IsToldAtTop x i
+      pub rest : StationIsAtRest s
+      rest = (m.kept.calm.stations (n.place x) s at is_x.0).at_rest
 
-      pub follows_old : HasChoice s best (base + depth x) → FollowsOld
-      follows_old old = elim rest.chosen [
-        | inl (own, none) ↦
-            let is = rest.is in
-            let identity : s.root ≡ s.identity = cc in
-            let steps : s.steps ≡ 0 = cc in
-            absurd (own_not_old identity steps old)
-        | inr (i, r, holds, path, slave) ↦ by i r holds path slave
+      pub known : In (station_system s) n.graph.systems
+      known = (m.kept.calm.facts.stations (n.place x) s at is_x.0).known
+
+      -- it is clear in the snapshot of before
+      pub was_clear : IsClear g s
+      was_clear = clear_at g n t.well t.left w m.kept m.fits.stations (n.place x) s at is_x.0
+
+      was_best : IsBest g s.clock best
+      was_best = subst (λ c. IsBest g c best) (sym is_x.1) (t.was_best x in_x)
+
+      above : best.identity ≤ s.root
+      above = root_above g t.left.graph s was_clear best was_best
+
+      -- nor are its steps fewer than they were
+      as_many : s.root ≡ best.identity → base + depth x ≤ s.steps
+      as_many root =
+          steps_above g t.left.graph s was_clear best was_best (base + depth x)
+          (subst (λ c. IsDistance g c (base + depth x)) (sym is_x.1) (t.was x in_x)) root
+
+      -- who holds what was told before has that choice
+      pub old_by_steps : (i : ℕ) (r : Reception) → HoldsAt s i r → r.said.root ≡ best.identity
+          → suc r.said.steps ≡ base + depth x → HasChoice s best (base + depth x)
+      old_by_steps i r holds root steps = elim (dec_le s.root best.identity) [
+        | no more ↦ absurd (not_lower (inl (omega (arith, more, root))))
+        | yes most ↦
+            let same : s.root ≡ best.identity = omega (arith, most, above) in
+            let many = as_many same in
+            elim (dec_le s.steps (base + depth x)) [
+              | yes few ↦ (same, omega (arith, few, many))
+              | no more ↦ absurd (not_lower (inr (root ∙ sym same, inl (omega (arith, more, steps)))))
+            ]
       ]
         where
-          by : (i : ℕ) (r : Reception) → HoldsAt s i r → rest.vector ≡ path_vector r.said (suc i)
-              → s.slave ≡ Some (suc i) → FollowsOld
-          by i r holds path slave = elim (holds_in s i r at holds) [
-            | inr lost ↦ record {
-              i = i;
-              r = r;
-              holds = holds;
-              slave = slave;
-              told = inr (record { is_top = lost.is_top; bare = lost.bare });
-            }
-            | inl h ↦ elim h.said [
-              | inl whole ↦ absurd (elim (whole_new x h.v r.said in_x
-                  (suc i, suc h.p, Joins-sym n.graph (port_of h.v (suc h.p)) (port_of x (suc i)) h.joins) whole) [
-                    | inl over ↦ omega (arith, over, root_r, old.0)
-                    | inr (same, many) ↦ omega (arith, many, steps_r, old.1)
-                  ])
-              | inr (in_v, deeper, told) ↦ record {
+          not_lower : IsLower (path_vector r.said (suc i)) (s.root ∷ s.steps ∷ rest.source) → ⊥
+          not_lower h = rest.held_not_lower i r holds (subst (IsLower (path_vector r.said (suc i))) (sym rest.is) h)
+
+      pub old_by_held : (i v : ℕ) (r : Reception) → HoldsAt s i r → depth x ≡ suc (depth v)
+          → HasTold r.said (base + depth v) → HasChoice s best (base + depth x)
+      old_by_held i v r holds deeper (root, steps) = old_by_steps i r holds root (omega (arith, steps, deeper))
+
+      -- it is the root of before no more where it is its own
+      own_not_old : s.root ≡ s.identity → s.steps ≡ 0 → HasChoice s best (base + depth x) → ⊥
+      own_not_old own none (root, steps) = elim (t.worse x in_x) [
+        | inl less ↦
+            let least = (t.is_best x in_x).least (station_system s) known
+            (subst (Reaches n.graph x) (sym is_x.1) (Reaches-self n.graph x (t.lives x in_x))) in
+            absurd (omega (arith, least, less, own, root))
+        | inr (same, more) ↦
+            let one = same_identity n.graph next (station_system s) t.well (t.is_best x in_x).live known
+            (ap (λ (b : System). b.identity) (sym same) ∙ sym root ∙ own) in
+            let clock : next.clock ≡ x = ap (λ (b : System). b.clock) one ∙ is_x.1 in
+            let here = subst (λ c. IsDistance n.graph c 0) clock
+            (IsDistance-best n.graph next (subst (λ c. IsBest n.graph c next) (sym clock) (t.is_best x in_x))) in
+            let far = more 0 here in
+            absurd (omega (arith, far))
+      ]
+
+      module _ (holds_in : HoldsInTree x w) where
+        -- who has left its old choice holds what is of what is left alone
+        pub free_holds : (HasChoice s best (base + depth x) → ⊥) → (i : ℕ) (r : Reception) → HoldsAt s i r
+            → HeldFree x i r
+        free_holds not i r holds = elim (holds_in s i r at holds) [
+          | inr lost ↦ absurd (not (old_by_steps i r holds lost.root lost.steps))
+          | inl h ↦ elim h.said [
+            | inl whole ↦ record { v = h.v; p = h.p; joins = h.joins; source = h.source; whole = whole }
+            | inr (in_v, deeper, told) ↦ absurd (not (old_by_held i h.v r holds deeper told))
+          ]
+        ]
+
+        -- it fits
+        pub free_fits : (HasChoice s best (base + depth x) → ⊥) → (i : ℕ) (r : Reception) → HoldsAt s i r
+            → CameFits n.graph s.clock (suc i) r
+        free_fits not i r holds =
+            let h = free_holds not i r holds in
+            came_fits n.graph s.clock (suc i) r t.well (record {
+              from = port_of h.v (suc h.p);
+              joins = subst (λ c. Joins n.graph (port_of h.v (suc h.p)) (port_of c (suc i))) (sym is_x.1) h.joins;
+              source = h.source;
+              sound = inr h.whole;
+            })
+
+        pub free_clear : (HasChoice s best (base + depth x) → ⊥) → IsClear n.graph s
+        free_clear not = record {
+          rest = rest;
+          known = known;
+          held = λ i r holds. bounded n.graph s.clock (suc i) r (free_fits not i r holds);
+        }
+
+        -- ---- who has its old choice
+
+        -- it follows what was told before
+        pub record FollowsOld : Type 0 where
+          pub i : ℕ
+          pub r : Reception
+          pub holds : HoldsAt s i r
+          pub slave : s.slave ≡ Some (suc i)
+          pub told : IsToldByNearer x i r ⊎ IsToldAtTop x i
+
+        pub follows_old : HasChoice s best (base + depth x) → FollowsOld
+        follows_old old = elim rest.chosen [
+          | inl (own, none) ↦
+              let is = rest.is in
+              let identity : s.root ≡ s.identity = cc in
+              let steps : s.steps ≡ 0 = cc in
+              absurd (own_not_old identity steps old)
+          | inr (i, r, holds, path, slave) ↦ by i r holds path slave
+        ]
+          where
+            by : (i : ℕ) (r : Reception) → HoldsAt s i r → rest.vector ≡ path_vector r.said (suc i)
+                → s.slave ≡ Some (suc i) → FollowsOld
+            by i r holds path slave = elim (holds_in s i r at holds) [
+              | inr lost ↦ record {
                 i = i;
                 r = r;
                 holds = holds;
                 slave = slave;
-                told = inl (record {
-                  v = h.v;
-                  p = h.p;
-                  joins = h.joins;
-                  in_v = in_v;
-                  deeper = deeper;
-                  told = told;
-                });
+                told = inr (record { is_top = lost.is_top; bare = lost.bare });
               }
+              | inl h ↦ elim h.said [
+                | inl whole ↦ absurd (elim (whole_new x h.v r.said in_x
+                    (suc i, suc h.p, Joins-sym n.graph (port_of h.v (suc h.p)) (port_of x (suc i)) h.joins) whole) [
+                      | inl over ↦ omega (arith, over, root_r, old.0)
+                      | inr (same, many) ↦ omega (arith, many, steps_r, old.1)
+                    ])
+                | inr (in_v, deeper, told) ↦ record {
+                  i = i;
+                  r = r;
+                  holds = holds;
+                  slave = slave;
+                  told = inl (record {
+                    v = h.v;
+                    p = h.p;
+                    joins = h.joins;
+                    in_v = in_v;
+                    deeper = deeper;
+                    told = told;
+                  });
+                }
+              ]
             ]
-          ]
-            where
-              root_r : r.said.root ≡ s.root
-              root_r = let is = rest.is in let e : r.said.root ≡ s.root = cc in e
-
-              steps_r : suc r.said.steps ≡ s.steps
-              steps_r = let is = rest.is in let e : suc r.said.steps ≡ s.steps = cc in e
-
-      -- ---- what it says
-
-      module _ (not : HasChoice s best (base + depth x) → ⊥) (number : ℕ) (a : Announce) (own : IsOwn s number a) where
-        follows : FollowsItself s ⊎ FollowsPort s
-        follows = (m.kept.calm.facts.stations (n.place x) s at is_x.0).follows
-
-        no_loop : (i : ℕ) (r : Reception) → HoldsAt s i r → In x r.said.path → ⊥
-        no_loop i r holds names =
-            ((m.kept.calm.facts.stations (n.place x) s at is_x.0).held i r holds).no_loop
-            (subst (λ c. In c r.said.path) (sym is_x.1) names)
-
-        -- it is of what is left
-        pub says_whole : Whole n.graph x a
-        says_whole = by follows
-          where
-            by : FollowsItself s ⊎ FollowsPort s → Whole n.graph x a
-            by (inl itself) =
-                subst (λ c. Whole n.graph c a) is_x.1
-                (whole_own n.graph (station_system s) a known (own.root ∙ itself.root) (own.steps ∙ itself.steps)
-                (own.path ∙ itself.trace))
-            by (inr port) =
-                let h = free_holds not port.place port.r port.holds in
-                whole_on n.graph x h.v port.r.said a h.whole (t.lives x in_x) (
-                  suc port.place,
-                  suc h.p,
-                  Joins-sym n.graph (port_of h.v (suc h.p)) (port_of x (suc port.place))
-                      h.joins,
-                )
-                (no_loop port.place port.r port.holds) (own.root ∙ port.root) (own.steps ∙ port.steps)
-                (own.path ∙ subst (λ c. s.trace ≡ port.r.said.path ++ c ∷ []) is_x.1 port.trace)
-
-        -- and whoever is beyond it can use it
-        module _ (p u q : ℕ) (joins : Joins n.graph (port_of x (suc p)) (port_of u (suc q)))
-            (beyond : IsBeyond Tree Out depth x u) (pv : Port) (there : slice_get s.ports p ≡ Some pv) (root steps : ℕ)
-            (mine : pv.held ≡ Mine root steps) where
-          apart : x ≢ u
-          apart = t.well.apart (port_of x (suc p)) (port_of u (suc q)) joins
-
-          -- what it follows came from another
-          not_from : (port : FollowsPort s) → (free_holds not port.place port.r port.holds).v ≢ u
-          not_from port same =
-              let h = free_holds not port.place port.r port.holds in
-              let back : Joins n.graph (port_of u (suc h.p)) (port_of x (suc port.place)) =
-              subst (λ c. Joins n.graph (port_of c (suc h.p)) (port_of x (suc port.place))) same h.joins in
-              let here = Joins-sym n.graph (port_of u (suc h.p)) (port_of x (suc port.place)) back in
-              let number_x : suc port.place ≡ suc p =
-              one_port g n Tree Out top best next base depth t x u in_x beyond (suc port.place) (suc p) (suc h.p) (suc q)
-              here joins in
-              let place : port.place ≡ p = omega (arith, number_x) in
-              let same_port = same_there s.ports p port.holds.0 pv
-              (subst (λ i. slice_get s.ports i ≡ Some port.holds.0) place port.holds.1) there in
-              absurd (let both : Mine root steps ≡ Received port.r =
-              sym mine ∙ ap (λ (z : Port). z.held) (sym same_port) ∙ port.holds.2 in cc)
-
-          names_not : FollowsItself s ⊎ FollowsPort s → In u a.path → ⊥
-          names_not (inl itself) names =
-              elim (subst (In u) (own.path ∙ itself.trace) names) [
-                | inl same ↦ apart (sym is_x.1 ∙ sym same)
-                | inr none ↦ none
-              ]
-          names_not (inr port) names =
-              elim (In-parts u port.r.said.path (s.clock ∷ []) (subst (In u) (own.path ∙ port.trace) names)) [
-                | inl among ↦
-                    let h = free_holds not port.place port.r port.holds in
-                    names_beyond g n Tree Out top best next base depth t x u in_x beyond (suc p, suc q, joins) h.v
-                    port.r.said (
-                      suc port.place,
-                      suc h.p,
-                      Joins-sym n.graph (port_of h.v (suc h.p)) (port_of x (suc port.place)) h.joins,
-                    ) (not_from port)
-                    h.whole (no_loop port.place port.r port.holds) among
-                | inr (inl same) ↦ apart (sym is_x.1 ∙ sym same)
-                | inr (inr none) ↦ none
-              ]
-
-          pub says_usable : IsUsable u a
-          says_usable =
-              let whole = says_whole in
-              let short = t.paths x whole.first.clock whole.others whole.way in
-              let steps_are = whole.steps in
-              let long = path_length n.graph t.well x a whole next (t.is_best x in_x) in
-              let few = t.few in
-              record {
-                foreign = λ same. apart (sym (ap (λ (z : PortIdentity). z.clock) own.source ∙ is_x.1) ∙ same);
-                near = omega (arith, short, steps_are, few);
-                no_loop = names_not follows;
-                short = omega (arith, long, short, steps_are, few);
-              }
-
-  -- ---- in a state
-
-  module _ (w : MachineState) (m : IsAftermath says g n w) where
-    -- the lane of a link
-    lane_there : (v p u q : ℕ) → Joins n.graph (port_of v (suc p)) (port_of u (suc q))
-        → (l : Lane) × (slice_get w.lanes (n.lane (port_of v (suc p))) ≡ Some l)
-    lane_there v p u q joins =
-        let has = m.kept.calm.lanes (port_of v (suc p)) (port_of u (suc q)) joins in (has.lane, has.there)
-
-    -- what a system of the tree holds, by the links that lead to it
-    pub holds_by : (x : ℕ) → Tree x
-        → ((v p i : ℕ) → Tree v → Joins n.graph (port_of v (suc p)) (port_of x (suc i)) → depth x ≡ suc (depth v)
-        → DownStage says n best (base + depth v) (falls_by n start (suc (depth v))) v p x i w)
-        → ((v p i : ℕ) → Joins n.graph (port_of v (suc p)) (port_of x (suc i)) → IsBeyond Tree Out depth x v
-        → HoldsLeft says n v p x i w) → HoldsInTree x w
-    holds_by x in_x down up s i r at (q, there, holds) = by_link (IsLinked-dec n.graph (port_of s.clock (suc i)))
-      where
-        is : (s.live ≡ true) × (s.clock ≡ x)
-        is = is_x w m x in_x s at
-
-        by_link : Dec ((to : PortIdentity) × Joins n.graph (port_of s.clock (suc i)) to) → HeldInTree x i r
-        by_link (no none) =
-            let h = m.dark (n.place x) s i r at is.0 (subst (IsMoved g n) (sym is.1) (is_moved x in_x))
-            (q, there, holds) none in
-            let (root, steps) = h.old best (base + depth x) (was_best w m x in_x s at)
-            (subst (λ c. IsDistance g c (base + depth x)) (sym is.1) (t.was x in_x)) in
-            inr (record {
-              is_top = elim (t.lost x h.from in_x (subst (λ c. Adjacent g c h.from) is.1 h.beside)) [
-                | inr top_is ↦ top_is
-                | inl stays ↦ absurd (h.gone (subst (λ c. Adjacent n.graph c h.from) (sym is.1) stays))
-              ];
-              bare = subst (λ c. IsLinked n.graph (port_of c (suc i)) → ⊥) is.1 none;
-              root = root;
-              steps = steps;
-            })
-        by_link (yes (to, joined)) =
-            let here = subst (λ c. Joins n.graph (port_of c (suc i)) to) is.1 joined in
-            inl (over to here (places_of n.graph x (suc i) to.clock to.port t.well here))
-          where
-            over : (to : PortIdentity) → Joins n.graph (port_of x (suc i)) to
-                → ((a : ℕ) × (p : ℕ) × (suc i ≡ suc a) × (to.port ≡ suc p)) → HeldOverLink x i r
-            over to here (a, p, first, second) = record {
-              v = to.clock;
-              p = p;
-              joins = joins;
-              source = source_at g n t.well t.left n.most 0 best to.clock p x i joins (omega arith) w m.kept
-                  m.fits.stations s q r at there holds;
-              said = elim (t.beside x to.clock in_x (suc i, to.port, here)) [
-                | inr leads ↦ inl (from_beyond (inr leads))
-                | inl in_v ↦ elim (t.steps x to.clock in_x in_v (suc i, to.port, here)) [
-                  | inl child ↦ inl (from_beyond (inl (in_v, child)))
-                  | inr deeper ↦ by_stage in_v deeper (down to.clock p i in_v joins deeper)
-                ]
-              ];
-            }
               where
-                joins : Joins n.graph (port_of to.clock (suc p)) (port_of x (suc i))
-                joins =
-                    Joins-sym n.graph (port_of x (suc i)) (port_of to.clock (suc p))
-                    (subst (λ k. Joins n.graph (port_of x (suc i)) (port_of to.clock k)) second here)
+                root_r : r.said.root ≡ s.root
+                root_r = let is = rest.is in let e : r.said.root ≡ s.root = cc in e
 
-                lane : (l : Lane) × (slice_get w.lanes (n.lane (port_of to.clock (suc p))) ≡ Some l)
-                lane = lane_there to.clock p x i joins
+                steps_r : suc r.said.steps ≡ s.steps
+                steps_r = let is = rest.is in let e : suc r.said.steps ≡ s.steps = cc in e
 
-                from_beyond : IsBeyond Tree Out depth x to.clock → Whole n.graph to.clock r.said
-                from_beyond beyond = up to.clock p i joins beyond s q lane.0 at there lane.1 r holds
+        -- ---- what it says
 
-                by_stage : Tree to.clock → depth x ≡ suc (depth to.clock)
-                    → DownStage says n best (base + depth to.clock) (falls_by n start (suc (depth to.clock))) to.clock p
-                    x i w
-                    → Whole n.graph to.clock r.said
-                    ⊎ (Tree to.clock × (depth x ≡ suc (depth to.clock)) × HasTold r.said (base + depth to.clock))
-                by_stage in_v deeper (inl (old, stays)) =
-                    let (sv, at_v, live, clock) = station_of g n t.well t.left w m.kept m.fits.stations to.clock
-                    (t.lives to.clock in_v) in
-                    let (pv, there_v) = port_there g n t.well t.left w m.kept m.fits.stations to.clock p
-                    (port_of x (suc i)) sv at_v joins in
-                    let stay = stays pv q lane.0 (record {
-                      v = sv;
-                      u = s;
-                      teller = at_v;
-                      teller_port = there_v;
-                      hearer = at;
-                      hearer_port = there;
-                      lane = lane.1;
-                    }) in
-                    let one = received_injective r stay.what (sym holds ∙ stay.holds) in
-                    inr (
-                      in_v,
-                      deeper,
-                      (
-                        ap (λ (z : Reception). z.said.root) one ∙ stay.final.root,
-                        ap (λ (z : Reception). z.said.steps) one ∙ stay.final.steps,
-                      ),
-                    )
-                by_stage in_v deeper (inr (inl (not, told))) =
-                    let old = told s q lane.0 at there lane.1 in
-                    let one = received_injective r old.r (sym holds ∙ old.holds) in
-                    inr (
-                      in_v,
-                      deeper,
-                      (
-                        ap (λ (z : Reception). z.said.root) one ∙ old.final.root,
-                        ap (λ (z : Reception). z.said.steps) one ∙ old.final.steps,
-                      ),
-                    )
-                by_stage in_v deeper (inr (inr (not, free))) = inl ((free s q lane.0 at there lane.1).hears r holds)
+        module _ (not : HasChoice s best (base + depth x) → ⊥) (number : ℕ) (a : Announce) (own : IsOwn s number a) where
+          follows : FollowsItself s ⊎ FollowsPort s
+          follows = (m.kept.calm.facts.stations (n.place x) s at is_x.0).follows
 
-    module _ (falling : IsFalling w) where
-      pub holds_in_tree : (x : ℕ) → Tree x → HoldsInTree x w
-      holds_in_tree x in_x =
-          holds_by x in_x (λ v p i in_v joins deeper. falling.down v p x i in_v joins (child_leads g n Tree Out top best next base depth t v x in_x deeper))
-          (λ v p i joins beyond s pu l at there at_l. (falling.up v p x i in_x joins beyond s pu l at there at_l).hears)
+          no_loop : (i : ℕ) (r : Reception) → HoldsAt s i r → In x r.said.path → ⊥
+          no_loop i r holds names =
+              ((m.kept.calm.facts.stations (n.place x) s at is_x.0).held i r holds).no_loop
+              (subst (λ c. In c r.said.path) (sym is_x.1) names)
 
-      -- who has its old choice has it for a way at most
-      pub old_in_time : (d x : ℕ) → depth x ≡ d → Tree x → IsOld n w x best (base + depth x)
-          → w.time ≤ falls_by n start d
-      old_in_time zero x deep in_x root = here (station_of g n t.well t.left w m.kept m.fits.stations x (t.lives x
-          in_x))
-        where
-          here : ((s : Station) × (slice_get w.stations (n.place x) ≡ Some s) × (s.live ≡ true) × (s.clock ≡ x))
-              → w.time ≤ falls_by n start 0
-          here (s, at, live, clock) =
-              elim (follows_old w m x in_x s at (holds_in_tree x in_x) (root s at)).told [
-                | inl above ↦ let deeper = above.deeper in absurd (omega (arith, deeper, deep))
-                | inr lost ↦
-                    let by = falling.sooner (subst Tree lost.is_top in_x)
-                    (subst (λ c. IsOld n w c best (base + depth c)) lost.is_top root) in
-                    omega (arith, by)
-              ]
-      old_in_time (suc d) x deep in_x root =
-          go (λ v up in_v root_v. old_in_time d v up in_v root_v)
-          (station_of g n t.well t.left w m.kept m.fits.stations x (t.lives x in_x))
-        where
-          go : ((v : ℕ) → depth v ≡ d → Tree v → IsOld n w v best (base + depth v) → w.time ≤ falls_by n start d)
-              → ((s : Station) × (slice_get w.stations (n.place x) ≡ Some s) × (s.live ≡ true) × (s.clock ≡ x))
-              → w.time ≤ falls_by n start (suc d)
-          go sooner (s, at, live, clock) = over (told_nearer x old.i d old.r deep old.told)
+          -- it is of what is left
+          pub says_whole : Whole n.graph x a
+          says_whole = by follows
             where
-              old : FollowsOld w m x in_x s at (holds_in_tree x in_x)
-              old = follows_old w m x in_x s at (holds_in_tree x in_x) (root s at)
+              by : FollowsItself s ⊎ FollowsPort s → Whole n.graph x a
+              by (inl itself) =
+                  subst (λ c. Whole n.graph c a) is_x.1
+                  (whole_own n.graph (station_system s) a known (own.root ∙ itself.root) (own.steps ∙ itself.steps)
+                  (own.path ∙ itself.trace))
+              by (inr port) =
+                  let h = free_holds not port.place port.r port.holds in
+                  whole_on n.graph x h.v port.r.said a h.whole (t.lives x in_x) (
+                    suc port.place,
+                    suc h.p,
+                    Joins-sym n.graph (port_of h.v (suc h.p)) (port_of x (suc port.place))
+                        h.joins,
+                  )
+                  (no_loop port.place port.r port.holds) (own.root ∙ port.root) (own.steps ∙ port.steps)
+                  (own.path ∙ subst (λ c. s.trace ≡ port.r.said.path ++ c ∷ []) is_x.1 port.trace)
 
-              over : IsToldByNearer x old.i old.r → w.time ≤ falls_by n start (suc d)
-              over a =
-                  by (falling.down a.v a.p x old.i a.in_v a.joins
-                  (child_leads g n Tree Out top best next base depth t a.v x in_x a.deeper))
+          -- and whoever is beyond it can use it
+          module _ (p u q : ℕ) (joins : Joins n.graph (port_of x (suc p)) (port_of u (suc q)))
+              (beyond : IsBeyond Tree Out depth x u) (pv : Port) (there : slice_get s.ports p ≡ Some pv) (root steps : ℕ)
+              (mine : pv.held ≡ Mine root steps) where
+            apart : x ≢ u
+            apart = t.well.apart (port_of x (suc p)) (port_of u (suc q)) joins
+
+            -- what it follows came from another
+            not_from : (port : FollowsPort s) → (free_holds not port.place port.r port.holds).v ≢ u
+            not_from port same =
+                let h = free_holds not port.place port.r port.holds in
+                let back : Joins n.graph (port_of u (suc h.p)) (port_of x (suc port.place)) =
+                subst (λ c. Joins n.graph (port_of c (suc h.p)) (port_of x (suc port.place))) same h.joins in
+                let here = Joins-sym n.graph (port_of u (suc h.p)) (port_of x (suc port.place)) back in
+                let number_x : suc port.place ≡ suc p =
+                one_port g n Tree Out top best next base depth t x u in_x beyond (suc port.place) (suc p) (suc h.p) (suc q)
+                here joins in
+                let place : port.place ≡ p = omega (arith, number_x) in
+                let same_port = same_there s.ports p port.holds.0 pv
+                (subst (λ i. slice_get s.ports i ≡ Some port.holds.0) place port.holds.1) there in
+                absurd (let both : Mine root steps ≡ Received port.r =
+                sym mine ∙ ap (λ (z : Port). z.held) (sym same_port) ∙ port.holds.2 in cc)
+
+            names_not : FollowsItself s ⊎ FollowsPort s → In u a.path → ⊥
+            names_not (inl itself) names =
+                elim (subst (In u) (own.path ∙ itself.trace) names) [
+                  | inl same ↦ apart (sym is_x.1 ∙ sym same)
+                  | inr none ↦ none
+                ]
+            names_not (inr port) names =
+                elim (In-parts u port.r.said.path (s.clock ∷ []) (subst (In u) (own.path ∙ port.trace) names)) [
+                  | inl among ↦
+                      let h = free_holds not port.place port.r port.holds in
+                      names_beyond g n Tree Out top best next base depth t x u in_x beyond (suc p, suc q, joins) h.v
+                      port.r.said (
+                        suc port.place,
+                        suc h.p,
+                        Joins-sym n.graph (port_of h.v (suc h.p)) (port_of x (suc port.place)) h.joins,
+                      ) (not_from port)
+                      h.whole (no_loop port.place port.r port.holds) among
+                  | inr (inl same) ↦ apart (sym is_x.1 ∙ sym same)
+                  | inr (inr none) ↦ none
+                ]
+
+            pub says_usable : IsUsable u a
+            says_usable =
+                let whole = says_whole in
+                let short = t.paths x whole.first.clock whole.others whole.way in
+                let steps_are = whole.steps in
+                let long = path_length n.graph t.well x a whole next (t.is_best x in_x) in
+                let few = t.few in
+                record {
+                  foreign = λ same. apart (sym (ap (λ (z : PortIdentity). z.clock) own.source ∙ is_x.1) ∙ same);
+                  near = omega (arith, short, steps_are, few);
+                  no_loop = names_not follows;
+                  short = omega (arith, long, short, steps_are, few);
+                }
+
+    -- ---- in a state
+
+    module _ (w : MachineState) (m : IsAftermath says g n w) where
+      -- the lane of a link
+      lane_there : (v p u q : ℕ) → Joins n.graph (port_of v (suc p)) (port_of u (suc q))
+          → (l : Lane) × (slice_get w.lanes (n.lane (port_of v (suc p))) ≡ Some l)
+      lane_there v p u q joins =
+          let has = m.kept.calm.lanes (port_of v (suc p)) (port_of u (suc q)) joins in (has.lane, has.there)
+
+      -- what a system of the tree holds, by the links that lead to it
+      pub holds_by : (x : ℕ) → Tree x
+          → ((v p i : ℕ) → Tree v → Joins n.graph (port_of v (suc p)) (port_of x (suc i)) → depth x ≡ suc (depth v)
+          → DownStage says n best (base + depth v) (falls_by n start (suc (depth v))) v p x i w)
+          → ((v p i : ℕ) → Joins n.graph (port_of v (suc p)) (port_of x (suc i)) → IsBeyond Tree Out depth x v
+          → HoldsLeft says n v p x i w) → HoldsInTree x w
+      holds_by x in_x down up s i r at (q, there, holds) = by_link (IsLinked-dec n.graph (port_of s.clock (suc i)))
+        where
+          is : (s.live ≡ true) × (s.clock ≡ x)
+          is = is_x w m x in_x s at
+
+          by_link : Dec ((to : PortIdentity) × Joins n.graph (port_of s.clock (suc i)) to) → HeldInTree x i r
+          by_link (no none) =
+              let h = m.dark (n.place x) s i r at is.0 (subst (IsMoved g n) (sym is.1) (is_moved x in_x))
+              (q, there, holds) none in
+              let (root, steps) = h.old best (base + depth x) (was_best w m x in_x s at)
+              (subst (λ c. IsDistance g c (base + depth x)) (sym is.1) (t.was x in_x)) in
+              inr (record {
+                is_top = elim (t.lost x h.from in_x (subst (λ c. Adjacent g c h.from) is.1 h.beside)) [
+                  | inr top_is ↦ top_is
+                  | inl stays ↦ absurd (h.gone (subst (λ c. Adjacent n.graph c h.from) (sym is.1) stays))
+                ];
+                bare = subst (λ c. IsLinked n.graph (port_of c (suc i)) → ⊥) is.1 none;
+                root = root;
+                steps = steps;
+              })
+          by_link (yes (to, joined)) =
+              let here = subst (λ c. Joins n.graph (port_of c (suc i)) to) is.1 joined in
+              inl (over to here (places_of n.graph x (suc i) to.clock to.port t.well here))
+            where
+              over : (to : PortIdentity) → Joins n.graph (port_of x (suc i)) to
+                  → ((a : ℕ) × (p : ℕ) × (suc i ≡ suc a) × (to.port ≡ suc p)) → HeldOverLink x i r
+              over to here (a, p, first, second) = record {
+                v = to.clock;
+                p = p;
+                joins = joins;
+                source = source_at g n t.well t.left n.most 0 best to.clock p x i joins (omega arith) w m.kept
+                    m.fits.stations s q r at there holds;
+                said = elim (t.beside x to.clock in_x (suc i, to.port, here)) [
+                  | inr leads ↦ inl (from_beyond (inr leads))
+                  | inl in_v ↦ elim (t.steps x to.clock in_x in_v (suc i, to.port, here)) [
+                    | inl child ↦ inl (from_beyond (inl (in_v, child)))
+                    | inr deeper ↦ by_stage in_v deeper (down to.clock p i in_v joins deeper)
+                  ]
+                ];
+              }
                 where
-                  up : depth a.v ≡ d
-                  up = let deeper = a.deeper in omega (arith, deeper, deep)
+                  joins : Joins n.graph (port_of to.clock (suc p)) (port_of x (suc i))
+                  joins =
+                      Joins-sym n.graph (port_of x (suc i)) (port_of to.clock (suc p))
+                      (subst (λ k. Joins n.graph (port_of x (suc i)) (port_of to.clock k)) second here)
 
-                  lane : (l : Lane) × (slice_get w.lanes (n.lane (port_of a.v (suc a.p))) ≡ Some l)
-                  lane = lane_there a.v a.p x old.i a.joins
+                  lane : (l : Lane) × (slice_get w.lanes (n.lane (port_of to.clock (suc p))) ≡ Some l)
+                  lane = lane_there to.clock p x i joins
 
-                  by : DownStage says n best (base + depth a.v) (falls_by n start (suc (depth a.v))) a.v a.p x old.i w
-                      → w.time ≤ falls_by n start (suc d)
-                  by (inl (root_v, stays)) =
-                      let before : w.time ≤ falls_by n start d = sooner a.v up a.in_v root_v in
-                      omega (arith, before)
-                  by (inr (inl (not, told))) =
-                      let left = told s old.holds.0 lane.0 at old.holds.1 lane.1 in
-                      let (h, among, said, due) = told_due says (still n (base + depth a.v) best a.v a.p x old.i)
-                      (IsNewTold n.graph (port_of a.v (suc a.p)) x) (falls_by n start (suc (depth a.v))) lane.0.frames
-                      left.told in
-                      let now = m.kept.calm.left (n.lane (port_of a.v (suc a.p))) lane.0 h lane.1 among in
-                      let late : h.due ≤ falls_by n start (suc d) =
-                      subst (λ k. h.due ≤ falls_by n start (suc k)) up due in
-                      omega (arith, now, late)
-                  by (inr (inr (not, free))) =
-                      let whole = (free s old.holds.0 lane.0 at old.holds.1 lane.1).hears old.r old.holds.2 in
-                      absurd (not_free_old a.v x a.p old.i old.r.said in_x a.joins whole a.deeper a.told)
+                  from_beyond : IsBeyond Tree Out depth x to.clock → Whole n.graph to.clock r.said
+                  from_beyond beyond = up to.clock p i joins beyond s q lane.0 at there lane.1 r holds
+
+                  by_stage : Tree to.clock → depth x ≡ suc (depth to.clock)
+                      → DownStage says n best (base + depth to.clock) (falls_by n start (suc (depth to.clock))) to.clock p
+                      x i w
+                      → Whole n.graph to.clock r.said
+                      ⊎ (Tree to.clock × (depth x ≡ suc (depth to.clock)) × HasTold r.said (base + depth to.clock))
+                  by_stage in_v deeper (inl (old, stays)) =
+                      let (sv, at_v, live, clock) = station_of g n t.well t.left w m.kept m.fits.stations to.clock
+                      (t.lives to.clock in_v) in
+                      let (pv, there_v) = port_there g n t.well t.left w m.kept m.fits.stations to.clock p
+                      (port_of x (suc i)) sv at_v joins in
+                      let stay = stays pv q lane.0 (record {
+                        v = sv;
+                        u = s;
+                        teller = at_v;
+                        teller_port = there_v;
+                        hearer = at;
+                        hearer_port = there;
+                        lane = lane.1;
+                      }) in
+                      let one = received_injective r stay.what (sym holds ∙ stay.holds) in
+                      inr (
+                        in_v,
+                        deeper,
+                        (
+                          ap (λ (z : Reception). z.said.root) one ∙ stay.final.root,
+                          ap (λ (z : Reception). z.said.steps) one ∙ stay.final.steps,
+                        ),
+                      )
+                  by_stage in_v deeper (inr (inl (not, told))) =
+                      let old = told s q lane.0 at there lane.1 in
+                      let one = received_injective r old.r (sym holds ∙ old.holds) in
+                      inr (
+                        in_v,
+                        deeper,
+                        (
+                          ap (λ (z : Reception). z.said.root) one ∙ old.final.root,
+                          ap (λ (z : Reception). z.said.steps) one ∙ old.final.steps,
+                        ),
+                      )
+                  by_stage in_v deeper (inr (inr (not, free))) = inl ((free s q lane.0 at there lane.1).hears r holds)
+
+      module _ (falling : IsFalling w) where
+        pub holds_in_tree : (x : ℕ) → Tree x → HoldsInTree x w
+        holds_in_tree x in_x =
+            holds_by x in_x (λ v p i in_v joins deeper. falling.down v p x i in_v joins (child_leads g n Tree Out top best next base depth t v x in_x deeper))
+            (λ v p i joins beyond s pu l at there at_l. (falling.up v p x i in_x joins beyond s pu l at there at_l).hears)
+
+        -- who has its old choice has it for a way at most
+        pub old_in_time : (d x : ℕ) → depth x ≡ d → Tree x → IsOld n w x best (base + depth x)
+            → w.time ≤ falls_by n start d
+        old_in_time zero x deep in_x root = here (station_of g n t.well t.left w m.kept m.fits.stations x (t.lives x
+            in_x))
+          where
+            here : ((s : Station) × (slice_get w.stations (n.place x) ≡ Some s) × (s.live ≡ true) × (s.clock ≡ x))
+                → w.time ≤ falls_by n start 0
+            here (s, at, live, clock) =
+                elim (follows_old w m x in_x s at (holds_in_tree x in_x) (root s at)).told [
+                  | inl above ↦ let deeper = above.deeper in absurd (omega (arith, deeper, deep))
+                  | inr lost ↦
+                      let by = falling.sooner (subst Tree lost.is_top in_x)
+                      (subst (λ c. IsOld n w c best (base + depth c)) lost.is_top root) in
+                      omega (arith, by)
+                ]
+        old_in_time (suc d) x deep in_x root =
+            go (λ v up in_v root_v. old_in_time d v up in_v root_v)
+            (station_of g n t.well t.left w m.kept m.fits.stations x (t.lives x in_x))
+          where
+            go : ((v : ℕ) → depth v ≡ d → Tree v → IsOld n w v best (base + depth v) → w.time ≤ falls_by n start d)
+                → ((s : Station) × (slice_get w.stations (n.place x) ≡ Some s) × (s.live ≡ true) × (s.clock ≡ x))
+                → w.time ≤ falls_by n start (suc d)
+            go sooner (s, at, live, clock) = over (told_nearer x old.i d old.r deep old.told)
+              where
+                old : FollowsOld w m x in_x s at (holds_in_tree x in_x)
+                old = follows_old w m x in_x s at (holds_in_tree x in_x) (root s at)
+
+                over : IsToldByNearer x old.i old.r → w.time ≤ falls_by n start (suc d)
+                over a =
+                    by (falling.down a.v a.p x old.i a.in_v a.joins
+                    (child_leads g n Tree Out top best next base depth t a.v x in_x a.deeper))
+                  where
+                    up : depth a.v ≡ d
+                    up = let deeper = a.deeper in omega (arith, deeper, deep)
+
+                    lane : (l : Lane) × (slice_get w.lanes (n.lane (port_of a.v (suc a.p))) ≡ Some l)
+                    lane = lane_there a.v a.p x old.i a.joins
+
+                    by : DownStage says n best (base + depth a.v) (falls_by n start (suc (depth a.v))) a.v a.p x old.i w
+                        → w.time ≤ falls_by n start (suc d)
+                    by (inl (root_v, stays)) =
+                        let before : w.time ≤ falls_by n start d = sooner a.v up a.in_v root_v in
+                        omega (arith, before)
+                    by (inr (inl (not, told))) =
+                        let left = told s old.holds.0 lane.0 at old.holds.1 lane.1 in
+                        let (h, among, said, due) = told_due says (still n (base + depth a.v) best a.v a.p x old.i)
+                        (IsNewTold n.graph (port_of a.v (suc a.p)) x) (falls_by n start (suc (depth a.v))) lane.0.frames
+                        left.told in
+                        let now = m.kept.calm.left (n.lane (port_of a.v (suc a.p))) lane.0 h lane.1 among in
+                        let late : h.due ≤ falls_by n start (suc d) =
+                        subst (λ k. h.due ≤ falls_by n start (suc k)) up due in
+                        omega (arith, now, late)
+                    by (inr (inr (not, free))) =
+                        let whole = (free s old.holds.0 lane.0 at old.holds.1 lane.1).hears old.r old.holds.2 in
+                        absurd (not_free_old a.v x a.p old.i old.r.said in_x a.joins whole a.deeper a.told)

@@ -53,6 +53,7 @@ pub mod TurnOutLemmas
 pub mod TurnLevelLemmas
 pub mod TurnEndLemmas
 pub mod TurnBeginLemmas
+pub mod TurnedLemmas
 pub mod RunLemmas
 pub mod MatchingLemmas
 pub mod SyncStepLemmas

@@ -170,10 +170,16 @@ module _ (g : Snapshot) (n : Network) (Tree : ℕ → Type 0) (Out : ℕ → ℕ
 
     apart_on : (v x : ℕ) → Adjacent n.graph v x → u ≢ v → IsApart v → IsApart x
     apart_on v x next_to not_v (inl (in_v, out)) = elim (t.beside v x in_v next_to) [
-      | inl in_x ↦ inl (in_x, λ (k, below).
-          out (goes_on k x v below in_x in_v (Adjacent-sym n.graph v x next_to) (λ same. not_v (sym same))))
-      | inr leads ↦ inr (t.outside v x leads, λ b z leads' below.
-          out (subst (IsBelow Tree n.graph depth w) (sym (t.one_out v x b z leads leads')) below))
+      | inl in_x ↦ inl (
+        in_x,
+        λ (k, below).
+            out (goes_on k x v below in_x in_v (Adjacent-sym n.graph v x next_to) (λ same. not_v (sym same))),
+      )
+      | inr leads ↦ inr (
+        t.outside v x leads,
+        λ b z leads' below.
+            out (subst (IsBelow Tree n.graph depth w) (sym (t.one_out v x b z leads leads')) below),
+      )
     ]
     apart_on v x next_to not_v (inr (not, out)) = elim (t.within x (Adjacent-clock n.graph v x t.well next_to)) [
       | no not_x ↦ inr (not_x, out)
@@ -255,8 +261,11 @@ module _ (g : Snapshot) (n : Network) (Tree : ℕ → Type 0) (Out : ℕ → ℕ
         is_apart : IsApart x
         is_apart = elim (t.beside u x in_u next_to) [
           | inl in_x ↦ inl (in_x, not_below in_x)
-          | inr leads ↦ inr (t.outside u x leads, λ b z leads' below.
-              not_above (subst (IsBelow Tree n.graph depth w) (sym (t.one_out u x b z leads leads')) below))
+          | inr leads ↦ inr (
+            t.outside u x leads,
+            λ b z leads' below.
+                not_above (subst (IsBelow Tree n.graph depth w) (sym (t.one_out u x b z leads leads')) below),
+          )
         ]
 
   -- ---- who is beyond a system

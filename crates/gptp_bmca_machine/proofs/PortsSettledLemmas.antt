@@ -388,4 +388,3 @@ module _ (n : Network) (wf : IsWellFormed n.graph) (now : ℕ) (s : Station) (d 
           (Joins-sym n.graph (port_of s.clock (suc p)) u joins)) in
           plays p q at_p u joins e there (omega (arith, later, off))
     ]
-

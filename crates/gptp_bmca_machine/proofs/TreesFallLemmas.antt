@@ -1,6 +1,6 @@
 -- Several trees that a loss cuts off fall back. Once all have, all that is held fits what is left, and each link is at
 -- its stage: so they settle.
-use Rattle.std.proofs.Common.{◌≡◌, ◌⊎◌, ◌<◌, ◌≤◌, ◌+◌, ℕ, suc, Some, slice_get, refl, sym, ap, subst, ◌∙◌, inl, inr, arith}
+use Rattle.std.proofs.Common.{◌≡◌, ◌⊎◌, ◌<◌, ◌≤◌, ◌+◌, ℕ, suc, Some, slice_get, refl, sym, subst, ◌∙◌, inl, inr, arith}
 use Rattle.gptp_lists.specs.Members.{In}
 use Rattle.gptp_graph.specs.Best.{IsBest}
 use Rattle.gptp_graph.specs.Distance.{IsDistance}
@@ -82,8 +82,8 @@ module _ (says : Spelling) (g : Snapshot) (n : Network) (best : System) (IsCut :
         | inl too ↦ too
         | inr (t, cut, in_u) ↦
             let in_v = IsBest-neighbour n.graph u v t.next cuts.well (k, i, back) in_u in
-        absurd (is_moved says g n (IsCutOff n t.next) LeadsNowhere t.top best t.next t.base t.depth (moves_off g n t.top best t.next t.base t.depth (cuts.each t cut)) start v in_v unmoved)
-  ]
+            absurd (is_moved says g n (IsCutOff n t.next) LeadsNowhere t.top best t.next t.base t.depth (moves_off g n t.top best t.next t.base t.depth (cuts.each t cut)) start v in_v unmoved)
+      ]
     where
       back : Joins n.graph (port_of u k) (port_of v i)
       back = Joins-sym n.graph (port_of v i) (port_of u k) joins
@@ -175,7 +175,7 @@ module _ (says : Spelling) (g : Snapshot) (n : Network) (best : System) (IsCut :
     module _ (before : ℕ → ℕ)
         (settles : (t : Tree) → (cut : IsCut t)
         → TreeSettles says g n (IsCutOff n t.next) LeadsNowhere t.top best t.next t.base t.depth (moves_off g n t.top
-            best t.next t.base t.depth (cuts.each t cut)) start before w) (slack : ℕ)
+        best t.next t.base t.depth (cuts.each t cut)) start before w) (slack : ℕ)
         (in_time : (f : ℕ) → before f ≤ since (record n { slack = slack }) (suc f))
         (delay : (f : ℕ) → n.most ≤ since (record n { slack = slack }) (suc f)) where
       levels_then : (f : ℕ) → LevelSettles says (record n { slack = slack }) f w

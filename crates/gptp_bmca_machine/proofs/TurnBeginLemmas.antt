@@ -1,13 +1,13 @@
 -- As a link goes down by which a tree turns, the end of its way out hasn't turned yet.
-use Rattle.std.proofs.Common.{◌≡◌, ◌⊎◌, ◌<◌, ◌≤◌, ◌+◌, ℕ, suc, true, List, Some, slice_get, sym, ap, subst, ◌∙◌, inl, inr, arith}
-use Rattle.gptp_graph.specs.Snapshot.{Joins, Snapshot, System, clocks, port_of}
+use Rattle.std.proofs.Common.{◌≡◌, ◌≤◌, ℕ, suc, true, List, Some, slice_get, sym, subst, inl, inr, arith}
+use Rattle.gptp_graph.specs.Snapshot.{Joins, Snapshot, System, port_of}
 use Rattle.gptp_graph.proofs.LinkLemmas.{Joins-sym}
 use Rattle.gptp_bmca_machine.specs.Calm.{Calm}
 use Rattle.gptp_bmca_machine.specs.Frame.{Spelling}
 use Rattle.gptp_bmca_machine.specs.Levels.{Invariant}
 use Rattle.gptp_bmca_machine.specs.Network.{IsSettlingNetwork, Network, settled_from}
 use Rattle.gptp_bmca_machine.specs.RestLaws.{SameWiring}
-use Rattle.gptp_bmca_machine.specs.Station.{MachineState, Port, Received, Reception, Station}
+use Rattle.gptp_bmca_machine.specs.Station.{MachineState, Station}
 use Rattle.gptp_bmca_machine.specs.TurnTree.{TurnsTree}
 use Rattle.gptp_bmca_machine.proofs.EndsLemmas.{station_of}
 use Rattle.gptp_bmca_machine.proofs.FallLemmas.{own_new}

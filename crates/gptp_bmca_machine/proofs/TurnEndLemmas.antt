@@ -1,11 +1,11 @@
 -- Once a tree has turned by its one way out, each near system has settled.
-use Rattle.std.proofs.Common.{◌≡◌, ◌≢◌, ◌⊎◌, ◌<◌, ◌≤◌, ◌+◌, ℕ, zero, suc, true, List, Some, slice_get, refl, sym, ap, subst, ◌∙◌, inl, inr, arith}
+use Rattle.std.proofs.Common.{◌≡◌, ◌⊎◌, ◌<◌, ◌≤◌, ◌+◌, ℕ, zero, suc, true, List, Some, slice_get, refl, sym, ap, subst, ◌∙◌, inl, inr, arith}
 use Rattle.std.specs.Bool.{⊤}
 use Rattle.gptp_lists.specs.Members.{In}
 use Rattle.gptp_graph.specs.Best.{IsBest}
-use Rattle.gptp_graph.specs.Distance.{IsDistance, IsNear}
-use Rattle.gptp_graph.specs.Snapshot.{Adjacent, IsLinked, Joins, PortIdentity, Snapshot, System, clocks, port_of}
-use Rattle.gptp_graph.proofs.BestLemmas.{IsBest-neighbour, IsBest-unique}
+use Rattle.gptp_graph.specs.Distance.{IsDistance}
+use Rattle.gptp_graph.specs.Snapshot.{IsLinked, Joins, PortIdentity, Snapshot, System, clocks, port_of}
+use Rattle.gptp_graph.proofs.BestLemmas.{IsBest-unique}
 use Rattle.gptp_graph.proofs.DecisionLemmas.{in_dec}
 use Rattle.gptp_graph.proofs.DistanceLemmas.{IsDistance-unique}
 use Rattle.gptp_graph.proofs.ExistenceLemmas.{distance_exists}
@@ -21,14 +21,13 @@ use Rattle.gptp_bmca_machine.specs.LossLaws.{Unmoved}
 use Rattle.gptp_bmca_machine.specs.Network.{Network}
 use Rattle.gptp_bmca_machine.specs.Run.{NearHaveSettled}
 use Rattle.gptp_bmca_machine.specs.Settled.{FollowsBest, HasBest, HasSettledRoles}
-use Rattle.gptp_bmca_machine.specs.Station.{Disabled, HoldsAt, MachineState, Mine, Port, Received, Reception, Station}
+use Rattle.gptp_bmca_machine.specs.Station.{HoldsAt, MachineState, Mine, Port, Received, Reception, Station}
 use Rattle.gptp_bmca_machine.specs.TurnTree.{TurnsTree}
-use Rattle.gptp_bmca_machine.proofs.FallLemmas.{falls_by, free_clear, holds_in_tree}
+use Rattle.gptp_bmca_machine.proofs.FallLemmas.{free_clear, holds_in_tree}
 use Rattle.gptp_bmca_machine.proofs.LevelLemmas.{places_of}
 use Rattle.gptp_bmca_machine.proofs.LinkEndsLemmas.{hearer_on}
-use Rattle.gptp_bmca_machine.proofs.MovedTreeLemmas.{LeadsDown, MovesTree}
+use Rattle.gptp_bmca_machine.proofs.MovedTreeLemmas.{MovesTree}
 use Rattle.gptp_bmca_machine.proofs.NearestLemmas.{equal_within}
-use Rattle.gptp_bmca_machine.proofs.PlaceLemmas.{same_there}
 use Rattle.gptp_bmca_machine.proofs.PortsSettledLemmas as by
 use Rattle.gptp_bmca_machine.proofs.RestLemmas.{CameBounded, Chooses, IsClear, is_master}
 use Rattle.gptp_bmca_machine.proofs.StillLemmas.{LeadsOn, best_was, chooses_still, clear_at, far_was, told}
@@ -155,8 +154,12 @@ module _ (says : Spelling) (g : Snapshot) (n : Network) (tree : List ℕ) (top o
 
       tree_hears : Hears
       tree_hears e p q u close leads told_e =
-          by_end (t.leaves s.clock u in_s (suc p, suc q, Joins-sym n.graph (port_of u (suc q)) (port_of s.clock (suc p))
-          leads.joins))
+          by_end (t.leaves s.clock u in_s (
+            suc p,
+            suc q,
+            Joins-sym n.graph (port_of u (suc q)) (port_of s.clock (suc p))
+                leads.joins,
+          ))
         where
           now : before e ≤ w.time
           now = in_time e u q s.clock p here.best leads
@@ -331,6 +334,21 @@ module _ (says : Spelling) (g : Snapshot) (n : Network) (tree : List ℕ) (top o
       | no out_s ↦ has_settled bare (still_clear out_s) (still_chooses out_s) (still_hears out_s)
     ]
 
+    pub system_clear_at : IsClear n.graph s
+    system_clear_at = elim (in_dec s.clock tree) [
+      | yes in_s ↦ tree_clear in_s d refl
+      | no out_s ↦ still_clear out_s
+    ]
+
   -- each near system has
   pub near_have_settled : n.bare ≤ n.off → NearHaveSettled n w
   near_have_settled bare i s at live (d, here, near) = system_has_settled i s at live d here near bare
+
+  -- and what any holds respects what is left; all are near
+  pub system_clear : (i : ℕ) (s : Station) → slice_get w.stations i ≡ Some s → s.live ≡ true → IsClear n.graph s
+  system_clear i s at live =
+      let (d, here) = distance_exists n.graph s.clock t.well (In-clocks n.graph (station_system s)
+      (is.back.after.kept.calm.facts.stations i s at live).known) in
+      let within = IsDistance-within n.graph n.reach s.clock d t.paths here in
+      let few = t.few in
+      system_clear_at i s at live d here (omega (arith, within, few))

@@ -1,11 +1,10 @@
 -- A tree turns by its one way out: its systems choose the best by their new distances, from the way out on.
-use Rattle.std.proofs.Common.{◌≡◌, ◌≢◌, ◌⊎◌, ◌<◌, ◌≤◌, ◌+◌, ℕ, zero, suc, true, List, Some, slice_get, refl, sym, ap, subst, ◌∙◌, inl, inr, arith}
+use Rattle.std.proofs.Common.{◌≡◌, ◌≢◌, ◌⊎◌, ◌<◌, ◌≤◌, ◌+◌, ℕ, zero, suc, true, List, Some, slice_get, refl, sym, subst, ◌∙◌, inl, inr, arith}
 use native.Mathlib.Decide.{dec_le, dec_lt}
 use Rattle.gptp_lists.specs.Members.{In}
 use Rattle.gptp_graph.specs.Best.{IsBest}
 use Rattle.gptp_graph.specs.Distance.{IsDistance}
-use Rattle.gptp_graph.specs.Snapshot.{Adjacent, Joins, Snapshot, System, clocks, port_of}
-use Rattle.gptp_graph.proofs.BestLemmas.{IsBest-neighbour}
+use Rattle.gptp_graph.specs.Snapshot.{Adjacent, Joins, Snapshot, System, port_of}
 use Rattle.gptp_graph.proofs.DistanceLemmas.{IsDistance-neighbour, IsDistance-unique, nearer_neighbour}
 use Rattle.gptp_graph.proofs.ExistenceLemmas.{distance_exists}
 use Rattle.gptp_graph.proofs.LinkLemmas.{Adjacent-sym, Joins-sym}
@@ -15,10 +14,10 @@ use Rattle.gptp_bmca_machine.specs.Frame.{Spelling}
 use Rattle.gptp_bmca_machine.specs.Levels.{LeadsFarther}
 use Rattle.gptp_bmca_machine.specs.Link.{LinkSettles}
 use Rattle.gptp_bmca_machine.specs.Network.{Network}
-use Rattle.gptp_bmca_machine.specs.Station.{HoldsAt, MachineState, Port, Reception, Station}
+use Rattle.gptp_bmca_machine.specs.Station.{HoldsAt, MachineState, Reception, Station}
 use Rattle.gptp_bmca_machine.specs.TurnTree.{TurnsTree}
 use Rattle.gptp_bmca_machine.proofs.FallLemmas.{HasLeft, falls_by, free_clear, holds_in_tree, off_drop, old_in_time}
-use Rattle.gptp_bmca_machine.proofs.FallLevelLemmas.{HasTime, TreeSettles, level_kept, show}
+use Rattle.gptp_bmca_machine.proofs.FallLevelLemmas.{HasTime, level_kept, show}
 use Rattle.gptp_bmca_machine.proofs.LevelLemmas.{places_of}
 use Rattle.gptp_bmca_machine.proofs.LinkEndsLemmas.{ends_by, teller_on, telling}
 use Rattle.gptp_bmca_machine.proofs.LinkLemmas.{link_settled}
@@ -172,8 +171,11 @@ module _ (says : Spelling) (g : Snapshot) (n : Network) (tree : List ℕ) (top o
                     hearer = at;
                     hearer_port = there_l;
                     lane = has.there;
-                  }) ((chosen.root, chosen.steps), teller_on g n t.well t.left (before o.d) o.d best out k last p back'
-                  (delay o.d) w is.back.after.kept is.back.after.fits.stations so po at_o there_o) late in
+                  }) (
+                    (chosen.root, chosen.steps),
+                    teller_on g n t.well t.left (before o.d) o.d best out k last p back'
+                        (delay o.d) w is.back.after.kept is.back.after.fits.stations so po at_o there_o,
+                  ) late in
                   (r, (pl, there_l, holds), final.root, final.steps, final.source)
 
       -- the systems of the tree at the next distance choose by it
@@ -306,8 +308,11 @@ module _ (says : Spelling) (g : Snapshot) (n : Network) (tree : List ℕ) (top o
         | no early ↦ let more = times.grows e in omega (arith, early, more)
         | yes late ↦
             let chose = choose_by way e (λ f most. levels f (omega (arith, most))) late v s at in_v leads.here in
-            absurd (not ((chose.root, chose.steps), teller_on g n t.well t.left (before (suc e)) (suc e) best v p u q
-            leads.joins (delay (suc e)) w is.back.after.kept is.back.after.fits.stations s pv at there))
+            absurd (not (
+              (chose.root, chose.steps),
+              teller_on g n t.well t.left (before (suc e)) (suc e) best v p u q
+                  leads.joins (delay (suc e)) w is.back.after.kept is.back.after.fits.stations s pv at there,
+            ))
       ]
 
     -- ---- a step

@@ -1,19 +1,15 @@
 -- The end of the way out turns away from the tree: as soon as it hears that the system at the other end has left its old
 -- choice it tells that its own.
-use Rattle.std.proofs.Common.{◌≡◌, ◌≢◌, ◌⊎◌, ◌<◌, ◌≤◌, ◌+◌, ℕ, suc, true, List, [], ◌∷◌, Some, None, length, slice_get, refl, sym, ap, subst, ◌∙◌, inl, inr, arith}
-use native.Mathlib.Decide.{ℕ_discrete}
+use Rattle.std.proofs.Common.{◌≡◌, ◌≢◌, ◌⊎◌, ◌<◌, ◌≤◌, ◌+◌, ℕ, suc, true, List, [], ◌∷◌, Some, None, slice_get, refl, sym, ap, subst, ◌∙◌, inl, inr, arith}
 use Rattle.gptp_lists.specs.Members.{In}
 use Rattle.gptp_lists.proofs.SystemSpecLemmas.{In-parts, In-right}
 use Rattle.gptp_graph.specs.Best.{IsBest}
-use Rattle.gptp_graph.specs.Distance.{IsDistance}
-use Rattle.gptp_graph.specs.Order.{IsLower}
-use Rattle.gptp_graph.specs.Path.{Route}
 use Rattle.gptp_graph.specs.Snapshot.{Adjacent, IsLinked, Joins, PortIdentity, Snapshot, System, clocks, port_of}
 use Rattle.gptp_graph.proofs.BestLemmas.{IsBest-neighbour}
 use Rattle.gptp_graph.proofs.DistanceLemmas.{IsDistance-neighbour, IsDistance-unique}
 use Rattle.gptp_graph.proofs.ExistenceLemmas.{distance_exists}
 use Rattle.gptp_graph.proofs.LinkDecisions.{IsLinked-dec}
-use Rattle.gptp_graph.proofs.LinkLemmas.{Adjacent-sym, Joins-clock, Joins-sym}
+use Rattle.gptp_graph.proofs.LinkLemmas.{Joins-sym}
 use Rattle.gptp_bmca_machine.specs.Acts.{LaneStep, MachineSteps}
 use Rattle.gptp_bmca_machine.specs.AtRest.{ChoosesItself, ChoosesPort, StationIsAtRest}
 use Rattle.gptp_bmca_machine.specs.Calm.{HasLane}
@@ -27,7 +23,6 @@ use Rattle.gptp_bmca_machine.specs.Reacts.{PortStep}
 use Rattle.gptp_bmca_machine.specs.RestLaws.{LinkStays}
 use Rattle.gptp_bmca_machine.specs.Station.{Aged, Disabled, Held, HoldsAt, MachineState, Mine, Port, Received, Reception, Station}
 use Rattle.gptp_bmca_machine.specs.TurnTree.{TurnsTree}
-use Rattle.gptp_bmca_machine.specs.Vectors.{master, message, path_vector}
 use Rattle.gptp_bmca_machine.proofs.ClearLemmas.{trace_short, weaker_clear}
 use Rattle.gptp_bmca_machine.proofs.FallLeaveLemmas.{TreeAnswers, answers_or_stands}
 use Rattle.gptp_bmca_machine.proofs.FallLemmas.{HasLeft, IsFreeAt, IsLed, IsLeft, IsNewTold, falls_by, free_clear, holds_in_tree, old_in_time, own_new}
@@ -42,7 +37,7 @@ use Rattle.gptp_bmca_machine.proofs.StillLemmas.{port_there, station_of, still}
 use Rattle.gptp_bmca_machine.proofs.TellsLemmas.{master_announces, news_final}
 use Rattle.gptp_bmca_machine.proofs.ToldLemmas.{HoldsTold, told_due}
 use Rattle.gptp_bmca_machine.proofs.TurnLemmas.{OutIsAt, TurnsBack, out_chooses, out_is, out_is_at}
-use Rattle.gptp_bmca_machine.proofs.TurnTreeLemmas.{IsOf, LeadsOut, beyond_out, out_best, out_lives, out_was_best, turns_moves}
+use Rattle.gptp_bmca_machine.proofs.TurnTreeLemmas.{IsOf, LeadsOut, beyond_out, out_lives, out_was_best, turns_moves}
 
 module _ (says : Spelling) (g : Snapshot) (n : Network) (tree : List ℕ) (top other last out : ℕ) (best : System)
     (base : ℕ) (depth : ℕ → ℕ) (t : TurnsTree g n tree top other last out best base depth) (start : ℕ) (p k : ℕ)
@@ -75,12 +70,15 @@ module _ (says : Spelling) (g : Snapshot) (n : Network) (tree : List ℕ) (top o
   worse_out a whole = elim (own_new says g n (IsOf tree) (LeadsOut last out) top best best base depth m start last a
       t.in_last whole) [
         | inl over ↦ inl over
-        | inr (root, more) ↦ inr (root, (
-            let (far, here) = distance_exists n.graph last t.well (t.lives last t.in_last) in
-            let by = beyond_out g n tree top other last out best base depth t far last o.d t.in_last here o.now in
-            let is_best = t.is_best last t.in_last in
-            let few = steps_not_fewer n.graph t.well last a whole best is_best last far (inl refl) is_best here root in
-            omega (arith, by, few)))
+        | inr (root, more) ↦ inr (
+          root,
+          (
+              let (far, here) = distance_exists n.graph last t.well (t.lives last t.in_last) in
+              let by = beyond_out g n tree top other last out best base depth t far last o.d t.in_last here o.now in
+              let is_best = t.is_best last t.in_last in
+              let few = steps_not_fewer n.graph t.well last a whole best is_best last far (inl refl) is_best here root in
+              omega (arith, by, few)),
+        )
       ]
 
   -- what was told before is held until what is told since comes
@@ -324,131 +322,131 @@ module _ (says : Spelling) (g : Snapshot) (n : Network) (tree : List ℕ) (top o
         (is : TurnsBack says g n tree top other last out best base depth t start w)
         (is' : TurnsBack says g n tree top other last out best base depth t start w') (step : MachineSteps says w w')
       where
-      -- what the end of the way out held is replaced, and it tells its choice
-      module _ (received : (s : Station) (pv : Port) → slice_get w.stations (n.place out) ≡ Some s
-          → slice_get s.ports k ≡ Some pv → (r : Reception) × (pv.held ≡ Received r))
-          (in_time : w.time ≤ falls_by n start (suc (depth last))) (turned' : HasTurned w') where
-        turn_now : LinkSettles says (telling n before o.d best out k last p) w'
-        turn_now since pv pu l stand ready' =
-            by (answers_or_stands says n (IsOf tree) out w w' is.back.after.kept.calm is'.back.after.kept.calm known step
-            stand.v stand.teller)
+        -- what the end of the way out held is replaced, and it tells its choice
+        module _ (received : (s : Station) (pv : Port) → slice_get w.stations (n.place out) ≡ Some s
+            → slice_get s.ports k ≡ Some pv → (r : Reception) × (pv.held ≡ Received r))
+            (in_time : w.time ≤ falls_by n start (suc (depth last))) (turned' : HasTurned w') where
+          turn_now : LinkSettles says (telling n before o.d best out k last p) w'
+          turn_now since pv pu l stand ready' =
+              by (answers_or_stands says n (IsOf tree) out w w' is.back.after.kept.calm is'.back.after.kept.calm known step
+              stand.v stand.teller)
+            where
+              known : In out (clocks n.graph)
+              known = out_lives g n tree top other last out best base depth t
+
+              mine' : pv.held ≡ Mine best.identity o.d
+              mine' = mine w' is' turned' stand.v stand.teller pv stand.teller_port
+
+              by : (slice_get w.stations (n.place out) ≡ Some stand.v) ⊎ TreeAnswers says n (IsOf tree) out w w'
+                  → LinkStage says k_out pv.announce pu.held l.frames
+              by (inl stood) =
+                  let (r, holds) = received stand.v pv stood stand.teller_port in
+                  absurd (let both : Received r ≡ Mine best.identity o.d = sym holds ∙ mine' in cc)
+              by (inr z) =
+                  answered (z.lanes (port_of out (suc k)) (port_of last (suc p)) l back apart_last stand.lane)
+                  (z.reacts.ports k pv there')
+                where
+                  one : stand.v ≡ z.s'
+                  one = same_there w'.stations (n.place out) stand.v z.s' stand.teller z.there
+
+                  there' : slice_get z.s'.ports k ≡ Some pv
+                  there' = subst (λ (y : Station). slice_get y.ports k ≡ Some pv) one stand.teller_port
+
+                  apart_last : last ≢ out
+                  apart_last same = t.outside (subst (λ c. In c tree) same t.in_last)
+
+                  was_out : z.s.clock ≡ out
+                  was_out = (out_is says g n tree top other last out best base depth t w is.back.after is.back.still z.s
+                      z.here).1
+
+                  answered : ((old : Lane) × (slice_get w.lanes (n.lane (port_of out (suc k))) ≡ Some old)
+                      × LaneStep z.s.clock z.sends old l)
+                      → ((old : Port) × (slice_get z.s.ports k ≡ Some old)
+                      × PortStep says z.s.clock (suc k) w.time z.touch z.s'.root z.s'.steps old pv z.sends)
+                      → LinkStage says k_out pv.announce pu.held l.frames
+                  answered (lane, at_lane, lane_step) (old, stood, answer) =
+                      subst (LinkStage says k_out pv.announce pu.held) (sym lane_step.behind)
+                      (begins says k_out pv.announce pu.held lane.frames lane_step.news sent.0
+                      (news_final says g n t.well t.left before o.d best out k last p back delay w' is'.back.after.kept
+                      is'.back.after.fits.stations z.s' z.there pv there'
+                      (subst (λ (y : Station). TellerIsReady k_out y pv) one ready')
+                      (settled w' is' turned' z.s' z.there pv there') z.sends z.reacts.tells z.s.clock lane l from
+                      lane_step) sent.1 sent.2 (omega (arith, soon)))
+                    where
+                      has : HasLane n w' (port_of out (suc k)) (port_of last (suc p))
+                      has = is'.back.after.kept.calm.lanes (port_of out (suc k)) (port_of last (suc p)) back
+
+                      lane_is : has.lane ≡ l
+                      lane_is = same_there w'.lanes (n.lane (port_of out (suc k))) has.lane l has.there stand.lane
+
+                      from : lane.from ≡ port_of out (suc k)
+                      from = sym lane_step.from ∙ ap (λ (y : Lane). y.from) (sym lane_is) ∙ has.from
+
+                      -- it announces now
+                      sent : (f : AnnounceFrame) × In f lane_step.news × FrameSaysAnnounce says f × (f.due ≤ w'.time + n.most)
+                      sent = go (received z.s old z.here stood)
+                        where
+                          go : ((r : Reception) × (old.held ≡ Received r))
+                              → (f : AnnounceFrame) × In f lane_step.news
+                              × FrameSaysAnnounce says f × (f.due ≤ w'.time + n.most)
+                          go (r, holds) = over (master_announces says z.s.clock (suc k) w.time z.touch z.s'.root z.s'.steps
+                              old pv z.sends r best.identity o.d answer holds mine').sent
+                            where
+                              over : ((y : Send) × In y z.sends × (y.port ≡ suc k) × ((a : Announce) × says y.octets a))
+                                  → (f : AnnounceFrame) × In f lane_step.news
+                                  × FrameSaysAnnounce says f × (f.due ≤ w'.time + n.most)
+                              over (y, among, number, (a, said)) =
+                                  let (f, new, octets) = lane_step.arrives
+                                  (sym lane_step.loss ∙ ap (λ (y : Lane). y.loss) (sym lane_is) ∙ has.loss)
+                                  (sym lane_step.is_up ∙ ap (λ (y : Lane). y.is_up) (sym lane_is) ∙ has.is_up) y among
+                                  (from ∙ (λ j. port_of (sym was_out j) (sym number j))) in
+                                  let by = (on_time g n t.well t.left before o.d best out k last p back delay w'
+                                  is'.back.after.kept is'.back.after.fits.stations l f stand.lane
+                                  (subst (In f) (sym lane_step.behind) (In-right f lane.frames lane_step.news new))).due
+                                  (omega arith) in
+                                  (f, new, (a, subst (λ o. says o a) (sym octets) said), by)
+
+                      soon : sent.0.due < before
+                      soon =
+                          let by = sent.3 in
+                          let now = z.time in
+                          omega (arith, by, now, in_time, room)
+
+        pub out_kept : OutSettles w → OutSettles w'
+        out_kept link turned' = elim (is.back.falling.down last p out k t.in_last joins leads) [
+          | inr (inr turned) ↦
+              telling_kept g n t.well t.left before o.d best out k last p back delay says w w' is.back.after.kept
+              is'.back.after.kept is.back.after.fits.stations is'.back.after.fits.stations (show_out w is turned)
+              (show_out w' is' turned') step (link turned)
+          | inl (old, stays) ↦
+              turn_now (held_led stays) (not_later w is (inl (old, stays))) turned'
+          | inr (inl (not, told)) ↦ turn_now (held_left told) (not_later w is (inr (not, told))) turned'
+        ]
           where
-            known : In out (clocks n.graph)
-            known = out_lives g n tree top other last out best base depth t
+            lane : (l : Lane) × (slice_get w.lanes (n.lane (port_of last (suc p))) ≡ Some l)
+            lane =
+                let has = is.back.after.kept.calm.lanes (port_of last (suc p)) (port_of out (suc k)) joins in
+                (has.lane, has.there)
 
-            mine' : pv.held ≡ Mine best.identity o.d
-            mine' = mine w' is' turned' stand.v stand.teller pv stand.teller_port
+            held_led : LinkStays says (still n (base + depth last) best last p out k) w → (s : Station) (pv : Port)
+                → slice_get w.stations (n.place out) ≡ Some s → slice_get s.ports k ≡ Some pv
+                → (r : Reception) × (pv.held ≡ Received r)
+            held_led stays s pv at there =
+                let (sv, at_v, live, clock) = station_of g n t.well t.left w is.back.after.kept is.back.after.fits.stations
+                last (t.lives last t.in_last) in
+                let (pl, there_l) = port_there g n t.well t.left w is.back.after.kept is.back.after.fits.stations last p
+                (port_of out (suc k)) sv at_v joins in
+                let stay = stays pl pv lane.0 (record {
+                  v = sv;
+                  u = s;
+                  teller = at_v;
+                  teller_port = there_l;
+                  hearer = at;
+                  hearer_port = there;
+                  lane = lane.1;
+                }) in
+                (stay.what, stay.holds)
 
-            by : (slice_get w.stations (n.place out) ≡ Some stand.v) ⊎ TreeAnswers says n (IsOf tree) out w w'
-                → LinkStage says k_out pv.announce pu.held l.frames
-            by (inl stood) =
-                let (r, holds) = received stand.v pv stood stand.teller_port in
-                absurd (let both : Received r ≡ Mine best.identity o.d = sym holds ∙ mine' in cc)
-            by (inr z) =
-                answered (z.lanes (port_of out (suc k)) (port_of last (suc p)) l back apart_last stand.lane)
-                (z.reacts.ports k pv there')
-              where
-                one : stand.v ≡ z.s'
-                one = same_there w'.stations (n.place out) stand.v z.s' stand.teller z.there
-
-                there' : slice_get z.s'.ports k ≡ Some pv
-                there' = subst (λ (y : Station). slice_get y.ports k ≡ Some pv) one stand.teller_port
-
-                apart_last : last ≢ out
-                apart_last same = t.outside (subst (λ c. In c tree) same t.in_last)
-
-                was_out : z.s.clock ≡ out
-                was_out = (out_is says g n tree top other last out best base depth t w is.back.after is.back.still z.s
-                    z.here).1
-
-                answered : ((old : Lane) × (slice_get w.lanes (n.lane (port_of out (suc k))) ≡ Some old)
-                    × LaneStep z.s.clock z.sends old l)
-                    → ((old : Port) × (slice_get z.s.ports k ≡ Some old)
-                    × PortStep says z.s.clock (suc k) w.time z.touch z.s'.root z.s'.steps old pv z.sends)
-                    → LinkStage says k_out pv.announce pu.held l.frames
-                answered (lane, at_lane, lane_step) (old, stood, answer) =
-                    subst (LinkStage says k_out pv.announce pu.held) (sym lane_step.behind)
-                    (begins says k_out pv.announce pu.held lane.frames lane_step.news sent.0
-                    (news_final says g n t.well t.left before o.d best out k last p back delay w' is'.back.after.kept
-                    is'.back.after.fits.stations z.s' z.there pv there'
-                    (subst (λ (y : Station). TellerIsReady k_out y pv) one ready')
-                    (settled w' is' turned' z.s' z.there pv there') z.sends z.reacts.tells z.s.clock lane l from
-                    lane_step) sent.1 sent.2 (omega (arith, soon)))
-                  where
-                    has : HasLane n w' (port_of out (suc k)) (port_of last (suc p))
-                    has = is'.back.after.kept.calm.lanes (port_of out (suc k)) (port_of last (suc p)) back
-
-                    lane_is : has.lane ≡ l
-                    lane_is = same_there w'.lanes (n.lane (port_of out (suc k))) has.lane l has.there stand.lane
-
-                    from : lane.from ≡ port_of out (suc k)
-                    from = sym lane_step.from ∙ ap (λ (y : Lane). y.from) (sym lane_is) ∙ has.from
-
-                    -- it announces now
-                    sent : (f : AnnounceFrame) × In f lane_step.news × FrameSaysAnnounce says f × (f.due ≤ w'.time + n.most)
-                    sent = go (received z.s old z.here stood)
-                      where
-                        go : ((r : Reception) × (old.held ≡ Received r))
-                            → (f : AnnounceFrame) × In f lane_step.news
-                            × FrameSaysAnnounce says f × (f.due ≤ w'.time + n.most)
-                        go (r, holds) = over (master_announces says z.s.clock (suc k) w.time z.touch z.s'.root z.s'.steps
-                            old pv z.sends r best.identity o.d answer holds mine').sent
-                          where
-                            over : ((y : Send) × In y z.sends × (y.port ≡ suc k) × ((a : Announce) × says y.octets a))
-                                → (f : AnnounceFrame) × In f lane_step.news
-                                × FrameSaysAnnounce says f × (f.due ≤ w'.time + n.most)
-                            over (y, among, number, (a, said)) =
-                                let (f, new, octets) = lane_step.arrives
-                                (sym lane_step.loss ∙ ap (λ (y : Lane). y.loss) (sym lane_is) ∙ has.loss)
-                                (sym lane_step.is_up ∙ ap (λ (y : Lane). y.is_up) (sym lane_is) ∙ has.is_up) y among
-                                (from ∙ (λ j. port_of (sym was_out j) (sym number j))) in
-                                let by = (on_time g n t.well t.left before o.d best out k last p back delay w'
-                                is'.back.after.kept is'.back.after.fits.stations l f stand.lane
-                                (subst (In f) (sym lane_step.behind) (In-right f lane.frames lane_step.news new))).due
-                                (omega arith) in
-                                (f, new, (a, subst (λ o. says o a) (sym octets) said), by)
-
-                    soon : sent.0.due < before
-                    soon =
-                        let by = sent.3 in
-                        let now = z.time in
-                        omega (arith, by, now, in_time, room)
-
-      pub out_kept : OutSettles w → OutSettles w'
-      out_kept link turned' = elim (is.back.falling.down last p out k t.in_last joins leads) [
-        | inr (inr turned) ↦
-            telling_kept g n t.well t.left before o.d best out k last p back delay says w w' is.back.after.kept
-            is'.back.after.kept is.back.after.fits.stations is'.back.after.fits.stations (show_out w is turned)
-            (show_out w' is' turned') step (link turned)
-        | inl (old, stays) ↦
-            turn_now (held_led stays) (not_later w is (inl (old, stays))) turned'
-        | inr (inl (not, told)) ↦ turn_now (held_left told) (not_later w is (inr (not, told))) turned'
-      ]
-        where
-          lane : (l : Lane) × (slice_get w.lanes (n.lane (port_of last (suc p))) ≡ Some l)
-          lane =
-              let has = is.back.after.kept.calm.lanes (port_of last (suc p)) (port_of out (suc k)) joins in
-              (has.lane, has.there)
-
-          held_led : LinkStays says (still n (base + depth last) best last p out k) w → (s : Station) (pv : Port)
-              → slice_get w.stations (n.place out) ≡ Some s → slice_get s.ports k ≡ Some pv
-              → (r : Reception) × (pv.held ≡ Received r)
-          held_led stays s pv at there =
-              let (sv, at_v, live, clock) = station_of g n t.well t.left w is.back.after.kept is.back.after.fits.stations
-              last (t.lives last t.in_last) in
-              let (pl, there_l) = port_there g n t.well t.left w is.back.after.kept is.back.after.fits.stations last p
-              (port_of out (suc k)) sv at_v joins in
-              let stay = stays pl pv lane.0 (record {
-                v = sv;
-                u = s;
-                teller = at_v;
-                teller_port = there_l;
-                hearer = at;
-                hearer_port = there;
-                lane = lane.1;
-              }) in
-              (stay.what, stay.holds)
-
-          held_left : Told w → (s : Station) (pv : Port) → slice_get w.stations (n.place out) ≡ Some s
-              → slice_get s.ports k ≡ Some pv → (r : Reception) × (pv.held ≡ Received r)
-          held_left told s pv at there = let old = told s pv lane.0 at there lane.1 in (old.r, old.holds)
+            held_left : Told w → (s : Station) (pv : Port) → slice_get w.stations (n.place out) ≡ Some s
+                → slice_get s.ports k ≡ Some pv → (r : Reception) × (pv.held ≡ Received r)
+            held_left told s pv at there = let old = told s pv lane.0 at there lane.1 in (old.r, old.holds)
