@@ -58,7 +58,8 @@ module _ (g : Snapshot) (wf : IsWellFormed g) (k : Wiring) (best : System) (root
     (farther : (k.steps < far) ⊎ ((k.steps ≡ far) × (k.teller < k.hearer))) where
   -- a system that chooses it by that distance tells so
   pub tells_clear : (s : Station) → IsClear g s
-      → ((i : ℕ) (r : Reception) → HoldsAt s i r → HeldFits g s.clock r.said) → s.clock ≡ k.teller → IsBest g k.teller best
+      → ((i : ℕ) (r : Reception) → HoldsAt s i r → HeldFits g s.clock r.said) → s.clock ≡ k.teller → IsBest g k.teller
+      best
       → (to : PortIdentity) → Joins g (port_of k.teller (suc k.teller_port)) to → to.clock ≡ k.hearer
       → k.teller ≢ k.hearer → k.steps < 255 → FollowsItself s ⊎ FollowsPort s
       → (pv : Port) → slice_get s.ports k.teller_port ≡ Some pv → TellerIsReady k s pv → TellerIsSettled k s pv

@@ -1,5 +1,5 @@
--- The failure of a system cuts trees off. Each falls back from when its top lets go what the failed system told last, and
--- until then it stands as it did: so all settle, once no port without a link holds anything.
+-- The failure of a system cuts trees off. Each falls back from when its top lets go what the failed system told last,
+-- and until then it stands as it did: so all settle, once no port without a link holds anything.
 use Rattle.std.proofs.Common.{◌≡◌, ◌<◌, ◌≤◌, ◌+◌, ℕ, ℤ, suc, Some, slice_get, subst, inl, inr}
 use Rattle.gptp_lists.specs.Members.{In}
 use Rattle.gptp_graph.specs.Best.{IsBest}
@@ -120,7 +120,8 @@ module _ (says : Spelling) (g : Snapshot) (n : Network) (lost : ℕ) (best : Sys
       pub fails_on : UnlinkedHoldNone g n start w' → FailsBack w'
       fails_on none' = record {
         state = state';
-        back = trees_fall_on says g n best IsCut cuts start w w' is.back kept' (dark_by w' kept' fits' state' tops') drops
+        back = trees_fall_on says g n best IsCut cuts start w w' is.back kept' (dark_by w' kept' fits' state' tops')
+            drops
             none' step;
         tops = tops';
       }

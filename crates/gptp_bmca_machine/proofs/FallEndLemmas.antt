@@ -6,7 +6,8 @@ use Rattle.gptp_graph.specs.Best.{IsBest}
 use Rattle.gptp_graph.specs.Distance.{IsDistance}
 use Rattle.gptp_graph.specs.Snapshot.{IsLinked, Joins, PortIdentity, Snapshot, System, clocks, port_of}
 use Rattle.gptp_graph.proofs.BestLemmas.{IsBest-neighbour, IsBest-unique}
-use Rattle.gptp_graph.proofs.DistanceLemmas.{IsDistance-clock}
+use Rattle.gptp_graph.proofs.DistanceLemmas.{IsDistance-clock, IsDistance-unique}
+use Rattle.gptp_graph.proofs.ExistenceLemmas.{best_exists, distance_exists}
 use Rattle.gptp_graph.proofs.LinkLemmas.{Joins-clock, Joins-sym}
 use Rattle.gptp_graph.proofs.SystemLemmas.{In-clocks}
 use Rattle.gptp_bmca_machine.specs.Acts.{MachineSteps}
@@ -26,50 +27,56 @@ use Rattle.gptp_bmca_machine.proofs.CutTreeLemmas.{IsCutOff, LeadsNowhere, moves
 use Rattle.gptp_bmca_machine.proofs.MovedTreeLemmas.{MovesTree}
 use Rattle.gptp_bmca_machine.proofs.FallStepLemmas.{SaysSo}
 use Rattle.gptp_bmca_machine.proofs.FallKeptLemmas.{falling_kept}
-use Rattle.gptp_bmca_machine.proofs.FallLemmas.{HasChoice, HasLeft, IsAftermath, IsFalling, falls_by, free_fits, holds_in_tree, off_drop, off_hold_old, off_none, old_in_time}
+use Rattle.gptp_bmca_machine.proofs.FallHeldLemmas.{holds_in_tree, old_in_time}
+use Rattle.gptp_bmca_machine.proofs.FallLemmas.{HasChoice, HasLeft, IsAftermath, IsFalling, falls_by, free_fits, off_drop, off_hold_old, off_none}
 use Rattle.gptp_bmca_machine.proofs.FallLevelLemmas.{TreeSettles}
 use Rattle.gptp_bmca_machine.proofs.LossLemmas.{fits_kept}
 use Rattle.gptp_bmca_machine.proofs.PlaceLemmas.{same_there}
-use Rattle.gptp_bmca_machine.proofs.StillLemmas.{LeadsOn, StillSettles, best_was, far_was, levels_below}
+use Rattle.gptp_bmca_machine.proofs.StillLemmas.{LeadsOn, StillSettles, levels_below, live_before}
 use Rattle.gptp_bmca_machine.proofs.TimedLinkLemmas.{timed_link}
 
 module _ (says : Spelling) (g : Snapshot) (n : Network) (Tree : ℕ → Type 0) (Out : ℕ → ℕ → Type 0) (top : ℕ)
-    (best next : System) (base : ℕ) (depth : ℕ → ℕ) (t : MovesTree g n Tree Out top best next base depth) (start : ℕ) where
-  pub after_step : (w w' : MachineState) → Calm n w → IsAfterLoss n w' → UnlinkedAreOff n.graph w' → MachineSteps says w w'
-      → EverythingFits says g n w → IsAftermath says g n w'
-  after_step w w' calm kept' dark' step fits = record {
-    kept = kept';
-    fits = fits_kept says g n t.left w w' calm kept'.calm step fits;
-    dark = off_hold_old g n w' dark';
-  }
+    (best next : System) (base : ℕ) (depth : ℕ → ℕ) (t : MovesTree g n Tree Out top best next base depth) (start : ℕ)
+  where
+    pub after_step : (w w' : MachineState) → Calm n w → IsAfterLoss n w' → UnlinkedAreOff n.graph w' → MachineSteps says
+        w
+        w'
+        → EverythingFits says g n w → IsAftermath says g n w'
+    after_step w w' calm kept' dark' step fits = record {
+      kept = kept';
+      fits = fits_kept says g n t.left w w' calm kept'.calm step fits;
+      dark = off_hold_old g n w' dark';
+    }
 
-  -- what is known of each state since: links from unmoved systems stay, and each link of the tree is at its stage
-  pub record FallsBack (w : MachineState) : Type 0 where
-    pub after : IsAftermath says g n w
-    pub still : (f : ℕ) → StillSettles says g n f w
-    pub falling : IsFalling says g n Tree Out top best next base depth t start w
+    -- what is known of each state since: links from unmoved systems stay, and each link of the tree is at its stage
+    pub record FallsBack (w : MachineState) : Type 0 where
+      pub after : IsAftermath says g n w
+      pub still : (f : ℕ) → StillSettles says g n f w
+      pub falling : IsFalling says g n Tree Out top best next base depth t start w
 
-  -- every step keeps it, where what comes from outside is of what is left, or names who hears it
-  pub falls_on : (w w' : MachineState) (is : FallsBack w) (kept' : IsAfterLoss n w') (dark' : UnlinkedAreOff n.graph w')
-      (step : MachineSteps says w w') → ((v p u q : ℕ) → Out u v
-      → (joins : Joins n.graph (port_of v (suc p)) (port_of u (suc q)))
-      → SaysSo says g n Tree Out top best next base depth t w w' is.after
-      (after_step w w' is.after.kept.calm kept' dark' step is.after.fits) step v p u q joins
-      (λ a. Whole n.graph v a ⊎ In u a.path)) → FallsBack w'
-  falls_on w w' is kept' dark' step comes = record {
-    after = after';
-    still = λ f.
-        levels_below says g n t.well t.left w w' is.after.kept kept' is.after.fits.stations fits'.stations step is.still
-        (suc f) f (omega arith);
-    falling = falling_kept says g n Tree Out top best next base depth t start w w' is.after after' step
-        (off_drop g n w w' dark') is.falling (off_none g n start w' dark') comes;
-  }
-    where
-      after' : IsAftermath says g n w'
-      after' = after_step w w' is.after.kept.calm kept' dark' step is.after.fits
+    -- every step keeps it, where what comes from outside is of what is left, or names who hears it
+    pub falls_on : (w w' : MachineState) (is : FallsBack w) (kept' : IsAfterLoss n w') (dark' : UnlinkedAreOff n.graph
+        w')
+        (step : MachineSteps says w w') → ((v p u q : ℕ) → Out u v
+        → (joins : Joins n.graph (port_of v (suc p)) (port_of u (suc q)))
+        → SaysSo says g n Tree Out top best next base depth t w w' is.after
+        (after_step w w' is.after.kept.calm kept' dark' step is.after.fits) step v p u q joins
+        (λ a. Whole n.graph v a ⊎ In u a.path)) → FallsBack w'
+    falls_on w w' is kept' dark' step comes = record {
+      after = after';
+      still = λ f.
+          levels_below says g n t.well t.left w w' is.after.kept kept' is.after.fits.stations fits'.stations step
+          is.still
+          (suc f) f (omega arith);
+      falling = falling_kept says g n Tree Out top best next base depth t start w w' is.after after' step
+          (off_drop g n w w' dark') is.falling (off_none g n start w' dark') comes;
+    }
+      where
+        after' : IsAftermath says g n w'
+        after' = after_step w w' is.after.kept.calm kept' dark' step is.after.fits
 
-      fits' : EverythingFits says g n w'
-      fits' = after'.fits
+        fits' : EverythingFits says g n w'
+        fits' = after'.fits
 
 -- ---- a tree that is cut off
 
@@ -84,11 +91,18 @@ module _ (says : Spelling) (g : Snapshot) (n : Network) (top : ℕ) (best next :
   -- ---- systems that aren't of the tree
 
   best_before : (v : ℕ) (c : System) → (IsBest n.graph v next → ⊥) → IsBest n.graph v c → IsBest g v c
-  best_before v c out is = best_was g n t.well t.left v c (t.others v is.reached.1.begins out) is
+  best_before v c out is =
+      let known = is.reached.1.begins in
+      let u = t.others v known out in
+      let (f, was) = best_exists g v t.left.graph (live_before g n t.well t.left v known) in
+      subst (IsBest g v) (IsBest-unique n.graph v f c t.well (u.best f was) is) was
 
   far_before : (v far : ℕ) → (IsBest n.graph v next → ⊥) → IsDistance n.graph v far → IsDistance g v far
   far_before v far out is =
-      far_was g n t.well t.left v far (t.others v (IsDistance-clock n.graph v far t.well is) out) is
+      let known = IsDistance-clock n.graph v far t.well is in
+      let u = t.others v known out in
+      let (f, was) = distance_exists g v t.left.graph (live_before g n t.well t.left v known) in
+      subst (IsDistance g v) (IsDistance-unique n.graph v f far t.well (u.far f was) is) was
 
   -- a link leads from none of them to the tree
   out_beside : (v u : ℕ) (i k : ℕ) → (IsBest n.graph v next → ⊥) → Joins n.graph (port_of v i) (port_of u k)
@@ -138,7 +152,8 @@ module _ (says : Spelling) (g : Snapshot) (n : Network) (top : ℕ) (best next :
     -- nobody has the root of before
     none_old : (x : ℕ) → IsBest n.graph x next → HasLeft n w x best (base + depth x)
     none_old x in_x s at root =
-        let late = old_in_time says g n (IsCutOff n next) LeadsNowhere top best next base depth m start w is.after is.falling (depth x) x refl in_x
+        let late = old_in_time says g n (IsCutOff n next) LeadsNowhere top best next base depth m start w is.after
+        is.falling (depth x) x refl in_x
         (λ s2 at2. subst (λ (y : Station). HasChoice y best (base + depth x))
         (same_there w.stations (n.place x) s s2 at at2) root) in
         let by = reached x in_x in
@@ -157,12 +172,15 @@ module _ (says : Spelling) (g : Snapshot) (n : Network) (top : ℕ) (best next :
         by : Dec (IsBest n.graph s.clock next) → CameFits n.graph s.clock (suc place) r
         by (no out) = out_fits s.clock place r out (is.after.fits.stations i s place r at live holds)
         by (yes in_s) =
-            (free_fits says g n (IsCutOff n next) LeadsNowhere top best next base depth m start w is.after s.clock in_s s there
-            (holds_in_tree says g n (IsCutOff n next) LeadsNowhere top best next base depth m start w is.after is.falling s.clock in_s)
+            (free_fits says g n (IsCutOff n next) LeadsNowhere top best next base depth m start w is.after s.clock in_s
+            s there
+            (holds_in_tree says g n (IsCutOff n next) LeadsNowhere top best next base depth m start w is.after
+            is.falling s.clock in_s)
             (none_old s.clock in_s s there) place r holds)
 
     module _ (before : ℕ → ℕ)
-        (settles : TreeSettles says g n (IsCutOff n next) LeadsNowhere top best next base depth m start before w) (slack : ℕ)
+        (settles : TreeSettles says g n (IsCutOff n next) LeadsNowhere top best next base depth m start before w) (slack
+        : ℕ)
         (in_time : (f : ℕ) → before f ≤ since (record n { slack = slack }) (suc f))
         (delay : (f : ℕ) → n.most ≤ since (record n { slack = slack }) (suc f)) where
       levels_then : (f : ℕ) → LevelSettles says (record n { slack = slack }) f w

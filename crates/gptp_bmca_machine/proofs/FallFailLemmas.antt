@@ -1,5 +1,5 @@
--- A system of a network at rest fails, which cuts trees off: they begin to fall back. Nobody answers yet. The top of each
--- holds what the failed system told, until that ages, or its port isn't capable any more.
+-- A system of a network at rest fails, which cuts trees off: they begin to fall back. Nobody answers yet. The top of
+-- each holds what the failed system told, until that ages, or its port isn't capable any more.
 use Rattle.std.proofs.Common.{◌≡◌, ◌≤◌, ◌+◌, ◌∙◌, ℕ, suc, Some, slice_get, ap, subst, sym, inl, inr}
 use Rattle.gptp_lists.specs.Members.{In}
 use Rattle.gptp_graph.specs.Best.{IsBest}
@@ -48,7 +48,8 @@ module _ (says : Spelling) (n0 n : Network) (net0 : IsSettlingNetwork n0) (w w' 
 
       root_still : (v : ℕ) → IsBest n.graph v next → IsOld n w' v best (base + depth v)
       root_still v in_v s at =
-          let chose = chosen says n0 n (IsCutOff n next) LeadsNowhere top best next base depth moved net0 w loss.rests.calm loss.rests.invariant
+          let chose = chosen says n0 n (IsCutOff n next) LeadsNowhere top best next base depth moved net0 w
+          loss.rests.calm loss.rests.invariant
           loss.rests.late loss.same
           v in_v s (stood v in_v s at) in
           (chose.root, chose.steps)
@@ -58,7 +59,8 @@ module _ (says : Spelling) (n0 n : Network) (net0 : IsSettlingNetwork n0) (w w' 
       down_led v p u q in_v joins down = (
         root_still v in_v,
         (λ pv pu l stand.
-            stays0 says n0 n (IsCutOff n next) LeadsNowhere top best next base depth moved net0 w loss.rests.calm loss.rests.invariant
+            stays0 says n0 n (IsCutOff n next) LeadsNowhere top best next base depth moved net0 w loss.rests.calm
+            loss.rests.invariant
             loss.rests.late loss.same
             v p u q in_v joins down pv pu l (record {
               v = stand.v;
@@ -76,7 +78,8 @@ module _ (says : Spelling) (n0 n : Network) (net0 : IsSettlingNetwork n0) (w w' 
           → depth v ≡ suc (depth u) → IsFreeAt says n v p u q w'
       up_free v p u q in_v joins higher s pu l at there lane = record {
         hears = λ r holds.
-            absurd (held_before says n0 n (IsCutOff n next) LeadsNowhere top best next base depth moved net0 w loss.rests.calm loss.rests.invariant
+            absurd (held_before says n0 n (IsCutOff n next) LeadsNowhere top best next base depth moved net0 w
+            loss.rests.calm loss.rests.invariant
             loss.rests.late loss.same
             v p u q in_v in_u joins higher s pu r (stood u in_u s at) there holds);
         flight = λ f a among said.

@@ -51,7 +51,8 @@ module _ (says : Spelling) (c n now : ℕ) (touch : StationTouch) (root steps : 
 
 -- what a system that has left its old choice tells those beyond it
 pub tells_new : (says : Spelling) (g : Snapshot) (n : Network) (Tree : ℕ → Type 0) (Out : ℕ → ℕ → Type 0) (top : ℕ)
-    (best next : System) (base : ℕ) (depth : ℕ → ℕ) (t : MovesTree g n Tree Out top best next base depth) (start : ℕ) (w : MachineState)
+    (best next : System) (base : ℕ) (depth : ℕ → ℕ) (t : MovesTree g n Tree Out top best next base depth) (start : ℕ) (w
+    : MachineState)
     (m : IsAftermath says g n w) (x : ℕ) (in_x : Tree x) (s : Station)
     (at : slice_get w.stations (n.place x) ≡ Some s)
     (holds : HoldsInTree says g n Tree Out top best next base depth t start x w)
@@ -63,7 +64,8 @@ tells_new says g n Tree Out top best next base depth t start w m x in_x s at hol
     (i, pv, place, there, mine) is = record {
       source = own.source ∙ (λ j. port_of (clock j) (is j));
       whole = says_whole says g n Tree Out top best next base depth t start w m x in_x s at holds not number a own;
-      usable = says_usable says g n Tree Out top best next base depth t start w m x in_x s at holds not number a own p u q
+      usable = says_usable says g n Tree Out top best next base depth t start w m x in_x s at holds not number a own p u
+          q
           joins beyond pv (subst (λ j. slice_get s.ports j ≡ Some pv) same there) s.root s.steps mine;
     }
   where
@@ -85,7 +87,8 @@ pub record TreeAnswers (says : Spelling) (n : Network) (Beside : ℕ → Type 0)
     pub here : slice_get w.stations (n.place x) ≡ Some s
     pub there : slice_get w'.stations (n.place x) ≡ Some s'
     pub reacts : StationReacts says s touch w.time s' sends
-    pub others : (c : ℕ) (z : Station) → In c (clocks n.graph) → Beside c → c ≢ x → slice_get w'.stations (n.place c) ≡ Some z
+    pub others : (c : ℕ) (z : Station) → In c (clocks n.graph) → Beside c → c ≢ x → slice_get w'.stations (n.place c) ≡
+        Some z
         → slice_get w.stations (n.place c) ≡ Some z
     pub lanes : (p q : PortIdentity) (l' : Lane) → Joins n.graph p q → q.clock ≢ x
         → slice_get w'.lanes (n.lane p) ≡ Some l'
@@ -95,9 +98,11 @@ pub record TreeAnswers (says : Spelling) (n : Network) (Beside : ℕ → Type 0)
         × (l.to ≡ port_of s.clock (suc i))
 
 module _ (says : Spelling) (g : Snapshot) (n : Network) (Tree : ℕ → Type 0) (Out : ℕ → ℕ → Type 0) (top : ℕ)
-    (best next : System) (base : ℕ) (depth : ℕ → ℕ) (t : MovesTree g n Tree Out top best next base depth) (start : ℕ) (w w' : MachineState) (m' : IsAftermath says g n w')
+    (best next : System) (base : ℕ) (depth : ℕ → ℕ) (t : MovesTree g n Tree Out top best next base depth) (start : ℕ) (w
+    w' : MachineState) (m' : IsAftermath says g n w')
     (x : ℕ) (in_x : Tree x) (z : TreeAnswers says n (Around Tree Out) x w w')
-    (holds' : HoldsInTree says g n Tree Out top best next base depth t start x w') (not' : HasChoice z.s' best (base + depth x) → ⊥)
+    (holds' : HoldsInTree says g n Tree Out top best next base depth t start x w') (not' : HasChoice z.s' best (base +
+    depth x) → ⊥)
     (p u q : ℕ) (joins : Joins n.graph (port_of x (suc p)) (port_of u (suc q))) (beyond : IsBeyond Tree Out depth x u)
     (old : (pv : Port) → slice_get z.s.ports p ≡ Some pv
     → (pv.held ≡ Mine best.identity (base + depth x)) × (w.time ≤ pv.announce))
@@ -131,7 +136,8 @@ module _ (says : Spelling) (g : Snapshot) (n : Network) (Tree : ℕ → Type 0) 
       → says y.octets a → New a
   new_told y a sent from said =
       let (own, master) = z.reacts.tells y a sent said in
-      tells_new says g n Tree Out top best next base depth t start w' m' x in_x z.s' z.there holds' not' p u q joins beyond
+      tells_new says g n Tree Out top best next base depth t start w' m' x in_x z.s' z.there holds' not' p u q joins
+      beyond
       y.port a own master (ap (λ (k : PortIdentity). k.port) (sym from))
 
   -- ---- the lane to a system below it

@@ -1,5 +1,5 @@
 -- A tree that a loss moves falls back: what is known of each state since, and of what each of its systems holds.
-use Rattle.std.proofs.Common.{◌≡◌, ◌≢◌, ◌⊎◌, ◌<◌, ◌≤◌, ◌+◌, ◌*◌, ◌++◌, ℕ, zero, suc, true, List, [], ◌∷◌, Some, slice_get, sym, ap, subst, ◌∙◌, inl, inr, arith}
+use Rattle.std.proofs.Common.{◌≡◌, ◌≢◌, ◌⊎◌, ◌<◌, ◌≤◌, ◌+◌, ◌*◌, ◌++◌, ℕ, suc, true, List, [], ◌∷◌, Some, slice_get, sym, ap, subst, ◌∙◌, inl, inr, arith}
 use native.Mathlib.Decide.{dec_le, ℕ_discrete}
 use Rattle.gptp_lists.specs.Members.{In}
 use Rattle.gptp_lists.proofs.SystemSpecLemmas.{In-parts}
@@ -9,7 +9,6 @@ use Rattle.gptp_graph.specs.Path.{Reaches}
 use Rattle.gptp_graph.specs.Distance.{IsDistance}
 use Rattle.gptp_graph.specs.Snapshot.{Adjacent, IsLinked, Joins, PortIdentity, Snapshot, System, port_of}
 use Rattle.gptp_graph.proofs.BestLemmas.{IsBest-unique}
-use Rattle.gptp_graph.proofs.LinkDecisions.{IsLinked-dec}
 use Rattle.gptp_graph.proofs.DistanceLemmas.{IsDistance-best, IsDistance-neighbour}
 use Rattle.gptp_graph.proofs.ExistenceLemmas.{distance_exists}
 use Rattle.gptp_graph.proofs.LinkLemmas.{Adjacent-clock, Adjacent-sym, Joins-sym}
@@ -18,7 +17,7 @@ use Rattle.gptp_graph.proofs.SystemLemmas.{same_identity}
 use Rattle.gptp_bmca_machine.specs.AtRest.{StationIsAtRest}
 use Rattle.gptp_bmca_machine.specs.Clean.{CameFits, Whole}
 use Rattle.gptp_bmca_machine.specs.Facts.{FollowsItself, FollowsPort, station_system}
-use Rattle.gptp_bmca_machine.specs.Frame.{Announce, AnnounceFrame, Lane, Spelling}
+use Rattle.gptp_bmca_machine.specs.Frame.{Announce, AnnounceFrame, Spelling}
 use Rattle.gptp_bmca_machine.specs.LossLaws.{EverythingFits, IsAfterLoss, Unmoved}
 use Rattle.gptp_bmca_machine.specs.Network.{Network}
 use Rattle.gptp_bmca_machine.specs.Reacts.{IsOwn}
@@ -27,15 +26,13 @@ use Rattle.gptp_bmca_machine.specs.SoundLaws.{UnlinkedAreOff}
 use Rattle.gptp_bmca_machine.specs.Station.{Disabled, Held, HoldsAt, MachineState, Mine, Port, Received, Reception, Station}
 use Rattle.gptp_bmca_machine.specs.Touch.{IsUsable}
 use Rattle.gptp_bmca_machine.specs.Vectors.{path_vector}
-use Rattle.gptp_bmca_machine.proofs.MovedTreeLemmas.{IsBeyond, LeadsDown, MovesTree, best_beside, child_leads, names_beyond, one_port}
-use Rattle.gptp_bmca_machine.proofs.LevelLemmas.{places_of}
-use Rattle.gptp_bmca_machine.proofs.LinkEndsLemmas.{source_at}
+use Rattle.gptp_bmca_machine.proofs.MovedTreeLemmas.{IsBeyond, LeadsDown, MovesTree, best_beside, names_beyond, one_port}
 use Rattle.gptp_bmca_machine.proofs.LinkStepLemmas.{AtLink, lives_at}
 use Rattle.gptp_bmca_machine.proofs.NearestLemmas.{came_fits, path_length, root_not_better, steps_not_fewer}
-use Rattle.gptp_bmca_machine.proofs.PlaceLemmas.{received_injective, same_there}
+use Rattle.gptp_bmca_machine.proofs.PlaceLemmas.{same_there}
 use Rattle.gptp_bmca_machine.proofs.RestLemmas.{IsClear, bounded, root_above, steps_above}
-use Rattle.gptp_bmca_machine.proofs.StillLemmas.{clear_at, port_there, station_of, still}
-use Rattle.gptp_bmca_machine.proofs.ToldLemmas.{AllSay, HoldsTold, told_due}
+use Rattle.gptp_bmca_machine.proofs.StillLemmas.{clear_at, still}
+use Rattle.gptp_bmca_machine.proofs.ToldLemmas.{AllSay, HoldsTold}
 use Rattle.gptp_bmca_machine.proofs.TraceLemmas.{whole_on, whole_own}
 
 -- ---- the stages of a link of the tree
@@ -158,14 +155,16 @@ pub record IsAftermath (says : Spelling) (g : Snapshot) (n : Network) (w : Machi
 module _ (says : Spelling) (g : Snapshot) (n : Network) (Tree : ℕ → Type 0) (Out : ℕ → ℕ → Type 0) (top : ℕ)
     (best next : System) (base : ℕ) (depth : ℕ → ℕ) (t : MovesTree g n Tree Out top best next base depth) (start : ℕ)
   where
-    -- Each link that leads down is at one of its stages, and over each link to a system from one beyond it comes what is of
-    -- what is left. The system at the top has its old choice until that time at most.
+    -- Each link that leads down is at one of its stages, and over each link to a system from one beyond it comes what
+    -- is of what is left. The system at the top has its old choice until that time at most.
     pub record IsFalling (w : MachineState) : Type 0 where
       pub sooner : Tree top → IsOld n w top best (base + depth top) → w.time ≤ start
       pub down : (v p u q : ℕ) → Tree v → Joins n.graph (port_of v (suc p)) (port_of u (suc q))
           → LeadsDown g Tree Out base depth v u
           → DownStage says n best (base + depth v) (falls_by n start (suc (depth v))) v p u q w
-      pub up : (v p u q : ℕ) → Tree u → Joins n.graph (port_of v (suc p)) (port_of u (suc q)) → IsBeyond Tree Out depth u v
+      pub up : (v p u q : ℕ) → Tree u → Joins n.graph (port_of v (suc p)) (port_of u (suc q)) → IsBeyond Tree Out depth
+          u
+          v
           → IsFreeAt says n v p u q w
 
     -- ---- what one system holds
@@ -289,7 +288,8 @@ module _ (says : Spelling) (g : Snapshot) (n : Network) (Tree : ℕ → Type 0) 
     pub not_free_old : (v x p i : ℕ) (a : Announce) → Tree x → Joins n.graph (port_of v (suc p)) (port_of x (suc i))
         → Whole n.graph v a → depth x ≡ suc (depth v) → HasTold a (base + depth v) → ⊥
     not_free_old v x p i a in_x joins whole deeper (root, steps) =
-        elim (whole_new x v a in_x (suc i, suc p, Joins-sym n.graph (port_of v (suc p)) (port_of x (suc i)) joins) whole) [
+        elim (whole_new x v a in_x (suc i, suc p, Joins-sym n.graph (port_of v (suc p)) (port_of x (suc i)) joins)
+        whole) [
           | inl over ↦ omega (arith, over, root)
           | inr (same, many) ↦ omega (arith, many, steps, deeper)
         ]
@@ -309,7 +309,7 @@ module _ (says : Spelling) (g : Snapshot) (n : Network) (Tree : ℕ → Type 0) 
       pub was_clear : IsClear g s
       was_clear = clear_at g n t.well t.left w m.kept m.fits.stations (n.place x) s at is_x.0
 
-      was_best : IsBest g s.clock best
+      pub was_best : IsBest g s.clock best
       was_best = subst (λ c. IsBest g c best) (sym is_x.1) (t.was_best x in_x)
 
       above : best.identity ≤ s.root
@@ -451,260 +451,93 @@ module _ (says : Spelling) (g : Snapshot) (n : Network) (Tree : ℕ → Type 0) 
 
         -- ---- what it says
 
-        module _ (not : HasChoice s best (base + depth x) → ⊥) (number : ℕ) (a : Announce) (own : IsOwn s number a) where
-          follows : FollowsItself s ⊎ FollowsPort s
-          follows = (m.kept.calm.facts.stations (n.place x) s at is_x.0).follows
-
-          no_loop : (i : ℕ) (r : Reception) → HoldsAt s i r → In x r.said.path → ⊥
-          no_loop i r holds names =
-              ((m.kept.calm.facts.stations (n.place x) s at is_x.0).held i r holds).no_loop
-              (subst (λ c. In c r.said.path) (sym is_x.1) names)
-
-          -- it is of what is left
-          pub says_whole : Whole n.graph x a
-          says_whole = by follows
-            where
-              by : FollowsItself s ⊎ FollowsPort s → Whole n.graph x a
-              by (inl itself) =
-                  subst (λ c. Whole n.graph c a) is_x.1
-                  (whole_own n.graph (station_system s) a known (own.root ∙ itself.root) (own.steps ∙ itself.steps)
-                  (own.path ∙ itself.trace))
-              by (inr port) =
-                  let h = free_holds not port.place port.r port.holds in
-                  whole_on n.graph x h.v port.r.said a h.whole (t.lives x in_x) (
-                    suc port.place,
-                    suc h.p,
-                    Joins-sym n.graph (port_of h.v (suc h.p)) (port_of x (suc port.place))
-                        h.joins,
-                  )
-                  (no_loop port.place port.r port.holds) (own.root ∙ port.root) (own.steps ∙ port.steps)
-                  (own.path ∙ subst (λ c. s.trace ≡ port.r.said.path ++ c ∷ []) is_x.1 port.trace)
-
-          -- and whoever is beyond it can use it
-          module _ (p u q : ℕ) (joins : Joins n.graph (port_of x (suc p)) (port_of u (suc q)))
-              (beyond : IsBeyond Tree Out depth x u) (pv : Port) (there : slice_get s.ports p ≡ Some pv) (root steps : ℕ)
-              (mine : pv.held ≡ Mine root steps) where
-            apart : x ≢ u
-            apart = t.well.apart (port_of x (suc p)) (port_of u (suc q)) joins
-
-            -- what it follows came from another
-            not_from : (port : FollowsPort s) → (free_holds not port.place port.r port.holds).v ≢ u
-            not_from port same =
-                let h = free_holds not port.place port.r port.holds in
-                let back : Joins n.graph (port_of u (suc h.p)) (port_of x (suc port.place)) =
-                subst (λ c. Joins n.graph (port_of c (suc h.p)) (port_of x (suc port.place))) same h.joins in
-                let here = Joins-sym n.graph (port_of u (suc h.p)) (port_of x (suc port.place)) back in
-                let number_x : suc port.place ≡ suc p =
-                one_port g n Tree Out top best next base depth t x u in_x beyond (suc port.place) (suc p) (suc h.p) (suc q)
-                here joins in
-                let place : port.place ≡ p = omega (arith, number_x) in
-                let same_port = same_there s.ports p port.holds.0 pv
-                (subst (λ i. slice_get s.ports i ≡ Some port.holds.0) place port.holds.1) there in
-                absurd (let both : Mine root steps ≡ Received port.r =
-                sym mine ∙ ap (λ (z : Port). z.held) (sym same_port) ∙ port.holds.2 in cc)
-
-            names_not : FollowsItself s ⊎ FollowsPort s → In u a.path → ⊥
-            names_not (inl itself) names =
-                elim (subst (In u) (own.path ∙ itself.trace) names) [
-                  | inl same ↦ apart (sym is_x.1 ∙ sym same)
-                  | inr none ↦ none
-                ]
-            names_not (inr port) names =
-                elim (In-parts u port.r.said.path (s.clock ∷ []) (subst (In u) (own.path ∙ port.trace) names)) [
-                  | inl among ↦
-                      let h = free_holds not port.place port.r port.holds in
-                      names_beyond g n Tree Out top best next base depth t x u in_x beyond (suc p, suc q, joins) h.v
-                      port.r.said (
-                        suc port.place,
-                        suc h.p,
-                        Joins-sym n.graph (port_of h.v (suc h.p)) (port_of x (suc port.place)) h.joins,
-                      ) (not_from port)
-                      h.whole (no_loop port.place port.r port.holds) among
-                  | inr (inl same) ↦ apart (sym is_x.1 ∙ sym same)
-                  | inr (inr none) ↦ none
-                ]
-
-            pub says_usable : IsUsable u a
-            says_usable =
-                let whole = says_whole in
-                let short = t.paths x whole.first.clock whole.others whole.way in
-                let steps_are = whole.steps in
-                let long = path_length n.graph t.well x a whole next (t.is_best x in_x) in
-                let few = t.few in
-                record {
-                  foreign = λ same. apart (sym (ap (λ (z : PortIdentity). z.clock) own.source ∙ is_x.1) ∙ same);
-                  near = omega (arith, short, steps_are, few);
-                  no_loop = names_not follows;
-                  short = omega (arith, long, short, steps_are, few);
-                }
-
-    -- ---- in a state
-
-    module _ (w : MachineState) (m : IsAftermath says g n w) where
-      -- the lane of a link
-      lane_there : (v p u q : ℕ) → Joins n.graph (port_of v (suc p)) (port_of u (suc q))
-          → (l : Lane) × (slice_get w.lanes (n.lane (port_of v (suc p))) ≡ Some l)
-      lane_there v p u q joins =
-          let has = m.kept.calm.lanes (port_of v (suc p)) (port_of u (suc q)) joins in (has.lane, has.there)
-
-      -- what a system of the tree holds, by the links that lead to it
-      pub holds_by : (x : ℕ) → Tree x
-          → ((v p i : ℕ) → Tree v → Joins n.graph (port_of v (suc p)) (port_of x (suc i)) → depth x ≡ suc (depth v)
-          → DownStage says n best (base + depth v) (falls_by n start (suc (depth v))) v p x i w)
-          → ((v p i : ℕ) → Joins n.graph (port_of v (suc p)) (port_of x (suc i)) → IsBeyond Tree Out depth x v
-          → HoldsLeft says n v p x i w) → HoldsInTree x w
-      holds_by x in_x down up s i r at (q, there, holds) = by_link (IsLinked-dec n.graph (port_of s.clock (suc i)))
-        where
-          is : (s.live ≡ true) × (s.clock ≡ x)
-          is = is_x w m x in_x s at
-
-          by_link : Dec ((to : PortIdentity) × Joins n.graph (port_of s.clock (suc i)) to) → HeldInTree x i r
-          by_link (no none) =
-              let h = m.dark (n.place x) s i r at is.0 (subst (IsMoved g n) (sym is.1) (is_moved x in_x))
-              (q, there, holds) none in
-              let (root, steps) = h.old best (base + depth x) (was_best w m x in_x s at)
-              (subst (λ c. IsDistance g c (base + depth x)) (sym is.1) (t.was x in_x)) in
-              inr (record {
-                is_top = elim (t.lost x h.from in_x (subst (λ c. Adjacent g c h.from) is.1 h.beside)) [
-                  | inr top_is ↦ top_is
-                  | inl stays ↦ absurd (h.gone (subst (λ c. Adjacent n.graph c h.from) (sym is.1) stays))
-                ];
-                bare = subst (λ c. IsLinked n.graph (port_of c (suc i)) → ⊥) is.1 none;
-                root = root;
-                steps = steps;
-              })
-          by_link (yes (to, joined)) =
-              let here = subst (λ c. Joins n.graph (port_of c (suc i)) to) is.1 joined in
-              inl (over to here (places_of n.graph x (suc i) to.clock to.port t.well here))
-            where
-              over : (to : PortIdentity) → Joins n.graph (port_of x (suc i)) to
-                  → ((a : ℕ) × (p : ℕ) × (suc i ≡ suc a) × (to.port ≡ suc p)) → HeldOverLink x i r
-              over to here (a, p, first, second) = record {
-                v = to.clock;
-                p = p;
-                joins = joins;
-                source = source_at g n t.well t.left n.most 0 best to.clock p x i joins (omega arith) w m.kept
-                    m.fits.stations s q r at there holds;
-                said = elim (t.beside x to.clock in_x (suc i, to.port, here)) [
-                  | inr leads ↦ inl (from_beyond (inr leads))
-                  | inl in_v ↦ elim (t.steps x to.clock in_x in_v (suc i, to.port, here)) [
-                    | inl child ↦ inl (from_beyond (inl (in_v, child)))
-                    | inr deeper ↦ by_stage in_v deeper (down to.clock p i in_v joins deeper)
-                  ]
-                ];
-              }
-                where
-                  joins : Joins n.graph (port_of to.clock (suc p)) (port_of x (suc i))
-                  joins =
-                      Joins-sym n.graph (port_of x (suc i)) (port_of to.clock (suc p))
-                      (subst (λ k. Joins n.graph (port_of x (suc i)) (port_of to.clock k)) second here)
-
-                  lane : (l : Lane) × (slice_get w.lanes (n.lane (port_of to.clock (suc p))) ≡ Some l)
-                  lane = lane_there to.clock p x i joins
-
-                  from_beyond : IsBeyond Tree Out depth x to.clock → Whole n.graph to.clock r.said
-                  from_beyond beyond = up to.clock p i joins beyond s q lane.0 at there lane.1 r holds
-
-                  by_stage : Tree to.clock → depth x ≡ suc (depth to.clock)
-                      → DownStage says n best (base + depth to.clock) (falls_by n start (suc (depth to.clock))) to.clock p
-                      x i w
-                      → Whole n.graph to.clock r.said
-                      ⊎ (Tree to.clock × (depth x ≡ suc (depth to.clock)) × HasTold r.said (base + depth to.clock))
-                  by_stage in_v deeper (inl (old, stays)) =
-                      let (sv, at_v, live, clock) = station_of g n t.well t.left w m.kept m.fits.stations to.clock
-                      (t.lives to.clock in_v) in
-                      let (pv, there_v) = port_there g n t.well t.left w m.kept m.fits.stations to.clock p
-                      (port_of x (suc i)) sv at_v joins in
-                      let stay = stays pv q lane.0 (record {
-                        v = sv;
-                        u = s;
-                        teller = at_v;
-                        teller_port = there_v;
-                        hearer = at;
-                        hearer_port = there;
-                        lane = lane.1;
-                      }) in
-                      let one = received_injective r stay.what (sym holds ∙ stay.holds) in
-                      inr (
-                        in_v,
-                        deeper,
-                        (
-                          ap (λ (z : Reception). z.said.root) one ∙ stay.final.root,
-                          ap (λ (z : Reception). z.said.steps) one ∙ stay.final.steps,
-                        ),
-                      )
-                  by_stage in_v deeper (inr (inl (not, told))) =
-                      let old = told s q lane.0 at there lane.1 in
-                      let one = received_injective r old.r (sym holds ∙ old.holds) in
-                      inr (
-                        in_v,
-                        deeper,
-                        (
-                          ap (λ (z : Reception). z.said.root) one ∙ old.final.root,
-                          ap (λ (z : Reception). z.said.steps) one ∙ old.final.steps,
-                        ),
-                      )
-                  by_stage in_v deeper (inr (inr (not, free))) = inl ((free s q lane.0 at there lane.1).hears r holds)
-
-      module _ (falling : IsFalling w) where
-        pub holds_in_tree : (x : ℕ) → Tree x → HoldsInTree x w
-        holds_in_tree x in_x =
-            holds_by x in_x (λ v p i in_v joins deeper. falling.down v p x i in_v joins (child_leads g n Tree Out top best next base depth t v x in_x deeper))
-            (λ v p i joins beyond s pu l at there at_l. (falling.up v p x i in_x joins beyond s pu l at there at_l).hears)
-
-        -- who has its old choice has it for a way at most
-        pub old_in_time : (d x : ℕ) → depth x ≡ d → Tree x → IsOld n w x best (base + depth x)
-            → w.time ≤ falls_by n start d
-        old_in_time zero x deep in_x root = here (station_of g n t.well t.left w m.kept m.fits.stations x (t.lives x
-            in_x))
+        module _ (not : HasChoice s best (base + depth x) → ⊥) (number : ℕ) (a : Announce) (own : IsOwn s number a)
           where
-            here : ((s : Station) × (slice_get w.stations (n.place x) ≡ Some s) × (s.live ≡ true) × (s.clock ≡ x))
-                → w.time ≤ falls_by n start 0
-            here (s, at, live, clock) =
-                elim (follows_old w m x in_x s at (holds_in_tree x in_x) (root s at)).told [
-                  | inl above ↦ let deeper = above.deeper in absurd (omega (arith, deeper, deep))
-                  | inr lost ↦
-                      let by = falling.sooner (subst Tree lost.is_top in_x)
-                      (subst (λ c. IsOld n w c best (base + depth c)) lost.is_top root) in
-                      omega (arith, by)
-                ]
-        old_in_time (suc d) x deep in_x root =
-            go (λ v up in_v root_v. old_in_time d v up in_v root_v)
-            (station_of g n t.well t.left w m.kept m.fits.stations x (t.lives x in_x))
-          where
-            go : ((v : ℕ) → depth v ≡ d → Tree v → IsOld n w v best (base + depth v) → w.time ≤ falls_by n start d)
-                → ((s : Station) × (slice_get w.stations (n.place x) ≡ Some s) × (s.live ≡ true) × (s.clock ≡ x))
-                → w.time ≤ falls_by n start (suc d)
-            go sooner (s, at, live, clock) = over (told_nearer x old.i d old.r deep old.told)
+            follows : FollowsItself s ⊎ FollowsPort s
+            follows = (m.kept.calm.facts.stations (n.place x) s at is_x.0).follows
+
+            no_loop : (i : ℕ) (r : Reception) → HoldsAt s i r → In x r.said.path → ⊥
+            no_loop i r holds names =
+                ((m.kept.calm.facts.stations (n.place x) s at is_x.0).held i r holds).no_loop
+                (subst (λ c. In c r.said.path) (sym is_x.1) names)
+
+            -- it is of what is left
+            pub says_whole : Whole n.graph x a
+            says_whole = by follows
               where
-                old : FollowsOld w m x in_x s at (holds_in_tree x in_x)
-                old = follows_old w m x in_x s at (holds_in_tree x in_x) (root s at)
+                by : FollowsItself s ⊎ FollowsPort s → Whole n.graph x a
+                by (inl itself) =
+                    subst (λ c. Whole n.graph c a) is_x.1
+                    (whole_own n.graph (station_system s) a known (own.root ∙ itself.root) (own.steps ∙ itself.steps)
+                    (own.path ∙ itself.trace))
+                by (inr port) =
+                    let h = free_holds not port.place port.r port.holds in
+                    whole_on n.graph x h.v port.r.said a h.whole (t.lives x in_x) (
+                      suc port.place,
+                      suc h.p,
+                      Joins-sym n.graph (port_of h.v (suc h.p)) (port_of x (suc port.place))
+                          h.joins,
+                    )
+                    (no_loop port.place port.r port.holds) (own.root ∙ port.root) (own.steps ∙ port.steps)
+                    (own.path ∙ subst (λ c. s.trace ≡ port.r.said.path ++ c ∷ []) is_x.1 port.trace)
 
-                over : IsToldByNearer x old.i old.r → w.time ≤ falls_by n start (suc d)
-                over a =
-                    by (falling.down a.v a.p x old.i a.in_v a.joins
-                    (child_leads g n Tree Out top best next base depth t a.v x in_x a.deeper))
-                  where
-                    up : depth a.v ≡ d
-                    up = let deeper = a.deeper in omega (arith, deeper, deep)
+            -- and whoever is beyond it can use it
+            module _ (p u q : ℕ) (joins : Joins n.graph (port_of x (suc p)) (port_of u (suc q)))
+                (beyond : IsBeyond Tree Out depth x u) (pv : Port) (there : slice_get s.ports p ≡ Some pv) (root steps :
+                ℕ)
+                (mine : pv.held ≡ Mine root steps) where
+              apart : x ≢ u
+              apart = t.well.apart (port_of x (suc p)) (port_of u (suc q)) joins
 
-                    lane : (l : Lane) × (slice_get w.lanes (n.lane (port_of a.v (suc a.p))) ≡ Some l)
-                    lane = lane_there a.v a.p x old.i a.joins
+              -- what it follows came from another
+              not_from : (port : FollowsPort s) → (free_holds not port.place port.r port.holds).v ≢ u
+              not_from port same =
+                  let h = free_holds not port.place port.r port.holds in
+                  let back : Joins n.graph (port_of u (suc h.p)) (port_of x (suc port.place)) =
+                  subst (λ c. Joins n.graph (port_of c (suc h.p)) (port_of x (suc port.place))) same h.joins in
+                  let here = Joins-sym n.graph (port_of u (suc h.p)) (port_of x (suc port.place)) back in
+                  let number_x : suc port.place ≡ suc p =
+                  one_port g n Tree Out top best next base depth t x u in_x beyond (suc port.place) (suc p) (suc h.p)
+                  (suc
+                  q)
+                  here joins in
+                  let place : port.place ≡ p = omega (arith, number_x) in
+                  let same_port = same_there s.ports p port.holds.0 pv
+                  (subst (λ i. slice_get s.ports i ≡ Some port.holds.0) place port.holds.1) there in
+                  absurd (let both : Mine root steps ≡ Received port.r =
+                  sym mine ∙ ap (λ (z : Port). z.held) (sym same_port) ∙ port.holds.2 in cc)
 
-                    by : DownStage says n best (base + depth a.v) (falls_by n start (suc (depth a.v))) a.v a.p x old.i w
-                        → w.time ≤ falls_by n start (suc d)
-                    by (inl (root_v, stays)) =
-                        let before : w.time ≤ falls_by n start d = sooner a.v up a.in_v root_v in
-                        omega (arith, before)
-                    by (inr (inl (not, told))) =
-                        let left = told s old.holds.0 lane.0 at old.holds.1 lane.1 in
-                        let (h, among, said, due) = told_due says (still n (base + depth a.v) best a.v a.p x old.i)
-                        (IsNewTold n.graph (port_of a.v (suc a.p)) x) (falls_by n start (suc (depth a.v))) lane.0.frames
-                        left.told in
-                        let now = m.kept.calm.left (n.lane (port_of a.v (suc a.p))) lane.0 h lane.1 among in
-                        let late : h.due ≤ falls_by n start (suc d) =
-                        subst (λ k. h.due ≤ falls_by n start (suc k)) up due in
-                        omega (arith, now, late)
-                    by (inr (inr (not, free))) =
-                        let whole = (free s old.holds.0 lane.0 at old.holds.1 lane.1).hears old.r old.holds.2 in
-                        absurd (not_free_old a.v x a.p old.i old.r.said in_x a.joins whole a.deeper a.told)
+              names_not : FollowsItself s ⊎ FollowsPort s → In u a.path → ⊥
+              names_not (inl itself) names =
+                  elim (subst (In u) (own.path ∙ itself.trace) names) [
+                    | inl same ↦ apart (sym is_x.1 ∙ sym same)
+                    | inr none ↦ none
+                  ]
+              names_not (inr port) names =
+                  elim (In-parts u port.r.said.path (s.clock ∷ []) (subst (In u) (own.path ∙ port.trace) names)) [
+                    | inl among ↦
+                        let h = free_holds not port.place port.r port.holds in
+                        names_beyond g n Tree Out top best next base depth t x u in_x beyond (suc p, suc q, joins) h.v
+                        port.r.said (
+                          suc port.place,
+                          suc h.p,
+                          Joins-sym n.graph (port_of h.v (suc h.p)) (port_of x (suc port.place)) h.joins,
+                        ) (not_from port)
+                        h.whole (no_loop port.place port.r port.holds) among
+                    | inr (inl same) ↦ apart (sym is_x.1 ∙ sym same)
+                    | inr (inr none) ↦ none
+                  ]
+
+              pub says_usable : IsUsable u a
+              says_usable =
+                  let whole = says_whole in
+                  let short = t.paths x whole.first.clock whole.others whole.way in
+                  let steps_are = whole.steps in
+                  let long = path_length n.graph t.well x a whole next (t.is_best x in_x) in
+                  let few = t.few in
+                  record {
+                    foreign = λ same. apart (sym (ap (λ (z : PortIdentity). z.clock) own.source ∙ is_x.1) ∙ same);
+                    near = omega (arith, short, steps_are, few);
+                    no_loop = names_not follows;
+                    short = omega (arith, long, short, steps_are, few);
+                  }

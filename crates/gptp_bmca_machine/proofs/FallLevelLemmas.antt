@@ -14,7 +14,8 @@ use Rattle.gptp_bmca_machine.specs.Network.{Network}
 use Rattle.gptp_bmca_machine.specs.Station.{MachineState, Mine, Port, Received, Station}
 use Rattle.gptp_bmca_machine.proofs.MovedTreeLemmas.{MovesTree, child_leads}
 use Rattle.gptp_bmca_machine.proofs.FallKeptLemmas.{hearer_old, led_next, led_old, left_old}
-use Rattle.gptp_bmca_machine.proofs.FallLemmas.{DownStage, HasChoice, HasLeft, IsAftermath, IsFalling, IsOld, UnlinkedDrop, choice_dec, falls_by, follows_old, free_clear, free_fits, holds_in_tree, told_nearer}
+use Rattle.gptp_bmca_machine.proofs.FallHeldLemmas.{holds_in_tree}
+use Rattle.gptp_bmca_machine.proofs.FallLemmas.{DownStage, HasChoice, HasLeft, IsAftermath, IsFalling, IsOld, UnlinkedDrop, choice_dec, falls_by, follows_old, free_clear, free_fits, told_nearer}
 use Rattle.gptp_bmca_machine.proofs.ClearLemmas.{tells_clear, weaker_clear}
 use Rattle.gptp_bmca_machine.proofs.LinkEndsLemmas.{ShowEnds, telling, telling_kept}
 use Rattle.gptp_bmca_machine.proofs.LinkStepLemmas.{lives_at}
@@ -22,7 +23,8 @@ use Rattle.gptp_bmca_machine.proofs.PlaceLemmas.{same_there}
 use Rattle.gptp_bmca_machine.specs.Vectors.{master}
 
 module _ (says : Spelling) (g : Snapshot) (n : Network) (Tree : ℕ → Type 0) (Out : ℕ → ℕ → Type 0) (top : ℕ)
-    (best next : System) (base : ℕ) (depth : ℕ → ℕ) (t : MovesTree g n Tree Out top best next base depth) (start : ℕ) (before : ℕ → ℕ) where
+    (best next : System) (base : ℕ) (depth : ℕ → ℕ) (t : MovesTree g n Tree Out top best next base depth) (start : ℕ)
+    (before : ℕ → ℕ) where
   -- each link of the tree that leads farther from its best is at a stage
   abbrev pub TreeSettles : MachineState → Type 0
   TreeSettles w = (f v p u q : ℕ) → f < 255 → Tree v → Tree u → LeadsFarther n.graph f next v p u q
@@ -79,7 +81,8 @@ module _ (says : Spelling) (g : Snapshot) (n : Network) (Tree : ℕ → Type 0) 
             let (live, clock) = lives_at n w m.kept.calm u (t.lives u in_u) s at in
             weaker_clear n.graph t.well k next refl leads.far best_u leads.there leads.farther s
             (free_clear says g n Tree Out top best next base depth t start w m u in_u s at
-            (holds_in_tree says g n Tree Out top best next base depth t start w m falling u in_u) not) clock pu there r d mine
+            (holds_in_tree says g n Tree Out top best next base depth t start w m falling u in_u) not) clock pu there r
+            d mine
         weaker s pu at there r d mine (yes root) = elim down [
           | inr not ↦ absurd (not s at root)
           | inl deeper ↦
@@ -98,7 +101,8 @@ module _ (says : Spelling) (g : Snapshot) (n : Network) (Tree : ℕ → Type 0) 
         ]
 
     -- who has its old choice hasn't settled
-    pub not_ready : (w : MachineState) → IsOld n w v best (base + depth v) → LinkSettles says (telling n (before f) f next v p u q) w
+    pub not_ready : (w : MachineState) → IsOld n w v best (base + depth v) → LinkSettles says (telling n (before f) f
+        next v p u q) w
     not_ready w root since pv pu l stand ready =
         absurd (settled_left stand.v ready.0 (root stand.v stand.teller))
 
@@ -121,7 +125,8 @@ module _ (says : Spelling) (g : Snapshot) (n : Network) (Tree : ℕ → Type 0) 
           by (falling.down u q v p in_u back (child_leads g n Tree Out top best next base depth t u v in_v higher))
         where
           after : IsOld n w' v best (base + depth v) ⊎ HasLeft n w' u best (base + depth u)
-          after = elim (hearer_old says g n Tree Out top best next base depth t start w' m' u q v p in_u in_v back higher
+          after = elim (hearer_old says g n Tree Out top best next base depth t start w' m' u q v p in_u in_v back
+              higher
               (falls_by n start (suc (depth u)))
               (falling'.down u q v p in_u back (child_leads g n Tree Out top best next base depth t u v in_v higher))) [
                 | inl root ↦ inl root
@@ -133,9 +138,11 @@ module _ (says : Spelling) (g : Snapshot) (n : Network) (Tree : ℕ → Type 0) 
 
           by : DownStage says n best (base + depth u) (falls_by n start (suc (depth u))) u q v p w
               → LinkSettles says (telling n (before f) f next v p u q) w'
-          by (inl led) = not_ready w' (elim (led_next says g n Tree Out top best next base depth t start w w' m m' step drops falling u
+          by (inl led) = not_ready w' (elim (led_next says g n Tree Out top best next base depth t start w w' m m' step
+              drops falling u
               q v p in_u back (child_leads g n Tree Out top best next base depth t u v in_v higher) led) [
-                | inl on ↦ led_old says g n Tree Out top best next base depth t start w' m' u q v p in_u in_v back higher on
+                | inl on ↦ led_old says g n Tree Out top best next base depth t start w' m' u q v p in_u in_v back
+                    higher on
                 | inr left ↦ left_old says g n Tree Out top best next base depth t start w' m' u q v p in_u in_v back
                     higher (falls_by n start (suc (depth u))) left
               ])

@@ -65,7 +65,8 @@ free_hears says g v u q now root steps pu pu' sends f fs a said answer free = re
 }
 
 module _ (says : Spelling) (g : Snapshot) (n : Network) (Tree : ℕ → Type 0) (Out : ℕ → ℕ → Type 0) (top : ℕ)
-    (best next : System) (base : ℕ) (depth : ℕ → ℕ) (t : MovesTree g n Tree Out top best next base depth) (w w' : MachineState) (m : IsAftermath says g n w)
+    (best next : System) (base : ℕ) (depth : ℕ → ℕ) (t : MovesTree g n Tree Out top best next base depth) (w w' :
+    MachineState) (m : IsAftermath says g n w)
     (m' : IsAftermath says g n w') (step : MachineSteps says w w') (v p u q : ℕ)
     (joins : Joins n.graph (port_of v (suc p)) (port_of u (suc q))) where
   is_on : (pu : Port) → StandsAtEnd says n v p u q w pu → pu.held ≢ Disabled

@@ -50,7 +50,12 @@ module _ (says : Spelling) (g : Snapshot) (n : Network) (left : IsWhatIsLeft g n
     is = calm.facts.stations i s at live
 
     clear : IsClear g s
-    clear = record { rest = (calm.stations i s at live).at_rest; known = known_in w.time s is; held = λ i r holds. bounded g s.clock (suc i) r (held i r holds) }
+    clear = record {
+      rest = (calm.stations i s at live).at_rest;
+      known = known_in w.time s is;
+      held = λ i r holds.
+          bounded g s.clock (suc i) r (held i r holds);
+    }
 
     above : (best : System) → IsBest g s.clock best → best.identity ≤ a.root
     above best is_best =

@@ -117,7 +117,8 @@ module _ (says : Spelling) (n0 n : Network) (net0 : IsSettlingNetwork n0) (w w' 
           → n0.interval_of (port_of lost (suc p)) + n0.most < r.span
       stays_long r holds source log =
           (subst (λ c. IsCalmPort n0 w.time (port_of c (suc i)) pu) is_top.1
-          ((loss.rests.calm.stations (n0.place top) s at is_top.0).ports i pu there)).long r (port_of lost (suc p)) holds
+          ((loss.rests.calm.stations (n0.place top) s at is_top.0).ports i pu there)).long r (port_of lost (suc p))
+          holds
           joins source log
 
     -- how it was told at rest
@@ -132,7 +133,8 @@ module _ (says : Spelling) (n0 n : Network) (net0 : IsSettlingNetwork n0) (w w' 
       where
         by : ((sv : Station) × (slice_get w.stations (n0.place lost) ≡ Some sv) × (sv.live ≡ true) × (sv.clock ≡ lost))
             → ToldAtRest pu l
-        by (sv, at_v, live, clock) = by_port (port_there says n0 net0 w loss.rests.calm loss.rests.invariant.sound lost p
+        by (sv, at_v, live, clock) = by_port (port_there says n0 net0 w loss.rests.calm loss.rests.invariant.sound lost
+            p
             (port_of top (suc i)) sv at_v joins)
           where
             by_port : ((pv : Port) × (slice_get sv.ports p ≡ Some pv)) → ToldAtRest pu l

@@ -33,8 +33,8 @@ abbrev pub NoneSays : Spelling → List AnnounceFrame → Type 0
 NoneSays says fs = (f : AnnounceFrame) → In f fs → FrameSaysAnnounce says f → ⊥
 
 module _ (says : Spelling) (k : Wiring) (gone : ℕ) where
-  -- The port holds what was told last. All that is on its way is so, and comes by that time; and what is held doesn't age
-  -- before all of it has come, or before some of it has. Or nothing is on its way.
+  -- The port holds what was told last. All that is on its way is so, and comes by that time; and what is held doesn't
+  -- age before all of it has come, or before some of it has. Or nothing is on its way.
   pub record HoldsLast (held : Held) (fs : List AnnounceFrame) : Type 0 where
     pub r : Reception
     pub holds : held ≡ Received r
@@ -218,7 +218,8 @@ module _ (says : Spelling) (g : Snapshot) (n : Network) (wf : IsWellFormed n.gra
         → says h.octets a → PortStep says x (suc i) now (Hear (suc i) a) root steps pu pu' sends
         → HoldsLast says k gone pu.held (h ∷ fs)
         → HoldsLast says k gone pu'.held fs
-    hears_again now root steps pu pu' sends h fs a end end' time said answer last = by (final_taken k now a pu answer.mid
+    hears_again now root steps pu pu' sends h fs a end end' time said answer last = by (final_taken k now a pu
+        answer.mid
         final (hears_last w m end.s end.at pu end.there) answer.before)
       where
         final : IsFinal k a

@@ -171,7 +171,8 @@ module _ (says : Spelling) (g : Snapshot) (n : Network) (lost top : ℕ) (best n
       -- nothing is heard at a port that never had a link
       bare_then : (x : ℕ) → IsBest n.graph x next → (s' : Station) (i : ℕ) (r : Reception)
           → slice_get w'.stations (n.place x) ≡ Some s' → HoldsAt s' i r → IsLinked g (port_of x (suc i))
-      bare_then x in_x s' i r at' holds = elim (answers_or_stands says n (λ c. ⊥) x w w' m.kept.calm m'.kept.calm in_x.reached.1.begins step
+      bare_then x in_x s' i r at' holds = elim (answers_or_stands says n (λ c. ⊥) x w w' m.kept.calm m'.kept.calm
+          in_x.reached.1.begins step
           s' at') [
             | inl stood ↦ is.bare x in_x s' i r stood holds
             | inr z ↦ answered z (same_there w'.stations (n.place x) z.s' s' z.there at')
@@ -193,7 +194,11 @@ module _ (says : Spelling) (g : Snapshot) (n : Network) (lost top : ℕ) (best n
               ]
 
       pub top_holds_on : TopHolds w'
-      top_holds_on = record { last = λ p i joins bare. (goes_on p i joins bare (port_stands w m p i joins)).0; bare = bare_then }
+      top_holds_on = record {
+        last = λ p i joins bare. (goes_on p i joins bare (port_stands w m p i joins)).0;
+        bare =
+            bare_then;
+      }
 
     -- ---- so what such a port holds was told last
 

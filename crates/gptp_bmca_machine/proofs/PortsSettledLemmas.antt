@@ -26,8 +26,8 @@ use Rattle.gptp_bmca_machine.proofs.PlaceLemmas.{same_there, received_injective}
 use Rattle.gptp_bmca_machine.proofs.RestLemmas.{Chooses, IsClear, chosen_port, chosen_itself, chosen_said, is_master}
 use Rattle.gptp_bmca_machine.proofs.LevelLemmas.{places_of, chooses}
 
--- What it chooses, what is known of its ports, and what they hold of those that tell: of each that is nearer, and of each
--- that is as far with the lower clock once it has told.
+-- What it chooses, what is known of its ports, and what they hold of those that tell: of each that is nearer, and of
+-- each that is as far with the lower clock once it has told.
 module _ (n : Network) (wf : IsWellFormed n.graph) (now : ℕ) (s : Station) (d : ℕ) (here : IsDistance n.graph s.clock d)
     (near : d < 255) (clear : IsClear n.graph s) (chosen : Chooses s here.best d) (calm_port : (p : ℕ) (q : Port)
     → slice_get s.ports p ≡ Some q → IsCalmPort n now (port_of s.clock (suc p)) q) (Told : ℕ → Type 0)

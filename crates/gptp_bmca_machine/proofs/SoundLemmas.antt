@@ -70,7 +70,8 @@ module _ (says : Spelling) (g : Snapshot) (n : Network) (left : IsWhatIsLeft g n
       → (p : ℕ) (a : Announce)
       → IsOwn s p a → IsWorse g s.clock a ⊎ Whole g s.clock a
   says_sound now s is held p a own = elim is.follows [
-    | inl itself ↦ inr (whole_own g (station_system s) a (left.systems (station_system s) is.known) (own.root ∙ itself.root) (own.steps ∙ itself.steps)
+    | inl itself ↦ inr (whole_own g (station_system s) a (left.systems (station_system s) is.known) (own.root ∙
+        itself.root) (own.steps ∙ itself.steps)
         (own.path ∙ itself.trace))
     | inr port ↦ on port (held port.place port.r port.holds)
   ]
@@ -84,7 +85,8 @@ module _ (says : Spelling) (g : Snapshot) (n : Network) (left : IsWhatIsLeft g n
             | inl worse ↦ inl (λ best is_best. subst (λ m. best.identity < m) (sym (own.root ∙ port.root))
                 (worse best (IsBest-neighbour g s.clock came.from.clock best left.graph joined is_best)))
             | inr whole ↦ inr (whole_on g s.clock came.from.clock port.r.said a whole
-                (In-clocks g (station_system s) (left.systems (station_system s) is.known)) joined (is.held port.place port.r port.holds).no_loop
+                (In-clocks g (station_system s) (left.systems (station_system s) is.known)) joined (is.held port.place
+                port.r port.holds).no_loop
                 (own.root ∙ port.root) (own.steps ∙ port.steps) (own.path ∙ port.trace))
           ]
 
@@ -168,7 +170,8 @@ module _ (says : Spelling) (g : Snapshot) (n : Network) (left : IsWhatIsLeft g n
   }
 
   -- what arrives came over the link of the port, where that isn't disabled
-  arrived : (w w' : MachineState) (act : Arrives says w w') → Calm n w → UnlinkedAreOff n.graph w → IsSoundOnLinks says g w
+  arrived : (w w' : MachineState) (act : Arrives says w w') → Calm n w → UnlinkedAreOff n.graph w → IsSoundOnLinks says
+      g w
       → HeardIsSound act.call.s act.touch
   unfolding HeardIsSound
   arrived w w' act calm off all i q a touched at on = elim (IsLinked-dec n.graph (port_of act.call.s.clock (suc i))) [

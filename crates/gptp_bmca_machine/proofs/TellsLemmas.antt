@@ -49,7 +49,8 @@ module _ (says : Spelling) (g : Snapshot) (n : Network) (wf : IsWellFormed n.gra
     log = own.log p pv is there ∙ is_port.log;
     qualified = record {
       foreign = λ same.
-          wf.apart (port_of x (suc p)) (port_of u (suc q)) joins (ap (λ (e : PortIdentity). e.clock) (sym source) ∙ same);
+          wf.apart (port_of x (suc p)) (port_of u (suc q)) joins (ap (λ (e : PortIdentity). e.clock) (sym source) ∙
+          same);
       near = subst (λ k. k < 255) (sym (own.steps ∙ ready.0.1)) tells.near;
       no_loop = λ names. tells.foreign (subst (In u) own.path names);
       short = subst (λ (xs : List ℕ). length xs ≤ 255) (sym own.path) tells.short;

@@ -22,7 +22,8 @@ use Rattle.gptp_bmca_machine.specs.Network.{Network, since, wiring}
 use Rattle.gptp_bmca_machine.specs.Sound.{ReceivedFits}
 use Rattle.gptp_bmca_machine.specs.Station.{MachineState, Reception, Station}
 use Rattle.gptp_bmca_machine.proofs.FallKeptLemmas.{falling_kept}
-use Rattle.gptp_bmca_machine.proofs.FallLemmas.{HasChoice, HasLeft, IsAftermath, IsFalling, UnlinkedDrop, UnlinkedHoldNone, UnlinkedHoldOld, falls_by, free_fits, holds_in_tree, is_moved, old_in_time}
+use Rattle.gptp_bmca_machine.proofs.FallHeldLemmas.{holds_in_tree, old_in_time}
+use Rattle.gptp_bmca_machine.proofs.FallLemmas.{HasChoice, HasLeft, IsAftermath, IsFalling, UnlinkedDrop, UnlinkedHoldNone, UnlinkedHoldOld, falls_by, free_fits, is_moved}
 use Rattle.gptp_bmca_machine.proofs.CutTreeLemmas.{IsCutOff, LeadsNowhere, moves_off}
 use Rattle.gptp_bmca_machine.proofs.FallLevelLemmas.{TreeSettles}
 use Rattle.gptp_bmca_machine.proofs.LossLemmas.{fits_kept}
@@ -82,7 +83,9 @@ module _ (says : Spelling) (g : Snapshot) (n : Network) (best : System) (IsCut :
         | inl too ↦ too
         | inr (t, cut, in_u) ↦
             let in_v = IsBest-neighbour n.graph u v t.next cuts.well (k, i, back) in_u in
-            absurd (is_moved says g n (IsCutOff n t.next) LeadsNowhere t.top best t.next t.base t.depth (moves_off g n t.top best t.next t.base t.depth (cuts.each t cut)) start v in_v unmoved)
+            absurd (is_moved says g n (IsCutOff n t.next) LeadsNowhere t.top best t.next t.base t.depth (moves_off g n
+            t.top
+            best t.next t.base t.depth (cuts.each t cut)) start v in_v unmoved)
       ]
     where
       back : Joins n.graph (port_of u k) (port_of v i)

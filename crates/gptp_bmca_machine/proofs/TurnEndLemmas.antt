@@ -23,7 +23,8 @@ use Rattle.gptp_bmca_machine.specs.Run.{NearHaveSettled}
 use Rattle.gptp_bmca_machine.specs.Settled.{FollowsBest, HasBest, HasSettledRoles}
 use Rattle.gptp_bmca_machine.specs.Station.{HoldsAt, MachineState, Mine, Port, Received, Reception, Station}
 use Rattle.gptp_bmca_machine.specs.TurnTree.{TurnsTree}
-use Rattle.gptp_bmca_machine.proofs.FallLemmas.{free_clear, holds_in_tree}
+use Rattle.gptp_bmca_machine.proofs.FallHeldLemmas.{holds_in_tree}
+use Rattle.gptp_bmca_machine.proofs.FallLemmas.{free_clear}
 use Rattle.gptp_bmca_machine.proofs.LevelLemmas.{places_of}
 use Rattle.gptp_bmca_machine.proofs.LinkEndsLemmas.{hearer_on}
 use Rattle.gptp_bmca_machine.proofs.MovedTreeLemmas.{MovesTree}

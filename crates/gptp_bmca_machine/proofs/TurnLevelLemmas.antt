@@ -16,7 +16,8 @@ use Rattle.gptp_bmca_machine.specs.Link.{LinkSettles}
 use Rattle.gptp_bmca_machine.specs.Network.{Network}
 use Rattle.gptp_bmca_machine.specs.Station.{HoldsAt, MachineState, Reception, Station}
 use Rattle.gptp_bmca_machine.specs.TurnTree.{TurnsTree}
-use Rattle.gptp_bmca_machine.proofs.FallLemmas.{HasLeft, falls_by, free_clear, holds_in_tree, off_drop, old_in_time}
+use Rattle.gptp_bmca_machine.proofs.FallHeldLemmas.{holds_in_tree, old_in_time}
+use Rattle.gptp_bmca_machine.proofs.FallLemmas.{HasLeft, falls_by, free_clear, off_drop}
 use Rattle.gptp_bmca_machine.proofs.FallLevelLemmas.{HasTime, level_kept, show}
 use Rattle.gptp_bmca_machine.proofs.LevelLemmas.{places_of}
 use Rattle.gptp_bmca_machine.proofs.LinkEndsLemmas.{ends_by, teller_on, telling}

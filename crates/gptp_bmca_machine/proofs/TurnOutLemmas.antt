@@ -25,7 +25,8 @@ use Rattle.gptp_bmca_machine.specs.Station.{Aged, Disabled, Held, HoldsAt, Machi
 use Rattle.gptp_bmca_machine.specs.TurnTree.{TurnsTree}
 use Rattle.gptp_bmca_machine.proofs.ClearLemmas.{trace_short, weaker_clear}
 use Rattle.gptp_bmca_machine.proofs.FallLeaveLemmas.{TreeAnswers, answers_or_stands}
-use Rattle.gptp_bmca_machine.proofs.FallLemmas.{HasLeft, IsFreeAt, IsLed, IsLeft, IsNewTold, falls_by, free_clear, holds_in_tree, old_in_time, own_new}
+use Rattle.gptp_bmca_machine.proofs.FallHeldLemmas.{holds_in_tree, old_in_time}
+use Rattle.gptp_bmca_machine.proofs.FallLemmas.{HasLeft, IsFreeAt, IsLed, IsLeft, IsNewTold, falls_by, free_clear, own_new}
 use Rattle.gptp_bmca_machine.proofs.LinkEndsLemmas.{ShowEnds, on_time, teller_on, telling, telling_kept}
 use Rattle.gptp_bmca_machine.proofs.LinkStageLemmas.{begins}
 use Rattle.gptp_bmca_machine.proofs.LinkStepLemmas.{AtLink, lives_at}

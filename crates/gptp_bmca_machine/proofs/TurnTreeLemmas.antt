@@ -1,5 +1,5 @@
--- A tree that turns by its one way out: it is moved, and the shortest ways of before from outside that don't pass it are
--- left.
+-- A tree that turns by its one way out: it is moved, and the shortest ways of before from outside that don't pass it
+-- are left.
 use Rattle.std.proofs.Common.{◌≡◌, ◌⊎◌, ◌<◌, ◌≤◌, ◌+◌, ℕ, zero, suc, List, [], ◌∷◌, sym, ap, subst, ◌∙◌, inl, inr, arith}
 use Rattle.gptp_lists.specs.Members.{In, Different}
 use Rattle.gptp_graph.specs.Best.{IsBest}
@@ -152,7 +152,8 @@ module _ (g : Snapshot) (n : Network) (tree : List ℕ) (top other last out : �
   pub up_whole : (v u : ℕ) (a : Announce) → In v tree → In u tree → Adjacent n.graph u v
       → depth v ≡ suc (depth u) → Whole g v a → a.root ≡ best.identity → Whole n.graph v a ⊎ In u a.path
   up_whole v u a in_v in_u joined higher whole root =
-      whole_or_named g n (IsOf tree) (LeadsOut last out) top best best base depth turns_moves u v joined in_u in_v higher
+      whole_or_named g n (IsOf tree) (LeadsOut last out) top best best base depth turns_moves u v joined in_u in_v
+      higher
       a whole after
     where
       clock : whole.first.clock ≡ best.clock
