@@ -39,6 +39,10 @@ module _ (g : Snapshot) (n : Network) (top : ℕ) (best next : System) (base : �
         ]
       ]
 
+  -- a link from it leads to another of it
+  pub beside : (v u : ℕ) → Adjacent n.graph v u → IsBest n.graph v next → IsBest n.graph u next
+  beside v u joined in_v = IsBest-neighbour n.graph v u next t.well joined in_v
+
   -- it is moved
   pub moves_off : MovesTree g n (IsCutOff n next) LeadsNowhere top best next base depth
   moves_off = record {
@@ -53,7 +57,7 @@ module _ (g : Snapshot) (n : Network) (top : ℕ) (best next : System) (base : �
     worse = λ v in_v. inl t.worse;
     first = t.first;
     lost = t.lost;
-    beside = λ v u in_v joined. inl (IsBest-neighbour n.graph v u next t.well joined in_v);
+    beside = λ v u in_v joined. inl (beside v u joined in_v);
     steps = λ v u in_v in_u joined. t.steps v u in_v joined;
     single = λ v p q to u in_v in_t in_u first second deeper deeper'.
         t.single v p q to u first second deeper deeper';

@@ -6,8 +6,7 @@ use Rattle.gptp_graph.specs.Best.{IsBest}
 use Rattle.gptp_graph.specs.Distance.{IsDistance}
 use Rattle.gptp_graph.specs.Snapshot.{IsLinked, Joins, PortIdentity, Snapshot, System, clocks, port_of}
 use Rattle.gptp_graph.proofs.BestLemmas.{IsBest-neighbour, IsBest-unique}
-use Rattle.gptp_graph.proofs.DistanceLemmas.{IsDistance-clock, IsDistance-unique}
-use Rattle.gptp_graph.proofs.ExistenceLemmas.{best_exists, distance_exists}
+use Rattle.gptp_graph.proofs.DistanceLemmas.{IsDistance-clock}
 use Rattle.gptp_graph.proofs.LinkLemmas.{Joins-clock, Joins-sym}
 use Rattle.gptp_graph.proofs.SystemLemmas.{In-clocks}
 use Rattle.gptp_bmca_machine.specs.Acts.{MachineSteps}
@@ -32,7 +31,7 @@ use Rattle.gptp_bmca_machine.proofs.FallLemmas.{HasChoice, HasLeft, IsAftermath,
 use Rattle.gptp_bmca_machine.proofs.FallLevelLemmas.{TreeSettles}
 use Rattle.gptp_bmca_machine.proofs.LossLemmas.{fits_kept}
 use Rattle.gptp_bmca_machine.proofs.PlaceLemmas.{same_there}
-use Rattle.gptp_bmca_machine.proofs.StillLemmas.{LeadsOn, StillSettles, levels_below, live_before}
+use Rattle.gptp_bmca_machine.proofs.StillLemmas.{LeadsOn, StillSettles, best_was, far_was, levels_below}
 use Rattle.gptp_bmca_machine.proofs.TimedLinkLemmas.{timed_link}
 
 module _ (says : Spelling) (g : Snapshot) (n : Network) (Tree : ℕ → Type 0) (Out : ℕ → ℕ → Type 0) (top : ℕ)
@@ -85,24 +84,17 @@ module _ (says : Spelling) (g : Snapshot) (n : Network) (top : ℕ) (best next :
   abbrev m : MovesTree g n (IsCutOff n next) LeadsNowhere top best next base depth
   m = moves_tree g n top best next base depth t
 
-  abbrev FallsOff : MachineState → Type 0
+  abbrev pub FallsOff : MachineState → Type 0
   FallsOff w = FallsBack says g n (IsCutOff n next) LeadsNowhere top best next base depth m start w
 
   -- ---- systems that aren't of the tree
 
   best_before : (v : ℕ) (c : System) → (IsBest n.graph v next → ⊥) → IsBest n.graph v c → IsBest g v c
-  best_before v c out is =
-      let known = is.reached.1.begins in
-      let u = t.others v known out in
-      let (f, was) = best_exists g v t.left.graph (live_before g n t.well t.left v known) in
-      subst (IsBest g v) (IsBest-unique n.graph v f c t.well (u.best f was) is) was
+  best_before v c out is = best_was g n t.well t.left v c (t.others v is.reached.1.begins out) is
 
   far_before : (v far : ℕ) → (IsBest n.graph v next → ⊥) → IsDistance n.graph v far → IsDistance g v far
   far_before v far out is =
-      let known = IsDistance-clock n.graph v far t.well is in
-      let u = t.others v known out in
-      let (f, was) = distance_exists g v t.left.graph (live_before g n t.well t.left v known) in
-      subst (IsDistance g v) (IsDistance-unique n.graph v f far t.well (u.far f was) is) was
+      far_was g n t.well t.left v far (t.others v (IsDistance-clock n.graph v far t.well is) out) is
 
   -- a link leads from none of them to the tree
   out_beside : (v u : ℕ) (i k : ℕ) → (IsBest n.graph v next → ⊥) → Joins n.graph (port_of v i) (port_of u k)

@@ -49,8 +49,8 @@ module _ (says : Spelling) (n0 n : Network) (tree : List ℕ) (top other last ou
       by (s, at, live, clock) (sl, at_l, live_l, clock_l) =
           let (pv, there) = still.port_there g n t.well t.left w' is'.back.after.kept is'.back.after.fits.stations out k
           (port_of last (suc p)) s at (Joins-sym n.graph (port_of last (suc p)) (port_of out (suc k)) joins) in
-          let (pl, there_l) = port_there says n0 net0 w calm0 invariant0.sound last p (port_of out (suc k)) sl at_l before
-          in
+          let (pl, there_l) = port_there says n0 net0 w calm0 invariant0.sound last p (port_of out (suc k)) sl at_l
+          before in
           let has0 = calm0.lanes (port_of last (suc p)) (port_of out (suc k)) before in
           let stay = stays0 says n0 n (IsOf tree) (LeadsOut last out) top best best base depth
           (turns_moves g n tree top other last out best base depth t) net0 w calm0 invariant0 late0 same last p out k
@@ -62,7 +62,8 @@ module _ (says : Spelling) (n0 n : Network) (tree : List ℕ) (top other last ou
             teller_port = there_l;
             hearer = stood s at;
             hearer_port = there;
-            lane = subst (λ i. slice_get w.lanes i ≡ Some has0.lane) (sym (same.lane (port_of last (suc p)))) has0.there;
+            lane = subst (λ i. slice_get w.lanes i ≡ Some has0.lane) (sym (same.lane (port_of last (suc p))))
+                has0.there;
           }) in
           let has = is'.back.after.kept.calm.lanes (port_of last (suc p)) (port_of out (suc k)) joins in
           let whole = (turned.1 s pv has.lane at there has.there).hears stay.what stay.holds in

@@ -115,7 +115,8 @@ module _ (says : Spelling) (g : Snapshot) (n : Network) (tree : List ℕ) (top o
         × (r.said.source ≡ port_of u (suc q))
 
     abbrev Settles : Type 0
-    Settles = HasBest n.graph s × (n.bare ≤ w.time → FollowsBest n.graph s) × (n.off ≤ w.time → HasSettledRoles n.graph s)
+    Settles = HasBest n.graph s × (n.bare ≤ w.time → FollowsBest n.graph s) × (n.off ≤ w.time → HasSettledRoles n.graph
+        s)
 
     has_settled : n.bare ≤ n.off → IsClear n.graph s → Chooses s here.best d → Hears → Settles
     has_settled bare clear chosen hears = (
@@ -188,7 +189,8 @@ module _ (says : Spelling) (g : Snapshot) (n : Network) (tree : List ℕ) (top o
                   let by_then = subst (λ k. before k ≤ w.time) same now in
                   let far = IsDistance-within n.graph n.reach u (suc e') t.paths leads'.here in
                   let (r, holds, root, steps, source) = told_level says g n tree top other last out best base depth t
-                  start over before times w is e' (choose e' far) by_then u q s.clock p (omega (arith, close, same)) in_u
+                  start over before times w is e' (choose e' far) by_then u q s.clock p (omega (arith, close, same))
+                  in_u
                   in_s leads' (settles.levels (suc e') u q s.clock p (omega (arith, close, same)) in_u in_s leads') s
                   there in
                   (r, holds, root, steps ∙ sym same, source)
@@ -198,7 +200,8 @@ module _ (says : Spelling) (g : Snapshot) (n : Network) (tree : List ℕ) (top o
               let joins = subst (λ c. Joins n.graph (port_of last (suc p)) (port_of c (suc q))) is_out
               (subst (λ c. Joins n.graph (port_of c (suc p)) (port_of u (suc q))) is_last
               (Joins-sym n.graph (port_of u (suc q)) (port_of s.clock (suc p)) leads.joins)) in
-              let (r, holds, root, steps, source) = told_in says g n tree top other last out best base depth t start over
+              let (r, holds, root, steps, source) = told_in says g n tree top other last out best base depth t start
+              over
               before times w is settles.way p q joins (subst (λ k. before k ≤ w.time) same now) s
               (subst (λ c. slice_get w.stations (n.place c) ≡ Some s) is_last there) in
               name (r, holds, root, steps ∙ sym same, source ∙ ap (λ c. port_of c (suc q)) (sym is_out))
@@ -233,7 +236,8 @@ module _ (says : Spelling) (g : Snapshot) (n : Network) (tree : List ℕ) (top o
         | yes in_u ↦
             let (is_last, is_out) = from_tree u (suc q) (suc p) in_u leads.joins in
             let far = beyond_out g n tree top other last out best base depth t e u o.d in_u leads.here o.now in
-            let same = IsDistance-unique n.graph out d o.d t.well (subst (λ c. IsDistance n.graph c d) is_out here) o.now in
+            let same = IsDistance-unique n.graph out d o.d t.well (subst (λ c. IsDistance n.graph c d) is_out here)
+            o.now in
             let end = IsDistance-unique n.graph s.clock leads.far d t.well leads.there here in
             absurd (elim leads.farther [
               | inl less ↦ omega (arith, less, far, same, end)
@@ -270,14 +274,16 @@ module _ (says : Spelling) (g : Snapshot) (n : Network) (tree : List ℕ) (top o
           bounded_now place r holds = record {
             over = over_link;
             root = λ b best_b. fits.fits.root b (best_was g n t.well t.left s.clock b u_s best_b);
-            here = λ b far best_b root far_is. fits.fits.here b far (best_was g n t.well t.left s.clock b u_s best_b) root
+            here = λ b far best_b root far_is. fits.fits.here b far (best_was g n t.well t.left s.clock b u_s best_b)
+                root
                 (far_was g n t.well t.left s.clock far u_s far_is);
           }
             where
               fits : CameFits g s.clock (suc place) r
               fits = is.back.after.fits.stations i s place r at live holds
 
-              over_link : IsLinked n.graph (port_of s.clock (suc place)) → CameOverLink n.graph s.clock (suc place) r.said
+              over_link : IsLinked n.graph (port_of s.clock (suc place)) → CameOverLink n.graph s.clock (suc place)
+                  r.said
               over_link (u, joined) = record {
                 from = u;
                 joins = Joins-sym n.graph (port_of s.clock (suc place)) u joined;
@@ -307,9 +313,11 @@ module _ (says : Spelling) (g : Snapshot) (n : Network) (tree : List ℕ) (top o
                           let joins : Joins n.graph (port_of last (suc p)) (port_of out (suc place)) =
                           subst (λ c. Joins n.graph (port_of last (suc p)) (port_of c (suc place))) is_out
                           (subst (λ c. Joins n.graph (port_of c (suc p)) (port_of s.clock (suc place))) is_last
-                          (subst (λ k. Joins n.graph (port_of u.clock k) (port_of s.clock (suc place))) second back')) in
+                          (subst (λ k. Joins n.graph (port_of u.clock k) (port_of s.clock (suc place))) second back'))
+                          in
                           let (far, last_at) = distance_exists n.graph last t.well (t.lives last t.in_last) in
-                          let by = beyond_out g n tree top other last out best base depth t far last o.d t.in_last last_at
+                          let by = beyond_out g n tree top other last out best base depth t far last o.d t.in_last
+                          last_at
                           o.now in
                           let within = IsDistance-within n.graph n.reach last far t.paths last_at in
                           let is_mine = out_mine p place joins (late o.d (omega (arith, by, within))) s holds.0

@@ -135,7 +135,8 @@ module _ (says : Spelling) (g : Snapshot) (n : Network) (tree : List ℕ) (top o
                 there = t.was last t.in_last;
                 farther = inr (same, lower);
               } in
-              let (r, holds, final) = told says g n t.well t.left w is.back.after.kept is.back.after.fits.stations o.d best
+              let (r, holds, final) = told says g n t.well t.left w is.back.after.kept is.back.after.fits.stations o.d
+              best
               out k last p o.near leads
               (chooses_still says g n t.well t.left w is.back.after.kept is.back.after.fits.stations o.d
               (λ e less. is.back.still e) o.near) (is.back.still o.d best out k last p o.near leads) s at in
@@ -152,7 +153,8 @@ module _ (says : Spelling) (g : Snapshot) (n : Network) (tree : List ℕ) (top o
               heard has_turned =
                   let (so, at_o, live, clock) = station_of g n t.well t.left w is.back.after.kept
                   is.back.after.fits.stations out (out_lives g n tree top other last out best base depth t) in
-                  let (po, there_o) = port_there g n t.well t.left w is.back.after.kept is.back.after.fits.stations out k
+                  let (po, there_o) = port_there g n t.well t.left w is.back.after.kept is.back.after.fits.stations out
+                  k
                   (port_of last (suc p)) so at_o back' in
                   let (pl, there_l) = port_there g n t.well t.left w is.back.after.kept is.back.after.fits.stations last
                   p (port_of out (suc k)) s at joins in
@@ -217,10 +219,12 @@ module _ (says : Spelling) (g : Snapshot) (n : Network) (tree : List ℕ) (top o
             hearer = at;
             hearer_port = there_u;
             lane = has.there;
-          }) (let chose = choose v sv at_v in_v leads.here in ((chose.root, chose.steps), on sv pv at_v there_v)) late in
+          }) (let chose = choose v sv at_v in_v leads.here in ((chose.root, chose.steps), on sv pv at_v there_v)) late
+          in
           (r, (pu, there_u, holds), final.root, final.steps, final.source)
 
-      choose_next : WaySettles w → (e : ℕ) → LevelSettles e w → before e ≤ w.time → ((e' : ℕ) → e ≡ suc e' → TreeChooses e')
+      choose_next : WaySettles w → (e : ℕ) → LevelSettles e w → before e ≤ w.time → ((e' : ℕ) → e ≡ suc e' → TreeChooses
+          e')
           → TreeChooses e
       choose_next way e level late sooner v s at in_v here =
           by_neighbour (nearer_neighbour n.graph v e t.well here)
@@ -282,7 +286,8 @@ module _ (says : Spelling) (g : Snapshot) (n : Network) (tree : List ℕ) (top o
                           let within = IsDistance-within n.graph n.reach v (suc e) t.paths here in
                           let few = t.few in
                           let (r, holds, root, steps, source) = told_level e2 (sooner e2 same)
-                          (subst (λ k. before k ≤ w.time) same late) x p v q (omega (arith, within, few, same)) in_x in_v
+                          (subst (λ k. before k ≤ w.time) same late) x p v q (omega (arith, within, few, same)) in_x
+                          in_v
                           (leads e2 is_there same) (subst (λ k. LevelSettles k w) same level x p v q
                           (omega (arith, within, few, same)) in_x in_v (leads e2 is_there same)) s at in
                           chosen_by q r holds root (steps ∙ sym same)
@@ -301,7 +306,8 @@ module _ (says : Spelling) (g : Snapshot) (n : Network) (tree : List ℕ) (top o
       -- who hasn't settled yet has the time
       has_time : WaySettles w → (f : ℕ) → ((e : ℕ) → e < f → LevelSettles e w) → (v p u q : ℕ) (close : f < 255)
           (in_v : In v tree) (in_u : In u tree) (leads : LeadsFarther n.graph f best v p u q)
-          → HasTime says g n (IsOf tree) (LeadsOut last out) top best best base depth m start before f v p u q close in_v
+          → HasTime says g n (IsOf tree) (LeadsOut last out) top best best base depth m start before f v p u q close
+          in_v
           in_u leads (delay f) w
       has_time way zero levels v p u q close in_v in_u leads s pv at there not =
           let more = t.farther v 0 in_v leads.here in absurd (omega (arith, more))

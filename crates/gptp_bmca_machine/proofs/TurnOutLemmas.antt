@@ -1,5 +1,5 @@
--- The end of the way out turns away from the tree: as soon as it hears that the system at the other end has left its old
--- choice it tells that its own.
+-- The end of the way out turns away from the tree: as soon as it hears that the system at the other end has left its
+-- old choice it tells that its own.
 use Rattle.std.proofs.Common.{◌≡◌, ◌≢◌, ◌⊎◌, ◌<◌, ◌≤◌, ◌+◌, ℕ, suc, true, List, [], ◌∷◌, Some, None, slice_get, refl, sym, ap, subst, ◌∙◌, inl, inr, arith}
 use Rattle.gptp_lists.specs.Members.{In}
 use Rattle.gptp_lists.proofs.SystemSpecLemmas.{In-parts, In-right}
@@ -59,7 +59,8 @@ module _ (says : Spelling) (g : Snapshot) (n : Network) (tree : List ℕ) (top o
       let same : leads.far ≡ o.d = IsDistance-unique g out leads.far o.d t.left.graph leads.there o.there in
       let joined : Adjacent g last out =
       (suc p, suc k, t.left.links (port_of last (suc p)) (port_of out (suc k)) joins) in
-      let by = IsDistance-neighbour g last out (base + depth last) o.d t.left.graph joined (t.was last t.in_last) o.there
+      let by = IsDistance-neighbour g last out (base + depth last) o.d t.left.graph joined (t.was last t.in_last)
+      o.there
       in (
         elim leads.farther [ inl less ↦ omega (arith, less, same) | inr (equal, clock) ↦ omega (arith, equal, same) ],
         by,
@@ -77,7 +78,8 @@ module _ (says : Spelling) (g : Snapshot) (n : Network) (tree : List ℕ) (top o
               let (far, here) = distance_exists n.graph last t.well (t.lives last t.in_last) in
               let by = beyond_out g n tree top other last out best base depth t far last o.d t.in_last here o.now in
               let is_best = t.is_best last t.in_last in
-              let few = steps_not_fewer n.graph t.well last a whole best is_best last far (inl refl) is_best here root in
+              let few = steps_not_fewer n.graph t.well last a whole best is_best last far (inl refl) is_best here root
+              in
               omega (arith, by, few)),
         )
       ]
@@ -174,7 +176,8 @@ module _ (says : Spelling) (g : Snapshot) (n : Network) (tree : List ℕ) (top o
                 chose slave (inl (own, none)) = absurd (let both : Some (suc k) ≡ None = sym slave ∙ none in cc)
                 chose slave (inr (i, x, holds_x, path, slave_x)) =
                     let place : i ≡ k = same_place i k (sym slave_x ∙ slave) in
-                    let one : x ≡ r = same_holds s k x r (subst (λ j. HoldsAt s j x) place holds_x) (pv, there, holds) in
+                    let one : x ≡ r = same_holds s k x r (subst (λ j. HoldsAt s j x) place holds_x) (pv, there, holds)
+                    in
                     let vector = rest.is in
                     let root : x.said.root ≡ s.root = cc in
                     let steps : suc x.said.steps ≡ s.steps = cc in
@@ -329,7 +332,8 @@ module _ (says : Spelling) (g : Snapshot) (n : Network) (tree : List ℕ) (top o
             (in_time : w.time ≤ falls_by n start (suc (depth last))) (turned' : HasTurned w') where
           turn_now : LinkSettles says (telling n before o.d best out k last p) w'
           turn_now since pv pu l stand ready' =
-              by (answers_or_stands says n (IsOf tree) out w w' is.back.after.kept.calm is'.back.after.kept.calm known step
+              by (answers_or_stands says n (IsOf tree) out w w' is.back.after.kept.calm is'.back.after.kept.calm known
+              step
               stand.v stand.teller)
             where
               known : In out (clocks n.graph)
@@ -384,13 +388,15 @@ module _ (says : Spelling) (g : Snapshot) (n : Network) (tree : List ℕ) (top o
                       from = sym lane_step.from ∙ ap (λ (y : Lane). y.from) (sym lane_is) ∙ has.from
 
                       -- it announces now
-                      sent : (f : AnnounceFrame) × In f lane_step.news × FrameSaysAnnounce says f × (f.due ≤ w'.time + n.most)
+                      sent : (f : AnnounceFrame) × In f lane_step.news × FrameSaysAnnounce says f × (f.due ≤ w'.time +
+                          n.most)
                       sent = go (received z.s old z.here stood)
                         where
                           go : ((r : Reception) × (old.held ≡ Received r))
                               → (f : AnnounceFrame) × In f lane_step.news
                               × FrameSaysAnnounce says f × (f.due ≤ w'.time + n.most)
-                          go (r, holds) = over (master_announces says z.s.clock (suc k) w.time z.touch z.s'.root z.s'.steps
+                          go (r, holds) = over (master_announces says z.s.clock (suc k) w.time z.touch z.s'.root
+                              z.s'.steps
                               old pv z.sends r best.identity o.d answer holds mine').sent
                             where
                               over : ((y : Send) × In y z.sends × (y.port ≡ suc k) × ((a : Announce) × says y.octets a))
@@ -433,7 +439,8 @@ module _ (says : Spelling) (g : Snapshot) (n : Network) (tree : List ℕ) (top o
                 → slice_get w.stations (n.place out) ≡ Some s → slice_get s.ports k ≡ Some pv
                 → (r : Reception) × (pv.held ≡ Received r)
             held_led stays s pv at there =
-                let (sv, at_v, live, clock) = station_of g n t.well t.left w is.back.after.kept is.back.after.fits.stations
+                let (sv, at_v, live, clock) = station_of g n t.well t.left w is.back.after.kept
+                is.back.after.fits.stations
                 last (t.lives last t.in_last) in
                 let (pl, there_l) = port_there g n t.well t.left w is.back.after.kept is.back.after.fits.stations last p
                 (port_of out (suc k)) sv at_v joins in

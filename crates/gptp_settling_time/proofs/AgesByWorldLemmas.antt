@@ -1,7 +1,9 @@
 -- A world since a system failed that others hear: what they hold of it ages by the link over which it came. Where some
 -- of these links are down too it has aged by the greatest time of the others.
-use Rattle.std.proofs.Common.{◌≡◌, ◌≤◌, ℕ, List, refl, sym, subst, inl, inr}
-use Rattle.gptp_graph.specs.Snapshot.{PortIdentity, Snapshot}
+use Rattle.std.proofs.Common.{◌≡◌, ◌≤◌, ◌∙◌, ℕ, true, List, Some, slice_get, refl, sym, ap, subst, inl, inr}
+use Rattle.gptp_lists.specs.Members.{In}
+use Rattle.gptp_graph.specs.Snapshot.{PortIdentity, Snapshot, clocks}
+use Rattle.gptp_graph.proofs.SystemLemmas.{In-clocks}
 use Rattle.gptp_links.specs.Fate.{Draw}
 use Rattle.gptp_scenario.specs.declared.change.Act.{Act}
 use Rattle.gptp_setup.specs.SettlingParams.{SettlingParams, longest_span}
@@ -12,15 +14,18 @@ use Rattle.gptp_model.specs.declared.done.Done.{Done}
 use Rattle.gptp_bmca_machine.specs.Acts.{MachineSteps}
 use Rattle.gptp_bmca_machine.specs.Facts.{StationFacts}
 use Rattle.gptp_bmca_machine.specs.Network.{Network, network_setting}
+use Rattle.gptp_bmca_machine.specs.Station.{Station}
 use Rattle.gptp_invariants.specs.ChoiceCalm.{HaveQuietLinks, log_of}
 use Rattle.gptp_invariants.specs.ChoiceSeenLaws.{IsNoChange}
 use Rattle.gptp_invariants.specs.ChoiceView.{says_announce, view}
 use Rattle.gptp_invariants.specs.WorldEncodableLaws.{SetsAnOctet}
-use Rattle.gptp_invariants.specs.WorldStanding.{snapshot_of}
+use Rattle.gptp_invariants.specs.WorldStanding.{snapshot_of, standing_system}
 use Rattle.gptp_invariants.proofs.ChoiceCalmKeptLemmas.{KeepsNetwork, acts_keep, links_quiet, same_snapshot}
 use Rattle.gptp_invariants.proofs.ChoiceSeenActLemmas.{acts_seen}
+use Rattle.gptp_invariants.proofs.ChoicePlaceLemmas.{station_from}
 use Rattle.gptp_invariants.proofs.ChoiceSettlesAsMachineLemmas.{kept_back}
 use Rattle.gptp_invariants.proofs.WorldNewsCourseLemmas.{later_keeps}
+use Rattle.gptp_invariants.proofs.WorldSystemLemmas.{live_there}
 use Rattle.gptp_invariants.proofs.WorldWayLemmas.{IsWay}
 use Rattle.gptp_settling_time.proofs.AgesByLemmas.{UnlinkedAgeBy, by_all, by_kept}
 use Rattle.gptp_settling_time.proofs.AgingClaimedLemmas.{IsAgingAlways, aging_acts, aging_facts, aging_later, aging_network, named_in, same_aging, stay_of}
@@ -40,6 +45,26 @@ StaysLongest p from span = span ≡ longest_span p
 -- or it stays as its port's interval says
 abbrev pub StaysNamed : SettlingParams → WorldState → PortIdentity → ℕ → Type 0
 StaysNamed p w from span = span ≡ stay_of p (log_of w.stations from)
+
+-- what is received is held at systems that live, and what is in flight matters where it comes to one
+pub by_live : (p : SettlingParams) (By : PortIdentity → ℕ → Type 0) (w : WorldState) → WorldAgesBy p By w
+    → WorldAgesBy p (λ port until. By port until × In port.clock (clocks (snapshot_of w))) w
+by_live p By w all quiet = record {
+  held = λ i s place r at live holds unlinked.
+      let (until, by, over) = (all quiet).held i s place r at live holds unlinked in
+      (until, (by, lives i s at live), over);
+  flight = λ j l f a at among said known unlinked.
+      let (until, by, over) = (all quiet).flight j l f a at among said known unlinked in
+      (until, (by, known), over);
+}
+  where
+    lives : (i : ℕ) (s : Station) → slice_get (view w).stations i ≡ Some s → s.live ≡ true
+        → In s.clock (clocks (snapshot_of w))
+    lives i s at live =
+        let x = station_from w.stations i s at in
+        subst (λ (z : Station). In z.clock (clocks (snapshot_of w))) (sym x.is)
+        (In-clocks (snapshot_of w) (standing_system x.station) (live_there w.stations i x.station x.here
+        (ap (λ (z : Station). z.live) (sym x.is) ∙ live)))
 
 module _ (p : SettlingParams) (g : Snapshot) (aged silent : ℕ) (By : PortIdentity → ℕ → Type 0) where
   by_step : (w w' : WorldState) → IsAgingAlways p g aged silent w → IsAgingAlways p g aged silent w'

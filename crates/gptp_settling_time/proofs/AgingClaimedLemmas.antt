@@ -279,7 +279,7 @@ module _ (p : SettlingParams) (g : Snapshot) (aged silent : ℕ) (w : WorldState
         settled,
         bounded_by p w world settled (λ place station here live best is_best.
             systems_bounded says_announce left_n (view w) place (station_view station) best net calm
-                aging_left.invariant
+            aging_left.invariant
             (station_there w.stations place station here) live is_best (omega arith)),
       )
 

@@ -1,6 +1,7 @@
 -- A system fails that others hear, and no system is moved but such as are cut off: what is held of it ages from then
 -- on.
 use Rattle.std.proofs.Common.{◌≡◌, ◌⊎◌, ◌≤◌, ◌<◌, ◌+◌, ◌*◌, ℕ, suc, pred, Bool, true, false, cond, max, List, [], ◌∷◌, Some, slice_get, refl, sym, ap, subst, ◌∙◌, inl, inr, arith}
+use native.Mathlib.Decide.{dec_le}
 use Rattle.gptp_lists.specs.Members.{In}
 use Rattle.gptp_graph.specs.Best.{IsBest}
 use Rattle.gptp_graph.specs.Distance.{IsDistance}
@@ -106,6 +107,13 @@ delay_within p w time is way = elim (delay_used (live_stations w.stations) w.net
         omega (arith, least, way)
 
 -- ---- the failure
+
+-- What others hold of a failed system ages by the link over which it came. It is held as long as the interval of its
+-- port says, once all that was held or in flight at the last change has aged; before that for the longest span.
+abbrev pub AgesByLink : SettlingParams → WorldState → WorldState → Type 0
+AgesByLink p w w' =
+    WorldAgesBy p (ByLink w.time (StaysNamed p w) (OverWay w)) w'
+    ⊎ ((old_by p w ≤ w.time → ⊥) × WorldAgesBy p (ByLink w.time (StaysLongest p) (OverWay w)) w')
 
 module _ (p : SettlingParams) (number : ℕ) (w : WorldState) (draws : List Draw) (done : Done) (w' : WorldState)
     (is : IsWorld p w) (is' : IsWorld p w') (acts : Acts (Changing (Fail number)) w draws done w') where
@@ -288,14 +296,14 @@ module _ (p : SettlingParams) (number : ℕ) (w : WorldState) (draws : List Draw
             soon_by_link g' back_known (view w') emptied
 
       -- that is the longest span of the network
-      pub failed_by : WorldAgesBy p (ByLink w.time (StaysLongest p) (OverWay w)) w'
+      failed_by : WorldAgesBy p (ByLink w.time (StaysLongest p) (OverWay w)) w'
       failed_by =
           failed_ages (StaysLongest p)
           (λ i s place r at live holds. (longest_span p, refl, span_longest p r.said.log pace.largest))
           (λ j l f a at among said known. (longest_span p, refl, span_longest p a.log pace.largest))
 
       -- or that of the port's own interval, once all that was held or in flight at the last change has aged
-      pub failed_by_interval : IsNamedWorld p w → old_by p w ≤ w.time
+      failed_by_interval : IsNamedWorld p w → old_by p w ≤ w.time
           → WorldAgesBy p (ByLink w.time (StaysNamed p w) (OverWay w)) w'
       failed_by_interval names old =
           failed_ages (StaysNamed p w)
@@ -312,6 +320,11 @@ module _ (p : SettlingParams) (number : ℕ) (w : WorldState) (draws : List Draw
           n_set : Network
           n_set = set_network p w
 
-      pub failed_ages_by : IsAgingAlways p g aged silent w'
-          × WorldAgesBy p (ByLink w.time (StaysLongest p) (OverWay w)) w'
-      failed_ages_by = (failed_aging, failed_by)
+      pub failed_ages_by : IsNamedWorld p w → IsAgingAlways p g aged silent w' × AgesByLink p w w'
+      failed_ages_by names = (
+        failed_aging,
+        elim (dec_le (old_by p w) w.time) [
+          | yes old ↦ inl (failed_by_interval names old)
+          | no early ↦ inr (early, failed_by)
+        ],
+      )

@@ -78,7 +78,7 @@ use Rattle.gptp_settling_time.proofs.LostPowerLemmas.{told_anew}
 use Rattle.gptp_settling_time.proofs.LostToLemmas.{IsLostTo, lost_to_later}
 use Rattle.gptp_settling_time.proofs.WorldMovesLemmas.{near_so, stays_unmoved}
 use Rattle.gptp_graph.specs.Snapshot.{Snapshot}
-use Rattle.gptp_settling_time.specs.Losses.{LowersUnused}
+use Rattle.gptp_settling_time.specs.Losses.{AgesWithin, LowersUnused}
 use Rattle.gptp_settling_time.proofs.AgedLemmas.{aged_begins}
 use Rattle.gptp_settling_time.proofs.ClearedLemmas.{IsCleared}
 use Rattle.gptp_settling_time.proofs.ClearedToLemmas.{IsClearedTo, cleared_to_later}
@@ -604,10 +604,12 @@ module _ {F : Type 0} (answers : Bounds → ℕ → F → Option ℕ → F → T
         → IsAgingTo d ago more gone silent w' → IsAgingTo d ago more aged silent w'
     ages_sooner ago gone aged silent (failed, span, same, within, is) so =
         let unanswered = so.unanswered in
+        let time : failed ≡ so.failed = omega (arith, same, unanswered) in
         let since = aging_by p so.before gone silent (AgesOver n ago more so.failed) aged w' so.since so.by
         (λ port until is_over.
-        let less = over_within n ago more so.failed span within port until is_over in
-        omega (arith, less, is, same, unanswered)) in
+        let less = over_within n ago more so.failed span (subst (λ t. AgesWithin n ago more t span) time within) port
+        until is_over in
+        omega (arith, less, is, time)) in
         record {
           keeps = so.keeps;
           before = so.before;

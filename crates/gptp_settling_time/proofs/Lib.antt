@@ -111,6 +111,10 @@ pub mod FallAlwaysLemmas
 pub mod FallDownLemmas
 pub mod FallActLemmas
 pub mod NamedLemmas
+pub mod TreeTracesLemmas
+pub mod TreeSoundLemmas
+pub mod TreeSoundBeginLemmas
+pub mod FallenClaimedLemmas
 pub mod FallenToLemmas
 pub mod FallMadeLemmas
 pub mod NamedAfterLemmas
@@ -128,6 +132,7 @@ pub mod LostEndLemmas
 pub mod SoundButOldLemmas
 pub mod LeadOnLemmas
 pub mod LossLeadLemmas
+pub mod LossRestLemmas
 pub mod RightStageLemmas
 pub mod DueLemmas
 pub mod TellsRightLemmas
@@ -143,6 +148,7 @@ pub mod NamedWorldLemmas
 pub mod AgingDownLemmas
 pub mod AgingToLemmas
 pub mod FailedHeardLemmas
+pub mod HoldSpanLemmas
 pub mod SilentLinksLemmas
 pub mod UpPortsLemmas
 pub mod SilentDownLemmas
@@ -166,3 +172,4 @@ pub mod MovedFlightLemmas
 pub mod RightBeginLemmas
 pub mod ToldAnewLemmas
 pub mod NamesItselfLemmas
+pub mod TreeTurnsLemmas

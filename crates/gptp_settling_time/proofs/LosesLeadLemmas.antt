@@ -201,12 +201,16 @@ module _ (n : NetworkState) (time : ℕ) (network : IsNetwork n) (off : NothingL
         lead = x.lead;
         settles = (
           Heard start,
-          inr (start, refl, record {
-            off = off;
-            later = omega arith;
-            unlinked = x.quiet;
-            over = omega (arith, span, more);
-          }),
+          inr (
+            start,
+            refl,
+            record {
+              off = off;
+              later = omega arith;
+              unlinked = x.quiet;
+              over = omega (arith, span, more);
+            },
+          ),
           omega (arith, span, more),
         );
       }

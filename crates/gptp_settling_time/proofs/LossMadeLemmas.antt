@@ -36,19 +36,18 @@ use Rattle.gptp_settling_time.specs.InTurn.{ClearsBy, ClearsFarEnd, ClearsTraces
 use Rattle.gptp_settling_time.proofs.GainLemmas.{lives_so, up_so}
 use Rattle.gptp_settling_time.proofs.FailedAloneLemmas.{all_but, failed_left, less as failed_reduced, none_joined, ready_on as failed_ready}
 use Rattle.gptp_settling_time.proofs.AgedLemmas.{aged_begins}
-use Rattle.gptp_settling_time.proofs.AgesByLemmas.{ByLink, by_map}
-use Rattle.gptp_settling_time.proofs.AgesByWorldLemmas.{OverWay, StaysLongest, WorldAgesBy, aging_by}
-use Rattle.gptp_settling_time.proofs.AgingClaimedLemmas.{stay_of}
+use Rattle.gptp_settling_time.proofs.AgesByWorldLemmas.{WorldAgesBy, aging_by}
 use Rattle.gptp_settling_time.proofs.AgingToLemmas.{IsAgingTo}
 use Rattle.gptp_settling_time.proofs.FailedHeardLemmas.{failed_ages_by}
 use Rattle.gptp_settling_time.proofs.GoesToLemmas.{echo_to, goes_to}
+use Rattle.gptp_settling_time.proofs.HoldSpanLemmas.{ages_over}
 use Rattle.gptp_settling_time.proofs.KeptToLemmas.{KeepsTo}
 use Rattle.gptp_settling_time.proofs.LeftToLemmas.{IsLeftTo, less_way, up_in_use}
 use Rattle.gptp_settling_time.proofs.LostEndLemmas.{sound_reduced}
 use Rattle.gptp_settling_time.proofs.LostPowerLemmas.{told_anew}
 use Rattle.gptp_settling_time.proofs.LoweredLemmas.{act_left, ends, less as lowered_reduced, ready_on as lowered_ready, stay}
 use Rattle.gptp_settling_time.proofs.SettledSeenLemmas.{HasSettledSeen, IsSettledSeen}
-use Rattle.gptp_settling_time.proofs.SilentLinksLemmas.{AgesOver, over_begins, over_within}
+use Rattle.gptp_settling_time.proofs.SilentLinksLemmas.{AgesOver, over_within}
 use Rattle.gptp_settling_time.proofs.TakenDownLemmas.{told_lives}
 use Rattle.gptp_settling_time.proofs.ToldAnewLemmas.{IsTurnedAlways, anew_begins}
 use Rattle.gptp_settling_time.proofs.TurnedToLemmas.{IsTurnedTo}
@@ -56,7 +55,7 @@ use Rattle.gptp_settling_time.proofs.TurnsBeginLemmas.{act_turned}
 use Rattle.gptp_settling_time.proofs.WorldMovesLemmas.{cut_off_so, far_end_so, near_so, stays_joined, turns_so}
 use Rattle.gptp_bmca_machine.specs.SoundLaws.{AllAreNear}
 use Rattle.gptp_invariants.specs.ChoiceView.{says_announce, view}
-use Rattle.gptp_settling_time.specs.Losses.{FailsFarEnd, IsCutOff, IsFarEnd, LowersLink}
+use Rattle.gptp_settling_time.specs.Losses.{AgesWithin, FailsFarEnd, IsCutOff, IsFarEnd, LowersLink}
 use Rattle.gptp_settling_time.proofs.BecomesSoundLemmas.{GoesBy, goes_due, nearer_echo}
 use Rattle.gptp_settling_time.proofs.ClearedLemmas.{IsCleared}
 use Rattle.gptp_settling_time.proofs.ClearedToLemmas.{IsClearedTo}
@@ -304,7 +303,8 @@ module _ (d : DocumentState) (playable : IsPlayable d) (made : List Timed) (even
         → ClearsFarEnd n made event start silent right old ⊎ ClearsTraces n made event start silent right old
         → IsClearedTo d more since silent right old w'
     ends_to since silent right old begun (inl (zero, inl (cuts, same, (gone, flight, is)))) =
-        cleared_so start 0 since silent right old begun same zero (cut_to gone old cuts (goes_by gone flight) is)
+        cleared_so start 0 since silent right old begun same zero
+        (cut_to gone old cuts (goes_to d playable more w' after gone flight) is)
     ends_to since silent right old begun (inl (zero, inr (fails, same, (gone, flight, is)))) =
         cleared_so silent 0 since silent right old begun refl zero
         (failed_cleared fails silent (omega (arith, same)) old
@@ -332,15 +332,14 @@ module _ (d : DocumentState) (playable : IsPlayable d) (made : List Timed) (even
         keeps.claim.pace keeps.claim.measured after.claim.measured (omega (arith, over, at_time))
         (omega (arith, over, at_time)) (way_over x.delay x.paths) rest.ready
         (quiet_stands n made then playable.network keeps.stands world_then.sound now.calm).links rest.silent
-        (omega (arith, at_time, unanswered)) (omega (arith, delay, at_time)) in
+        (omega (arith, at_time, unanswered)) (omega (arith, delay, at_time)) keeps.named in
         let by : WorldAgesBy p (AgesOver n made more then.time) w' =
-        λ quiet. by_map says_announce (snapshot_of w') (stay_of p) (ByLink then.time (StaysLongest p) (OverWay then))
-        (AgesOver n made more then.time) (view w')
-        (over_begins n made event x.clock x.act then w' keeps.stands world_then.sound after.stands
-        after.claim.world.sound) (by_link quiet) in
+        ages_over n made event x.clock x.act then w' world_then keeps.stands after.stands after.claim.world.sound
+        keeps.claim.pace.largest by_link in
+        let within = subst (λ t. AgesWithin n made more t now.span) (sym at_time) now.within in
         let since = aging_by p (snapshot_of then) late silent (AgesOver n made more then.time) aged w' since_late by
         (λ port until is_over.
-        let less = over_within n made more then.time now.span now.within port until is_over in
+        let less = over_within n made more then.time now.span within port until is_over in
         omega (arith, less, gone, at_time)) in
         record {
           keeps = after;

@@ -7,7 +7,6 @@ use Rattle.gptp_scenario.specs.declared.change.Act.{Act}
 use Rattle.gptp_setup.specs.SettlingParams.{SettlingParams, largest_interval, longest_span}
 use Rattle.gptp_setup.proofs.SettlingParamsLemmas.{span_longest}
 use Rattle.gptp_graph.specs.Snapshot.{port_of}
-use Rattle.gptp_system.specs.State.{clock}
 use Rattle.gptp_model.specs.Acts.{Acts, at as at_time}
 use Rattle.gptp_model.specs.Pending.{NothingBefore}
 use Rattle.gptp_model.specs.World.{WorldState}

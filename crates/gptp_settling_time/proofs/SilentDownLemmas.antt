@@ -1,15 +1,14 @@
 -- Links go down of which an end has failed: what was told over the silent ones that are left ages as it did.
-use Rattle.std.proofs.Common.{◌≡◌, Bool, true, false, cond, ◌∙◌, ◌+◌, ◌∷◌, ◌++◌, ℕ, suc, List, [], refl, sym, ap, subst, inl, inr}
+use Rattle.std.proofs.Common.{◌≡◌, ◌≤◌, Bool, true, false, cond, ◌∙◌, ◌+◌, ◌∷◌, ◌++◌, ℕ, suc, List, [], refl, sym, ap, subst, inl, inr}
 use Rattle.gptp_lists.proofs.MappedLemmas.{alike}
 use Rattle.gptp_graph.specs.Snapshot.{PortIdentity}
 use Rattle.gptp_vector.specs.declared.port.PortId.{PortId}
 use Rattle.gptp_links.specs.declared.link.Direction.{Direction}
 use Rattle.gptp_links.specs.declared.link.Direction.TheVariants.{FromA, FromB}
 use Rattle.gptp_roles.specs.Selection.{clock_of}
-use Rattle.gptp_scenario.specs.Calm.{IsLive, IsUsed}
+use Rattle.gptp_scenario.specs.Calm.{IsLive}
 use Rattle.gptp_scenario.specs.Change.{is_at, link_acted, link_after, standing, system_acted, system_after, with_up}
-use Rattle.gptp_setup.specs.SettlingParams.{longest_span}
-use Rattle.gptp_scenario.specs.Network.{IsEnd, NetworkState, pace_of}
+use Rattle.gptp_scenario.specs.Network.{IsEnd, NetworkState}
 use Rattle.gptp_scenario.specs.declared.change.Timed.{Timed}
 use Rattle.gptp_scenario.specs.declared.network.LinkSpec.{LinkSpec}
 use Rattle.gptp_model.specs.Sound.{IsSound}
@@ -19,7 +18,7 @@ use Rattle.gptp_invariants.specs.WorldEncodable.{IsEncodable}
 use Rattle.gptp_invariants.proofs.WorldWayLemmas.{one_way}
 use Rattle.gptp_theorem.specs.Reached.{StandsAsPlanned, channel_wire}
 use Rattle.gptp_theorem.proofs.EventLemmas.{link_behind, system_behind}
-use Rattle.gptp_settling_time.specs.Losses.{LowersUnused}
+use Rattle.gptp_settling_time.specs.Losses.{IsHoldSpan, LowersUnused}
 use Rattle.gptp_settling_time.proofs.SilentLinksLemmas.{AgesOver}
 use Rattle.gptp_settling_time.proofs.UpPortsLemmas.{IsUpAt}
 
@@ -73,11 +72,10 @@ module _ (n : NetworkState) (ago made : List Timed) (event : Timed) (lowers : Lo
   }
 
   -- what came to a port at which a link is up came over one that is silent still
-  pub over_down : (failed : ℕ) (port : PortIdentity) (until : ℕ) → AgesOver n ago made failed port until
-      → IsUpAt w' port
-      → AgesOver n ago more failed port until
-  over_down failed port until (place, v, there, (used, up, unused), (end, is_end, port_is), is)
-      (from, begins, at_port) =
+  pub over_down : (time : ℕ) (port : PortIdentity) (until : ℕ) → AgesOver n ago made time port until → IsUpAt w' port
+      → AgesOver n ago more time port until
+  over_down time port until
+      (place, v, failed, there, (used, up, was_end, gone), (end, is_end, port_is), over) (from, begins, at_port) =
       let (channel, here, same) = alike channel_wire (link_after more) w'.net.channels n.links stands'.links place v
       there in
       let ends = ends_stay end v is_end in
@@ -90,16 +88,10 @@ module _ (n : NetworkState) (ago made : List Timed) (event : Timed) (lowers : Lo
       let stays = stood v up_now in (
         place,
         v,
+        failed,
         there,
-        (
-          used,
-          up_now,
-          λ still. unused (subst (IsUsed n.systems made) stays (record {
-            up = still.up;
-            a = live_before (link_after more v).a.clock still.a;
-            b = live_before (link_after more v).b.clock still.b;
-          })),
-        ),
+        (used, up_now, ends_stay failed v was_end, λ still. gone (live_before failed.clock still)),
         (end, ends, port_is),
-        is ∙ ap (λ (u : LinkSpec). suc (failed + (u.bounds.max + longest_span (pace_of n)))) (sym stays),
+        subst (λ (u : LinkSpec). (held : ℕ) → IsHoldSpan n ago time failed held
+            → until ≤ suc (time + (u.bounds.max + held))) (sym stays) over,
       )

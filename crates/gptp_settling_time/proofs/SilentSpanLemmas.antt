@@ -1,13 +1,15 @@
 -- What came over silent links has aged within the longest receipt timeout and the greatest delay of the links that were
--- in use.
-use Rattle.std.proofs.Common.{◌≡◌, ◌≤◌, ◌+◌, ◌==◌, ◌&&◌, ◌∷◌, ◌++◌, max, cond, ℕ, zero, suc, Bool, true, false, List, [], Some, slice_get, append-nil, append_assoc, refl, sym, ap, ◌∙◌, arith}
+-- in use. Where no link is silent it has at once.
+use Rattle.std.proofs.Common.{◌≡◌, ◌≤◌, ◌==◌, ◌&&◌, ◌∷◌, ◌++◌, max, cond, ℕ, zero, suc, Bool, true, false, List, [], Some, slice_get, append-nil, append_assoc, refl, sym, ap, subst, ◌∙◌, inl, inr, arith}
 use Rattle.std.proofs.lemmas.Bool.{eq-eqb}
 use Rattle.std.proofs.lemmas.Option.{same_Some}
+use Rattle.gptp_vector.specs.declared.port.PortId.{PortId}
 use Rattle.gptp_roles.specs.Selection.{clock_of}
-use Rattle.gptp_scenario.specs.Calm.{IsLive, IsUsed}
+use Rattle.gptp_setup.specs.SettlingParams.{longest_span}
+use Rattle.gptp_scenario.specs.Calm.{IsLive, IsUsed, last_change}
 use Rattle.gptp_scenario.specs.Change.{is_at, link_acted, link_after, system_after, with_up}
 use Rattle.gptp_scenario.specs.InUse.{greatest_delay, is_used, lives}
-use Rattle.gptp_scenario.specs.Network.{NetworkState, pace_of}
+use Rattle.gptp_scenario.specs.Network.{IsEnd, NetworkState, pace_of}
 use Rattle.gptp_scenario.specs.SettlingTime.{aging_span}
 use Rattle.gptp_scenario.specs.SyncWait.{sync_paths}
 use Rattle.gptp_scenario.specs.declared.change.Timed.{Timed}
@@ -17,7 +19,7 @@ use Rattle.gptp_lists.proofs.SystemSpecLemmas.{In-slice_get}
 use Rattle.gptp_network.proofs.PassLemmas.{passes_at}
 use Rattle.gptp_theorem.proofs.EventLemmas.{link_behind}
 use Rattle.gptp_settling_time.specs.HowSoon.{EachEvent, FailsHeardFirst}
-use Rattle.gptp_settling_time.specs.Losses.{AgesWithin, FailsHeard, LowersUnused}
+use Rattle.gptp_settling_time.specs.Losses.{AgesWithin, FailsHeard, LowersUnused, UpIsUsed}
 
 module _ (systems : List SystemSpec) (events : List Timed) where
   lives_from : (clock : ℕ) → IsLive systems events clock → lives systems events clock ≡ true
@@ -61,19 +63,19 @@ module _ (systems : List SystemSpec) (events : List Timed) where
       by false here rest less = less
 
 -- where links keep their bounds
-pub within_delay : (n : NetworkState) (made events : List Timed)
+pub within_delay : (n : NetworkState) (made events : List Timed) (time : ℕ)
     → ((v : LinkSpec) → (link_after events v).bounds.max ≡ (link_after made v).bounds.max)
-    → AgesWithin n made events (aging_span (pace_of n) (sync_paths n made))
-within_delay n made events stay place v there (used, up, unused) =
+    → AgesWithin n made events time (aging_span (pace_of n) (sync_paths n made))
+within_delay n made events time stay place v failed there (used, up, end, gone) =
     let most = greatest_most n.systems made n.links place v there used in
     let same = stay v in
-    omega (arith, most, same)
+    (longest_span (pace_of n), inl refl, omega (arith, most, same))
 
 -- as they do where a system fails
 pub failure_within : (n : NetworkState) (made : List Timed) (event : Timed) → FailsHeard n made event
-    → AgesWithin n made (made ++ event ∷ []) (aging_span (pace_of n) (sync_paths n made))
+    → AgesWithin n made (made ++ event ∷ []) event.at (aging_span (pace_of n) (sync_paths n made))
 failure_within n made event fails =
-    within_delay n made (made ++ event ∷ []) (λ v.
+    within_delay n made (made ++ event ∷ []) event.at (λ v.
     ap (λ (u : LinkSpec). u.bounds.max)
     (link_behind made event v ∙ ap (λ act. link_acted act (link_after made v)) fails.act))
 
@@ -93,11 +95,22 @@ lowers_stay n made (event ∷ now) (lowers, others) v =
     by false u = refl
 
 pub failures_within : (n : NetworkState) (made now : List Timed) → FailsHeardFirst n made now
-    → AgesWithin n made (made ++ now) (aging_span (pace_of n) (sync_paths n made))
+    → AgesWithin n made (made ++ now) (last_change (made ++ now)) (aging_span (pace_of n) (sync_paths n made))
 failures_within n made [] none = absurd none
 failures_within n made (event ∷ now) (fails, lowers) =
-    within_delay n made (made ++ event ∷ now) (λ v.
+    within_delay n made (made ++ event ∷ now) (last_change (made ++ event ∷ now)) (λ v.
     ap (λ es. (link_after es v).bounds.max) (sym (append_assoc made (event ∷ []) now))
     ∙ lowers_stay n (made ++ event ∷ []) now lowers v
     ∙ ap (λ (u : LinkSpec). u.bounds.max)
     (link_behind made event v ∙ ap (λ act. link_acted act (link_after made v)) fails.act))
+
+-- where each link that is up is in use none is silent
+pub none_silent : (n : NetworkState) (made events : List Timed) (time span : ℕ) → UpIsUsed n events
+    → AgesWithin n made events time span
+none_silent n made events time span used place v failed there (was, up, end, gone) =
+    absurd (gone (lives end (used place v there up)))
+  where
+    lives : IsEnd failed (link_after events v) → IsUsed n.systems events (link_after events v)
+        → IsLive n.systems events failed.clock
+    lives (inl a) on = subst (λ (q : PortId). IsLive n.systems events q.clock) a on.a
+    lives (inr b) on = subst (λ (q : PortId). IsLive n.systems events q.clock) b on.b

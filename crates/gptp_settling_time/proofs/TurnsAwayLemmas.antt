@@ -90,12 +90,12 @@ module _ (says : Spelling) (n0 n : Network) (x d e : ℕ) (best : System) (t : T
   itself' = record {
     lanes = λ j l' f c at among said known. elim (flew says n0 n x t.well t.left (moved_x says n0 n x d e best t) net0
         w calm0 invariant0 late0 sound0 same w' lost other a kept' j l' f c at among said) [
-      | inl o ↦
-          let sent = sound0.lanes j o.l o.at f c o.among said in sound_itself g o.l.from c sent.source sent.sound
-      | inr sent ↦
-          own_itself g a.s' sent.own.0 c sent.own.1
-          (kept'.calm.facts.stations (n.place x) a.s' a.there live').follows
-    ];
+          | inl o ↦
+              let sent = sound0.lanes j o.l o.at f c o.among said in sound_itself g o.l.from c sent.source sent.sound
+          | inr sent ↦
+              own_itself g a.s' sent.own.0 c sent.own.1
+              (kept'.calm.facts.stations (n.place x) a.s' a.there live').follows
+        ];
     stations = λ i m at live place r holds.
         let o = held_before says n0 n x t.well t.left (moved_x says n0 n x d e best t) net0 w calm0 invariant0 late0
         sound0 same w' lost other a kept' i m place r at live holds in

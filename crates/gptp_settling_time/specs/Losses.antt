@@ -3,13 +3,14 @@
 --
 -- An event *moves* a system that lives after it where another system, or the same with another identity, is the best of
 -- its component then, or it is nearer to that or farther from it. So its root or its steps are others.
-use Rattle.std.specs.Prelude.{◌≡◌, ◌≢◌, ◌⊎◌, ◌<◌, ◌≤◌, ◌+◌, ℕ, suc, true, List, [], ◌∷◌, ◌++◌, Some, slice_get}
+use Rattle.std.specs.Prelude.{◌≡◌, ◌≢◌, ◌⊎◌, ◌<◌, ◌≤◌, ◌+◌, ◌*◌, ℕ, ℤ, suc, true, List, [], ◌∷◌, ◌++◌, Some, slice_get}
 use Rattle.gptp_lists.specs.Members.{In}
 use Rattle.gptp_graph.specs.Best.{IsBest}
 use Rattle.gptp_graph.specs.Distance.{IsDistance}
 use Rattle.gptp_graph.specs.Snapshot.{Adjacent, Joins, Snapshot, System, clocks, port_of}
 use Rattle.gptp_network.specs.Snapshot.{StandsAfter}
-use Rattle.gptp_scenario.specs.Calm.{IsLive, IsUsed}
+use Rattle.gptp_roles.specs.Selection.{clock_of}
+use Rattle.gptp_scenario.specs.Calm.{IsLive, IsUsed, last_change}
 use Rattle.gptp_scenario.specs.Change.{link_after}
 use Rattle.gptp_scenario.specs.Network.{IsEnd, NetworkState, pace_of}
 use Rattle.gptp_scenario.specs.SettlingTime.{silence_span}
@@ -19,8 +20,12 @@ use Rattle.gptp_scenario.specs.declared.change.Act.TheVariants.{Change as Changi
 use Rattle.gptp_scenario.specs.declared.change.Change.TheVariants.{Fail, LinkDown, Priority1}
 use Rattle.gptp_scenario.specs.declared.change.Timed.{Timed}
 use Rattle.gptp_scenario.specs.declared.network.LinkSpec.{LinkSpec}
+use Rattle.gptp_scenario.specs.declared.network.SystemSpec.{SystemSpec}
+use Rattle.gptp_system.specs.State.{number}
+use Rattle.gptp_vector.specs.declared.port.PortId.{PortId}
 use Rattle.gptp_model.specs.World.{port_id}
-use Rattle.gptp_setup.specs.SettlingParams.{SettlingParams, longest_span}
+use Rattle.gptp_setup.specs.Intervals.{interval_of}
+use Rattle.gptp_setup.specs.SettlingParams.{SettlingParams, largest_interval, longest_span}
 use Rattle.gptp_settling_time.specs.Gains.{EndHasFailed, IsUpAfter}
 
 -- in the second snapshot the system has the best that it has in the first, and is as far from it
@@ -125,20 +130,38 @@ pub record FailsHeard (n : NetworkState) (before : List Timed) (event : Timed) :
   pub paths : (sync_paths n (before ++ event ∷ [])).systems ≤ (sync_paths n before).systems
   pub few : (sync_paths n before).systems ≤ 255
 
--- A link was in use after the first events, and after the second ones it is up but isn't: one of its ends has failed.
--- So its other end may still be capable, and hold what came over it.
-abbrev pub IsSilent : NetworkState → List Timed → List Timed → LinkSpec → Type 0
-IsSilent n made events v =
+-- A link was in use after the first events, and after the second ones it is up, but the system at this end of it has
+-- failed. So its other end may still be capable, and hold what came over it.
+abbrev pub IsSilent : NetworkState → List Timed → List Timed → LinkSpec → PortId → Type 0
+IsSilent n made events v failed =
     IsUsed n.systems made (link_after made v)
     × ((link_after events v).up ≡ true)
-    × (IsUsed n.systems events (link_after events v) → ⊥)
+    × IsEnd failed (link_after events v)
+    × (IsLive n.systems events failed.clock → ⊥)
 
--- What came over such a link has aged by so much later than its end failed: it came within the greatest delay of the
--- link, and is held for the longest receipt timeout.
-abbrev pub AgesWithin : NetworkState → List Timed → List Timed → ℕ → Type 0
-AgesWithin n made events span = (place : ℕ) (v : LinkSpec) → slice_get n.links place ≡ Some v
-    → IsSilent n made events v
-    → (link_after events v).bounds.max + longest_span (pace_of n) ≤ span
+-- the port announces at this interval
+pub record AnnouncesAt (n : NetworkState) (port : PortId) (log : ℤ) : Type 0 where
+  pub place : ℕ
+  pub system : SystemSpec
+  pub there : slice_get n.systems place ≡ Some system
+  pub clock : clock_of system.identity ≡ port.clock
+  pub interval : number system.intervals.items port.port ≡ Some log
+
+-- So long is held at most what a port told before its system failed at this time: for the longest receipt timeout. Or
+-- it is held for that of the port's own interval, where an announce interval and the longest timeout have passed since
+-- the change before. By then what was held at that change, or in flight, is gone, and all since names that interval.
+abbrev pub IsHoldSpan : NetworkState → List Timed → ℕ → PortId → ℕ → Type 0
+IsHoldSpan n made time port span =
+    (span ≡ longest_span (pace_of n))
+    ⊎ ((last_change made + largest_interval (pace_of n) + longest_span (pace_of n) < time)
+    × ((log : ℤ) × AnnouncesAt n port log × (span ≡ n.params.timeout * interval_of log)))
+
+-- What came over silent links has aged by so much later than their ends failed at this time: it came within the
+-- greatest delay of the link, and is held for such a span.
+abbrev pub AgesWithin : NetworkState → List Timed → List Timed → ℕ → ℕ → Type 0
+AgesWithin n made events time span = (place : ℕ) (v : LinkSpec) (failed : PortId) → slice_get n.links place ≡ Some v
+    → IsSilent n made events v failed
+    → (held : ℕ) × IsHoldSpan n made time failed held × ((link_after events v).bounds.max + held ≤ span)
 
 -- From the first snapshot to the second one system is moved alone, from one distance of its best to a greater one. What
 -- it isn't joined to any more was nearer than it. It has one link at most with each other system then, and is the far
