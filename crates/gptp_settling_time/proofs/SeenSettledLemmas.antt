@@ -76,7 +76,7 @@ module _ (p : SettlingParams) (n : Network) (w : WorldState) (is : IsWorld p w) 
           steps = follows.steps;
           slave = follows.slave;
           parent = parent_settled n.graph station net.graph rest.vector rest.chosen
-              (λ i r. invariant.sound sound place (station_view station) i r there live) follows.slave;
+              (λ i r holds. (invariant.sound sound place (station_view station) i r there live holds).over) follows.slave;
         }
 
     system : n.off ≤ w.time → IsSettledSystem n.graph station.system
