@@ -347,12 +347,6 @@ module _ (says : Spelling) (g : Snapshot) (n : Network) (tree : List ℕ) (top o
       | no out_s ↦ has_settled bare (still_clear out_s) (still_chooses out_s) (still_hears out_s)
     ]
 
-    pub system_clear_at : IsClear n.graph s
-    system_clear_at = elim (in_dec s.clock tree) [
-      | yes in_s ↦ tree_clear in_s d refl
-      | no out_s ↦ still_clear out_s
-    ]
-
   -- each near system has
   pub near_have_settled : n.bare ≤ n.off → NearHaveSettled n w
   near_have_settled bare i s at live (d, here, near) = system_has_settled i s at live d here near bare
@@ -364,4 +358,4 @@ module _ (says : Spelling) (g : Snapshot) (n : Network) (tree : List ℕ) (top o
       (is.back.after.kept.calm.facts.stations i s at live).known) in
       let within = IsDistance-within n.graph n.reach s.clock d t.paths here in
       let few = t.few in
-      system_clear_at i s at live d here (omega (arith, within, few))
+      system_is_clear i s at live d here (omega (arith, within, few))
