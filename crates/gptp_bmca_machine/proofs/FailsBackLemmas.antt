@@ -14,6 +14,8 @@ use Rattle.gptp_bmca_machine.specs.Network.{Network}
 use Rattle.gptp_bmca_machine.specs.Station.{Disabled, HoldsAt, MachineState, Port, Reception, Station}
 use Rattle.gptp_bmca_machine.proofs.TreesFallLemmas.{TreesFallBack, trees_fall_on}
 use Rattle.gptp_bmca_machine.proofs.FallLemmas.{IsMoved, IsOldTold, UnlinkedDrop, UnlinkedHoldNone, UnlinkedHoldOld}
+use Rattle.gptp_bmca_machine.proofs.CutTreeLemmas.{IsCutOff, LeadsNowhere, moves_off}
+use Rattle.gptp_bmca_machine.proofs.FallLevelLemmas.{TreeSettles, tree_settles_on}
 use Rattle.gptp_bmca_machine.proofs.LinkStepLemmas.{LaneStands}
 use Rattle.gptp_bmca_machine.proofs.LossLemmas.{fits_kept}
 use Rattle.gptp_bmca_machine.proofs.LostPortLemmas.{StaysAsNamed}
@@ -30,6 +32,12 @@ module _ (says : Spelling) (g : Snapshot) (n : Network) (lost : ℕ) (best : Sys
   -- a system that is moved is one of a tree
   in_tree : (v : ℕ) → In v (clocks n.graph) → IsMoved g n v → (t : Tree) × IsCut t × IsBest n.graph v t.next
   in_tree v known moved = elim (cuts.all v known) [ inl unmoved ↦ absurd (moved unmoved) | inr is ↦ is ]
+
+  -- what settles in each of the trees
+  abbrev pub AllSettle : (ℕ → ℕ) → MachineState → Type 0
+  AllSettle before w = (t : Tree) → (cut : IsCut t)
+      → TreeSettles says g n (IsCutOff n t.next) LeadsNowhere t.top best t.next t.base t.depth
+      (moves_off g n t.top best t.next t.base t.depth (cuts.each t cut)) start before w
 
   module _ (long : StayLong) where
     -- what is known of each state: the lanes of lost links to the tops stand
@@ -73,7 +81,7 @@ module _ (says : Spelling) (g : Snapshot) (n : Network) (lost : ℕ) (best : Sys
     }
 
     -- what ports without a link hold was told before
-    dark_by : (w : MachineState) → IsAfterLoss n w → EverythingFits says g n w → IsFailedState w
+    pub dark_by : (w : MachineState) → IsAfterLoss n w → EverythingFits says g n w → IsFailedState w
         → ((t : Tree) → (cut : IsCut t) → HoldsAtTop t cut w) → UnlinkedHoldOld g n w
     dark_by w kept fits state tops i s place r at live other holds none = by (in_tree s.clock known other)
       where
@@ -102,7 +110,7 @@ module _ (says : Spelling) (g : Snapshot) (n : Network) (lost : ℕ) (best : Sys
           top_holds_on says g n lost t.top best t.next t.base t.depth loses (cuts.each t cut) (cuts.tops t cut) stay
           since delay shorter (long t cut) w w' (at_top t cut) (at_top' t cut) step (off t cut) (is.tops t cut)
 
-      drops : UnlinkedDrop g n w w'
+      pub drops : UnlinkedDrop g n w w'
       drops v s s' place r' other at at' live clock none holds = by (in_tree v known other)
         where
           known : In v (clocks n.graph)
@@ -125,3 +133,11 @@ module _ (says : Spelling) (g : Snapshot) (n : Network) (lost : ℕ) (best : Sys
             none' step;
         tops = tops';
       }
+
+      -- and what settles in the trees goes on to do so, until a time
+      pub all_settle_on : (last : ℕ) (before : ℕ → ℕ) → ((f : ℕ) → last + n.most < before f) → w.time ≤ last
+          → FailsBack w' → AllSettle before w → AllSettle before w'
+      all_settle_on last before room in_time is' all t cut =
+          tree_settles_on says g n (IsCutOff n t.next) LeadsNowhere t.top best t.next t.base t.depth
+          (moves_off g n t.top best t.next t.base t.depth (cuts.each t cut)) start before last room w w'
+          is.back.after is'.back.after step drops (is.back.falling t cut) (is'.back.falling t cut) in_time (all t cut)

@@ -56,6 +56,8 @@ pub mod TurnLemmas
 pub mod TurnOutLemmas
 pub mod TurnLevelLemmas
 pub mod TurnEndLemmas
+pub mod TurnBeginLemmas
+pub mod TurnedLemmas
 pub mod RunLemmas
 pub mod MatchingLemmas
 pub mod SyncStepLemmas

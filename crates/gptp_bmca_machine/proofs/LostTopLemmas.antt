@@ -2,6 +2,7 @@
 -- That is what the failed system told last, which was the nearer one.
 use Rattle.std.proofs.Common.{◌≡◌, ◌⊎◌, ◌<◌, ◌≤◌, ◌+◌, ℕ, ℤ, zero, suc, pred, true, Some, slice_get, refl, sym, ap, subst, ◌∙◌, inl, inr, arith}
 use Rattle.gptp_lists.specs.Members.{In}
+use Rattle.gptp_lists.proofs.PlaceLemmas.{member_there}
 use Rattle.gptp_graph.specs.Best.{IsBest}
 use Rattle.gptp_graph.specs.Distance.{IsDistance}
 use Rattle.gptp_graph.specs.Path.{Reaches}
@@ -23,7 +24,7 @@ use Rattle.gptp_bmca_machine.proofs.FallLemmas.{IsOldTold}
 use Rattle.gptp_bmca_machine.proofs.LevelLemmas.{places_of}
 use Rattle.gptp_bmca_machine.proofs.LinkStepLemmas.{AtLink, LaneStands, lives_at}
 use Rattle.gptp_bmca_machine.proofs.LostPortLemmas.{HasLetGo, HoldsLast, IsLastState, StaysAsNamed, last_on}
-use Rattle.gptp_bmca_machine.proofs.PlaceLemmas.{received_injective, same_there, there_within}
+use Rattle.gptp_bmca_machine.proofs.PlaceLemmas.{received_injective, same_there}
 use Rattle.gptp_bmca_machine.proofs.ReactsLemmas.{held_from}
 use Rattle.gptp_bmca_machine.proofs.StillLemmas.{station_of, still}
 
@@ -142,7 +143,7 @@ module _ (says : Spelling) (g : Snapshot) (n : Network) (lost top : ℕ) (best n
             same_clock g y (station_system s) t.left.graph in_y
             (t.left.systems (station_system s) (m.kept.calm.facts.stations (n.place top) s at live).known)
             (is_port.clock ∙ sym clock) in
-            let (pu, there) = there_within s.ports i (subst (λ (z : System). suc i ≤ z.ports) same is_port.last) in
+            let (pu, there) = member_there s.ports i (subst (λ (z : System). suc i ≤ z.ports) same is_port.last) in
             record { s = s; at = at; pu = pu; there = there }
 
     module _ (w w' : MachineState) (m : IsTopState w) (m' : IsTopState w') (step : MachineSteps says w w')

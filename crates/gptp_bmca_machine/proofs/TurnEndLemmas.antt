@@ -336,7 +336,7 @@ module _ (says : Spelling) (g : Snapshot) (n : Network) (tree : List ℕ) (top o
                         (far_was g n t.well t.left u.clock far u_u far_is))
                   ]
 
-    -- what it holds is bounded by what is left
+    -- it is clear
     pub system_is_clear : IsClear n.graph s
     system_is_clear = elim (in_dec s.clock tree) [ yes in_s ↦ tree_clear in_s d refl | no out_s ↦ still_clear out_s ]
 
@@ -350,3 +350,12 @@ module _ (says : Spelling) (g : Snapshot) (n : Network) (tree : List ℕ) (top o
   -- each near system has
   pub near_have_settled : n.bare ≤ n.off → NearHaveSettled n w
   near_have_settled bare i s at live (d, here, near) = system_has_settled i s at live d here near bare
+
+  -- and what any holds respects what is left; all are near
+  pub system_clear : (i : ℕ) (s : Station) → slice_get w.stations i ≡ Some s → s.live ≡ true → IsClear n.graph s
+  system_clear i s at live =
+      let (d, here) = distance_exists n.graph s.clock t.well (In-clocks n.graph (station_system s)
+      (is.back.after.kept.calm.facts.stations i s at live).known) in
+      let within = IsDistance-within n.graph n.reach s.clock d t.paths here in
+      let few = t.few in
+      system_is_clear i s at live d here (omega (arith, within, few))

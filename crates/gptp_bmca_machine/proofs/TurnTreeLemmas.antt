@@ -85,14 +85,6 @@ module _ (g : Snapshot) (n : Network) (tree : List ℕ) (top other last out : �
       let more = t.farther best.clock 0 in_best here in
       omega (arith, more)
 
-  pub other_outside : In other tree → ⊥
-  other_outside in_other =
-      let less = t.nearer (base + depth other) (t.was other in_other) in omega (arith, less)
-
-  -- what the end of the way out has for its best
-  pub out_best : IsBest n.graph out best
-  out_best = IsBest-neighbour n.graph last out best t.well t.joined (t.is_best last t.in_last)
-
   joined_before : Adjacent g last out
   joined_before =
       let (p, q, joins) = t.joined in (p, q, t.left.links (port_of last p) (port_of out q) joins)
