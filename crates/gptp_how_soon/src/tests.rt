@@ -698,52 +698,6 @@ fn a_system_that_a_failure_cuts_off_costs_two_ways(rt: HostRuntime) -> Result<()
 }
 
 #[test]
-fn trees_that_a_failure_cuts_off_cost_two_ways(rt: HostRuntime) -> Result<(), Fail> {
-    const HANGS: &str =
-        "[[event]]\nat = 30000000000\nkind = \"fail\"\nclock = \"000000000000000b\"\n";
-    const DOWN: &str =
-        "[[event]]\nat = 30000000000\nkind = \"link_down\"\nclock = \"000000000000000b\"\nport = ";
-    // In each row b fails; in the last it leaves a ring of what it cuts off.
-    for (case, links, hang, power) in [
-        (
-            "a line and an end station",
-            &[
-                ("a", "1", "b", "1"),
-                ("b", "2", "c", "1"),
-                ("c", "2", "d", "1"),
-                ("b", "3", "e", "1"),
-            ] as &[(&str, &str, &str, &str)],
-            (3_000_001_230, 11_000_000_000),
-            (820, 820),
-        ),
-        (
-            "a triangle and an end station",
-            &[
-                ("a", "1", "b", "1"),
-                ("b", "2", "c", "1"),
-                ("c", "2", "d", "1"),
-                ("b", "3", "e", "1"),
-                ("b", "4", "d", "2"),
-            ] as &[(&str, &str, &str, &str)],
-            (7_000_001_230, 11_000_000_000),
-            (7_000_001_230, 7_000_001_230),
-        ),
-    ] {
-        let clocks = &["a", "b", "c", "d", "e"];
-        let hangs = joined(rt.alloc(), clocks, links, HANGS)?;
-        assert_eq!(rt; bounds(&hangs, 30_000_000_000), Some(hang), "{case}");
-        let mut off = String::new(rt.alloc());
-        write!(off, "{HANGS}{DOWN}1\n{DOWN}2\n{DOWN}3\n")?;
-        if links.len() > 4 {
-            write!(off, "{DOWN}4\n")?;
-        }
-        let loses = joined(rt.alloc(), clocks, links, off.as_str())?;
-        assert_eq!(rt; bounds(&loses, 30_000_000_000), Some(power), "{case}");
-    }
-    Ok(())
-}
-
-#[test]
 fn other_losses_cost_a_turn_for_each_system_of_a_path(rt: HostRuntime) -> Result<(), Fail> {
     // Three announce intervals and a delay for each, an interval, and a way. The link from a to b is wider first.
     for (case, events, bound) in [
