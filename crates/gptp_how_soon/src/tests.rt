@@ -401,8 +401,9 @@ fn a_system_that_a_link_moves_alone_turns_within_two_ways(rt: HostRuntime) -> Re
 
 #[test]
 fn a_tree_that_a_link_moves_turns_by_its_one_way_out(rt: HostRuntime) -> Result<(), Fail> {
-    // In each row the first link goes down; in the last there are two ways out of what it moves.
-    for (case, clocks, links, choice) in [
+    // In each row the first link goes down; in the last there are two ways out of what it moves. With what it takes to
+    // rest.
+    for (case, clocks, links, bound) in [
         (
             "one alone, two steps farther",
             &["a", "b", "c", "d", "e"] as &[&str],
@@ -413,7 +414,7 @@ fn a_tree_that_a_link_moves_turns_by_its_one_way_out(rt: HostRuntime) -> Result<
                 ("d", "2", "a", "2"),
                 ("c", "3", "e", "1"),
             ] as &[(&str, &str, &str, &str)],
-            2_460,
+            (15_000_002_870, 2_460),
         ),
         (
             "half of a ring",
@@ -425,7 +426,7 @@ fn a_tree_that_a_link_moves_turns_by_its_one_way_out(rt: HostRuntime) -> Result<
                 ("d", "2", "e", "1"),
                 ("e", "2", "a", "2"),
             ] as &[(&str, &str, &str, &str)],
-            3_280,
+            (18_000_003_690, 3_280),
         ),
         (
             "with an end station",
@@ -438,7 +439,7 @@ fn a_tree_that_a_link_moves_turns_by_its_one_way_out(rt: HostRuntime) -> Result<
                 ("e", "2", "a", "2"),
                 ("b", "3", "f", "1"),
             ] as &[(&str, &str, &str, &str)],
-            4_100,
+            (21_000_004_510, 4_100),
         ),
         (
             "two ways out",
@@ -453,13 +454,13 @@ fn a_tree_that_a_link_moves_turns_by_its_one_way_out(rt: HostRuntime) -> Result<
                 ("f", "2", "9", "3"),
                 ("c", "3", "a", "1"),
             ] as &[(&str, &str, &str, &str)],
-            22_000_005_330,
+            (22_000_005_740, 22_000_005_330),
         ),
     ] {
         let times = cut(rt.alloc(), clocks, links)?;
         assert_eq!(rt;
-            soon(&times, 30_000_000_000).map(|bound| bound.0),
-            Some(choice),
+            rests(&times, 30_000_000_000, 30_000_000_000),
+            Some(bound),
             "{case}"
         );
     }
