@@ -171,4 +171,3 @@ pub mod MovedFlightLemmas
 pub mod RightBeginLemmas
 pub mod ToldAnewLemmas
 pub mod NamesItselfLemmas
-pub mod TreeTurnsLemmas
