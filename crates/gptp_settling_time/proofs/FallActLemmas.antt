@@ -124,7 +124,8 @@ module _ (p : SettlingParams) (w : WorldState) (is : IsWorld p w) (place : ℕ) 
 
     begins : HaveQuietLinks p.params w' → NothingLapses p.params
         → FallsOff says_announce (snapshot_of w) n top best next base depth tree w.time (view w')
-        × OffSettles says_announce (snapshot_of w) n top best next base depth tree w.time (settles_by n w.time) (view w')
+        × OffSettles says_announce (snapshot_of w) n top best next base depth tree w.time (settles_by n w.time)
+        (view w')
     begins quiet' off =
         subst (λ h. (t : CutsTree h n top best next base depth) → (Unmoved h n top → ⊥)
         → IsSoundEverywhere says_announce h (view w) → FlightNames says_announce h (view w)
