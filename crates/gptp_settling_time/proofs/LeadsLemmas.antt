@@ -5,7 +5,7 @@ use Rattle.gptp_vector.specs.declared.port.PortId.{PortId}
 use Rattle.gptp_links.specs.declared.bounds.Bounds.{Bounds}
 use Rattle.gptp_setup.specs.Intervals.{interval_of}
 use Rattle.gptp_setup.specs.SettlingParams.{SettlingParams, largest_interval}
-use Rattle.gptp_scenario.specs.Calm.{NothingLapses, last_change}
+use Rattle.gptp_scenario.specs.Calm.{IsCalm, NothingLapses, last_change}
 use Rattle.gptp_scenario.specs.Network.{NetworkState, pace_of}
 use Rattle.gptp_scenario.specs.SettlingAtOnce.{settling_span_at_once}
 use Rattle.gptp_scenario.specs.SettlingTime.{capability_span}

@@ -135,7 +135,7 @@ module _ (p : SettlingParams) (silent : ℕ) (w : WorldState) (is : IsWorld p w)
         let (old, stood, less) = a.others at m there lives apart in
         let one = machine_there (view w).stations at old (station_view station) stood
         (station_there w.stations at station stands) in
-        inr (sym less.clock ∙ ap (λ (z : SeenStation). z.clock) one ∙ is_other)
+        inr (less.clock ∙ ap (λ (z : SeenStation). z.clock) one ∙ is_other)
   ]
 
   by_a : channel.a.clock ≡ top → channel.b.clock ≡ other → (i : ℕ) → channel.a.port ≡ i

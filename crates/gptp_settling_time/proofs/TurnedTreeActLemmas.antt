@@ -4,7 +4,7 @@ use Rattle.gptp_lists.specs.Members.{In}
 use native.Mathlib.Decide.{ℕ_discrete}
 use Rattle.gptp_graph.specs.Best.{IsBest}
 use Rattle.gptp_graph.specs.PathBound.{path_bound}
-use Rattle.gptp_graph.specs.Snapshot.{IsWellFormed, PortIdentity, System, clocks, port_of}
+use Rattle.gptp_graph.specs.Snapshot.{Adjacent, IsWellFormed, PortIdentity, System, clocks, port_of}
 use Rattle.gptp_graph.proofs.BestLemmas.{IsBest-neighbour}
 use Rattle.gptp_graph.proofs.DistanceLemmas.{IsDistance-clock, IsDistance-unique}
 use Rattle.gptp_graph.proofs.LinkLemmas.{Adjacent-clock, Adjacent-sym}
@@ -71,7 +71,7 @@ use Rattle.gptp_graph.proofs.ExistenceLemmas.{distance_exists}
 use Rattle.gptp_bmca_machine.specs.TurnTree.{TurnsTree}
 use Rattle.gptp_bmca_machine.proofs.TurnLemmas.{TurnsBack, out_is_at}
 use Rattle.gptp_bmca_machine.proofs.TurnLevelLemmas.{TurnSettles}
-use Rattle.gptp_bmca_machine.proofs.TurnTreeLemmas.{beyond_out, other_outside}
+use Rattle.gptp_bmca_machine.proofs.TurnTreeLemmas.{beyond_out}
 use Rattle.gptp_settling_time.specs.TreeLosses.{IsTurnedTree}
 use Rattle.gptp_settling_time.proofs.TreeEndLemmas.{TopAnswers, top_answers}
 use Rattle.gptp_settling_time.proofs.TreeTurnsLemmas.{tree_turns, turn_settles}
@@ -147,7 +147,9 @@ module _ (p : SettlingParams) (silent owner port : ℕ) (w : WorldState) (draws 
       }
 
   out_of : In other tree → ⊥
-  out_of = other_outside (snapshot_of w) n tree top other last out best base depth turns
+  out_of in_other =
+      let less = so.nearer (base + depth other) (so.was other in_other) in
+      absurd (omega (arith, less))
 
   -- the other end is unmoved, and so are its neighbours that are nearer
   other_stays : In other (clocks (snapshot_of w'))
