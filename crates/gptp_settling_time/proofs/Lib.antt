@@ -115,6 +115,7 @@ pub mod TreeSoundLemmas
 pub mod TreeSoundBeginLemmas
 pub mod FallenClaimedLemmas
 pub mod FallenToLemmas
+pub mod TreeMadeLemmas
 pub mod FallMadeLemmas
 pub mod NamedAfterLemmas
 pub mod TurnsDownLemmas
@@ -173,3 +174,7 @@ pub mod ToldAnewLemmas
 pub mod NamesItselfLemmas
 pub mod TreeTurnsLemmas
 pub mod TurnedTreeLemmas
+pub mod TreeEndLemmas
+pub mod TurnedTreeActLemmas
+pub mod TurnedTreeToLemmas
+pub mod TurnedTreeMadeLemmas
