@@ -1,11 +1,11 @@
 -- Links of the network that a snapshot's links are: the places of their ends, whether they are lost, and which join two
 -- systems.
-use Rattle.std.proofs.Common.{◌≡◌, ◌⊎◌, inl, inr, ℕ, Bool, true, false, List, [], filter, refl, sym, ap, subst, ◌∙◌, ◌-◌}
-use Rattle.std.specs.Prelude.{not, if◌then◌else◌}
+use Rattle.std.proofs.Common.{◌≡◌, ◌⊎◌, inl, inr, ℕ, Bool, true, false, List, [], filter, refl, sym, ap, subst, ◌∙◌}
+use Rattle.std.specs.Prelude.{not}
 use Rattle.std.proofs.lemmas.Bool.{and_from}
 use Rattle.gptp_lists.specs.Members.{In}
 use Rattle.gptp_lists.proofs.SystemSpecLemmas.{In-map}
-use Rattle.gptp_graph.specs.Snapshot.{IsWellFormed, Link, Snapshot, Joins, PortIdentity}
+use Rattle.gptp_graph.specs.Snapshot.{IsWellFormed, Joins, Link, PortIdentity, Snapshot, port_of}
 use Rattle.gptp_scenario.specs.Network.{IsNetwork, NetworkState}
 use Rattle.gptp_scenario.specs.declared.change.Timed.{Timed}
 use Rattle.gptp_scenario.specs.declared.network.LinkSpec.{LinkSpec}

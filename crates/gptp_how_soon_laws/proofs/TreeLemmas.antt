@@ -338,7 +338,8 @@ module _ (n : NetworkState) (network : IsNetwork n) (made events : List Timed) w
             let one : x.wire ≡ y.wire =
             one_same (leads_nearer before i) (ends_of n) (used_links n events) x.wire y.wire
             (most_one i (in_below i v s in_v).single) x.among y.among x.nearer y.nearer in
-            same_port v p q a b (no_loop v a near) (no_loop v b near') x.link y.link (ap (λ (w : LinkSpec). link_of (w.a, w.b)) one)
+            same_port v p q a b (no_loop v a near) (no_loop v b near') x.link y.link
+            (ap (λ (w : LinkSpec). link_of (w.a, w.b)) one)
         by i s false none =
             let zero : depth v ≡ 0 =
             depth_there i v s.at ∙ ap (λ b. if b then steps_of (slice_get before i) - base else 0) none in

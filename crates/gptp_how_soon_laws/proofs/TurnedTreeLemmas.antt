@@ -39,15 +39,16 @@ use Rattle.gptp_settling_time.specs.TreeLosses.{IsTurnedTree}
 
 -- one of a list passes, where one is counted
 one_there : (p : Ends → Bool) (es : List Ends) → count_by p es ≡ 1 → (e : Ends) × In e es × (p e ≡ true)
-one_there p [] none = absurd (let no : 0 ≡ 1 = none in omega (arith, no))
+one_there p [] none = let empty : count_by p [] ≡ 0 = refl in absurd (omega (arith, empty, none))
 one_there p (e ∷ es) is = by (p e) refl (one_there p es)
   where
     by : (test : Bool) → p e ≡ test → (count_by p es ≡ 1 → (f : Ends) × In f es × (p f ≡ true))
         → (f : Ends) × In f (e ∷ es) × (p f ≡ true)
     by true passes rest = (e, inl refl, passes)
     by false fails rest =
-        let more : count_by p (e ∷ es) ≡ cond (p e) 1 0 + count_by p es = sum_by-cons (λ f. cond (p f) 1 0) e es in
-        let none : cond (p e) 1 0 ≡ 0 = ap (λ b. cond b 1 0) fails in
+        let here : ℕ = cond (p e) 1 0 in
+        let more : count_by p (e ∷ es) ≡ here + count_by p es = sum_by-cons (λ f. cond (p f) 1 0) e es in
+        let none : here ≡ 0 = ap (λ b. cond b 1 0) fails in
         let (f, member, is_so) = rest (omega (arith, more, none, is)) in (f, inr member, is_so)
 
 less_so : (a b : ℕ) → nat_lt a b ≡ true → a < b
@@ -597,7 +598,7 @@ module _ (n : NetworkState) (network : IsNetwork n) (made events : List Timed) w
         record { same = same; first_is = first_is; second_is = second_is }
       where
         apart : (k : ℕ) {A : Type 0} → moved k ≡ true → moved k ≡ false → A
-        apart k yes no = let both : true ≡ false = sym yes ∙ no in absurd cc
+        apart k is_so none_so = let both : true ≡ false = sym is_so ∙ none_so in absurd cc
 
         stays_so : moved way.out ≡ false
         stays_so = not-true (moved way.out) way.stays_out
