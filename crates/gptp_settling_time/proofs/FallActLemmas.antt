@@ -318,5 +318,5 @@ module _ (p : SettlingParams) (silent owner port : ℕ) (w : WorldState) (draws 
     pub act_fallen : IsFallenAlways p (snapshot_of w) silent w.time w'
     act_fallen =
         fallen_begins p w is acts.1.place channel here draws w' is' told seen near silent top_at best next base depth
-        tree so.in_top top.lost top.at top.answers not_tree pace measured' past late sound named still_ready quiet_by other
-        left_but so.outside
+        tree so.in_top top.lost top.at top.answers not_tree pace measured' past late sound named still_ready quiet_by
+        other left_but so.outside

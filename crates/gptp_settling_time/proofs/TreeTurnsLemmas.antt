@@ -176,7 +176,7 @@ module _ (says : Spelling) (n0 n : Network) (tree : List ℕ) (top other last ou
   sound' : IsSoundOnLinks says g w'
   sound' = record {
     lanes = λ j l f c at among said joins. elim (flew says n0 n top t.well t.left moved_top net0 w calm0 invariant0
-    late0     sound0 same w' lost place a kept' j l f c at among said) [
+        late0 sound0 same w' lost place a kept' j l f c at among said) [
           | inl o ↦
               let is = sound0.lanes j o.l o.at f c o.among said in
               record {

@@ -135,8 +135,11 @@ module _ (p : SettlingParams) (silent owner port : ℕ) (w : WorldState) (draws 
   -- the other end is unmoved, and so are its neighbours that are nearer
   other_stays : In other (clocks (snapshot_of w'))
       → IsUnmoved (snapshot_of w) (snapshot_of w') other × NearerStay (snapshot_of w) (snapshot_of w') other
-  other_stays known_other = (so.others other known_other out_of, λ y e joined there farther. beside y e joined there
-      farther (in_dec y tree))
+  other_stays known_other = (
+    so.others other known_other out_of,
+    λ y e joined there farther. beside y e joined there
+        farther (in_dec y tree),
+  )
     where
       beside : (y e : ℕ) → Adjacent (snapshot_of w') other y → IsDistance (snapshot_of w') y e
           → IsDistance (snapshot_of w') other (suc e) → Dec (In y tree) → IsUnmoved (snapshot_of w) (snapshot_of w') y
@@ -216,12 +219,12 @@ module _ (p : SettlingParams) (silent owner port : ℕ) (w : WorldState) (draws 
       (settles_by n w.time) (turn_times h n tree top other last out best base depth t w.time) (view w')) seen.graph
       (λ t near0 sound0 named0. (
         tree_turns says_announce seen.n n tree top other last out best base depth t so.in_top seen.net (view w)
-        seen.calm     seen.invariant seen.late near0 sound0 named0 wired (view w') answers.lost answers.at answers.answers
-            (λ c m around at. beside_at kept' c m around at) kept' dark',
+            seen.calm seen.invariant seen.late near0 sound0 named0 wired (view w') answers.lost answers.at
+            answers.answers (λ c m around at. beside_at kept' c m around at) kept' dark',
         turn_settles says_announce seen.n n tree top other last out best base depth t so.in_top seen.net (view w)
             seen.calm seen.invariant seen.late near0 sound0 named0 wired (view w') answers.lost answers.at
-            answers.answers (λ c m around at. beside_at kept' c m around at) kept' dark' (fallen_by n w.time) (settles_by n w.time)
-            (turn_times seen.n.graph n tree top other last out best base depth t w.time)
+            answers.answers (λ c m around at. beside_at kept' c m around at) kept' dark' (fallen_by n w.time)
+            (settles_by n w.time) (turn_times seen.n.graph n tree top other last out best base depth t w.time)
             (let time = answers.answers.time in omega (arith, time)),
       )) turns near sound named
     where
