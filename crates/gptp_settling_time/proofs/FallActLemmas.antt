@@ -1,7 +1,6 @@
 -- The act by which a link goes down that cuts a tree off: from then on the tree falls back.
-use Rattle.std.proofs.Common.{◌≡◌, ◌≢◌, ◌⊎◌, ◌≤◌, ◌+◌, ℕ, zero, suc, true, List, Some, slice_get, refl, sym, ap, subst, ◌∙◌, inl, inr, arith}
+use Rattle.std.proofs.Common.{◌≡◌, ◌≢◌, ◌⊎◌, ◌≤◌, ◌+◌, ℕ, true, List, Some, slice_get, refl, sym, ap, subst, ◌∙◌, inl, inr, arith}
 use Rattle.gptp_lists.specs.Members.{In}
-use native.Mathlib.Decide.{ℕ_discrete}
 use Rattle.gptp_graph.specs.Best.{IsBest}
 use Rattle.gptp_graph.specs.PathBound.{path_bound}
 use Rattle.gptp_graph.specs.Snapshot.{IsWellFormed, PortIdentity, System, clocks, port_of}
@@ -18,7 +17,6 @@ use Rattle.gptp_scenario.specs.declared.change.Change.TheVariants.{LinkDown}
 use Rattle.gptp_setup.specs.SettlingParams.{SettlingParams}
 use Rattle.gptp_system.specs.Input.{PortDown}
 use Rattle.gptp_system.specs.State.{clock}
-use Rattle.gptp_system.specs.Steps.{HasPortNumber}
 use Rattle.gptp_model.specs.Acts.{Acts}
 use Rattle.gptp_model.specs.Changing.{TellsEnds, taken_down}
 use Rattle.gptp_model.specs.World.{Channel, WorldState, receiver, sender}
@@ -33,15 +31,13 @@ use Rattle.gptp_bmca_machine.specs.SoundLaws.{AllAreNear, UnlinkedAreOff}
 use Rattle.gptp_bmca_machine.specs.Station.{Station as SeenStation}
 use Rattle.gptp_bmca_machine.proofs.FallEndLemmas.{FallsOff}
 use Rattle.gptp_bmca_machine.proofs.LinkStepLemmas.{lives_at}
-use Rattle.gptp_bmca_machine.proofs.PlaceLemmas.{same_there as machine_there}
 use Rattle.gptp_invariants.specs.ChoiceCalm.{HaveQuietLinks, delay_in}
 use Rattle.gptp_invariants.specs.ChoiceSettlesAsMachine.{IsWorld}
-use Rattle.gptp_invariants.specs.ChoiceView.{says_announce, station_view, view}
+use Rattle.gptp_invariants.specs.ChoiceView.{says_announce, view}
 use Rattle.gptp_invariants.specs.DelayMeasured.{LinkIsMeasured}
 use Rattle.gptp_invariants.specs.WorldNews.{AreReadyBy, AreSilentBy}
 use Rattle.gptp_invariants.specs.WorldSound.{IsSoundWorld}
 use Rattle.gptp_invariants.specs.WorldStanding.{snapshot_of}
-use Rattle.gptp_invariants.proofs.ChoicePlaceLemmas.{station_there}
 use Rattle.gptp_invariants.proofs.ChoiceSendLemmas.{world_apart}
 use Rattle.gptp_invariants.proofs.ChoiceSettlesAsMachineLemmas.{paths_bound}
 use Rattle.gptp_invariants.proofs.WorldStandsLemmas.{stands_well}
@@ -56,7 +52,6 @@ use Rattle.gptp_settling_time.proofs.FallDownLemmas.{FlightNames, OffSettles, tr
 use Rattle.gptp_settling_time.proofs.LeftClaimedLemmas.{HaveAskedLong, left_network}
 use Rattle.gptp_settling_time.proofs.LoweredLemmas.{ends, known, less_then, ready_on, still_joins, wires}
 use Rattle.gptp_settling_time.proofs.MovedAlwaysLemmas.{after_loss, dark_now}
-use Rattle.gptp_settling_time.proofs.OneEndLemmas.{turns_a, turns_b}
 use Rattle.gptp_settling_time.proofs.ReducedLemmas.{NearerStay}
 use Rattle.gptp_settling_time.proofs.SettledSeenLemmas.{IsSettledSeen}
 use Rattle.gptp_settling_time.proofs.TreeEndLemmas.{TopAnswers, top_answers}
@@ -230,7 +225,8 @@ module _ (p : SettlingParams) (silent owner port : ℕ) (w : WorldState) (draws 
       (so : IsCutTree (snapshot_of w) (snapshot_of w') top_at other best next base depth)
       (few : path_bound (snapshot_of w') ≤ 255)
       (ends_are : ((channel.a.clock ≡ top_at) × (channel.b.clock ≡ other))
-      ⊎ ((channel.b.clock ≡ top_at) × (channel.a.clock ≡ other))) (late : delay_in w' ≤ w'.time) (sound : IsSoundWorld w)
+      ⊎ ((channel.b.clock ≡ top_at) × (channel.a.clock ≡ other))) (late : delay_in w' ≤ w'.time)
+      (sound : IsSoundWorld w)
       (named : FlightNames says_announce (snapshot_of w) (view w)) where
     well : IsWellFormed (snapshot_of w)
     well = stands_well w is.sound is.between is.encodable
@@ -321,6 +317,6 @@ module _ (p : SettlingParams) (silent owner port : ℕ) (w : WorldState) (draws 
 
     pub act_fallen : IsFallenAlways p (snapshot_of w) silent w.time w'
     act_fallen =
-        fallen_begins p w is acts.1.place channel here draws w' is' told seen near silent top_at best next base depth tree
-        so.in_top top.lost top.at top.answers not_tree pace measured' past late sound named still_ready quiet_by other
-        left_but so.outside
+        fallen_begins p w is acts.1.place channel here draws w' is' told seen near silent top_at best next base depth
+        tree so.in_top top.lost top.at top.answers not_tree pace measured' past late sound named still_ready quiet_by
+        other left_but so.outside

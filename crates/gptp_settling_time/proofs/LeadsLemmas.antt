@@ -815,8 +815,8 @@ module _ {F : Type 0} (answers : Bounds → ℕ → F → Option ℕ → F → T
     leads_to_fallen =
         leads_by_tree (FallsCalm n made event) (λ x. x.calm) (λ x. x.off) (λ x. x.lowers.few)
         (λ silent now. IsFallenTo d more silent now w') (λ start stood rest named since falls.
-        fallen_to d playable made event then k.draws done w' k.acts refl time_now keeps_then after start rest stood named
-        since falls)
+        fallen_to d playable made event then k.draws done w' k.acts refl time_now keeps_then after start rest stood
+        named since falls)
 
     leads_to_turned_tree : (past : Past) (silent now : ℕ) → EventLeads n made past event (TurnedTree silent now)
         → NamesAfter d made past w → IsAfter d made past w → IsTurnedTreeTo d more silent now w'

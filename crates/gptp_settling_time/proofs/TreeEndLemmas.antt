@@ -1,74 +1,39 @@
--- A link goes down at whose one end a tree that it moves has its top: that end answers, and all else stands as it did but
--- for the port at the other end.
-use Rattle.std.proofs.Common.{◌≡◌, ◌≢◌, ◌⊎◌, ◌≤◌, ◌+◌, ℕ, zero, suc, true, List, Some, slice_get, refl, sym, ap, subst, ◌∙◌, inl, inr, arith}
+-- A link goes down at whose one end a tree that it moves has its top: that end answers, and all else stands as it did
+-- but for the port at the other end.
+use Rattle.std.proofs.Common.{◌≡◌, ◌≢◌, ◌⊎◌, ℕ, zero, suc, true, List, Some, slice_get, refl, sym, ap, subst, ◌∙◌, inl, inr, arith}
 use Rattle.gptp_lists.specs.Members.{In}
 use native.Mathlib.Decide.{ℕ_discrete}
-use Rattle.gptp_graph.specs.Best.{IsBest}
-use Rattle.gptp_graph.specs.PathBound.{path_bound}
-use Rattle.gptp_graph.specs.Snapshot.{IsWellFormed, PortIdentity, System, clocks, port_of}
-use Rattle.gptp_graph.proofs.BestLemmas.{IsBest-neighbour}
-use Rattle.gptp_graph.proofs.DistanceLemmas.{IsDistance-clock, IsDistance-unique}
-use Rattle.gptp_graph.proofs.LinkLemmas.{Adjacent-clock, Adjacent-sym}
+use Rattle.gptp_graph.specs.Snapshot.{clocks}
 use Rattle.gptp_links.specs.declared.link.Direction.{Direction}
 use Rattle.gptp_links.specs.declared.link.Direction.TheVariants.{FromA, FromB}
 use Rattle.gptp_links.specs.Fate.{Draw}
-use Rattle.gptp_scenario.specs.Calm.{NothingLapses}
-use Rattle.gptp_scenario.specs.Params.{KeepPace}
-use Rattle.gptp_scenario.specs.declared.change.Act.TheVariants.{Change as Changing}
-use Rattle.gptp_scenario.specs.declared.change.Change.TheVariants.{LinkDown}
 use Rattle.gptp_setup.specs.SettlingParams.{SettlingParams}
 use Rattle.gptp_system.specs.Input.{PortDown}
 use Rattle.gptp_system.specs.State.{clock}
 use Rattle.gptp_system.specs.Steps.{HasPortNumber}
-use Rattle.gptp_model.specs.Acts.{Acts}
 use Rattle.gptp_model.specs.Changing.{TellsEnds, taken_down}
-use Rattle.gptp_model.specs.World.{Channel, WorldState, receiver, sender}
-use Rattle.gptp_model.specs.declared.done.Done.{Done}
+use Rattle.gptp_model.specs.World.{Channel, WorldState, sender}
 use Rattle.gptp_model.specs.declared.station.Station.{Station}
-use Rattle.gptp_bmca_machine.specs.CutTree.{CutsTree}
-use Rattle.gptp_bmca_machine.specs.LossLaws.{IsAfterLoss, Unmoved}
 use Rattle.gptp_bmca_machine.specs.Network.{Network}
-use Rattle.gptp_bmca_machine.specs.RestLaws.{SameWiring}
-use Rattle.gptp_bmca_machine.specs.SoundEverywhere.{IsSoundEverywhere}
-use Rattle.gptp_bmca_machine.specs.SoundLaws.{AllAreNear, UnlinkedAreOff}
+use Rattle.gptp_bmca_machine.specs.SoundLaws.{AllAreNear}
 use Rattle.gptp_bmca_machine.specs.Station.{Station as SeenStation}
-use Rattle.gptp_bmca_machine.proofs.FallEndLemmas.{FallsOff}
-use Rattle.gptp_bmca_machine.proofs.LinkStepLemmas.{lives_at}
 use Rattle.gptp_bmca_machine.proofs.PlaceLemmas.{same_there as machine_there}
-use Rattle.gptp_invariants.specs.ChoiceCalm.{HaveQuietLinks, delay_in}
 use Rattle.gptp_invariants.specs.ChoiceSettlesAsMachine.{IsWorld}
 use Rattle.gptp_invariants.specs.ChoiceView.{says_announce, station_view, view}
-use Rattle.gptp_invariants.specs.DelayMeasured.{LinkIsMeasured}
-use Rattle.gptp_invariants.specs.WorldNews.{AreReadyBy, AreSilentBy}
-use Rattle.gptp_invariants.specs.WorldSound.{IsSoundWorld}
 use Rattle.gptp_invariants.specs.WorldStanding.{snapshot_of}
 use Rattle.gptp_invariants.proofs.ChoicePlaceLemmas.{station_there}
-use Rattle.gptp_invariants.proofs.ChoiceSendLemmas.{world_apart}
-use Rattle.gptp_invariants.proofs.ChoiceSettlesAsMachineLemmas.{paths_bound}
-use Rattle.gptp_invariants.proofs.WorldStandsLemmas.{stands_well}
 use Rattle.gptp_settling_time.specs.Losses.{IsUnmoved}
-use Rattle.gptp_settling_time.specs.TreeLosses.{IsCutTree}
-use Rattle.gptp_settling_time.proofs.AlwaysClaimedLemmas.{IsStanding}
-use Rattle.gptp_settling_time.proofs.CutDeepLemmas.{deep_within}
-use Rattle.gptp_settling_time.proofs.DueLemmas.{AreDueBy, due_by_interval, in_use_joins}
 use Rattle.gptp_settling_time.proofs.EndAnswersLemmas.{EndAnswers}
-use Rattle.gptp_settling_time.proofs.FallAlwaysLemmas.{IsFallenAlways, IsGoneBy, fallen_by, falls_within, settles_by, settles_later}
-use Rattle.gptp_settling_time.proofs.FallDownLemmas.{FlightNames, OffSettles, tree_falls, tree_settles}
-use Rattle.gptp_settling_time.proofs.LeftClaimedLemmas.{HaveAskedLong, left_network}
-use Rattle.gptp_settling_time.proofs.LoweredLemmas.{ends, known, less_then, ready_on, still_joins, wires}
-use Rattle.gptp_settling_time.proofs.MovedAlwaysLemmas.{after_loss, dark_now}
+use Rattle.gptp_settling_time.proofs.LeftClaimedLemmas.{left_network}
+use Rattle.gptp_settling_time.proofs.LoweredLemmas.{known}
 use Rattle.gptp_settling_time.proofs.OneEndLemmas.{turns_a, turns_b}
 use Rattle.gptp_settling_time.proofs.ReducedLemmas.{NearerStay}
 use Rattle.gptp_settling_time.proofs.SettledSeenLemmas.{IsSettledSeen}
-use Rattle.gptp_settling_time.proofs.TakenDownLemmas.{silent_down, told_keeps}
-use Rattle.gptp_settling_time.proofs.TreeSoundBeginLemmas.{outside_begins}
-use Rattle.gptp_settling_time.proofs.TreeSoundLemmas.{IsSoundOutside}
-use Rattle.gptp_settling_time.proofs.TreeTracesLemmas.{HasAllButLink}
-use Rattle.gptp_settling_time.proofs.WidenedLemmas.{ready_first}
 
 module _ (p : SettlingParams) (silent : ℕ) (w : WorldState) (is : IsWorld p w) (place : ℕ) (channel : Channel)
     (here : slice_get w.net.channels place ≡ Some channel) (draws : List Draw) (w' : WorldState) (is' : IsWorld p w')
-    (told : TellsEnds PortDown channel (record w { net = taken_down place channel w.net; last_change = w.time }) draws w')
+    (told : TellsEnds PortDown channel (record w { net = taken_down place channel w.net; last_change = w.time })
+    draws w')
     (seen : IsSettledSeen p w) (near : AllAreNear (snapshot_of w))
     (live : (direction : Direction) (at : ℕ) (station : Station) → slice_get w.stations at ≡ Some station
     → clock station.system ≡ (sender direction channel).clock → station.live ≡ true) (top other : ℕ)

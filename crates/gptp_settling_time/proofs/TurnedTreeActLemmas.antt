@@ -1,15 +1,10 @@
 -- The act by which a link goes down, so that a tree turns to its one way out.
-use Rattle.std.proofs.Common.{◌≡◌, ◌≢◌, ◌⊎◌, ◌≤◌, ◌+◌, ℕ, zero, suc, true, List, Some, slice_get, refl, sym, ap, subst, ◌∙◌, inl, inr, arith}
+use Rattle.std.proofs.Common.{◌≡◌, ◌≢◌, ◌⊎◌, ◌≤◌, ◌+◌, ℕ, suc, true, List, Some, slice_get, refl, sym, subst, ◌∙◌, inl, inr, arith}
 use Rattle.gptp_lists.specs.Members.{In}
-use native.Mathlib.Decide.{ℕ_discrete}
-use Rattle.gptp_graph.specs.Best.{IsBest}
 use Rattle.gptp_graph.specs.PathBound.{path_bound}
-use Rattle.gptp_graph.specs.Snapshot.{Adjacent, IsWellFormed, PortIdentity, System, clocks, port_of}
-use Rattle.gptp_graph.proofs.BestLemmas.{IsBest-neighbour}
-use Rattle.gptp_graph.proofs.DistanceLemmas.{IsDistance-clock, IsDistance-unique}
+use Rattle.gptp_graph.specs.Snapshot.{Adjacent, System, clocks}
 use Rattle.gptp_graph.proofs.LinkLemmas.{Adjacent-clock, Adjacent-sym}
 use Rattle.gptp_links.specs.declared.link.Direction.{Direction}
-use Rattle.gptp_links.specs.declared.link.Direction.TheVariants.{FromA, FromB}
 use Rattle.gptp_links.specs.Fate.{Draw}
 use Rattle.gptp_scenario.specs.Calm.{NothingLapses}
 use Rattle.gptp_scenario.specs.Params.{KeepPace}
@@ -18,51 +13,37 @@ use Rattle.gptp_scenario.specs.declared.change.Change.TheVariants.{LinkDown}
 use Rattle.gptp_setup.specs.SettlingParams.{SettlingParams}
 use Rattle.gptp_system.specs.Input.{PortDown}
 use Rattle.gptp_system.specs.State.{clock}
-use Rattle.gptp_system.specs.Steps.{HasPortNumber}
 use Rattle.gptp_model.specs.Acts.{Acts}
 use Rattle.gptp_model.specs.Changing.{TellsEnds, taken_down}
-use Rattle.gptp_model.specs.World.{Channel, WorldState, receiver, sender}
+use Rattle.gptp_model.specs.World.{Channel, WorldState, sender}
 use Rattle.gptp_model.specs.declared.done.Done.{Done}
 use Rattle.gptp_model.specs.declared.station.Station.{Station}
-use Rattle.gptp_bmca_machine.specs.CutTree.{CutsTree}
-use Rattle.gptp_bmca_machine.specs.LossLaws.{IsAfterLoss, Unmoved}
+use Rattle.gptp_bmca_machine.specs.LossLaws.{IsAfterLoss}
 use Rattle.gptp_bmca_machine.specs.Network.{Network}
 use Rattle.gptp_bmca_machine.specs.RestLaws.{SameWiring}
 use Rattle.gptp_bmca_machine.specs.SoundEverywhere.{IsSoundEverywhere}
 use Rattle.gptp_bmca_machine.specs.SoundLaws.{AllAreNear, UnlinkedAreOff}
 use Rattle.gptp_bmca_machine.specs.Station.{Station as SeenStation}
-use Rattle.gptp_bmca_machine.proofs.FallEndLemmas.{FallsOff}
 use Rattle.gptp_bmca_machine.proofs.LinkStepLemmas.{lives_at}
-use Rattle.gptp_bmca_machine.proofs.PlaceLemmas.{same_there as machine_there}
 use Rattle.gptp_invariants.specs.ChoiceCalm.{HaveQuietLinks, delay_in}
 use Rattle.gptp_invariants.specs.ChoiceSettlesAsMachine.{IsWorld}
-use Rattle.gptp_invariants.specs.ChoiceView.{says_announce, station_view, view}
+use Rattle.gptp_invariants.specs.ChoiceView.{says_announce, view}
 use Rattle.gptp_invariants.specs.DelayMeasured.{LinkIsMeasured}
 use Rattle.gptp_invariants.specs.WorldNews.{AreReadyBy, AreSilentBy}
 use Rattle.gptp_invariants.specs.WorldSound.{IsSoundWorld}
 use Rattle.gptp_invariants.specs.WorldStanding.{snapshot_of}
-use Rattle.gptp_invariants.proofs.ChoicePlaceLemmas.{station_there}
-use Rattle.gptp_invariants.proofs.ChoiceSendLemmas.{world_apart}
 use Rattle.gptp_invariants.proofs.ChoiceSettlesAsMachineLemmas.{paths_bound}
 use Rattle.gptp_invariants.proofs.WorldStandsLemmas.{stands_well}
 use Rattle.gptp_settling_time.specs.Losses.{IsUnmoved}
-use Rattle.gptp_settling_time.specs.TreeLosses.{IsCutTree}
 use Rattle.gptp_settling_time.proofs.AlwaysClaimedLemmas.{IsStanding}
-use Rattle.gptp_settling_time.proofs.CutDeepLemmas.{deep_within}
-use Rattle.gptp_settling_time.proofs.DueLemmas.{AreDueBy, due_by_interval, in_use_joins}
-use Rattle.gptp_settling_time.proofs.EndAnswersLemmas.{EndAnswers}
-use Rattle.gptp_settling_time.proofs.FallAlwaysLemmas.{IsFallenAlways, IsGoneBy, fallen_by, falls_within, settles_by, settles_later}
-use Rattle.gptp_settling_time.proofs.FallDownLemmas.{FlightNames, OffSettles, tree_falls, tree_settles}
+use Rattle.gptp_settling_time.proofs.FallAlwaysLemmas.{fallen_by, settles_by}
+use Rattle.gptp_settling_time.proofs.FallDownLemmas.{FlightNames}
 use Rattle.gptp_settling_time.proofs.LeftClaimedLemmas.{HaveAskedLong, left_network}
-use Rattle.gptp_settling_time.proofs.LoweredLemmas.{ends, known, less_then, ready_on, still_joins, wires}
+use Rattle.gptp_settling_time.proofs.LoweredLemmas.{ends, known, less_then, ready_on, wires}
 use Rattle.gptp_settling_time.proofs.MovedAlwaysLemmas.{after_loss, dark_now}
-use Rattle.gptp_settling_time.proofs.OneEndLemmas.{turns_a, turns_b}
 use Rattle.gptp_settling_time.proofs.ReducedLemmas.{NearerStay}
 use Rattle.gptp_settling_time.proofs.SettledSeenLemmas.{IsSettledSeen}
 use Rattle.gptp_settling_time.proofs.TakenDownLemmas.{silent_down, told_keeps}
-use Rattle.gptp_settling_time.proofs.TreeSoundBeginLemmas.{outside_begins}
-use Rattle.gptp_settling_time.proofs.TreeSoundLemmas.{IsSoundOutside}
-use Rattle.gptp_settling_time.proofs.TreeTracesLemmas.{HasAllButLink}
 use Rattle.gptp_settling_time.proofs.WidenedLemmas.{ready_first}
 use Rattle.gptp_graph.specs.Distance.{IsDistance}
 use Rattle.gptp_graph.proofs.DecisionLemmas.{in_dec}
@@ -154,8 +135,11 @@ module _ (p : SettlingParams) (silent owner port : ℕ) (w : WorldState) (draws 
   -- the other end is unmoved, and so are its neighbours that are nearer
   other_stays : In other (clocks (snapshot_of w'))
       → IsUnmoved (snapshot_of w) (snapshot_of w') other × NearerStay (snapshot_of w) (snapshot_of w') other
-  other_stays known_other = (so.others other known_other out_of, λ y e joined there farther. beside y e joined there
-      farther (in_dec y tree))
+  other_stays known_other = (
+    so.others other known_other out_of,
+    λ y e joined there farther. beside y e joined there
+        farther (in_dec y tree),
+  )
     where
       beside : (y e : ℕ) → Adjacent (snapshot_of w') other y → IsDistance (snapshot_of w') y e
           → IsDistance (snapshot_of w') other (suc e) → Dec (In y tree) → IsUnmoved (snapshot_of w) (snapshot_of w') y
@@ -234,13 +218,13 @@ module _ (p : SettlingParams) (silent owner port : ℕ) (w : WorldState) (draws 
       × TurnSettles says_announce h n tree top other last out best base depth t w.time (fallen_by n w.time)
       (settles_by n w.time) (turn_times h n tree top other last out best base depth t w.time) (view w')) seen.graph
       (λ t near0 sound0 named0. (
-        tree_turns says_announce seen.n n tree top other last out best base depth t so.in_top seen.net (view w) seen.calm
-            seen.invariant seen.late near0 sound0 named0 wired (view w') answers.lost answers.at answers.answers
-            (λ c m around at. beside_at kept' c m around at) kept' dark',
+        tree_turns says_announce seen.n n tree top other last out best base depth t so.in_top seen.net (view w)
+            seen.calm seen.invariant seen.late near0 sound0 named0 wired (view w') answers.lost answers.at
+            answers.answers (λ c m around at. beside_at kept' c m around at) kept' dark',
         turn_settles says_announce seen.n n tree top other last out best base depth t so.in_top seen.net (view w)
-            seen.calm seen.invariant seen.late near0 sound0 named0 wired (view w') answers.lost answers.at answers.answers
-            (λ c m around at. beside_at kept' c m around at) kept' dark' (fallen_by n w.time) (settles_by n w.time)
-            (turn_times seen.n.graph n tree top other last out best base depth t w.time)
+            seen.calm seen.invariant seen.late near0 sound0 named0 wired (view w') answers.lost answers.at
+            answers.answers (λ c m around at. beside_at kept' c m around at) kept' dark' (fallen_by n w.time)
+            (settles_by n w.time) (turn_times seen.n.graph n tree top other last out best base depth t w.time)
             (let time = answers.answers.time in omega (arith, time)),
       )) turns near sound named
     where

@@ -5,7 +5,7 @@ use Rattle.gptp_lists.specs.Members.{In}
 use Rattle.gptp_graph.specs.Best.{IsBest}
 use Rattle.gptp_graph.specs.Distance.{IsDistance, IsNear}
 use Rattle.gptp_graph.specs.PathBound.{path_bound}
-use Rattle.gptp_graph.specs.Snapshot.{IsLinked, Snapshot, System, clocks, port_of}
+use Rattle.gptp_graph.specs.Snapshot.{IsLinked, Snapshot, System, port_of}
 use Rattle.gptp_graph.proofs.ExistenceLemmas.{distance_exists}
 use Rattle.gptp_graph.proofs.PathBoundLemmas.{IsDistance-within}
 use Rattle.gptp_links.specs.Fate.{Draw}
@@ -20,7 +20,6 @@ use Rattle.gptp_model.specs.World.{WorldState}
 use Rattle.gptp_model.specs.declared.done.Done.{Done}
 use Rattle.gptp_model.specs.declared.station.Station.{Station}
 use Rattle.gptp_bmca_machine.specs.Acts.{MachineSteps}
-use Rattle.gptp_bmca_machine.specs.Calm.{Calm}
 use Rattle.gptp_bmca_machine.specs.Clean.{CameOverLink}
 use Rattle.gptp_bmca_machine.specs.LossLaws.{IsAfterLoss}
 use Rattle.gptp_bmca_machine.specs.Network.{Network}
@@ -125,8 +124,8 @@ module _ (p : SettlingParams) (g : Snapshot) (silent start : ℕ) (w w' : WorldS
     dark' = subst (λ (z : Network). UnlinkedAreOff z.graph (view w')) same'
         (dark_now p silent w' standing' asked' quiet' past')
 
-    back' : TurnsBack says_announce g is.n is.tree is.top is.other is.last is.out is.best is.base is.depth is.turns start
-        (view w')
+    back' : TurnsBack says_announce g is.n is.tree is.top is.other is.last is.out is.best is.base is.depth is.turns
+        start (view w')
     back' =
         turns_on says_announce g is.n is.tree is.top is.other is.last is.out is.best is.base is.depth is.turns start
         (view w) (view w') (is.seen quiet off).0 kept' dark' step
@@ -248,8 +247,15 @@ module _ (p : SettlingParams) (g : Snapshot) (silent start : ℕ) (w : WorldStat
       let within = IsDistance-within is.n.graph is.n.reach (clock station.system) d t.paths there in
       let few = t.few in
       let s = station_view station in
-      let is_clear = clear place s (station_there w.stations place station here) live (d, there, omega (arith, within,
-      few)) in (
+      let is_clear = clear place s (station_there w.stations place station here) live (
+        d,
+        there,
+        omega (
+          arith,
+          within,
+          few,
+        ),
+      ) in (
         root_above is.n.graph t.well s is_clear best is_best,
         steps_above is.n.graph t.well s is_clear best is_best,
       ))

@@ -1,11 +1,7 @@
 -- A link goes down by which a tree turns to its one way out, in a world of a document whose choice had stood.
-use Rattle.std.proofs.Common.{List, [], arith, inl, inr, subst, sym, true, ℕ, ◌++◌, ◌+◌, ◌∷◌, ◌≡◌, ◌≤◌, ◌⊎◌, slice_get, Some}
-use Rattle.gptp_lists.proofs.MappedLemmas.{alike}
-use Rattle.gptp_graph.specs.Best.{IsBest}
+use Rattle.std.proofs.Common.{List, [], arith, inl, inr, subst, ℕ, ◌++◌, ◌+◌, ◌∷◌, ◌≡◌, ◌≤◌, ◌⊎◌, slice_get, Some}
 use Rattle.gptp_graph.specs.PathBound.{path_bound}
 use Rattle.gptp_graph.specs.Snapshot.{Snapshot, System, port_of}
-use Rattle.gptp_links.specs.declared.link.Direction.{Direction}
-use Rattle.gptp_links.specs.declared.link.Direction.TheVariants.{FromA, FromB}
 use Rattle.gptp_links.specs.Fate.{Draw}
 use Rattle.gptp_setup.specs.SettlingParams.{SettlingParams, largest_interval}
 use Rattle.gptp_scenario.specs.Calm.{IsUsed}
@@ -16,32 +12,26 @@ use Rattle.gptp_scenario.specs.declared.change.Act.TheVariants.{Change as Changi
 use Rattle.gptp_scenario.specs.declared.change.Change.TheVariants.{LinkDown}
 use Rattle.gptp_scenario.specs.declared.change.Timed.{Timed}
 use Rattle.gptp_scenario.specs.declared.network.LinkSpec.{LinkSpec}
-use Rattle.gptp_scenario.specs.declared.sync_wait.SyncPaths.{SyncPaths}
 use Rattle.gptp_system.specs.State.{clock}
 use Rattle.gptp_model.specs.Acts.{Acts}
-use Rattle.gptp_model.specs.World.{Channel, WorldState, port_id, sender}
+use Rattle.gptp_model.specs.World.{WorldState, port_id}
 use Rattle.gptp_model.specs.declared.done.Done.{Done}
-use Rattle.gptp_model.specs.declared.station.Station.{Station}
 use Rattle.gptp_network.specs.Document.{DocumentState}
 use Rattle.gptp_network.proofs.ExistenceLemmas.{stands_after}
-use Rattle.gptp_invariants.specs.ChoiceCalm.{delay_in, sync_paths_of}
-use Rattle.gptp_invariants.specs.ChoiceSettlesAsMachine.{IsWorld}
+use Rattle.gptp_invariants.specs.ChoiceCalm.{delay_in}
 use Rattle.gptp_invariants.specs.ChoiceView.{says_announce, view}
 use Rattle.gptp_invariants.specs.WorldStanding.{snapshot_of}
-use Rattle.gptp_invariants.proofs.WorldGreatestDelayLemmas.{delay_short}
 use Rattle.gptp_theorem.specs.AlikeLaws.{AreAlike}
 use Rattle.gptp_theorem.specs.PlayedLaws.{IsPlayable}
 use Rattle.gptp_theorem.specs.Reached.{channel_wire}
 use Rattle.gptp_theorem.proofs.AlikeLemmas.{best as alike_best, clock_among, distance as alike_distance, turned}
-use Rattle.gptp_theorem.proofs.CalmLemmas.{quiet_stands}
-use Rattle.gptp_theorem.proofs.SyncPathLemmas.{paths_stand}
 use Rattle.gptp_settling_time.specs.InTurn.{TurnsTreeCalm}
 use Rattle.gptp_settling_time.specs.TreeLosses.{IsTurnedTree, TurnsTreeLink}
 use Rattle.gptp_settling_time.proofs.TurnedTreeActLemmas.{act_turns_tree}
 use Rattle.gptp_settling_time.proofs.TurnedTreeLemmas.{IsTurnedTreeAlways}
 use Rattle.gptp_settling_time.proofs.FallDownLemmas.{FlightNames}
 use Rattle.gptp_settling_time.proofs.TurnedTreeToLemmas.{IsTurnedTreeTo}
-use Rattle.gptp_settling_time.proofs.GainLemmas.{lives_so, up_so}
+use Rattle.gptp_settling_time.proofs.GainLemmas.{up_so}
 use Rattle.gptp_settling_time.proofs.KeptToLemmas.{KeepsTo}
 use Rattle.gptp_settling_time.proofs.LossMadeLemmas.{HasRestedSo}
 use Rattle.gptp_settling_time.proofs.NamedLemmas.{IsNamedFrom}
@@ -136,8 +126,8 @@ module _ (d : DocumentState) (playable : IsPlayable d) (made : List Timed) (even
         keeps = after;
         before = snapshot_of then;
         since = subst (λ t. IsTurnedTreeAlways p (snapshot_of then) start t w') at_time
-            (act_turns_tree p start x.clock x.port then draws done w' keeps.claim.pace keeps.claim.world after.claim.world
-            keeps.claim.measured after.claim.measured came
+            (act_turns_tree p start x.clock x.port then draws done w' keeps.claim.pace keeps.claim.world
+            after.claim.world keeps.claim.measured after.claim.measured came
             (up_so n made then keeps.stands (port_id x.clock x.port)
             (λ place u u_there u_end. (x.used place u u_there u_end).up) came.1.place came.1.channel came.1.is)
             (omega (arith, over, at_time)) rest.ready rest.silent seen (near_so d playable made then keeps x.few)

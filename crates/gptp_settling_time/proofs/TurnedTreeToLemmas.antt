@@ -1,5 +1,5 @@
 -- Worlds of documents since a link went down by which a tree turned to its one way out.
-use Rattle.std.proofs.Common.{◌≤◌, ◌+◌, ◌*◌, ℕ, pred, Option, List, ◌<◌, subst, arith}
+use Rattle.std.proofs.Common.{◌≤◌, ◌+◌, ◌*◌, ℕ, pred, Option, List}
 use Rattle.gptp_graph.specs.PathBound.{path_bound}
 use Rattle.gptp_graph.specs.Snapshot.{Snapshot}
 use Rattle.gptp_links.specs.declared.bounds.Bounds.{Bounds}
@@ -40,13 +40,15 @@ module _ (d : DocumentState) (events : List Timed) (silent time : ℕ) where
     since = turned_tree_later (pace_of d.network) so.before silent time now w later first so.since;
   }
 
-  pub turned_tree_to_act : {F : Type 0} (answers : Bounds → ℕ → F → Option ℕ → F → Type 0) (t : ActTrace) (fate drawn : F)
-      (w : WorldState) → IsNextAct w t.told.timed → WasDone answers t.told.timed fate drawn w t.after t.told.done
+  pub turned_tree_to_act : {F : Type 0} (answers : Bounds → ℕ → F → Option ℕ → F → Type 0) (t : ActTrace)
+      (fate drawn : F) (w : WorldState) → IsNextAct w t.told.timed
+      → WasDone answers t.told.timed fate drawn w t.after t.told.done
       → IsTurnedTreeTo d events silent time w → IsTurnedTreeTo d events silent time t.after
   turned_tree_to_act answers t fate drawn w next was so =
       let timed = t.told.timed in
       let p = pace_of d.network in
-      let then = turned_tree_later p so.before silent time timed.at w was.ready.timely.now was.ready.timely.first so.since in
+      let then = turned_tree_later p so.before silent time timed.at w was.ready.timely.now was.ready.timely.first
+      so.since in
       record {
         keeps = keeps_act d events answers t fate drawn w next was so.keeps;
         before = so.before;
@@ -55,8 +57,9 @@ module _ (d : DocumentState) (events : List Timed) (silent time : ℕ) where
       }
 
   -- it has settled
-  pub turned_tree_to_settled : (w : WorldState) → IsTurnedTreeTo d events silent time w → IsPlayable d → IsCalm d.network events
-      → NothingLapses d.network.params → time + 1 + 2 * (pred (path_bound (snapshot_of w)) * delay_in w) ≤ w.time
+  pub turned_tree_to_settled : (w : WorldState) → IsTurnedTreeTo d events silent time w → IsPlayable d
+      → IsCalm d.network events → NothingLapses d.network.params
+      → time + 1 + 2 * (pred (path_bound (snapshot_of w)) * delay_in w) ≤ w.time
       → Settled w × IsBoundedWorld w
   turned_tree_to_settled w so playable calm off late =
       turned_tree_settles (pace_of d.network) so.before silent time w so.since

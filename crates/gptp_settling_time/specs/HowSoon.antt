@@ -19,7 +19,8 @@
 -- - By the first event a system fails that others hear, and no other comes but such links. The choice stands once what
 --   they hold of it has aged, or once no port beside it is capable. Roles stand by the latter.
 -- - By the one event a link goes down that so cuts a tree off, or turns one to its one way out, an announce interval
---   after the time before has come to rest. Choice and roles ask for twice the greatest delay for each system of a path but one.
+--   after the time before has come to rest. Choice and roles ask for twice the greatest delay for each system of a
+--   path but one.
 -- - By the events anything is taken away, whatever is moved. The choice asks for the longest receipt timeout and the
 --   greatest delay for each system of a path, and then for an announce interval and the greatest delay for each but
 --   one. Roles stand then too, once the ports beside a system that failed aren't capable any more.

@@ -1,5 +1,5 @@
--- Events by which a link goes down that moves a tree of systems: it cuts the tree off from the best, or the tree turns to
--- its one way out.
+-- Events by which a link goes down that moves a tree of systems: it cuts the tree off from the best, or the tree turns
+-- to its one way out.
 use Rattle.std.specs.Prelude.{◌≡◌, ◌⊎◌, ◌<◌, ◌≤◌, ◌+◌, ℕ, suc, List, [], ◌∷◌, ◌++◌, Some, slice_get}
 use Rattle.gptp_lists.specs.Members.{In}
 use Rattle.gptp_graph.specs.Best.{IsBest}
@@ -64,8 +64,9 @@ pub record LowersTree (n : NetworkState) (before : List Timed) (event : Timed) :
 
 -- From the first snapshot to the second these systems are moved, and all others are unmoved. They have the best that
 -- they had, and each is farther from it. Before, each was as far as its depth says, from `base` on. The one at the top
--- lost its link to a system that was nearer; no other link was lost. Within the tree a link leads one deeper or less deep
--- by one, and each system has one link at most to such as are less deep. One link leads out of it, from `last` to `out`.
+-- lost its link to a system that was nearer; no other link was lost. Within the tree a link leads one deeper or less
+-- deep by one, and each system has one link at most to such as are less deep. One link leads out of it, from `last` to
+-- `out`.
 pub record IsTurnedTree (g g' : Snapshot) (tree : List ℕ) (top other last out : ℕ) (best : System) (base : ℕ)
     (depth : ℕ → ℕ) : Type 0 where
   pub in_top : In top tree
