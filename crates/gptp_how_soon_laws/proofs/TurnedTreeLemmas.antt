@@ -448,15 +448,15 @@ module _ (n : NetworkState) (network : IsNetwork n) (made events : List Timed) w
           wire = x.wire;
           among = x.among;
           nearer_within = elim x.by [
-                | inl (ends, link) ↦
-                    ap (leads_nearer_within moved before i) ends
-                    ∙ and_from (moved i && moved j) (leads_nearer before i (record { a = i; b = j }))
-                    (and_from (moved i) (moved j) is is') (nearer_at_first before i j fewer)
-                | inr (ends, link) ↦
-                    ap (leads_nearer_within moved before i) ends
-                    ∙ and_from (moved j && moved i) (leads_nearer before i (record { a = j; b = i }))
-                    (and_from (moved j) (moved i) is' is) (nearer_at_second before i j fewer)
-              ];
+            | inl (ends, link) ↦
+                ap (leads_nearer_within moved before i) ends
+                ∙ and_from (moved i && moved j) (leads_nearer before i (record { a = i; b = j }))
+                (and_from (moved i) (moved j) is is') (nearer_at_first before i j fewer)
+            | inr (ends, link) ↦
+                ap (leads_nearer_within moved before i) ends
+                ∙ and_from (moved j && moved i) (leads_nearer before i (record { a = j; b = i }))
+                (and_from (moved j) (moved i) is' is) (nearer_at_second before i j fewer)
+          ];
           link = elim x.by [ inl (ends, link) ↦ inl link | inr (ends, link) ↦ inr link ];
         }
 
