@@ -30,9 +30,9 @@ abbrev pub first_time : List Timed → Option ℕ
 first_time [] = None
 first_time (e ∷ es) = Some e.at
 
--- what is kept of what systems read before a world starts, of which some are set aside
-abbrev pub account_before : TimelineOptions → AsideState → WorldState → TimeState
-account_before options aside w = record {
+-- what is kept of what systems read before a world starts, where that is asked, of which some are set aside
+abbrev pub times_before : TimelineOptions → AsideState → WorldState → Option TimeState
+times_before options aside w = if tracks options then Some (record {
   lines = options.times;
   told = options.times && options.offsets;
   exact_from = None;
@@ -41,11 +41,7 @@ account_before options aside w = record {
   reads = map unread (rising_clocks w);
   measures = nothing_read;
   aside = aside;
-}
-
--- where that is asked
-abbrev pub times_before : TimelineOptions → AsideState → WorldState → Option TimeState
-times_before options aside w = if tracks options then Some (account_before options aside w) else None
+}) else None
 
 -- an observer before the systems of a world start, of which some are set aside, and after that
 abbrev pub watch_before : TimelineOptions → AsideState → WorldState → WatchState
