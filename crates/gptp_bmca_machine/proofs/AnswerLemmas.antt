@@ -297,8 +297,9 @@ module _ (says : Spelling) (k : Wiring) (touch : StationTouch) (w w' : MachineSt
       → slice_get w.lanes k.lane ≡ Some l → slice_get w'.lanes k.lane ≡ Some l'
       → (step : LaneStep call.s.clock call.sends l l')
       → (pv'.announce ≡ pv.announce) ⊎ ((f : AnnounceFrame) × In f step.news × FrameSaysAnnounce says f)
+      → ((r : Reception) → held ≡ Received r → r.said.log ≡ k.log → k.interval + k.most < r.span)
       → LinkStage says k pv.announce held l.frames → LinkStage says k pv'.announce held l'.frames
-  sent_on settled v pv pv' held l l' at port has lane_at lane_at' step timing stage =
+  sent_on settled v pv pv' held l l' at port has lane_at lane_at' step timing long stage =
       subst (LinkStage says k pv'.announce held) (sym step.behind) (go timing)
     where
       final : AllFinal says k step.news
@@ -311,7 +312,8 @@ module _ (says : Spelling) (k : Wiring) (touch : StationTouch) (w w' : MachineSt
           (enters says k pv.announce held l.frames step.news final stage)
       go (inr (f, new, said)) =
           tells says k w.time pv.announce pv'.announce held l.frames step.news f final new said
-          (due_soon l l' lane_at' step f new) (timer_left v pv at port has) ends.in_time stage
+          (due_soon l l' lane_at' step f new) (timer_left v pv at port has) ends.in_time
+          (λ stays. long stays.what stays.holds stays.final.log) stage
 
   -- where the teller settles only now, it tells in time
   begins_now : Settled w' → (v : Station) (pv pv' : Port) (held : Held) (l l' : Lane)
@@ -351,7 +353,7 @@ module _ (says : Spelling) (k : Wiring) (touch : StationTouch) (w w' : MachineSt
           by_teller (v, pv, v_at, pv_at, inr (not, told)) =
               begins_now settled v pv pv' pu'.held l l' v_at pv_at not lane_at stand.lane step told
           by_teller (v, pv, v_at, pv_at, inl (has, timing)) =
-              sent_on settled v pv pv' pu'.held l l' v_at pv_at has lane_at stand.lane step timing
+              sent_on settled v pv pv' pu'.held l l' v_at pv_at has lane_at stand.lane step timing settles'.long
               (hearing pv pu pu' l stood has settles'
               (lasts stood.u stand.u pu pu' since stood.hearer stood.hearer_port stand.hearer stand.hearer_port) hears)
             where

@@ -1,7 +1,5 @@
 -- The links of a calm network: what is known of their ends, once all that is held is sound.
-use Rattle.std.proofs.Common.{◌≡◌, ◌≢◌, ◌⊎◌, ◌≤◌, ◌<◌, ◌+◌, ℕ, suc, true, List, [], ◌∷◌, Some, length, slice_get, sym, ap, subst, ◌∙◌, inl, inr, arith}
-use Rattle.std.proofs.lemmas.List.{length-append}
-use Rattle.gptp_lists.proofs.SystemSpecLemmas.{In-parts}
+use Rattle.std.proofs.Common.{◌≡◌, ◌≢◌, ◌⊎◌, ◌≤◌, ◌<◌, ◌+◌, ℕ, suc, true, Some, slice_get, refl, sym, ap, subst, ◌∙◌, inl, inr, arith}
 use native.Mathlib.Decide.{dec_le}
 use Rattle.gptp_lists.specs.Members.{In}
 use Rattle.gptp_graph.specs.Order.{IsLower}
@@ -15,7 +13,6 @@ use Rattle.gptp_bmca_machine.specs.Frame.{Spelling, AnnounceFrame, Lane}
 use Rattle.gptp_bmca_machine.specs.EarlyPorts.{EarlyPortsHear}
 use Rattle.gptp_bmca_machine.specs.Station.{Reception, Disabled, Mine, Received, Port, Station, MachineState}
 use Rattle.gptp_bmca_machine.specs.Vectors.{master}
-use Rattle.gptp_bmca_machine.specs.Facts.{FollowsItself, FollowsPort}
 use Rattle.gptp_bmca_machine.specs.Sound.{RunIsSound}
 use Rattle.gptp_bmca_machine.specs.LinkStage.{Wiring}
 use Rattle.gptp_bmca_machine.specs.Link.{final_vector, StandsAt, TellerIsReady, TellerIsSettled, HearsSettled, IsLaneOf, LaneIsOnTime, Ends, LapsesLater, HearsOn, StaysOn}
@@ -23,43 +20,14 @@ use Rattle.gptp_bmca_machine.specs.Network.{Network, IsTimed, IsSettlingNetwork,
 use Rattle.gptp_bmca_machine.specs.Calm.{IsCalmPort, HasLane, Calm}
 use Rattle.gptp_bmca_machine.specs.Lapsing.{FollowsFrom, NothingNearLapses}
 use Rattle.gptp_bmca_machine.specs.Levels.{LeadsFarther}
+use Rattle.gptp_bmca_machine.proofs.ClearLemmas.{tells_clear, weaker_clear}
 use Rattle.gptp_bmca_machine.proofs.PlaceLemmas.{same_there}
-use Rattle.gptp_bmca_machine.proofs.RestLemmas.{Chooses, IsClear, root_above, steps_above, is_master}
+use Rattle.gptp_bmca_machine.proofs.RestLemmas.{Chooses, IsClear, bounded}
 
 -- the systems at distance d have settled
 abbrev pub AllChoose : Network → MachineState → ℕ → Type 0
 AllChoose n w d = (v : ℕ) (best : System) (s : Station) → slice_get w.stations (n.place v) ≡ Some s
     → IsBest n.graph v best → IsDistance n.graph v d → Chooses s best d
-
--- a settled system's trace has no system that is as far or farther, and is of the length of its distance and one
-module _ (n : Network) (net : IsSettlingNetwork n) (s : Station) (clear : IsClear n.graph s) (best : System)
-    (is_best : IsBest n.graph s.clock best) (d : ℕ) (chooses : Chooses s best d) where
-  no_farther : (u far : ℕ) → IsBest n.graph u best → IsDistance n.graph u far → d ≤ far → s.clock ≢ u
-      → FollowsItself s ⊎ FollowsPort s → In u s.trace → ⊥
-  no_farther u far is_best' there as_far apart (inl itself) h =
-      elim (subst (In u) itself.trace h) [ inl e ↦ apart (sym e) | inr none ↦ none ]
-  no_farther u far is_best' there as_far apart (inr port) h =
-      elim (In-parts u port.r.said.path (s.clock ∷ []) (subst (In u) port.trace h)) [
-        | inl before ↦
-            let few : far ≤ port.r.said.steps =
-            (clear.held port.place port.r port.holds).fits.members best u far is_best (sym port.root ∙ chooses.root)
-            before is_best' there in
-            let more : s.steps ≡ suc port.r.said.steps = port.steps in
-            let own : s.steps ≡ d = chooses.steps in
-            absurd (omega arith)
-        | inr (inl e) ↦ apart (sym e)
-        | inr (inr none) ↦ none
-      ]
-
-  trace_short : FollowsItself s ⊎ FollowsPort s → length s.trace ≤ suc d
-  trace_short (inl itself) = subst (λ (xs : List ℕ). length xs ≤ suc d) (sym itself.trace) (omega arith)
-  trace_short (inr port) =
-      subst (λ (xs : List ℕ). length xs ≤ suc d) (sym port.trace)
-      (let path : length port.r.said.path ≡ suc port.r.said.steps =
-      (clear.held port.place port.r port.holds).fits.long best is_best (sym port.root ∙ chooses.root) in
-      let more : s.steps ≡ suc port.r.said.steps = port.steps in
-      let own : s.steps ≡ d = chooses.steps in
-      omega (arith, length-append port.r.said.path (s.clock ∷ [])))
 
 module _ (n : Network) (net : IsSettlingNetwork n) (w : MachineState) (calm : Calm n w) (sound : RunIsSound n w) where
   -- a live system is at rest, and all it holds is sound
@@ -68,7 +36,7 @@ module _ (n : Network) (net : IsSettlingNetwork n) (w : MachineState) (calm : Ca
   clear_at i s at live late = record {
     rest = (calm.stations i s at live).at_rest;
     known = (calm.facts.stations i s at live).known;
-    held = λ place r holds. sound late i s place r at live holds;
+    held = λ place r holds. bounded n.graph s.clock (suc place) r (sound late i s place r at live holds);
   }
 
   -- where a system of the snapshot stands
@@ -149,75 +117,24 @@ module _ (n : Network) (net : IsSettlingNetwork n) (w : MachineState) (calm : Ca
     pub tells_settled : n.sound ≤ w.time → (s : Station) (pv : Port) → slice_get w.stations (n.place v) ≡ Some s
         → slice_get s.ports p ≡ Some pv → TellerIsReady (wiring n d best v p u q) s pv
         → TellerIsSettled (wiring n d best v p u q) s pv
-    tells_settled late s pv at port (has, on) = go (is_station v s from_known at)
-      where
-        go : (s.live ≡ true) × (s.clock ≡ v) → TellerIsSettled (wiring n d best v p u q) s pv
-        go (live, clock) = record {
-          mine = is_master n.graph net.graph s clear best is_best d leads.far p pv (port_of u (suc q)) chooses port on
-              (subst (λ c. Joins n.graph (port_of c (suc p)) (port_of u (suc q))) (sym clock) leads.joins) leads.there
-              (subst (λ c. (d < leads.far) ⊎ ((d ≡ leads.far) × (c < u))) (sym clock) leads.farther);
-          near = near;
-          foreign = no_farther n net s clear best is_best d chooses u leads.far best_to leads.there as_far
-              apart follows;
-          short = let long : length s.trace ≤ suc d = trace_short n net s clear best is_best d chooses follows in
-              omega arith;
-        }
-          where
-            clear : IsClear n.graph s
-            clear = clear_at (n.place v) s at live late
-
-            is_best : IsBest n.graph s.clock best
-            is_best = subst (λ c. IsBest n.graph c best) (sym clock) leads.is_best
-
-            chooses : Chooses s best d
-            chooses = record { root = has.0; steps = has.1 }
-
-            follows : FollowsItself s ⊎ FollowsPort s
-            follows = (calm.facts.stations (n.place v) s at live).follows
-
-            apart : s.clock ≢ u
-            apart e = net.graph.apart (port_of v (suc p)) (port_of u (suc q)) leads.joins (sym clock ∙ e)
-
-            as_far : d ≤ leads.far
-            as_far = elim leads.farther [ inl less ↦ omega arith | inr (same, lower) ↦ omega arith ]
+    tells_settled late s pv at port ready =
+        let (live, clock) = is_station v s from_known at in
+        tells_clear n.graph net.graph (wiring n d best v p u q) best refl leads.far best_to leads.there leads.farther s
+        (clear_at (n.place v) s at live late)
+        (λ place r holds. (sound late (n.place v) s place r at live holds).fits) clock leads.is_best
+        (port_of u (suc q)) leads.joins refl
+        (net.graph.apart (port_of v (suc p)) (port_of u (suc q)) leads.joins) near
+        (calm.facts.stations (n.place v) s at live).follows pv port ready
 
     module _ (late : n.claimed d (port_of v (suc p)) ≤ w.time) where
       -- what the system that hears would announce itself is worse
       hears_weaker : (s : Station) (pu : Port) (root steps : ℕ) → slice_get w.stations (n.place u) ≡ Some s
           → slice_get s.ports q ≡ Some pu → pu.held ≡ Mine root steps
           → IsLower (final_vector (wiring n d best v p u q)) (master root steps u (suc q))
-      hears_weaker s pu root steps at port mine = go (is_station u s to_known at)
-        where
-          go : (s.live ≡ true) × (s.clock ≡ u)
-              → IsLower (final_vector (wiring n d best v p u q)) (master root steps u (suc q))
-          go (live, clock) = by_root own.0 own.1 (root_above n.graph net.graph s clear best is_best)
-              (steps_above n.graph net.graph s clear best is_best leads.far
-              (subst (λ c. IsDistance n.graph c leads.far) (sym clock) leads.there)) leads.farther
-            where
-              clear : IsClear n.graph s
-              clear = clear_at (n.place u) s at live (by_then late)
-
-              is_best : IsBest n.graph s.clock best
-              is_best = subst (λ c. IsBest n.graph c best) (sym clock) best_to
-
-              own : (root ≡ s.root) × (steps ≡ s.steps)
-              own = clear.rest.mine q pu root steps port mine
-
-              by_root : root ≡ s.root → steps ≡ s.steps → best.identity ≤ s.root
-                  → (s.root ≡ best.identity → leads.far ≤ s.steps) → (d < leads.far) ⊎ ((d ≡ leads.far) × (v < u))
-                  → IsLower (final_vector (wiring n d best v p u q)) (master root steps u (suc q))
-              by_root e f above more farther = elim (dec_le s.root best.identity) [
-                | no better ↦ inl (omega arith)
-                | yes same ↦ inr (omega arith, by_steps (more (omega arith)) farther)
-              ]
-                where
-                  by_steps : leads.far ≤ s.steps → (d < leads.far) ⊎ ((d ≡ leads.far) × (v < u))
-                      → IsLower (d ∷ v ∷ suc p ∷ suc q ∷ []) (steps ∷ u ∷ suc q ∷ suc q ∷ [])
-                  by_steps h (inl less) = inl (omega arith)
-                  by_steps h (inr (as_far, lower)) = elim (dec_le s.steps d) [
-                    | yes least ↦ inr (omega arith, inl lower)
-                    | no over ↦ inl (omega arith)
-                  ]
+      hears_weaker s pu root steps at port mine =
+          let (live, clock) = is_station u s to_known at in
+          weaker_clear n.graph net.graph (wiring n d best v p u q) best refl leads.far best_to leads.there leads.farther
+          s (clear_at (n.place u) s at live (by_then late)) clock pu port root steps mine
 
       -- the system that hears is ready
       hears_settled : (s : Station) (pu : Port) → slice_get w.stations (n.place u) ≡ Some s

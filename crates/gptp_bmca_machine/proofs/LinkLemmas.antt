@@ -14,7 +14,7 @@ use Rattle.gptp_bmca_machine.proofs.PopLemmas.{ends_popped, stood_popped, other_
 use Rattle.gptp_bmca_machine.proofs.AnswerLemmas.{called, heard}
 
 -- whether an input is an Announce that is heard
-is_hear : (touch : StationTouch) → ((n : ℕ) × (a : Announce) × (touch ≡ Hear n a))
+pub is_hear : (touch : StationTouch) → ((n : ℕ) × (a : Announce) × (touch ≡ Hear n a))
     ⊎ ((n : ℕ) (a : Announce) → touch ≡ Hear n a → ⊥)
 is_hear (Hear n a) = inl (n, a, refl)
 is_hear (Tick m) = inr (λ n a e. absurd cc)

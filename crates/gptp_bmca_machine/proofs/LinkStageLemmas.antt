@@ -37,7 +37,7 @@ module _ (says : Spelling) (k : Wiring) where
   tail_behind b (f ∷ fs) news tail = inr (tail_behind b fs news tail)
 
   -- a final tail is over once its time has come: nothing in flight is due before now
-  tail_over : (b now : ℕ) (fs : List AnnounceFrame) → FinalTail says k b fs → b ≤ now
+  pub tail_over : (b now : ℕ) (fs : List AnnounceFrame) → FinalTail says k b fs → b ≤ now
       → ((f : AnnounceFrame) → In f fs → now ≤ f.due) → ⊥
   tail_over b now [] tail late left = tail
   tail_over b now (f ∷ fs) (inl (due, said, all)) late left =
@@ -73,18 +73,19 @@ module _ (says : Spelling) (k : Wiring) where
   pub tells : (now announce announce' : ℕ) (held : Held) (fs news : List AnnounceFrame) (f : AnnounceFrame)
       → AllFinal says k news
       → In f news → FrameSaysAnnounce says f → f.due ≤ now + k.most → now ≤ announce → k.until + k.most ≤ k.before
+      → ((stays : FinalAnnounceStays says k announce held fs) → k.interval + k.most < stays.what.span)
       → LinkStage says k announce held fs → LinkStage says k announce' held (fs ++ news)
-  tells now announce announce' held fs news f new at said due timer in_time (inl waits) =
+  tells now announce announce' held fs news f new at said due timer in_time long (inl waits) =
       begins announce' held fs news f new at said (omega arith)
-  tells now announce announce' held fs news f new at said due timer in_time (inr (inl tail)) =
+  tells now announce announce' held fs news f new at said due timer in_time long (inr (inl tail)) =
       inr (inl (tail_on k.before fs news tail new))
-  tells now announce announce' held fs news f new at said due timer in_time (inr (inr stays)) = inr (inr (record {
+  tells now announce announce' held fs news f new at said due timer in_time long (inr (inr stays)) = inr (inr (record {
     what = stays.what;
     holds = stays.holds;
     final = stays.final;
     flight = all_final_on fs news stays.flight new;
     next = elim stays.next [
-      | inl by ↦ inr (f, In-right f fs news at, said, omega arith)
+      | inl by ↦ let span = long stays in inr (f, In-right f fs news at, said, omega (arith, by, due, timer, span))
       | inr (g, old, says_it, by) ↦ inr (g, In-left g fs news old, says_it, by)
     ];
   }))

@@ -1,8 +1,8 @@
 -- Where what a port holds after an answer came from.
-use Rattle.std.proofs.Common.{◌≡◌, ◌⊎◌, ℕ, suc, List, Some, slice_get, sym, ◌∙◌, inl, inr}
+use Rattle.std.proofs.Common.{◌≡◌, ◌⊎◌, ℕ, suc, List, Some, slice_get, sym, ap, ◌∙◌, inl, inr}
 use Rattle.gptp_bmca_machine.specs.Frame.{Announce, Spelling, Send}
 use Rattle.gptp_bmca_machine.specs.Station.{Reception, Held, Disabled, Aged, Mine, Received, Port, Station, HoldsAt}
-use Rattle.gptp_bmca_machine.specs.Touch.{StationTouch, Hear, Tick, Grow, Enable, Disable, Other, IsUsable, HeldInTouch}
+use Rattle.gptp_bmca_machine.specs.Touch.{StationTouch, Hear, Tick, Grow, Enable, Disable, Other, IsUsable, HeldInTouch, Replaces}
 use Rattle.gptp_bmca_machine.specs.Reacts.{PortStep, StationReacts}
 use Rattle.gptp_bmca_machine.proofs.PlaceLemmas.{received_injective}
 
@@ -40,6 +40,29 @@ mid_from c n now (Disable m) held mid r (inl (same, is)) e =
     absurd (let x : Disabled ≡ Received r = sym is ∙ e in cc)
 mid_from c n now (Disable m) held mid r (inr (other, is)) e = inl (sym is ∙ e)
 mid_from c n now Other held mid r is e = inl (sym is ∙ e)
+
+-- what a port received after a touch it had received before, or it just heard it, could use it, and it replaced what
+-- the port held
+pub mid_heard : (c n now : ℕ) (touch : StationTouch) (held mid : Held) (r : Reception) → HeldInTouch c n touch now
+    held mid
+    → mid ≡ Received r
+    → (held ≡ Received r)
+    ⊎ ((a : Announce) × (touch ≡ Hear n a) × IsUsable c a × Replaces c n a held × (r.said ≡ a))
+mid_heard c n now (Hear m a) held mid r (inl (same, on, inl takes)) e =
+    let one = received_injective r (record { said = a; at = now; span = takes.span }) (sym e ∙ takes.is) in
+    inr (a, (λ i. Hear (sym same i) a), takes.qualified, takes.replaces, ap (λ (z : Reception). z.said) one)
+mid_heard c n now (Hear m a) held mid r (inl (same, on, inr refuses)) e = inl (sym refuses.is ∙ e)
+mid_heard c n now (Hear m a) held mid r (inr (other, is)) e = inl (sym is ∙ e)
+mid_heard c n now (Tick m) held mid r is e = inl (sym is ∙ e)
+mid_heard c n now (Grow m) held mid r (inl (same, is)) e = absurd (let x : Aged ≡ Received r = sym is ∙ e in cc)
+mid_heard c n now (Grow m) held mid r (inr (other, is)) e = inl (sym is ∙ e)
+mid_heard c n now (Enable m) held mid r (inl (same, off, is)) e =
+    absurd (let x : Aged ≡ Received r = sym is ∙ e in cc)
+mid_heard c n now (Enable m) held mid r (inr (other, is)) e = inl (sym is ∙ e)
+mid_heard c n now (Disable m) held mid r (inl (same, is)) e =
+    absurd (let x : Disabled ≡ Received r = sym is ∙ e in cc)
+mid_heard c n now (Disable m) held mid r (inr (other, is)) e = inl (sym is ∙ e)
+mid_heard c n now Other held mid r is e = inl (sym is ∙ e)
 
 module _ (says : Spelling) (s s' : Station) (touch : StationTouch) (now : ℕ) (sends : List Send)
     (reacts : StationReacts says s touch now s' sends) where

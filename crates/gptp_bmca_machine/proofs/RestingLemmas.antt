@@ -128,16 +128,10 @@ module _ (says : Spelling) (n n' : Network) (same : SameWiring n n') (d : ℕ) (
     final = final_on stays.what.said stays.final;
     flight = λ f a at said. final_on a (stays.flight f a at said);
     next = elim stays.next [
-      | inl timer ↦ inl (omega (arith, interval))
-      | inr (f, at, said, due) ↦ inr (f, at, said, omega (arith, interval, most))
+      | inl timer ↦ let interval = same.interval (port_of v (suc p)) in inl (omega (arith, timer, interval))
+      | inr (f, at, said, due) ↦ inr (f, at, said, due)
     ];
   }
-    where
-      interval : n'.interval_of (port_of v (suc p)) ≡ n.interval_of (port_of v (suc p))
-      interval = same.interval (port_of v (suc p))
-
-      most : n.most ≤ n'.most
-      most = same.most
 
 -- ---- what leads farther after news did before
 

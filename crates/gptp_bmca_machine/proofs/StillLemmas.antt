@@ -1,23 +1,22 @@
 -- After a loss unmoved systems keep their roots and steps, since what is held fits the snapshot of before.
 use Rattle.std.proofs.Common.{◌≡◌, ◌≢◌, ◌⊎◌, ◌≤◌, ◌<◌, ◌+◌, ℕ, zero, suc, true, List, [], ◌∷◌, Some, length, slice_get, refl, sym, ap, subst, ◌∙◌, inl, inr, arith}
-use Rattle.std.proofs.lemmas.List.{length-append}
-use native.Mathlib.Decide.{dec_le, dec_lt}
+use native.Mathlib.Decide.{dec_lt}
 use Rattle.gptp_lists.specs.Members.{In}
-use Rattle.gptp_lists.proofs.SystemSpecLemmas.{In-parts}
+use Rattle.gptp_lists.proofs.PlaceLemmas.{member_there}
 use Rattle.gptp_graph.specs.Order.{IsLower}
 use Rattle.gptp_graph.specs.Snapshot.{System, PortIdentity, Snapshot, clocks, port_of, Joins, Adjacent, IsLinked, IsWellFormed}
 use Rattle.gptp_graph.specs.Best.{IsBest}
 use Rattle.gptp_graph.specs.Distance.{IsDistance}
 use Rattle.gptp_graph.proofs.LinkLemmas.{Joins-sym, Joins-clock, Adjacent-sym}
 use Rattle.gptp_graph.proofs.SystemLemmas as systems
-use Rattle.gptp_graph.proofs.BestLemmas.{IsBest-neighbour}
+use Rattle.gptp_graph.proofs.BestLemmas.{IsBest-neighbour, IsBest-unique}
 use Rattle.gptp_graph.proofs.DistanceLemmas.{IsDistance-unique, IsDistance-neighbour, IsDistance-clock, IsDistance-best, best_at_zero, nearer_neighbour}
-use Rattle.gptp_graph.proofs.ExistenceLemmas.{distance_exists}
+use Rattle.gptp_graph.proofs.ExistenceLemmas.{best_exists, distance_exists}
 use Rattle.gptp_bmca_machine.specs.Frame.{Announce, Spelling, AnnounceFrame, Lane}
 use Rattle.gptp_bmca_machine.specs.Station.{Reception, Held, Disabled, Mine, Received, Port, Station, MachineState, HoldsAt}
 use Rattle.gptp_bmca_machine.specs.Vectors.{master}
 use Rattle.gptp_bmca_machine.specs.Acts.{MachineSteps}
-use Rattle.gptp_bmca_machine.specs.Facts.{station_system, FollowsItself, FollowsPort}
+use Rattle.gptp_bmca_machine.specs.Facts.{station_system}
 use Rattle.gptp_bmca_machine.specs.Sound.{ReceivedFits}
 use Rattle.gptp_bmca_machine.specs.LinkStage.{Wiring, IsFinal, FinalAnnounceStays}
 use Rattle.gptp_bmca_machine.specs.Link.{final_vector, StandsAt, TellerIsReady, TellerIsSettled, HearsSettled, IsLaneOf, LaneIsOnTime, Ends, Stand, LinkSettles}
@@ -26,9 +25,10 @@ use Rattle.gptp_bmca_machine.specs.Calm.{IsCalmPort, HasLane, Calm}
 use Rattle.gptp_bmca_machine.specs.Levels.{LeadsFarther}
 use Rattle.gptp_bmca_machine.specs.Run.{last_state}
 use Rattle.gptp_bmca_machine.specs.LossLaws.{EverythingFits, IsWhatIsLeft, IsLoss, Unmoved, IsAfterLoss, IsKeptRun}
-use Rattle.gptp_bmca_machine.proofs.PlaceLemmas.{same_there, there_within}
+use Rattle.gptp_bmca_machine.proofs.ClearLemmas.{tells_clear, weaker_clear}
+use Rattle.gptp_bmca_machine.proofs.PlaceLemmas.{same_there}
 use Rattle.gptp_bmca_machine.proofs.LinkLemmas.{link_kept, link_settled}
-use Rattle.gptp_bmca_machine.proofs.RestLemmas.{Chooses, IsClear, root_above, steps_above, is_master, zero_settles, suc_settles}
+use Rattle.gptp_bmca_machine.proofs.RestLemmas.{Chooses, IsClear, bounded, zero_settles, suc_settles}
 use Rattle.gptp_bmca_machine.proofs.LevelLemmas.{places_of}
 use Rattle.gptp_bmca_machine.proofs.RestingLemmas.{links_stay, stays_so}
 use Rattle.gptp_bmca_machine.proofs.LossLemmas.{fits_kept, loss_fits}
@@ -83,6 +83,17 @@ module _ (g : Snapshot) (n : Network) (wf : IsWellFormed n.graph) (left : IsWhat
   live_before v known =
       let (s, here, clock) = systems.system_of n.graph v known in
       subst (λ c. In c (clocks g)) clock (systems.In-clocks g s (left.systems s here))
+
+  -- what is the best of an unmoved system was, and it was as far
+  pub best_was : (v : ℕ) (c : System) → Unmoved g n v → IsBest n.graph v c → IsBest g v c
+  best_was v c u is =
+      let (f, was) = best_exists g v left.graph (live_before v u.live) in
+      subst (IsBest g v) (IsBest-unique n.graph v f c wf (u.best f was) is) was
+
+  pub far_was : (v far : ℕ) → Unmoved g n v → IsDistance n.graph v far → IsDistance g v far
+  far_was v far u is =
+      let (f, was) = distance_exists g v left.graph (live_before v u.live) in
+      subst (IsDistance g v) (IsDistance-unique n.graph v f far wf (u.far f was) is) was
 
   -- no system was farther before
   nearer_before : (d x e : ℕ) (best : System) → IsBest g x best → IsBest n.graph x best → IsDistance n.graph x d
@@ -153,35 +164,6 @@ module _ (g : Snapshot) (n : Network) (wf : IsWellFormed n.graph) (left : IsWhat
 
 -- ---- the ends of links
 
-module _ (g : Snapshot) (s : Station) (clear : IsClear g s) (best : System)
-    (is_best : IsBest g s.clock best) (d : ℕ) (chooses : Chooses s best d) where
-  no_farther : (u far : ℕ) → IsBest g u best → IsDistance g u far → d ≤ far → s.clock ≢ u
-      → FollowsItself s ⊎ FollowsPort s → In u s.trace → ⊥
-  no_farther u far is_best' there as_far apart (inl itself) h =
-      elim (subst (In u) itself.trace h) [ inl e ↦ apart (sym e) | inr none ↦ none ]
-  no_farther u far is_best' there as_far apart (inr port) h =
-      elim (In-parts u port.r.said.path (s.clock ∷ []) (subst (In u) port.trace h)) [
-        | inl before ↦
-            let few : far ≤ port.r.said.steps =
-            (clear.held port.place port.r port.holds).fits.members best u far is_best (sym port.root ∙ chooses.root)
-            before is_best' there in
-            let more : s.steps ≡ suc port.r.said.steps = port.steps in
-            let own : s.steps ≡ d = chooses.steps in
-            absurd (omega arith)
-        | inr (inl e) ↦ apart (sym e)
-        | inr (inr none) ↦ none
-      ]
-
-  trace_short : FollowsItself s ⊎ FollowsPort s → length s.trace ≤ suc d
-  trace_short (inl itself) = subst (λ (xs : List ℕ). length xs ≤ suc d) (sym itself.trace) (omega arith)
-  trace_short (inr port) =
-      subst (λ (xs : List ℕ). length xs ≤ suc d) (sym port.trace)
-      (let path : length port.r.said.path ≡ suc port.r.said.steps =
-      (clear.held port.place port.r port.holds).fits.long best is_best (sym port.root ∙ chooses.root) in
-      let more : s.steps ≡ suc port.r.said.steps = port.steps in
-      let own : s.steps ≡ d = chooses.steps in
-      omega (arith, length-append port.r.said.path (s.clock ∷ [])))
-
 module _ (g : Snapshot) (n : Network) (wf : IsWellFormed n.graph) (left : IsWhatIsLeft g n) (w : MachineState)
     (kept : IsAfterLoss n w)
     (all : ReceivedFits g w) where
@@ -192,7 +174,7 @@ module _ (g : Snapshot) (n : Network) (wf : IsWellFormed n.graph) (left : IsWhat
   clear_at i s at live = record {
     rest = (calm.stations i s at live).at_rest;
     known = left.systems (station_system s) (calm.facts.stations i s at live).known;
-    held = λ place r holds. all i s place r at live holds;
+    held = λ place r holds. bounded g s.clock (suc place) r (all i s place r at live holds);
   }
 
   -- where a system of the snapshot stands
@@ -234,7 +216,7 @@ module _ (g : Snapshot) (n : Network) (wf : IsWellFormed n.graph) (left : IsWhat
   -- a linked port of a live system stands at its place
   pub port_there : (v p : ℕ) (to : PortIdentity) (s : Station) → slice_get w.stations (n.place v) ≡ Some s
       → Joins n.graph (port_of v (suc p)) to → (q : Port) × (slice_get s.ports p ≡ Some q)
-  port_there v p to s at joins = there_within s.ports p within
+  port_there v p to s at joins = member_there s.ports p within
     where
       known : In v (clocks n.graph)
       known = Joins-clock n.graph (port_of v (suc p)) to wf joins
@@ -295,74 +277,22 @@ module _ (g : Snapshot) (n : Network) (wf : IsWellFormed n.graph) (left : IsWhat
     tells_settled : (s : Station) (pv : Port) → slice_get w.stations (n.place v) ≡ Some s
         → slice_get s.ports p ≡ Some pv → TellerIsReady (still n d best v p u q) s pv
         → TellerIsSettled (still n d best v p u q) s pv
-    tells_settled s pv at port (has, on) = go (is_station v s from_known at)
-      where
-        go : (s.live ≡ true) × (s.clock ≡ v) → TellerIsSettled (still n d best v p u q) s pv
-        go (live, clock) = record {
-          mine = is_master g left.graph s clear best is_best d leads.far p pv (port_of u (suc q)) chooses port on
-              (subst (λ c. Joins g (port_of c (suc p)) (port_of u (suc q))) (sym clock) before) leads.there
-              (subst (λ c. (d < leads.far) ⊎ ((d ≡ leads.far) × (c < u))) (sym clock) leads.farther);
-          near = near;
-          foreign = no_farther g s clear best is_best d chooses u leads.far best_to leads.there as_far
-              apart follows;
-          short = let long : length s.trace ≤ suc d = trace_short g s clear best is_best d chooses follows in
-              omega arith;
-        }
-          where
-            clear : IsClear g s
-            clear = clear_at (n.place v) s at live
-
-            is_best : IsBest g s.clock best
-            is_best = subst (λ c. IsBest g c best) (sym clock) leads.is_best
-
-            chooses : Chooses s best d
-            chooses = record { root = has.0; steps = has.1 }
-
-            follows : FollowsItself s ⊎ FollowsPort s
-            follows = (calm.facts.stations (n.place v) s at live).follows
-
-            apart : s.clock ≢ u
-            apart e = wf.apart (port_of v (suc p)) (port_of u (suc q)) leads.joins (sym clock ∙ e)
-
-            as_far : d ≤ leads.far
-            as_far = elim leads.farther [ inl less ↦ omega arith | inr (same, lower) ↦ omega arith ]
+    tells_settled s pv at port ready =
+        let (live, clock) = is_station v s from_known at in
+        tells_clear g left.graph (still n d best v p u q) best refl leads.far best_to leads.there leads.farther s
+        (clear_at (n.place v) s at live) (λ place r holds. (all (n.place v) s place r at live holds).fits) clock
+        leads.is_best (port_of u (suc q)) before refl
+        (wf.apart (port_of v (suc p)) (port_of u (suc q)) leads.joins) near
+        (calm.facts.stations (n.place v) s at live).follows pv port ready
 
     -- what the system that hears would announce itself is worse
     hears_weaker : (s : Station) (pu : Port) (root steps : ℕ) → slice_get w.stations (n.place u) ≡ Some s
         → slice_get s.ports q ≡ Some pu → pu.held ≡ Mine root steps
         → IsLower (final_vector (still n d best v p u q)) (master root steps u (suc q))
-    hears_weaker s pu root steps at port mine = go (is_station u s to_known at)
-      where
-        go : (s.live ≡ true) × (s.clock ≡ u)
-            → IsLower (final_vector (still n d best v p u q)) (master root steps u (suc q))
-        go (live, clock) = by_root own.0 own.1 (root_above g left.graph s clear best is_best)
-            (steps_above g left.graph s clear best is_best leads.far
-            (subst (λ c. IsDistance g c leads.far) (sym clock) leads.there)) leads.farther
-          where
-            clear : IsClear g s
-            clear = clear_at (n.place u) s at live
-
-            is_best : IsBest g s.clock best
-            is_best = subst (λ c. IsBest g c best) (sym clock) best_to
-
-            own : (root ≡ s.root) × (steps ≡ s.steps)
-            own = clear.rest.mine q pu root steps port mine
-
-            by_root : root ≡ s.root → steps ≡ s.steps → best.identity ≤ s.root
-                → (s.root ≡ best.identity → leads.far ≤ s.steps) → (d < leads.far) ⊎ ((d ≡ leads.far) × (v < u))
-                → IsLower (final_vector (still n d best v p u q)) (master root steps u (suc q))
-            by_root e f above more farther = elim (dec_le s.root best.identity) [
-              | no better ↦ inl (omega arith)
-              | yes same ↦ inr (omega arith, by_steps (more (omega arith)) farther)
-            ]
-              where
-                by_steps : leads.far ≤ s.steps → (d < leads.far) ⊎ ((d ≡ leads.far) × (v < u))
-                    → IsLower (d ∷ v ∷ suc p ∷ suc q ∷ []) (steps ∷ u ∷ suc q ∷ suc q ∷ [])
-                by_steps h (inl less) = inl (omega arith)
-                by_steps h (inr (as_far, lower)) = elim (dec_le s.steps d) [
-                  | yes least ↦ inr (omega arith, inl lower)
-                  | no over ↦ inl (omega arith)
-                ]
+    hears_weaker s pu root steps at port mine =
+        let (live, clock) = is_station u s to_known at in
+        weaker_clear g left.graph (still n d best v p u q) best refl leads.far best_to leads.there leads.farther s
+        (clear_at (n.place u) s at live) clock pu port root steps mine
 
     -- the system that hears is ready
     pub hears_settled : (s : Station) (pu : Port) → slice_get w.stations (n.place u) ≡ Some s
@@ -588,7 +518,7 @@ module _ (says : Spelling) (n n' : Network) (net : IsSettlingNetwork n) (wf : Is
   all : EverythingFits says n.graph n' w'
   all = loss_fits says n n' w w' net loss
 
-  levels_found : (d : ℕ) → StillSettles says n.graph n' d w'
+  pub levels_found : (d : ℕ) → StillSettles says n.graph n' d w'
   levels_found d best v p u q close leads from pv pu l stand ready =
       inr (inr (still_stays says n' d best v p u q pv.announce pu.held l.frames
       (stays_so says n n' loss.same d best best v p u q refl pv.announce pu.held l.frames

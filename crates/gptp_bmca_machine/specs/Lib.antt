@@ -31,6 +31,8 @@ pub mod SoundEverywhereLaws
 pub mod RestLaws
 pub mod ReactionLaws
 pub mod LossLaws
+pub mod CutTree
+pub mod TurnTree
 pub mod SyncLaws
 pub mod Example
 pub mod ExampleLaws

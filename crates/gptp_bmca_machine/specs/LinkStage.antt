@@ -58,8 +58,8 @@ FinalTail says k before [] = ⊥
 FinalTail says k before (f ∷ fs) =
     ((f.due < before) × FrameSaysAnnounce says f × AllFinal says k (f ∷ fs)) ⊎ FinalTail says k before fs
 
--- The port holds a final Announce, every Announce in flight is final, and the next one comes in time: the teller's
--- timer is due by then, or a frame in flight says it.
+-- The port holds a final Announce, every Announce in flight is final, and the next one comes before it ages: the
+-- teller's timer is due within its interval, or a frame in flight says it.
 pub record FinalAnnounceStays (says : Spelling) (k : Wiring) (announce : ℕ) (held : Held)
     (fs : List AnnounceFrame) : Type 0 where
   pub what : Reception
@@ -67,7 +67,7 @@ pub record FinalAnnounceStays (says : Spelling) (k : Wiring) (announce : ℕ) (h
   pub final : IsFinal k what.said
   pub flight : AllFinal says k fs
   pub next : (announce ≤ what.at + k.interval)
-      ⊎ ((f : AnnounceFrame) × In f fs × FrameSaysAnnounce says f × (f.due ≤ what.at + k.interval + k.most))
+      ⊎ ((f : AnnounceFrame) × In f fs × FrameSaysAnnounce says f × (f.due < what.at + what.span))
 
 -- The teller will tell it by its timer, which has to run out yet; or it is on its way; or it is held, and stays. By the
 -- strict bounds the first two are over in the end.

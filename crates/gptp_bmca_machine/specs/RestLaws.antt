@@ -23,13 +23,12 @@ LinksStay says = (n : Network) (w : MachineState) (d : ℕ) (best : System) (v p
     → LeadsFarther n.graph d best v p u q
     → LinkStays says (wiring n d best v p u q) w
 
--- the second network has what the first has where it was, with no shorter delays
+-- the second network has what the first has where it was
 pub record SameWiring (n n' : Network) : Type 0 where
   pub place : (v : ℕ) → n'.place v ≡ n.place v
   pub lane : (p : PortIdentity) → n'.lane p ≡ n.lane p
   pub log : (p : PortIdentity) → n'.log_of p ≡ n.log_of p
   pub interval : (p : PortIdentity) → n'.interval_of p ≡ n.interval_of p
-  pub most : n.most ≤ n'.most
 
 -- what stands at the ends of this link, and on it, stood there before the news
 pub record StandsAsBefore (n : Network) (w w' : MachineState) (v p u : ℕ) : Type 0 where

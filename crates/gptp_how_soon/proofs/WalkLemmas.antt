@@ -15,13 +15,13 @@ use Rattle.gptp_topology.specs.Tables.{cables_of, has_clock}
 use Rattle.gptp_topology.specs.declared.course.Standing.{Standing}
 use Rattle.gptp_topology.proofs.BoundLemmas.{calm_is, crossed_is}
 use Rattle.gptp_topology.proofs.StandingLemmas.{maps_twice, stand_more, systems_are}
-use Rattle.gptp_how_soon.specs.Chosen.{ends_among, ends_in_use, ends_of, lost_ends, moves_counted, moves_some, used_ends}
-use Rattle.gptp_how_soon.specs.Far.{are_far_after, cut_far_ends_after, up_is_used}
-use Rattle.gptp_how_soon.specs.Kinds.{sets_bounds, takes_one, told_by}
+use Rattle.gptp_how_soon.specs.Chosen.{ends_among, ends_in_use, ends_of, lost_ends, used_ends}
+use Rattle.gptp_how_soon.specs.Far.{up_is_used}
+use Rattle.gptp_how_soon.specs.Kinds.{sets_bounds, told_by}
 use Rattle.gptp_how_soon.specs.Links.{delay_set, longest_delay, longest_set, lost_among, new_among}
-use Rattle.gptp_how_soon.specs.Times.{last_set, told_at, told_of, view_at}
-use Rattle.gptp_how_soon.specs.Turned.{turns_one_after}
-use Rattle.gptp_how_soon.specs.Walk.{IsFirstWalk, WalkGoesOn, WalkPasses, cuts_seen, far_seen, moves_any_seen, moves_seen, turns_seen, view_seen}
+use Rattle.gptp_how_soon.specs.Times.{last_set, moves_at, told_at, told_of, view_at}
+use Rattle.gptp_how_soon.specs.Silent.{held_among, own_intervals}
+use Rattle.gptp_how_soon.specs.Walk.{IsFirstWalk, WalkGoesOn, WalkPasses, moves_seen, view_seen}
 use Rattle.gptp_how_soon.specs.declared.bounds.SettlingTime.{SettlingTime}
 use Rattle.gptp_how_soon.specs.declared.chosen.Ends.{Ends}
 use Rattle.gptp_how_soon.specs.declared.walk.Walk.{Walk}
@@ -121,38 +121,19 @@ told_more n made (u ∷ now) t =
     (append_assoc made (u ∷ []) now))
 
 module _ (n : NetworkState) (network : IsNetwork n) where
-  moves_are : (made now : List Timed) (w : Walk) → WalkStands n made now w
-      → moves_seen w ≡ moves_counted (takes_one (told_of n made now)) n made (made ++ now)
-  moves_are made now w so =
+  moves_are : (made now : List Timed) (w : Walk) (at : ℕ) → WalkStands n made now w
+      → moves_seen n w at ≡ moves_at n made now w.before at
+  moves_are made now w at so =
       let used = so.used in
       let ends = so.ends in
       let told = so.told in
       let systems_before = so.systems_before in
       let systems = systems_are n (made ++ now) w.tables so.tables in
       let standings = so.tables.standings in
-      rw (used, ends, told, systems, systems_before, standings, used_are n made, used_are n (made ++ now)) refl
-
-  moves_any_are : (made now : List Timed) (w : Walk) → WalkStands n made now w
-      → moves_any_seen w ≡ moves_some n made (made ++ now)
-  moves_any_are made now w so =
-      let used = so.used in
-      let ends = so.ends in
-      let systems_before = so.systems_before in
-      let systems = systems_are n (made ++ now) w.tables so.tables in
-      let standings = so.tables.standings in
-      rw (used, ends, systems, systems_before, standings, used_are n made, used_are n (made ++ now)) refl
-
-  cuts_are : (made now : List Timed) (w : Walk) → WalkStands n made now w
-      → cuts_seen w ≡ cut_far_ends_after n made (made ++ now)
-  cuts_are made now w so =
-      let used = so.used in
-      let ends = so.ends in
-      let systems_before = so.systems_before in
-      let systems = systems_are n (made ++ now) w.tables so.tables in
-      let standings = so.tables.standings in
       rw (
         used,
         ends,
+        told,
         systems,
         systems_before,
         standings,
@@ -160,34 +141,6 @@ module _ (n : NetworkState) (network : IsNetwork n) where
         used_are n (made ++ now),
         lost_are n made (made ++ now),
       ) refl
-
-  turns_are : (made now : List Timed) (w : Walk) → WalkStands n made now w
-      → turns_seen w ≡ turns_one_after n made (made ++ now)
-  turns_are made now w so =
-      let used = so.used in
-      let ends = so.ends in
-      let systems_before = so.systems_before in
-      let systems = systems_are n (made ++ now) w.tables so.tables in
-      let standings = so.tables.standings in
-      rw (
-        used,
-        ends,
-        systems,
-        systems_before,
-        standings,
-        used_are n made,
-        used_are n (made ++ now),
-        lost_are n made (made ++ now),
-      ) refl
-
-  far_are : (made now : List Timed) (w : Walk) → WalkStands n made now w
-      → far_seen w ≡ are_far_after n made (told_of n made now)
-  far_are made now w so =
-      let used = so.used in
-      let ends = so.ends in
-      let told = so.told in
-      let systems_before = so.systems_before in
-      rw (used, ends, told, systems_before, used_are n made) refl
 
   pub view_is : (made now : List Timed) (w : Walk) (at : ℕ) → WalkStands n made now w
       → view_seen n w at ≡ view_at n made now w.before at
@@ -201,13 +154,10 @@ module _ (n : NetworkState) (network : IsNetwork n) where
         before = w.before;
         paths_before = so.paths i;
         used_before = so.all_used i;
+        held = held_among n (own_intervals n w.before at) (so.used i) (so.tables.standings i);
         new = new i;
         told = so.told i;
-        moved = moves_are made now w so i;
-        moves_any = moves_any_are made now w so i;
-        cut = cuts_are made now w so i;
-        turned = turns_are made now w so i;
-        far = far_are made now w so i;
+        moves = moves_are made now w at so i;
         used = up_is_used (so.tables.standings i);
         paths = crossed_is n network (made ++ now) w.tables so.tables i;
         calm = calm_is n network (made ++ now) w.tables so.tables i;

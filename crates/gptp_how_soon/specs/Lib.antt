@@ -3,6 +3,9 @@ pub mod Links
 pub mod Chosen
 pub mod Far
 pub mod Turned
+pub mod Tree
+pub mod TurnedTree
+pub mod Silent
 pub mod Bounds
 pub mod Rest
 pub mod Times

@@ -2,16 +2,17 @@
 --
 -- Each word that ends in `followed` says where this is proved, and no more: elsewhere the network may come from any
 -- past.
-use Rattle.std.specs.Prelude.{ℕ, ◌+◌, ◌*◌, ◌==◌, ◌&&◌, ◌||◌, nat_le, nat_lt, not, Bool, false, if◌then◌else◌, List, Option, Some, None}
+use Rattle.std.specs.Prelude.{ℕ, ◌+◌, ◌*◌, ◌&&◌, ◌||◌, nat_le, nat_lt, not, Bool, false, if◌then◌else◌, List, Option, Some, None}
 use Rattle.std.specs.List.{list_all, list_any}
+use Rattle.gptp_scenario.specs.SettlingTime.{way_span}
 use Rattle.gptp_scenario.specs.declared.sync_wait.SyncPaths.{SyncPaths}
-use Rattle.gptp_how_soon.specs.Bounds.{way_span}
 use Rattle.gptp_how_soon.specs.Kinds.{are_heard, begins_wider, brings_nothing, fails_and_recovers, fails_first, first_wider_by, is_better, is_gain, is_failing, is_loss, is_other, is_recovery, is_wider, leaves_links, lowers_one, lowers_unused, makes_nothing, tells_nothing}
 use Rattle.gptp_how_soon.specs.declared.bounds.Row.{Row}
-use Rattle.gptp_how_soon.specs.declared.bounds.Row.TheVariants.{AnyLosses, AnyPast, CutOff, FailedEnd, FailedHeard, FailureCutsOff, Gained, LostEnd, LostPower, Lowered, OneTurned, PowerCutsOff, Unchanged}
+use Rattle.gptp_how_soon.specs.declared.bounds.Row.TheVariants.{AnyLosses, AnyPast, CutOff, FailedEnd, FailedHeard, FailureCutsOff, Gained, LostEnd, LostPower, Lowered, OneTurned, PowerCutsOff, TreeCutOff, TreeTurned, Unchanged}
 use Rattle.gptp_how_soon.specs.declared.bounds.Settling.{Settling}
 use Rattle.gptp_how_soon.specs.declared.bounds.SettlingTime.{SettlingTime}
 use Rattle.gptp_how_soon.specs.declared.kinds.Told.{Told}
+use Rattle.gptp_how_soon.specs.declared.rest.Moves.{Moves}
 
 -- ---- from rest
 
@@ -22,6 +23,15 @@ rested_by b at (Some s) = nat_lt (b.at + s.rest) at
 
 abbrev pub rested : SettlingTime → ℕ → Bool
 rested b at = rested_by b at b.settling
+
+-- and so much more has passed
+abbrev pub rested_for_by : ℕ → SettlingTime → ℕ → Option Settling → Bool
+rested_for_by span b at None = false
+rested_for_by span b at (Some s) = nat_lt (b.at + (s.rest + span)) at
+
+abbrev pub has_rested_for : ℕ → Option SettlingTime → ℕ → Bool
+has_rested_for span None at = false
+has_rested_for span (Some b) at = rested_for_by span b at b.settling
 
 -- Events are followed where what each does is, and no system both fails and recovers.
 abbrev pub are_events_followed : List Told → Bool
@@ -52,11 +62,11 @@ is_wider_followed b at paths_before paths told =
 abbrev pub are_losses_followed : SyncPaths → List Told → Bool
 are_losses_followed paths_before told = nat_le paths_before.systems 255 && list_all leaves_links told
 
--- Other losses are followed where they leave paths as they are: the greatest delay of a link in use stays, no path gets
--- longer, and none had more than 255 systems before.
+-- Other losses are followed where paths get no longer: neither does the greatest delay of a link in use, nor any path,
+-- and none had more than 255 systems before.
 abbrev pub keeps_paths : SyncPaths → SyncPaths → Bool
 keeps_paths paths_before paths =
-    nat_le paths_before.systems 255 && (paths.delay == paths_before.delay)
+    nat_le paths_before.systems 255 && nat_le paths.delay paths_before.delay
     && nat_le paths.systems paths_before.systems
 
 -- Then a link that goes down by the one event of a time is followed. So is a system that fails, alone or as it loses
@@ -91,35 +101,46 @@ failed_row far any used =
     else if any then if used then PowerCutsOff else FailureCutsOff
     else if used then LostPower else FailedHeard
 
--- What is known of a time, by what was seen of it. Not from rest, or where it both gains and loses, the network may come
--- from any past. The first time has no loss: nothing was there to be lost. Events that make nothing of what stands leave
--- it as it was. So does a link that gets wider, and so do losses that are followed, where no system is moved. Where one
--- link or one system is taken away such as are cut off don't count as moved. There it matters whether the link that goes
--- down cuts off a far end (`cut`), and whether the one system that it moves turns (`turned`). Of a system that fails it
--- matters whether it was a far end, so that no other heard it (`far`), whether it cuts off another (`any`), and whether
--- each link that is up then is in use (`used`). All other losses have one row.
-abbrev pub row_of : Bool → Bool → SyncPaths → SyncPaths → List Told → Bool → Bool → Bool → Bool → Bool → Bool → Row
-row_of from_rest first paths_before paths told moved any cut turned far used =
+-- What is known of a time, by what was seen of it. Not from rest, or where it both gains and loses, the network may
+-- come from any past. The first time has no loss: nothing was there to be lost. Events that make nothing of what stands
+-- leave it as it was. So does a link that gets wider, and so do losses that are followed, where no system is moved.
+-- Where one link or one system is taken away such as are cut off don't count as moved. There it matters whether the
+-- link that goes down cuts off a far end, and whether the one system that it moves turns, or a tree falls off or turns.
+-- Of a system that fails it matters whether it was a far end, so that no other heard it, whether it cuts off another,
+-- and whether each link that is up then is in use. All other losses have one row.
+abbrev pub row_of : Bool → Bool → SyncPaths → SyncPaths → List Told → Moves → Bool → Row
+row_of from_rest first paths_before paths told moves used =
     if not from_rest then AnyPast
     else if first then Gained
     else if list_all makes_nothing told || begins_wider told then Unchanged
-    else if are_losses_followed paths_before told && not moved then Unchanged
-    else if is_lowering_followed paths_before paths told && not moved then if cut then CutOff else Lowered
-    else if is_lowering_followed paths_before paths told && turned then OneTurned
-    else if is_failing_followed paths_before paths told && not moved then failed_row far any used
+    else if are_losses_followed paths_before told && not moves.moved then Unchanged
+    else if is_lowering_followed paths_before paths told && not moves.moved then if moves.cut then CutOff else Lowered
+    else if is_lowering_followed paths_before paths told && moves.turned then OneTurned
+    else if is_lowering_followed paths_before paths told && moves.falls then TreeCutOff
+    else if is_lowering_followed paths_before paths told && moves.tree_turns then TreeTurned
+    else if is_failing_followed paths_before paths told && not moves.moved
+    then failed_row moves.far moves.any used
     else if list_any is_loss told then if list_all brings_nothing told then AnyLosses else AnyPast
     else Gained
 
--- whether the row depends on who is moved
+-- whether the row depends on whom the events move, and on whether one was a far end
 abbrev pub asks_who_is_moved : Bool → SyncPaths → SyncPaths → List Told → Bool
 asks_who_is_moved from_rest paths_before paths told =
     from_rest
     && (are_losses_followed paths_before told || is_lowering_followed paths_before paths told
     || is_failing_followed paths_before paths told)
 
--- and on whether the system that fails was a far end
-abbrev pub asks_who_is_far : Bool → SyncPaths → SyncPaths → List Told → Bool
-asks_who_is_far from_rest paths_before paths told = from_rest && is_failing_followed paths_before paths told
+-- no system is moved, nor a far end
+abbrev pub no_moves : Moves
+no_moves = record {
+  moved = false;
+  any = false;
+  cut = false;
+  turned = false;
+  falls = false;
+  tree_turns = false;
+  far = false;
+}
 
 -- All is heard at once at the start, and later where what each event tells is heard so. Of a system that gets better
 -- that is followed where no path had more than 255 systems before.

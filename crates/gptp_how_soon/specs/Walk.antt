@@ -1,8 +1,9 @@
 -- How a document stands at each time, as its events come (profile).
-use Rattle.std.specs.Prelude.{◌≡◌, ◌≤◌, ℕ, Bool, ◌++◌, ◌∷◌, [], ◌==◌, not, max, if◌then◌else◌, map, List, Some, None, IsTrue}
+use Rattle.std.specs.Prelude.{◌≡◌, ◌≤◌, ℕ, Bool, ◌++◌, ◌∷◌, [], ◌==◌, ◌&&◌, not, max, if◌then◌else◌, map, List, Some, None, IsTrue}
 use Rattle.std.specs.List.{find}
 use Rattle.std.specs.Option.{is_some}
-use Rattle.gptp_scenario.specs.Network.{NetworkState}
+use Rattle.gptp_setup.specs.SettlingParams.{largest_interval}
+use Rattle.gptp_scenario.specs.Network.{NetworkState, pace_of}
 use Rattle.gptp_scenario.specs.declared.change.Act.{Act}
 use Rattle.gptp_topology.specs.After.{Stand}
 use Rattle.gptp_topology.specs.Course.{cable_is_used, named}
@@ -12,10 +13,16 @@ use Rattle.gptp_how_soon.specs.Chosen.{any_counted, any_moved, chosen_over, ends
 use Rattle.gptp_how_soon.specs.Far.{all_cut_far_ends, are_far, up_is_used}
 use Rattle.gptp_how_soon.specs.Kinds.{sets_bounds, takes_one, told_by}
 use Rattle.gptp_how_soon.specs.Links.{delay_set, longest_among, lost_among, new_among}
+use Rattle.gptp_how_soon.specs.Rest.{has_rested_for}
+use Rattle.gptp_how_soon.specs.Silent.{held_among, own_intervals}
 use Rattle.gptp_how_soon.specs.Times.{View, settling_time}
+use Rattle.gptp_how_soon.specs.Tree.{cuts_tree}
 use Rattle.gptp_how_soon.specs.Turned.{turns_one}
+use Rattle.gptp_how_soon.specs.TurnedTree.{turns_tree}
 use Rattle.gptp_how_soon.specs.declared.bounds.SettlingTime.{SettlingTime}
 use Rattle.gptp_how_soon.specs.declared.chosen.Chosen.{Chosen}
+use Rattle.gptp_how_soon.specs.declared.chosen.Ends.{Ends}
+use Rattle.gptp_how_soon.specs.declared.rest.Moves.{Moves}
 use Rattle.gptp_how_soon.specs.declared.walk.Walk.{Walk}
 
 -- before all events
@@ -62,48 +69,41 @@ pub record WalkGoesOn (time : SettlingTime) (old new : Walk) : Type 0 where
   pub paths : new.paths_before ≡ marked_paths old.tables.marks.items old.tables.nodes.items
   pub all_used : new.all_used_before ≡ up_is_used old.tables.standings.items
 
--- what systems that stand so choose over the links in use, and whether one that counts is moved at this time
+-- what systems that stand so choose over the links in use, before this time and now, and the links that are lost
 abbrev pub chosen_in : Walk → List System → List Bool → List Chosen
 chosen_in w systems used = chosen_over systems (ends_in_use w.ends.items used)
 
-abbrev pub moves_seen : Walk → Bool
-moves_seen w =
-    any_counted (takes_one w.told.items) (systems_in w.tables.nodes.items)
-    (ends_in_use w.ends.items (map cable_is_used w.tables.standings.items))
-    (chosen_in w w.systems_before.items w.used_before.items)
-    (chosen_in w (systems_in w.tables.nodes.items) (map cable_is_used w.tables.standings.items))
+abbrev pub chosen_before : Walk → List Chosen
+chosen_before w = chosen_in w w.systems_before.items w.used_before.items
 
--- whether one is, also such as is cut off
-abbrev pub moves_any_seen : Walk → Bool
-moves_any_seen w =
-    any_moved (systems_in w.tables.nodes.items) (chosen_in w w.systems_before.items w.used_before.items)
-    (chosen_in w (systems_in w.tables.nodes.items) (map cable_is_used w.tables.standings.items))
+abbrev pub used_now : Walk → List Bool
+used_now w = map cable_is_used w.tables.standings.items
 
--- whether each link that is lost cuts off a far end
-abbrev pub cuts_seen : Walk → Bool
-cuts_seen w =
-    all_cut_far_ends (systems_in w.tables.nodes.items) (chosen_in w w.systems_before.items w.used_before.items)
-    (ends_in_use w.ends.items w.used_before.items)
-    (ends_in_use w.ends.items (map cable_is_used w.tables.standings.items))
-    (ends_in_use w.ends.items
-    (lost_among w.used_before.items (map cable_is_used w.tables.standings.items)))
+abbrev pub chosen_now : Walk → List Chosen
+chosen_now w = chosen_in w (systems_in w.tables.nodes.items) (used_now w)
 
--- whether one is moved alone, and turns
-abbrev pub turns_seen : Walk → Bool
-turns_seen w =
-    turns_one (systems_in w.tables.nodes.items)
-    (ends_in_use w.ends.items
-    (lost_among w.used_before.items (map cable_is_used w.tables.standings.items)))
-    (ends_in_use w.ends.items w.used_before.items)
-    (ends_in_use w.ends.items (map cable_is_used w.tables.standings.items))
-    (chosen_in w w.systems_before.items w.used_before.items)
-    (chosen_in w (systems_in w.tables.nodes.items) (map cable_is_used w.tables.standings.items))
+abbrev pub lost_seen : Walk → List Ends
+lost_seen w = ends_in_use w.ends.items (lost_among w.used_before.items (used_now w))
 
--- whether those that its events name were far ends
-abbrev pub far_seen : Walk → Bool
-far_seen w =
-    are_far w.systems_before.items (chosen_in w w.systems_before.items w.used_before.items)
-    (ends_in_use w.ends.items w.used_before.items) w.told.items
+-- whom the events of this time move
+abbrev pub moves_seen : NetworkState → Walk → ℕ → Moves
+moves_seen n w at = record {
+  moved = any_counted (takes_one w.told.items) (systems_in w.tables.nodes.items)
+      (ends_in_use w.ends.items (used_now w)) (chosen_before w) (chosen_now w);
+  any = any_moved (systems_in w.tables.nodes.items) (chosen_before w) (chosen_now w);
+  cut = all_cut_far_ends (systems_in w.tables.nodes.items) (chosen_before w)
+      (ends_in_use w.ends.items w.used_before.items) (ends_in_use w.ends.items (used_now w)) (lost_seen w);
+  turned = turns_one (systems_in w.tables.nodes.items) (lost_seen w)
+      (ends_in_use w.ends.items w.used_before.items) (ends_in_use w.ends.items (used_now w)) (chosen_before w)
+      (chosen_now w);
+  falls = has_rested_for (largest_interval (pace_of n)) w.before at
+      && cuts_tree (systems_in w.tables.nodes.items) (lost_seen w) (ends_in_use w.ends.items (used_now w))
+      (chosen_before w) (chosen_now w);
+  tree_turns = has_rested_for (largest_interval (pace_of n)) w.before at
+      && turns_tree (systems_in w.tables.nodes.items) (lost_seen w) (ends_in_use w.ends.items (used_now w))
+      (chosen_before w) (chosen_now w);
+  far = are_far w.systems_before.items (chosen_before w) (ends_in_use w.ends.items w.used_before.items) w.told.items;
+}
 
 -- what is seen of this time
 abbrev pub view_seen : NetworkState → Walk → ℕ → View
@@ -114,13 +114,10 @@ view_seen n w at = record {
   before = w.before;
   paths_before = w.paths_before;
   used_before = w.all_used_before;
+  held = held_among n (own_intervals n w.before at) w.used_before.items w.tables.standings.items;
   new = new_among (not (is_some w.before)) w.tables.standings.items w.used_before.items;
   told = w.told.items;
-  moved = moves_seen w;
-  moves_any = moves_any_seen w;
-  cut = cuts_seen w;
-  turned = turns_seen w;
-  far = far_seen w;
+  moves = moves_seen n w at;
   used = up_is_used w.tables.standings.items;
   paths = marked_paths w.tables.marks.items w.tables.nodes.items;
   calm = are_calm n.params (marked_paths w.tables.marks.items w.tables.nodes.items) w.tables.marks.items;

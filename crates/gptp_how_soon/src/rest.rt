@@ -1,8 +1,8 @@
 //! Whether a time is from rest, so that what its events do says how soon the choice stands.
 
 ghost use Rattle.std.specs.Prelude.{◌≡◌, ◌≤◌, ◌+◌, ◌*◌, nat_lt};
-ghost use Rattle.gptp_how_soon.specs.Bounds.{way_span};
-ghost use Rattle.gptp_how_soon.specs.Rest.{are_events_followed, are_losses_followed, are_recoveries_followed, are_turns_followed, asks_who_is_far, asks_who_is_moved, heard_at_once, is_failing_followed, failed_row, is_from_rest, is_lowering_followed, is_wider_followed, keeps_paths, leaves_silent, rested, row_of, settles_wider_by};
+ghost use Rattle.gptp_scenario.specs.SettlingTime.{way_span};
+ghost use Rattle.gptp_how_soon.specs.Rest.{are_events_followed, are_losses_followed, are_recoveries_followed, are_turns_followed, asks_who_is_moved, heard_at_once, is_failing_followed, failed_row, has_rested_for, is_from_rest, is_lowering_followed, is_wider_followed, keeps_paths, leaves_silent, rested, row_of, settles_wider_by};
 
 use crate::bounds::{Row, SettlingTime, way_span};
 use crate::kinds::{
@@ -11,6 +11,25 @@ use crate::kinds::{
     are_heard, begins_wider, fails_and_recovers, fails_first, first_wider_by, lowers_one,
 };
 use gptp_scenario::SyncPaths;
+
+/// Whom the events of a time move.
+#[derive(Clone, Copy)]
+pub struct Moves {
+    /// Whether they move a system that counts: one that is cut off doesn't where one link or one system is taken away.
+    pub moved: bool,
+    /// Whether they move any, also one that is cut off.
+    pub any: bool,
+    /// Whether each link that is lost cuts off a far end.
+    pub cut: bool,
+    /// Whether they move one alone, and that turns.
+    pub turned: bool,
+    /// Whether they cut off a tree, an announce interval after all came to rest.
+    pub falls: bool,
+    /// Whether then a tree turns by one other link.
+    pub tree_turns: bool,
+    /// Whether those that they name were far ends.
+    pub far: bool,
+}
 
 /// Whether a time is later than another by more than a span.
 fn is_later(last: u64, span: u64, at: u64) -> bool
@@ -25,6 +44,22 @@ fn rested(before: &SettlingTime, at: u64) -> bool
 {
     match before.settling {
         Some(settling) => is_later(before.at, settling.rest, at),
+        None => false,
+    }
+}
+
+/// Whether it had come to rest so much before it, in ns.
+pub(crate) fn has_rested_for(span: u64, before: Option<SettlingTime>, at: u64) -> bool
+    ensures { result ≡ has_rested_for span before at }
+{
+    match before {
+        Some(before) => match before.settling {
+            Some(settling) => {
+                let rest = u128::from(settling.rest) + u128::from(span);
+                u128::from(before.at) + rest < u128::from(at)
+            }
+            None => false,
+        },
         None => false,
     }
 }
@@ -135,12 +170,13 @@ fn are_losses_followed(paths_before: SyncPaths, told: &[Told]) -> bool
     paths_before.systems <= 255 && all_leave_links(told)
 }
 
-/// Whether no path had more than 255 systems, none gets longer, and the greatest delay of a link in use stays.
+/// Whether no path had more than 255 systems, none gets longer, and the greatest delay of a link in use gets no
+/// greater.
 fn keeps_paths(paths_before: SyncPaths, paths: SyncPaths) -> bool
     ensures { result ≡ keeps_paths paths_before paths }
 {
     paths_before.systems <= 255
-        && paths.delay == paths_before.delay
+        && paths.delay <= paths_before.delay
         && paths.systems <= paths_before.systems
 }
 
@@ -158,7 +194,7 @@ fn is_failing_followed(paths_before: SyncPaths, paths: SyncPaths, told: &[Told])
     keeps_paths(paths_before, paths) && fails_first(told)
 }
 
-/// Whether it counts if its events move a system.
+/// Whether it counts whom its events move.
 pub(crate) fn asks_who_is_moved(
     from_rest: bool,
     paths_before: SyncPaths,
@@ -171,18 +207,6 @@ pub(crate) fn asks_who_is_moved(
         && (are_losses_followed(paths_before, told)
             || is_lowering_followed(paths_before, paths, told)
             || is_failing_followed(paths_before, paths, told))
-}
-
-/// Whether the row depends on whether the system that its events name was a far end.
-pub(crate) fn asks_who_is_far(
-    from_rest: bool,
-    paths_before: SyncPaths,
-    paths: SyncPaths,
-    told: &[Told],
-) -> bool
-    ensures { result ≡ asks_who_is_far from_rest paths_before paths told.now }
-{
-    from_rest && is_failing_followed(paths_before, paths, told)
 }
 
 /// Whether a link may be left silent by these events, where each link that is up then is in use or isn't.
@@ -215,22 +239,18 @@ fn failed_row(far: bool, any: bool, used: bool) -> Row
 }
 
 /// What is known of a time, by whether it is from rest, whether it is the first, and what its events do: whether they
-/// move a system, and any that is cut off too, whether each link that is lost cuts off a far end, whether a system that
-/// they move alone turns, whether the one that fails was a far end, and whether each link that is up then is in use.
+/// What is known of a time, by whether it is from rest, whether it is the first, what its events do, whom they move,
+/// and whether each link that is up then is in use.
 pub(crate) fn row_of(
     from_rest: bool,
     first: bool,
     paths_before: SyncPaths,
     paths: SyncPaths,
     told: &[Told],
-    moved: bool,
-    any: bool,
-    cut: bool,
-    turned: bool,
-    far: bool,
+    moves: Moves,
     used: bool,
 ) -> Row
-    ensures { result ≡ row_of from_rest first paths_before paths told.now moved any cut turned far used }
+    ensures { result ≡ row_of from_rest first paths_before paths told.now moves used }
 {
     if !from_rest {
         Row::AnyPast
@@ -238,14 +258,18 @@ pub(crate) fn row_of(
         Row::Gained
     } else if all_make_nothing(told) || begins_wider(told) {
         Row::Unchanged
-    } else if are_losses_followed(paths_before, told) && !moved {
+    } else if are_losses_followed(paths_before, told) && !moves.moved {
         Row::Unchanged
-    } else if is_lowering_followed(paths_before, paths, told) && !moved {
-        if cut { Row::CutOff } else { Row::Lowered }
-    } else if is_lowering_followed(paths_before, paths, told) && turned {
+    } else if is_lowering_followed(paths_before, paths, told) && !moves.moved {
+        if moves.cut { Row::CutOff } else { Row::Lowered }
+    } else if is_lowering_followed(paths_before, paths, told) && moves.turned {
         Row::OneTurned
-    } else if is_failing_followed(paths_before, paths, told) && !moved {
-        failed_row(far, any, used)
+    } else if is_lowering_followed(paths_before, paths, told) && moves.falls {
+        Row::TreeCutOff
+    } else if is_lowering_followed(paths_before, paths, told) && moves.tree_turns {
+        Row::TreeTurned
+    } else if is_failing_followed(paths_before, paths, told) && !moves.moved {
+        failed_row(moves.far, moves.any, used)
     } else if any_loss(told) {
         if all_bring_nothing(told) {
             Row::AnyLosses

@@ -383,30 +383,6 @@ fn a_system_that_a_link_moves_alone_turns_within_two_ways(rt: HostRuntime) -> Re
             13_000_002_870,
         ),
         (
-            "two steps farther, over a neighbour on which another hangs",
-            &["a", "b", "c", "d", "e"] as &[&str],
-            &[
-                ("a", "1", "b", "1"),
-                ("b", "2", "c", "1"),
-                ("c", "2", "d", "1"),
-                ("d", "2", "a", "2"),
-                ("c", "3", "e", "1"),
-            ] as &[(&str, &str, &str, &str)],
-            13_000_002_870,
-        ),
-        (
-            "together with another",
-            &["a", "b", "c", "d", "e"] as &[&str],
-            &[
-                ("a", "1", "b", "1"),
-                ("b", "2", "c", "1"),
-                ("c", "2", "d", "1"),
-                ("d", "2", "e", "1"),
-                ("e", "2", "a", "2"),
-            ] as &[(&str, &str, &str, &str)],
-            16_000_003_690,
-        ),
-        (
             "a system is cut off",
             &["a", "b", "c"] as &[&str],
             &[("a", "1", "b", "1"), ("a", "2", "c", "1")] as &[(&str, &str, &str, &str)],
@@ -419,6 +395,161 @@ fn a_system_that_a_link_moves_alone_turns_within_two_ways(rt: HostRuntime) -> Re
             Some(choice),
             "{case}"
         );
+    }
+    Ok(())
+}
+
+#[test]
+fn a_tree_that_a_link_moves_turns_by_its_one_way_out(rt: HostRuntime) -> Result<(), Fail> {
+    // In each row the first link goes down; in the last there are two ways out of what it moves. With what it takes to
+    // rest.
+    for (case, clocks, links, bound) in [
+        (
+            "one alone, two steps farther",
+            &["a", "b", "c", "d", "e"] as &[&str],
+            &[
+                ("a", "1", "b", "1"),
+                ("b", "2", "c", "1"),
+                ("c", "2", "d", "1"),
+                ("d", "2", "a", "2"),
+                ("c", "3", "e", "1"),
+            ] as &[(&str, &str, &str, &str)],
+            (15_000_002_870, 2_460),
+        ),
+        (
+            "half of a ring",
+            &["a", "b", "c", "d", "e"] as &[&str],
+            &[
+                ("a", "1", "b", "1"),
+                ("b", "2", "c", "1"),
+                ("c", "2", "d", "1"),
+                ("d", "2", "e", "1"),
+                ("e", "2", "a", "2"),
+            ] as &[(&str, &str, &str, &str)],
+            (18_000_003_690, 3_280),
+        ),
+        (
+            "with an end station",
+            &["a", "b", "c", "d", "e", "f"] as &[&str],
+            &[
+                ("a", "1", "b", "1"),
+                ("b", "2", "c", "1"),
+                ("c", "2", "d", "1"),
+                ("d", "2", "e", "1"),
+                ("e", "2", "a", "2"),
+                ("b", "3", "f", "1"),
+            ] as &[(&str, &str, &str, &str)],
+            (21_000_004_510, 4_100),
+        ),
+        (
+            "two ways out",
+            &["a", "b", "c", "d", "e", "f", "9"] as &[&str],
+            &[
+                ("9", "1", "b", "1"),
+                ("b", "2", "c", "1"),
+                ("b", "3", "d", "1"),
+                ("c", "2", "e", "1"),
+                ("e", "2", "9", "2"),
+                ("d", "2", "f", "1"),
+                ("f", "2", "9", "3"),
+                ("c", "3", "a", "1"),
+            ] as &[(&str, &str, &str, &str)],
+            (22_000_005_740, 22_000_005_330),
+        ),
+    ] {
+        let times = cut(rt.alloc(), clocks, links)?;
+        assert_eq!(rt;
+            rests(&times, 30_000_000_000, 30_000_000_000),
+            Some(bound),
+            "{case}"
+        );
+    }
+    Ok(())
+}
+
+#[test]
+fn a_tree_that_a_link_cuts_off_settles_within_two_ways(rt: HostRuntime) -> Result<(), Fail> {
+    // In each row the first link goes down; in the last it leaves no tree.
+    for (case, clocks, links, choice) in [
+        (
+            "a line behind its first link",
+            &["a", "b", "c", "d"] as &[&str],
+            &[
+                ("a", "1", "b", "1"),
+                ("b", "2", "c", "1"),
+                ("c", "2", "d", "1"),
+            ] as &[(&str, &str, &str, &str)],
+            1_640,
+        ),
+        (
+            "a line behind its middle",
+            &["a", "b", "c", "d"] as &[&str],
+            &[
+                ("b", "2", "c", "1"),
+                ("a", "1", "b", "1"),
+                ("c", "2", "d", "1"),
+            ] as &[(&str, &str, &str, &str)],
+            820,
+        ),
+        (
+            "a line whose best isn't at its top",
+            &["a", "b", "c"] as &[&str],
+            &[("a", "1", "c", "1"), ("c", "2", "b", "1")] as &[(&str, &str, &str, &str)],
+            820,
+        ),
+        (
+            "a star",
+            &["a", "b", "c", "d", "e"] as &[&str],
+            &[
+                ("a", "1", "b", "1"),
+                ("b", "2", "c", "1"),
+                ("b", "3", "d", "1"),
+                ("b", "4", "e", "1"),
+            ] as &[(&str, &str, &str, &str)],
+            1_640,
+        ),
+        (
+            "a triangle",
+            &["a", "b", "c", "d"] as &[&str],
+            &[
+                ("a", "1", "b", "1"),
+                ("b", "2", "c", "1"),
+                ("b", "3", "d", "1"),
+                ("c", "2", "d", "2"),
+            ] as &[(&str, &str, &str, &str)],
+            13_000_002_870,
+        ),
+    ] {
+        let times = cut(rt.alloc(), clocks, links)?;
+        assert_eq!(rt;
+            soon(&times, 30_000_000_000).map(|bound| bound.0),
+            Some(choice),
+            "{case}"
+        );
+    }
+    Ok(())
+}
+
+#[test]
+fn a_tree_falls_off_an_announce_interval_after_rest(rt: HostRuntime) -> Result<(), Fail> {
+    // The line rests 1000003460 ns after its start.
+    for (at, choice) in [(2_000_003_460, 10_000_002_050), (2_000_003_461, 1_640)] {
+        let mut event = String::new(rt.alloc());
+        writeln!(
+            event,
+            "[[event]]\nat = {at}\nkind = \"link_down\"\nclock = \"000000000000000a\"\nport = 1"
+        )?;
+        let times = joined(
+            rt.alloc(),
+            &["a", "b", "c", "d"],
+            &[
+                ("a", "1", "b", "1"),
+                ("b", "2", "c", "1"),
+                ("c", "2", "d", "1"),
+            ],
+            event.as_str(),
+        )?;
+        assert_eq!(rt; soon(&times, at).map(|bound| bound.0), Some(choice));
     }
     Ok(())
 }
@@ -438,7 +569,7 @@ fn a_far_end_that_fails_costs_the_choice_nothing(rt: HostRuntime) -> Result<(), 
                 choice: 0,
                 roles: 11_000_000_000,
                 sound: 11_000_000_000,
-                rest: 11_000_000_410,
+                rest: 11_000_000_000,
                 exact_from: 41_000_005_400,
             }),
             watch: 12_000_005_400,
@@ -475,6 +606,44 @@ fn a_system_that_others_hear_costs_the_choice_what_they_hold_it_for(
         events.push_str(network)?;
         let times = ring(rt.alloc(), events.as_str())?;
         assert_eq!(rt; soon(&times, 30_000_000_000), Some(bound), "{case}");
+    }
+    Ok(())
+}
+
+#[test]
+fn what_is_held_ages_by_the_interval_of_its_port(rt: HostRuntime) -> Result<(), Fail> {
+    // d announces twice a second, the others once. Its interval counts once an announce interval and the longest
+    // receipt timeout have passed since the start.
+    for (case, at, choice) in [
+        ("its own interval", 4_000_000_001, 1_500_000_410),
+        ("too soon for it", 4_000_000_000, 3_000_000_410),
+    ] {
+        let mut text = String::new(rt.alloc());
+        text.push_str("version = 2\n[network]\npdelay = -1\n")?;
+        for (clock, more) in [
+            ("a", "priority1 = 128"),
+            ("b", ""),
+            ("c", ""),
+            ("d", "announce = [-1, -1]"),
+        ] {
+            writeln!(
+                text,
+                "[[system]]\nclock = \"000000000000000{clock}\"\nports = 2\n{more}"
+            )?;
+        }
+        for (a, b) in [("a", "b"), ("b", "c"), ("c", "d"), ("d", "a")] {
+            writeln!(
+                text,
+                "[[link]]\na = \"000000000000000{a}\"\na_port = 1\nb = \"000000000000000{b}\"\nb_port = 2"
+            )?;
+            text.push_str("min = 390\nmax = 410\n")?;
+        }
+        writeln!(
+            text,
+            "[[event]]\nat = {at}\nkind = \"fail\"\nclock = \"000000000000000d\""
+        )?;
+        let times = times_of(rt.alloc(), text.as_str())?;
+        assert_eq!(rt; bounds(&times, at), Some((choice, 5_500_000_000)), "{case}");
     }
     Ok(())
 }
@@ -549,11 +718,6 @@ fn other_losses_cost_a_turn_for_each_system_of_a_path(rt: HostRuntime) -> Result
             (13_000_003_500, 13_000_003_500),
         ),
         (
-            "the widest link goes down",
-            "[[event]]\nat = 60000000000\nkind = \"link_down\"\nclock = \"000000000000000a\"\nport = 1\n",
-            (13_000_003_230, 13_000_003_230),
-        ),
-        (
             "two links go down, and one that is down",
             "[[event]]\nat = 60000000000\nkind = \"link_down\"\nclock = \"000000000000000a\"\nport = 1\n[[event]]\nat = 60000000000\nkind = \"link_down\"\nclock = \"000000000000000c\"\nport = 2\n[[event]]\nat = 60000000000\nkind = \"link_down\"\nclock = \"000000000000000a\"\nport = 1\n",
             (7_000_001_410, 7_000_001_410),
@@ -576,6 +740,64 @@ fn other_losses_cost_a_turn_for_each_system_of_a_path(rt: HostRuntime) -> Result
 }
 
 #[test]
+fn the_slowest_link_may_go_down(rt: HostRuntime) -> Result<(), Fail> {
+    // It is wider first. The one moves no system; by the other one turns, and ways take what links take that are left.
+    for (case, port, bound) in [
+        ("none is moved", "b\"\nport = 2", (0, 0)),
+        ("one turns", "a\"\nport = 1", (2_460, 2_460)),
+    ] {
+        let mut text = String::new(rt.alloc());
+        writeln!(
+            text,
+            "[[event]]\nat = 30000000000\nkind = \"link_set\"\nclock = \"000000000000000{port}\nmin = 380\nmax = 500\nloss = 0\n[[event]]\nat = 60000000000\nkind = \"link_down\"\nclock = \"000000000000000{port}"
+        )?;
+        let times = ring(rt.alloc(), text.as_str())?;
+        assert_eq!(rt; bounds(&times, 60_000_000_000), Some(bound), "{case}");
+    }
+    Ok(())
+}
+
+#[test]
+fn an_end_station_may_be_left_without_a_link(rt: HostRuntime) -> Result<(), Fail> {
+    // No link is left, so nothing has a way to go. What b heard of a ages.
+    for (case, events, bound) in [
+        (
+            "the link goes down",
+            "[[event]]\nat = 30000000000\nkind = \"link_down\"\nclock = \"000000000000000a\"\nport = 1\n",
+            (0, 0),
+        ),
+        (
+            "b loses its power",
+            "[[event]]\nat = 30000000000\nkind = \"fail\"\nclock = \"000000000000000b\"\n[[event]]\nat = 30000000000\nkind = \"link_down\"\nclock = \"000000000000000a\"\nport = 1\n",
+            (0, 0),
+        ),
+        (
+            "b hangs",
+            "[[event]]\nat = 30000000000\nkind = \"fail\"\nclock = \"000000000000000b\"\n",
+            (0, 11_000_000_000),
+        ),
+        (
+            "a loses its power",
+            "[[event]]\nat = 30000000000\nkind = \"fail\"\nclock = \"000000000000000a\"\n[[event]]\nat = 30000000000\nkind = \"link_down\"\nclock = \"000000000000000a\"\nport = 1\n",
+            (0, 0),
+        ),
+        (
+            "a hangs",
+            "[[event]]\nat = 30000000000\nkind = \"fail\"\nclock = \"000000000000000a\"\n",
+            (3_000_000_500, 11_000_000_000),
+        ),
+    ] {
+        let mut text = String::new(rt.alloc());
+        text.push_str(PAIR)?;
+        text.push_str("min = 500\nmax = 500\n")?;
+        text.push_str(events)?;
+        let times = times_of(rt.alloc(), text.as_str())?;
+        assert_eq!(rt; bounds(&times, 30_000_000_000), Some(bound), "{case}");
+    }
+    Ok(())
+}
+
+#[test]
 fn a_far_end_that_loses_its_power_costs_nothing(rt: HostRuntime) -> Result<(), Fail> {
     // Both links of c go down behind it, the one named by the neighbour's port.
     let off = ring(
@@ -590,7 +812,7 @@ fn a_far_end_that_loses_its_power_costs_nothing(rt: HostRuntime) -> Result<(), F
                 choice: 0,
                 roles: 0,
                 sound: 410,
-                rest: 820,
+                rest: 410,
                 exact_from: 30_000_005_400,
             }),
             watch: 1_000_005_400,
@@ -635,36 +857,43 @@ fn events_come_from_rest_soon_after_a_loss(rt: HostRuntime) -> Result<(), Fail> 
         (
             "b loses its power",
             "[[event]]\nat = 100000000000\nkind = \"fail\"\nclock = \"000000000000000b\"\n[[event]]\nat = 100000000000\nkind = \"link_down\"\nclock = \"000000000000000b\"\nport = 1\n[[event]]\nat = 101000000000\nkind = \"recover\"\nclock = \"000000000000000b\"\n",
-            820,
+            410,
             101_000_000_000,
             820,
         ),
         (
             "d loses its power, and cuts c off",
             "[[event]]\nat = 100000000000\nkind = \"fail\"\nclock = \"000000000000000d\"\n[[event]]\nat = 100000000000\nkind = \"link_down\"\nclock = \"000000000000000d\"\nport = 1\n[[event]]\nat = 100000000000\nkind = \"link_down\"\nclock = \"000000000000000d\"\nport = 2\n[[event]]\nat = 102000000000\nkind = \"recover\"\nclock = \"000000000000000d\"\n",
-            1_000_000_820,
+            1_000_001_640,
             102_000_000_000,
             410,
         ),
         (
             "b hangs",
             "[[event]]\nat = 100000000000\nkind = \"fail\"\nclock = \"000000000000000b\"\n[[event]]\nat = 111500000000\nkind = \"recover\"\nclock = \"000000000000000b\"\n",
-            11_000_000_410,
+            11_000_000_000,
             111_500_000_000,
             3_000_003_050,
         ),
         (
-            "d is left behind its link, which was nearer",
-            "[[event]]\nat = 100000000000\nkind = \"link_down\"\nclock = \"000000000000000d\"\nport = 2\n[[event]]\nat = 101000000000\nkind = \"link_up\"\nclock = \"000000000000000d\"\nport = 2\n",
-            7_000_001_640,
+            "d falls off with c, and comes back",
+            "[[event]]\nat = 100000000000\nkind = \"link_down\"\nclock = \"000000000000000d\"\nport = 2\n[[event]]\nat = 100000001231\nkind = \"link_up\"\nclock = \"000000000000000d\"\nport = 2\n",
+            1_230,
+            100_000_001_231,
+            1_000_003_050,
+        ),
+        (
+            "the root gets worse",
+            "[[event]]\nat = 100000000000\nkind = \"priority1\"\nclock = \"000000000000000a\"\nvalue = 250\n[[event]]\nat = 101000000000\nkind = \"link_up\"\nclock = \"000000000000000b\"\nport = 2\n",
+            13_000_003_280,
             101_000_000_000,
             15_000_002_870,
         ),
         (
-            "d is left behind its link, and then comes back",
-            "[[event]]\nat = 100000000000\nkind = \"link_down\"\nclock = \"000000000000000d\"\nport = 2\n[[event]]\nat = 107000001641\nkind = \"link_up\"\nclock = \"000000000000000d\"\nport = 2\n",
-            7_000_001_640,
-            107_000_001_641,
+            "the root gets worse, and then a link comes up",
+            "[[event]]\nat = 100000000000\nkind = \"priority1\"\nclock = \"000000000000000a\"\nvalue = 250\n[[event]]\nat = 113000003281\nkind = \"link_up\"\nclock = \"000000000000000b\"\nport = 2\n",
+            13_000_003_280,
+            113_000_003_281,
             1_000_003_050,
         ),
     ] {
@@ -693,6 +922,28 @@ fn events_come_from_rest_soon_after_lost_power(rt: HostRuntime) -> Result<(), Fa
         rests(&times, 30_000_000_000, 33_000_000_000),
         Some((2_000_001_230, 820))
     );
+    Ok(())
+}
+
+#[test]
+fn events_come_from_rest_once_nobody_holds_who_hangs(rt: HostRuntime) -> Result<(), Fail> {
+    // It is noticed soon, and traces are told anew then. d recovers as the network rests, or 1 ns later.
+    for (case, again, choice) in [
+        ("too soon", 32_375_001_230, 15_000_002_870),
+        ("from rest", 32_375_001_231, 1_250_003_050),
+    ] {
+        let mut text = String::new(rt.alloc());
+        writeln!(
+            text,
+            "[[event]]\nat = 30000000000\nkind = \"fail\"\nclock = \"000000000000000d\"\n[[event]]\nat = {again}\nkind = \"recover\"\nclock = \"000000000000000d\"\n[network]\npdelay = -3\nlost = 1"
+        )?;
+        let times = ring(rt.alloc(), text.as_str())?;
+        assert_eq!(rt;
+            rests(&times, 30_000_000_000, again),
+            Some((2_375_001_230, choice)),
+            "{case}"
+        );
+    }
     Ok(())
 }
 

@@ -1,12 +1,13 @@
 //! How a document stands at each time, as its events come.
 
-ghost use Rattle.std.specs.Prelude.{◌≡◌, ◌≤◌, ◌&&◌, IfOk, OnOk};
+ghost use Rattle.std.specs.Prelude.{◌≡◌, ◌≤◌, if◌then◌else◌, IfOk, OnOk};
 ghost use Rattle.gptp_network.specs.declared.keys.TheConstants.{LATEST_EVENT};
 ghost use Rattle.gptp_topology.specs.Tables.{AreMarked, marked_paths};
 ghost use Rattle.gptp_how_soon.specs.Times.{settling_time};
-ghost use Rattle.gptp_how_soon.specs.Walk.{IsFirstWalk, WalkGoesOn, WalkPasses, cuts_seen, far_seen, moves_any_seen, moves_seen, turns_seen, view_seen};
+ghost use Rattle.gptp_how_soon.specs.Rest.{no_moves};
+ghost use Rattle.gptp_how_soon.specs.Walk.{IsFirstWalk, WalkGoesOn, WalkPasses, moves_seen, view_seen};
 
-use crate::bounds::{SettlingTime, heard, ready, times_by, way_span};
+use crate::bounds::{Loss, SettlingTime, announce_interval, heard, ready, times_by, way_span};
 use crate::chosen::{
     Chosen, Ends, any_counted, any_moved, choose, copy_systems, ends_in_use, ends_of,
 };
@@ -14,9 +15,12 @@ use crate::far::{all_cut_far_ends, are_far, up_is_used};
 use crate::kinds::{Told, sets_bounds, sets_link, takes_one, tell};
 use crate::links::{delay_set, longest_among, lost_among, mark_used, new_links};
 use crate::rest::{
-    asks_who_is_far, asks_who_is_moved, heard_at_once, is_from_rest, leaves_silent, row_of,
+    Moves, asks_who_is_moved, has_rested_for, heard_at_once, is_from_rest, leaves_silent, row_of,
 };
+use crate::silent::{held_among, own_intervals};
+use crate::tree::cuts_tree;
 use crate::turned::turns_one;
+use crate::turned_tree::turns_tree;
 use gptp_scenario::{Act, Network, SyncPaths};
 use gptp_topology::{System, Tables, cables_of};
 use std::alloc::{AllocError, Global};
@@ -41,19 +45,6 @@ pub(crate) struct Walk {
     pub used_before: Vec<bool>,
     pub paths_before: SyncPaths,
     pub all_used_before: bool,
-}
-
-/// Whom the events of a time move.
-#[derive(Clone, Copy)]
-struct Moves {
-    /// Whether they move a system that counts.
-    moved: bool,
-    /// Whether they move any, also one that is cut off.
-    any: bool,
-    /// Whether each link that is lost cuts off a far end.
-    cut: bool,
-    /// Whether they move one alone, and that turns.
-    turned: bool,
 }
 
 impl Walk {
@@ -115,13 +106,9 @@ impl Walk {
         Ok(())
     }
 
-    /// Whom the events of this time move. A system that is cut off doesn't count where one link or one system is taken
-    /// away.
-    fn moves(&self, alloc: Global) -> Result<Moves, AllocError>
-        ensures moved { IfOk result (λ moves. moves.moved ≡ moves_seen self.now) }
-        ensures any { IfOk result (λ moves. moves.any ≡ moves_any_seen self.now) }
-        ensures cut { IfOk result (λ moves. moves.cut ≡ cuts_seen self.now) }
-        ensures turned { IfOk result (λ moves. moves.turned ≡ turns_seen self.now) }
+    /// Whom the events of this time move.
+    fn moves(&self, alloc: Global, network: &Network, at: u64) -> Result<Moves, AllocError>
+        ensures { IfOk result (λ moves. moves ≡ moves_seen network.now self.now at) }
     {
         let mut systems = Vec::new(alloc);
         copy_systems(&mut systems, &self.tables.nodes)?;
@@ -134,47 +121,42 @@ impl Walk {
         let before = choose(alloc, &self.systems_before, &links_before)?;
         let now = choose(alloc, &systems, &links)?;
         let joined = takes_one(&self.told);
+        let turned = turns_one(alloc, &systems, &lost, &links_before, &links, &before, &now)?;
+        let rested = has_rested_for(announce_interval(network), self.before, at);
         Ok(Moves {
             moved: any_counted(joined, &systems, &links, &before, &now),
             any: any_moved(&systems, &before, &now),
             cut: all_cut_far_ends(&systems, &before, &links_before, &links, &lost),
-            turned: turns_one(alloc, &systems, &lost, &links_before, &links, &before, &now)?,
+            turned,
+            falls: rested && cuts_tree(&systems, &lost, &links, &before, &now),
+            tree_turns: rested && turns_tree(&systems, &lost, &links, &before, &now),
+            far: are_far(&self.systems_before, &before, &links_before, &self.told),
         })
     }
 
-    /// Whom the events of this time move, where that is asked.
-    fn moves_if(&self, alloc: Global, asked: bool) -> Result<Moves, AllocError>
-        ensures moved { IfOk result (λ moves. moves.moved ≡ (asked && moves_seen self.now)) }
-        ensures any { IfOk result (λ moves. moves.any ≡ (asked && moves_any_seen self.now)) }
-        ensures cut { IfOk result (λ moves. moves.cut ≡ (asked && cuts_seen self.now)) }
-        ensures turned { IfOk result (λ moves. moves.turned ≡ (asked && turns_seen self.now)) }
+    /// Whom the events of this time move, where that is asked; else nobody.
+    fn moves_if(
+        &self,
+        alloc: Global,
+        network: &Network,
+        at: u64,
+        asked: bool,
+    ) -> Result<Moves, AllocError>
+        ensures { IfOk result (λ moves. moves ≡ (if asked then moves_seen network.now self.now at else no_moves)) }
     {
         if asked {
-            self.moves(alloc)
+            self.moves(alloc, network, at)
         } else {
             Ok(Moves {
                 moved: false,
                 any: false,
                 cut: false,
                 turned: false,
+                falls: false,
+                tree_turns: false,
+                far: false,
             })
         }
-    }
-
-    /// Whether those that the events of this time name were far ends, where that is asked.
-    fn far_if(&self, alloc: Global, asked: bool) -> Result<bool, AllocError>
-        ensures { IfOk result (λ far. far ≡ (asked && far_seen self.now)) }
-    {
-        if asked { self.far(alloc) } else { Ok(false) }
-    }
-
-    /// Whether those that the events of this time name were far ends.
-    fn far(&self, alloc: Global) -> Result<bool, AllocError>
-        ensures { IfOk result (λ far. far ≡ far_seen self.now) }
-    {
-        let links = ends_in_use(alloc, &self.ends, &self.used_before)?;
-        let before = choose(alloc, &self.systems_before, &links)?;
-        Ok(are_far(&self.systems_before, &before, &links, &self.told))
     }
 
     /// What is told of this time, where this is what Sync has to cross at it.
@@ -206,33 +188,24 @@ impl Walk {
         let paths_before = self.paths_before;
         let from_rest = is_from_rest(self.longest, at, paths_before, paths, told, self.before);
         let asked = asks_who_is_moved(from_rest, paths_before, paths, told);
-        let moves = self.moves_if(alloc, asked)?;
-        let asked_far = asks_who_is_far(from_rest, paths_before, paths, told);
-        let far = self.far_if(alloc, asked_far)?;
+        let moves = self.moves_if(alloc, network, at, asked)?;
         let all_used = up_is_used(standings);
+        let own = own_intervals(network, self.before, at);
+        let loss = Loss {
+            paths_before,
+            used_before: self.all_used_before,
+            silent: leaves_silent(all_used, told),
+            held: held_among(network, own, used, standings),
+        };
         Ok(times_by(
             network,
             at,
             self.last_set,
-            paths_before,
+            loss,
             paths,
             self.tables.is_calm(network, paths),
             sets_link(told),
-            self.all_used_before,
-            leaves_silent(all_used, told),
-            row_of(
-                from_rest,
-                first,
-                paths_before,
-                paths,
-                told,
-                moves.moved,
-                moves.any,
-                moves.cut,
-                moves.turned,
-                far,
-                all_used,
-            ),
+            row_of(from_rest, first, paths_before, paths, told, moves, all_used),
             gained,
         ))
     }

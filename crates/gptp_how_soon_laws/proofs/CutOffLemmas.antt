@@ -127,7 +127,7 @@ module _ (n : NetworkState) (network : IsNetwork n) (made : List Timed) (event :
 pub cuts_one_end : (n : NetworkState) (network : IsNetwork n) (made now : List Timed) → AreWell n (made ++ now)
     → moves_joined n made (made ++ now) ≡ false
     → cut_far_ends_after n made (made ++ now) ≡ true
-    → (sync_paths n (made ++ now)).delay ≡ (sync_paths n made).delay
+    → (sync_paths n (made ++ now)).delay ≤ (sync_paths n made).delay
     → (sync_paths n (made ++ now)).systems ≤ (sync_paths n made).systems
     → (sync_paths n made).systems ≤ 255
     → lowers_one (told_of n made now) ≡ true

@@ -19,8 +19,11 @@ use Rattle.gptp_settling_time.specs.HowSoon.{IsChoiceAloneBound, IsChoiceBound, 
 use Rattle.gptp_settling_time.specs.InTurn.{ChoosesAfter, ComesByEvents, IsTakenAs, LeadOn, Past, SettlesAfter}
 use Rattle.gptp_settling_time.proofs.FollowedLemmas.{bound_chooses, bound_settles}
 use Rattle.gptp_settling_time.proofs.AfterLemmas.{IsAfter, after_act, after_chooses, after_keeps, after_later, after_settles, begins_after, taken_as}
+use Rattle.gptp_settling_time.proofs.BegunLemmas.{begun_last}
 use Rattle.gptp_settling_time.proofs.LeadsLemmas.{leads_to}
+use Rattle.gptp_settling_time.proofs.MadeLemmas.{made_last}
 use Rattle.gptp_settling_time.proofs.MomentLemmas.{none_later}
+use Rattle.gptp_settling_time.proofs.NamedAfterLemmas.{IsNamedAfter, named_act, named_as, named_fresh, named_later}
 use Rattle.gptp_settling_time.proofs.PassLemmas.{passes_to}
 use Rattle.gptp_how_soon_laws.specs.Settled.{EndsSettled}
 use Rattle.gptp_how_soon_laws.proofs.ChoiceLemmas.{settlings_are_choice_bounds}
@@ -39,8 +42,8 @@ module _ {F : Type 0} (answers : Bounds → ℕ → F → Option ℕ → F → T
         (w w' : WorldState)
         → made ++ events ≡ all → AllByRecursion IsMade events → AllByRecursion (IsFitEvent (least_of d)) events
         → LeadOn d.network made past events last → Courses answers until events ts fate fate_after w w'
-        → IsAfter d made past w → IsAfter d all last w'
-    end_in_turn made past [] ts fate fate_after w w' are is fit lead k so =
+        → IsAfter d made past w → w.last_change ≡ w.time → IsAfter d all last w'
+    end_in_turn made past [] ts fate fate_after w w' are is fit lead k so now =
         let same : made ≡ all = sym (append-nil made) ∙ are in
         let there : IsAfter d all last w =
         subst (λ es. IsAfter d es last w) same (subst (λ x. IsAfter d made x w) (sym lead) so) in
@@ -48,17 +51,19 @@ module _ {F : Type 0} (answers : Bounds → ℕ → F → Option ℕ → F → T
         (λ t one other v next_is was v_is. after_act d all answers last t one other v next_is was v_is) until ts fate
         fate_after w w' k there).end
     end_in_turn made past (event ∷ events) ts fate fate_after w w' are is fit (seen, taken, next, leads, others)
-        (first, rest, drawn, between, k, on, split) so =
-        let passed = passes_to answers (IsAfter d made past) (after_later d made past)
-        (λ t one other v next_is was v_is. after_act d made answers past t one other v next_is was v_is)
-        event.at k.first fate k.drawn w k.between k.passes so in
+        (first, rest, drawn, between, k, on, split) so now =
+        let passed = passes_to answers (IsNamedAfter d made past) (named_later d playable made past)
+        (λ t one other v next_is was v_is. named_act d playable made past answers t one other v next_is was v_is)
+        event.at k.first fate k.drawn w k.between k.passes (named_fresh d playable made past w so now) in
         let moment : k.between.time ≡ event.at = ap (λ (v : WorldState). v.time) k.passes.is in
         end_in_turn (made ++ event ∷ []) next events rest drawn fate_after between w'
         (append_assoc made (event ∷ []) events ∙ are) is.1 fit.1 others on
         (leads_to answers d playable made event k.drawn drawn k.between between k.done is.0 fit.0 k.made
-        (after_keeps d made past k.between passed.end) moment seen next leads
+        (after_keeps d made past k.between passed.end.so) moment seen next leads
+        (named_as d made k.between event.at past seen taken passed.end.named)
         (taken_as d playable made k.between past seen
-        (subst (λ t. IsTakenAs d.network made past t seen) (sym moment) taken) passed.end))
+        (subst (λ t. IsTakenAs d.network made past t seen) (sym moment) taken) passed.end.so))
+        (made_last answers d playable made event k.drawn drawn k.between between k.done is.0 fit.0 k.made)
 
   -- what its events lead to is so of it
   module _ (So : NetworkState → List Timed → Past → ℕ → Type 0) (d : DocumentState) (settled until : ℕ) (fate : F)
@@ -70,6 +75,7 @@ module _ {F : Type 0} (answers : Bounds → ℕ → F → Option ℕ → F → T
         k.started k.drawn first w refl
         (events_made d until playable.network playable.events) (events_fit d until playable) is.lead k.courses
         (begins_after answers d playable fate until first w ts k is.first is.begins)
+        (begun_last answers d playable fate k.started first k.begun)
 
     ended_snapshot : HasSnapshotOf d until w
     ended_snapshot g stands =

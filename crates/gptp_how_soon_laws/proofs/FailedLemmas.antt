@@ -234,7 +234,7 @@ module _ (n : NetworkState) (network : IsNetwork n) (made : List Timed) (event :
         by true is = inl (stays x g h v stands stands' known is)
         by false is = inr (cut_off x g h v stands stands' known is)
 
-    module _ (delay : (sync_paths n later).delay ≡ (sync_paths n made).delay)
+    module _ (delay : (sync_paths n later).delay ≤ (sync_paths n made).delay)
         (paths : (sync_paths n later).systems ≤ (sync_paths n made).systems)
         (few : (sync_paths n made).systems ≤ 255) (is : is_failing (told_at n made event.act) ≡ true) where
       pub fails_heard : FailsHeard n made event
@@ -425,7 +425,7 @@ fail_lowers_none kind clock whats.NoChange fails lowers = absurd cc
 -- the events of a time
 module _ (n : NetworkState) (network : IsNetwork n) (made : List Timed) (event : Timed) (events : List Timed)
     (well : AreWell n (made ++ event ∷ events)) (unmoved : moves_joined n made (made ++ event ∷ events) ≡ false)
-    (delay : (sync_paths n (made ++ event ∷ events)).delay ≡ (sync_paths n made).delay)
+    (delay : (sync_paths n (made ++ event ∷ events)).delay ≤ (sync_paths n made).delay)
     (paths : (sync_paths n (made ++ event ∷ events)).systems ≤ (sync_paths n made).systems)
     (few : (sync_paths n made).systems ≤ 255) (is : fails_first (told_of n made (event ∷ events)) ≡ true) where
   abbrev first_behind : List Timed
@@ -446,8 +446,8 @@ module _ (n : NetworkState) (network : IsNetwork n) (made : List Timed) (event :
   same : sync_paths n (made ++ event ∷ events) ≡ sync_paths n first_behind
   same = ap (sync_paths n) (sym whole) ∙ paths_all n network first_behind events others
 
-  first_delay : (sync_paths n first_behind).delay ≡ (sync_paths n made).delay
-  first_delay = ap (λ (x : SyncPaths). x.delay) (sym same) ∙ delay
+  first_delay : (sync_paths n first_behind).delay ≤ (sync_paths n made).delay
+  first_delay = subst (λ (x : SyncPaths). x.delay ≤ (sync_paths n made).delay) same delay
 
   first_paths : (sync_paths n first_behind).systems ≤ (sync_paths n made).systems
   first_paths = subst (λ (x : SyncPaths). x.systems ≤ (sync_paths n made).systems) same paths
@@ -485,7 +485,7 @@ module _ (n : NetworkState) (network : IsNetwork n) (made : List Timed) (event :
 
 pub fails_heard_first : (n : NetworkState) (network : IsNetwork n) (made now : List Timed) → AreWell n (made ++ now)
     → moves_joined n made (made ++ now) ≡ false
-    → (sync_paths n (made ++ now)).delay ≡ (sync_paths n made).delay
+    → (sync_paths n (made ++ now)).delay ≤ (sync_paths n made).delay
     → (sync_paths n (made ++ now)).systems ≤ (sync_paths n made).systems
     → (sync_paths n made).systems ≤ 255
     → fails_first (told_of n made now) ≡ true
@@ -496,7 +496,7 @@ fails_heard_first n network made (event ∷ events) well unmoved delay paths few
 
 pub fails_end_first : (n : NetworkState) (network : IsNetwork n) (made now : List Timed) → AreWell n (made ++ now)
     → moves_joined n made (made ++ now) ≡ false
-    → (sync_paths n (made ++ now)).delay ≡ (sync_paths n made).delay
+    → (sync_paths n (made ++ now)).delay ≤ (sync_paths n made).delay
     → (sync_paths n (made ++ now)).systems ≤ (sync_paths n made).systems
     → (sync_paths n made).systems ≤ 255
     → fails_first (told_of n made now) ≡ true → are_far_after n made (told_of n made now) ≡ true

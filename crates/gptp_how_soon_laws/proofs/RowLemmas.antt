@@ -1,8 +1,8 @@
 -- What is told of a time after the first one, by its row, is so by its events.
 use Rattle.std.proofs.Common.{◌≡◌, ◌<◌, ◌≤◌, ◌⊎◌, inl, inr, ◌+◌, ◌*◌, ℕ, Bool, true, false, cond, List, [], ◌∷◌, ◌++◌, Option, Some, None, map, refl, sym, ap, subst, ◌∙◌, arith}
-use Rattle.std.specs.Prelude.{◌==◌, ◌&&◌, ◌||◌, not, if◌then◌else◌, nat_le, nat_lt, max}
+use Rattle.std.specs.Prelude.{◌&&◌, ◌||◌, not, if◌then◌else◌, nat_le, nat_lt, max}
 use Rattle.std.specs.List.{AllByRecursion, list_all, list_any}
-use Rattle.std.proofs.lemmas.Bool.{and_parts, eqb-true, not-true, or_cases, or_from, or_parts}
+use Rattle.std.proofs.lemmas.Bool.{and_parts, not-true, or_cases, or_from, or_parts}
 use Rattle.std.proofs.lemmas.Bool.Decides.{nat_tests}
 use Rattle.gptp_lists.specs.Members.{In}
 use Rattle.gptp_lists.proofs.MappedLemmas.{some_same}
@@ -11,6 +11,7 @@ use Rattle.gptp_setup.specs.SettlingParams.{largest_interval}
 use Rattle.gptp_scenario.specs.Calm.{NothingLapses}
 use Rattle.gptp_scenario.specs.Network.{IsNetwork, NetworkState, pace_of}
 use Rattle.gptp_scenario.specs.Prompt.{DelayFitsInterval}
+use Rattle.gptp_scenario.specs.SettlingTime.{silence_span, way_span}
 use Rattle.gptp_scenario.specs.SyncWait.{sync_paths}
 use Rattle.gptp_scenario.specs.declared.change.Act.{Act}
 use Rattle.gptp_scenario.specs.declared.change.Act.TheVariants as acts
@@ -23,10 +24,12 @@ use Rattle.gptp_how_soon.specs.Bounds.{is_hard_to_hear, gone_by}
 use Rattle.gptp_how_soon.specs.Chosen.{moves_counted, moves_joined, moves_some}
 use Rattle.gptp_how_soon.specs.Kinds.{are_heard, brings_nothing, fails_and_recovers, fails_first, is_better, is_failing, is_gain, is_idle, is_loss, is_lowering, is_other, is_recovery, leaves_links, lowers_one, lowers_unused, makes_nothing, recovers, takes_one, begins_wider, first_wider_by, is_wider}
 use Rattle.gptp_how_soon.specs.Links.{delay_set, longest_among, longest_delay, longest_set}
-use Rattle.gptp_how_soon.specs.Rest.{are_events_followed, are_losses_followed, are_recoveries_followed, are_turns_followed, heard_at_once, is_failing_followed, is_from_rest, is_lowering_followed, keeps_paths, leaves_silent, rested, rested_by, is_wider_followed, settles_wider_by}
+use Rattle.gptp_how_soon.specs.Rest.{are_events_followed, are_losses_followed, are_recoveries_followed, are_turns_followed, has_rested_for, heard_at_once, is_failing_followed, is_from_rest, is_lowering_followed, keeps_paths, leaves_silent, rested, rested_by, rested_for_by, is_wider_followed, settles_wider_by}
 use Rattle.gptp_how_soon.specs.Times.{View, events_at, gained_at, ready_at, row_at, view_at}
+use Rattle.gptp_how_soon.specs.Tree.{cuts_tree_after}
+use Rattle.gptp_how_soon.specs.TurnedTree.{turns_tree_after}
 use Rattle.gptp_how_soon.specs.declared.bounds.Row.{Row}
-use Rattle.gptp_how_soon.specs.declared.bounds.Row.TheVariants.{AnyLosses, CutOff, FailedEnd, FailedHeard, FailureCutsOff, Gained, LostEnd, LostPower, Lowered, OneTurned, PowerCutsOff, Unchanged}
+use Rattle.gptp_how_soon.specs.declared.bounds.Row.TheVariants.{AnyLosses, CutOff, FailedEnd, FailedHeard, FailureCutsOff, Gained, LostEnd, LostPower, Lowered, OneTurned, PowerCutsOff, TreeCutOff, TreeTurned, Unchanged}
 use Rattle.gptp_how_soon.specs.declared.bounds.Settling.{Settling}
 use Rattle.gptp_how_soon.specs.declared.bounds.SettlingTime.{SettlingTime}
 use Rattle.gptp_how_soon.specs.declared.kinds.Kind.{Kind}
@@ -35,19 +38,21 @@ use Rattle.gptp_how_soon.specs.declared.kinds.Told.{Told}
 use Rattle.gptp_how_soon.specs.declared.kinds.What.{What}
 use Rattle.gptp_how_soon.specs.declared.kinds.What.TheVariants as whats
 use Rattle.gptp_settling_time.specs.Gains.{HasDelaysWithin}
-use Rattle.gptp_settling_time.specs.HowSoon.{AreWiderEvents, BoundsGains, CutsOneEnd, EachEvent, FailsEndFirst, FailsHeardFirst, IsStillEvent, LosesEvents, LowersOneLink, RolesAfterLoss, TurnsOneLink, way_span}
+use Rattle.gptp_settling_time.specs.HowSoon.{AreWiderEvents, BoundsGains, CutsOneEnd, EachEvent, FailsEndFirst, FailsHeardFirst, IsStillEvent, LosesEvents, LowersOneLink, OneEvent, RolesAfterLoss, TurnsOneLink}
 use Rattle.gptp_settling_time.specs.InTurn.{FlightIsGone}
-use Rattle.gptp_invariants.specs.FailedUnanswered.{silence_span}
-use Rattle.gptp_settling_time.specs.Losses.{UpIsUsed}
+use Rattle.gptp_settling_time.specs.Losses.{LowersLink, UpIsUsed}
+use Rattle.gptp_settling_time.specs.TreeLosses.{LowersTree, TurnsTreeLink}
 use Rattle.gptp_settling_time.proofs.CutLemmas.{IsBy, all_by}
 use Rattle.gptp_settling_time.proofs.LeadOnLemmas.{all_still}
 use Rattle.gptp_settling_time.proofs.MomentLemmas.{all_at}
 use Rattle.gptp_how_soon_laws.proofs.AnyLossLemmas.{all_losses, none_fails}
-use Rattle.gptp_how_soon_laws.proofs.GainedLemmas.{AreFollowed, AreTurnsFollowed, all_gained, all_heard, all_idle, all_wider}
+use Rattle.gptp_how_soon_laws.proofs.GainLemmas.{AreFollowed, AreTurnsFollowed}
+use Rattle.gptp_how_soon_laws.proofs.GainedLemmas.{all_gained, all_heard, all_idle, all_wider}
 use Rattle.gptp_how_soon_laws.proofs.KindLemmas.{told}
 use Rattle.gptp_how_soon_laws.proofs.FailedLemmas.{fails_end_first, fails_heard_first, used_up}
 use Rattle.gptp_how_soon_laws.proofs.CutOffLemmas.{cuts_one_end}
-use Rattle.gptp_how_soon_laws.proofs.LoweredLemmas.{lowers_one_link, used_on}
+use Rattle.gptp_how_soon_laws.proofs.LoweredLemmas.{GoesDown, lowers_one_link, one_as, used_on}
+use Rattle.gptp_how_soon_laws.proofs.TreeEventLemmas.{lowers_tree, turns_tree_by}
 use Rattle.gptp_how_soon_laws.proofs.TurnedLemmas.{turns_one_link}
 use Rattle.gptp_how_soon_laws.proofs.UnmovedLemmas.{AreWell, all_still_unmoved}
 use Rattle.gptp_how_soon_laws.proofs.RowReasonLemmas.{ReasonOf, reason_of}
@@ -115,6 +120,14 @@ rested_so : (b : SettlingTime) (at : ℕ) (o : Option Settling) → b.settling �
 rested_so b at None is rested = absurd cc
 rested_so b at (Some s) is rested = record { settling = s; is = is; passed = grind (arith, nat_tests) }
 
+rested_for_so : (span : ℕ) (b : SettlingTime) (at : ℕ) (s : Settling) → b.settling ≡ Some s
+    → has_rested_for span (Some b) at ≡ true → b.at + (s.rest + span) < at
+rested_for_so span b at s is test =
+    below (b.at + (s.rest + span)) at ((λ k. rested_for_by span b at (sym is k)) ∙ test)
+  where
+    below : (x y : ℕ) → nat_lt x y ≡ true → x < y
+    below x y less = grind (arith, nat_tests)
+
 at_most : (a b : ℕ) → nat_le a b ≡ true → a ≤ b
 at_most a b is = grind (arith, nat_tests)
 
@@ -177,19 +190,25 @@ module _ (n : NetworkState) (network : IsNetwork n) (events : List Timed) (b : S
   abbrev Why : Row → Type 0
   Why =
       ReasonOf (is_from_rest v.longest at v.paths_before v.paths v.told (Some b))
-      (list_all makes_nothing v.told || begins_wider v.told) (are_losses_followed v.paths_before v.told && not v.moved)
-      (is_lowering_followed v.paths_before v.paths v.told && not v.moved) v.cut
-      (is_lowering_followed v.paths_before v.paths v.told && v.turned)
-      (is_failing_followed v.paths_before v.paths v.told && not v.moved) v.far v.moves_any v.used
+      (list_all makes_nothing v.told || begins_wider v.told)
+      (are_losses_followed v.paths_before v.told && not v.moves.moved)
+      (is_lowering_followed v.paths_before v.paths v.told && not v.moves.moved) v.moves.cut
+      (is_lowering_followed v.paths_before v.paths v.told && v.moves.turned)
+      (is_lowering_followed v.paths_before v.paths v.told && v.moves.falls)
+      (is_lowering_followed v.paths_before v.paths v.told && v.moves.tree_turns)
+      (is_failing_followed v.paths_before v.paths v.told && not v.moves.moved) v.moves.far v.moves.any v.used
       (list_any is_loss v.told) (list_all brings_nothing v.told)
 
   why : (row : Row) → row_at v ≡ row → Why row
   why row is =
       reason_of (is_from_rest v.longest at v.paths_before v.paths v.told (Some b))
-      (list_all makes_nothing v.told || begins_wider v.told) (are_losses_followed v.paths_before v.told && not v.moved)
-      (is_lowering_followed v.paths_before v.paths v.told && not v.moved) v.cut
-      (is_lowering_followed v.paths_before v.paths v.told && v.turned)
-      (is_failing_followed v.paths_before v.paths v.told && not v.moved) v.far v.moves_any v.used
+      (list_all makes_nothing v.told || begins_wider v.told)
+      (are_losses_followed v.paths_before v.told && not v.moves.moved)
+      (is_lowering_followed v.paths_before v.paths v.told && not v.moves.moved) v.moves.cut
+      (is_lowering_followed v.paths_before v.paths v.told && v.moves.turned)
+      (is_lowering_followed v.paths_before v.paths v.told && v.moves.falls)
+      (is_lowering_followed v.paths_before v.paths v.told && v.moves.tree_turns)
+      (is_failing_followed v.paths_before v.paths v.told && not v.moves.moved) v.moves.far v.moves.any v.used
       (list_any is_loss v.told) (list_all brings_nothing v.told) row is
 
   -- it is from rest
@@ -271,14 +290,14 @@ module _ (n : NetworkState) (network : IsNetwork n) (events : List Timed) (b : S
       below x y test = grind (arith, nat_tests)
 
   -- what stands is left, as no system is moved
-  unmoved : AreWell n (made ++ now) → (are_losses_followed v.paths_before v.told && not v.moved) ≡ true
+  unmoved : AreWell n (made ++ now) → (are_losses_followed v.paths_before v.told && not v.moves.moved) ≡ true
       → EachEvent (IsStillEvent n) made now
   unmoved well left =
-      let (followed, none) = and_parts (are_losses_followed v.paths_before v.told) (not v.moved) left in
+      let (followed, none) = and_parts (are_losses_followed v.paths_before v.told) (not v.moves.moved) left in
       let (few, leaves) =
       and_parts (nat_le v.paths_before.systems 255) (list_all leaves_links v.told) followed in
       all_still_unmoved n network made now well (at_most v.paths_before.systems 255 few)
-      (counts_all (takes_one v.told) n made (made ++ now) (leaves_all v.told leaves) (not-true v.moved none))
+      (counts_all (takes_one v.told) n made (made ++ now) (leaves_all v.told leaves) (not-true v.moves.moved none))
       leaves
 
   pub unchanged : AreWell n (made ++ now) → row_at v ≡ Unchanged
@@ -364,21 +383,21 @@ module _ (n : NetworkState) (network : IsNetwork n) (events : List Timed) (b : S
         refl,
       )
 
-  -- the greatest delay of a link in use stays, no path gets longer, and none had more than 255 systems
+  -- the greatest delay of a link in use gets no greater, no path gets longer, and none had more than 255 systems
   record KeepsPaths : Type 0 where
-    pub delay : (sync_paths n (made ++ now)).delay ≡ (sync_paths n made).delay
+    pub delay : (sync_paths n (made ++ now)).delay ≤ (sync_paths n made).delay
     pub paths : (sync_paths n (made ++ now)).systems ≤ (sync_paths n made).systems
     pub few : (sync_paths n made).systems ≤ 255
 
   keeps_so : keeps_paths v.paths_before v.paths ≡ true → KeepsPaths
   keeps_so keeps =
       let few_test : Bool = nat_le v.paths_before.systems 255 in
-      let delay_test : Bool = v.paths.delay == v.paths_before.delay in
+      let delay_test : Bool = nat_le v.paths.delay v.paths_before.delay in
       let paths_test : Bool = nat_le v.paths.systems v.paths_before.systems in
       let (two, paths) = and_parts (few_test && delay_test) paths_test keeps in
       let (few, delay) = and_parts few_test delay_test two in
       record {
-        delay = eqb-true v.paths.delay v.paths_before.delay delay;
+        delay = at_most v.paths.delay v.paths_before.delay delay;
         paths = at_most v.paths.systems v.paths_before.systems paths;
         few = at_most v.paths_before.systems 255 few;
       }
@@ -390,67 +409,71 @@ module _ (n : NetworkState) (network : IsNetwork n) (events : List Timed) (b : S
     pub keeps : KeepsPaths
 
   takes_so : (kind : List Told → Bool) → ((es : List Told) → kind es ≡ true → takes_one es ≡ true)
-      → (keeps_paths v.paths_before v.paths && kind v.told && not v.moved) ≡ true → TakesOne kind
+      → (keeps_paths v.paths_before v.paths && kind v.told && not v.moves.moved) ≡ true → TakesOne kind
   takes_so kind takes is =
-      let (followed, none) = and_parts (keeps_paths v.paths_before v.paths && kind v.told) (not v.moved) is in
+      let (followed, none) = and_parts (keeps_paths v.paths_before v.paths && kind v.told) (not v.moves.moved) is in
       let (keeps, one) = and_parts (keeps_paths v.paths_before v.paths) (kind v.told) followed in
       record {
         one = one;
-        unmoved = counts_joined (takes_one v.told) n made (made ++ now) (takes v.told one) (not-true v.moved none);
+        unmoved = counts_joined (takes_one v.told) n made (made ++ now) (takes v.told one)
+            (not-true v.moves.moved none);
         keeps = keeps_so keeps;
       }
 
   -- a system fails by the first event
-  fails_so : (is_failing_followed v.paths_before v.paths v.told && not v.moved) ≡ true → TakesOne fails_first
+  fails_so : (is_failing_followed v.paths_before v.paths v.told && not v.moves.moved) ≡ true → TakesOne fails_first
   fails_so = takes_so fails_first failing_takes
 
   failing_heard : AreWell n (made ++ now)
-      → (is_failing_followed v.paths_before v.paths v.told && not v.moved) ≡ true → FailsHeardFirst n made now
+      → (is_failing_followed v.paths_before v.paths v.told && not v.moves.moved) ≡ true → FailsHeardFirst n made now
   failing_heard well fails =
       let x = fails_so fails in
       fails_heard_first n network made now well x.unmoved x.keeps.delay x.keeps.paths x.keeps.few x.one
 
   -- which is a far end
   failing_end : AreWell n (made ++ now)
-      → (is_failing_followed v.paths_before v.paths v.told && not v.moved) ≡ true → v.far ≡ true
+      → (is_failing_followed v.paths_before v.paths v.told && not v.moves.moved) ≡ true → v.moves.far ≡ true
       → FailsEndFirst n made now
   failing_end well fails far =
       let x = fails_so fails in
       fails_end_first n network made now well x.unmoved x.keeps.delay x.keeps.paths x.keeps.few x.one far
 
   -- a link goes down by the one event
-  goes_down : (is_lowering_followed v.paths_before v.paths v.told && not v.moved) ≡ true → TakesOne lowers_one
+  goes_down : (is_lowering_followed v.paths_before v.paths v.told && not v.moves.moved) ≡ true → TakesOne lowers_one
   goes_down = takes_so lowers_one lowering_takes
 
-  lowers_so : AreWell n (made ++ now) → (is_lowering_followed v.paths_before v.paths v.told && not v.moved) ≡ true
+  lowers_so : AreWell n (made ++ now) → (is_lowering_followed v.paths_before v.paths v.told && not v.moves.moved) ≡ true
       → LowersOneLink n made now
   lowers_so well lowers =
       let x = goes_down lowers in
       lowers_one_link n network made now well x.unmoved x.keeps.delay x.keeps.paths x.keeps.few x.one
 
   -- and it cuts off a far end
-  cuts_so : AreWell n (made ++ now) → (is_lowering_followed v.paths_before v.paths v.told && not v.moved) ≡ true
-      → v.cut ≡ true → CutsOneEnd n made now
+  cuts_so : AreWell n (made ++ now) → (is_lowering_followed v.paths_before v.paths v.told && not v.moves.moved) ≡ true
+      → v.moves.cut ≡ true → CutsOneEnd n made now
   cuts_so well lowers cut =
       let x = goes_down lowers in
       cuts_one_end n network made now well x.unmoved cut x.keeps.delay x.keeps.paths x.keeps.few x.one
 
   -- what was in flight is gone by then
-  flight_so : (sync_paths n (made ++ now)).delay ≡ (sync_paths n made).delay
-      → FlightIsGone n made (gone_by n v.paths v.used_before)
-  flight_so delay = by v.used_before refl
+  flight_so : FlightIsGone n made (gone_by n v.paths_before v.used_before)
+  flight_so = by v.used_before refl
     where
-      by : (used : Bool) → v.used_before ≡ used → FlightIsGone n made (gone_by n v.paths used)
-      by true is = inl (used_up n network made is, delay)
+      by : (used : Bool) → v.used_before ≡ used → FlightIsGone n made (gone_by n v.paths_before used)
+      by true is = inl (used_up n network made is, refl)
       by false is = inr refl
 
   -- so it is after a link goes down
-  flight_on : LowersOneLink n made now → FlightIsGone n (made ++ now) (gone_by n v.paths v.used_before)
-  flight_on lowers = by v.used_before refl
+  flight_on : OneEvent GoesDown made now → FlightIsGone n (made ++ now) (gone_by n v.paths v.used_before)
+  flight_on down = by v.used_before refl
     where
       by : (used : Bool) → v.used_before ≡ used → FlightIsGone n (made ++ now) (gone_by n v.paths used)
-      by true is = inl (used_on n made now lowers (used_up n network made is), refl)
+      by true is = inl (used_on n made now down (used_up n network made is), refl)
       by false is = inr refl
+
+  flight_lowered : LowersOneLink n made now → FlightIsGone n (made ++ now) (gone_by n v.paths v.used_before)
+  flight_lowered lowers =
+      flight_on (one_as (LowersLink n) GoesDown made now (λ event l. (l.clock, l.port, l.act)) lowers)
 
   -- what stands goes on, as a link goes down by the one event and no system is moved
   pub lowered : AreWell n (made ++ now) → row_at v ≡ Lowered
@@ -458,7 +481,7 @@ module _ (n : NetworkState) (network : IsNetwork n) (events : List Timed) (b : S
   lowered well row =
       let (from, lowers) = why Lowered row in
       let one = lowers_so well lowers in
-      ((from_rest from).rested, one, flight_on one)
+      ((from_rest from).rested, one, flight_lowered one)
 
   -- or a system loses its power that others heard
   pub lost_power : AreWell n (made ++ now) → (row_at v ≡ LostPower) ⊎ (row_at v ≡ PowerCutsOff)
@@ -476,15 +499,17 @@ module _ (n : NetworkState) (network : IsNetwork n) (events : List Timed) (b : S
     pub rested : HasComeToRest b at
     pub cuts : CutsOneEnd n made now
     pub lowers : LowersOneLink n made now
-    pub flight : FlightIsGone n made (gone_by n v.paths v.used_before)
+    pub flight : FlightIsGone n (made ++ now) (gone_by n v.paths v.used_before)
 
   pub cut_off : AreWell n (made ++ now) → row_at v ≡ CutOff → CutsEnd
   cut_off well row =
-      let (from, lowers, cut) = why CutOff row in record {
+      let (from, lowers, cut) = why CutOff row in
+      let one = lowers_so well lowers in
+      record {
         rested = (from_rest from).rested;
         cuts = cuts_so well lowers cut;
-        lowers = lowers_so well lowers;
-        flight = flight_so (goes_down lowers).keeps.delay;
+        lowers = one;
+        flight = flight_lowered one;
       }
 
   -- or a far end loses its power
@@ -492,7 +517,7 @@ module _ (n : NetworkState) (network : IsNetwork n) (events : List Timed) (b : S
     pub rested : HasComeToRest b at
     pub fails : FailsEndFirst n made now
     pub used : UpIsUsed n (made ++ now)
-    pub flight : FlightIsGone n made (gone_by n v.paths v.used_before)
+    pub flight : FlightIsGone n made (gone_by n v.paths_before v.used_before)
 
   pub lost_end : AreWell n (made ++ now) → row_at v ≡ LostEnd → LosesEnd
   lost_end well row =
@@ -500,7 +525,7 @@ module _ (n : NetworkState) (network : IsNetwork n) (events : List Timed) (b : S
         rested = (from_rest from).rested;
         fails = failing_end well fails far;
         used = used_up n network (made ++ now) used;
-        flight = flight_so (fails_so fails).keeps.delay;
+        flight = flight_so;
       }
 
   -- or one system turns
@@ -508,25 +533,77 @@ module _ (n : NetworkState) (network : IsNetwork n) (events : List Timed) (b : S
       → HasComeToRest b at × TurnsOneLink n made now
   turned well row =
       let (from, turns) = why OneTurned row in
-      let (followed, one) = and_parts (is_lowering_followed v.paths_before v.paths v.told) v.turned turns in
+      let (followed, one) = and_parts (is_lowering_followed v.paths_before v.paths v.told) v.moves.turned turns in
       let (keeps, lowers) = and_parts (keeps_paths v.paths_before v.paths) (lowers_one v.told) followed in
       let x = keeps_so keeps in
       ((from_rest from).rested, turns_one_link n network made now well one x.delay x.paths x.few lowers)
 
+  -- an event of this kind comes an announce interval after all came to rest
+  pub record ComesLate (Is : List Timed → Timed → Type 0) (rest : HasComeToRest b at) : Type 0 where
+    pub lowers : OneEvent Is made now
+    pub longer : b.at + (rest.settling.rest + largest_interval (pace_of n)) < at
+
+  -- by which a tree is cut off
+  pub record CutsLate (rest : HasComeToRest b at) : Type 0 where
+    pub comes : ComesLate (LowersTree n) rest
+    pub flight : FlightIsGone n (made ++ now) (gone_by n v.paths v.used_before)
+
+  -- the event tests hold of what goes down by it
+  late_by : (test : Bool) → (is_lowering_followed v.paths_before v.paths v.told
+      && (has_rested_for (largest_interval (pace_of n)) (Some b) at && test)) ≡ true
+      → KeepsPaths × (lowers_one v.told ≡ true) × (test ≡ true)
+      × ((rest : HasComeToRest b at) → b.at + (rest.settling.rest + largest_interval (pace_of n)) < at)
+  late_by test is =
+      let late_test : Bool = has_rested_for (largest_interval (pace_of n)) (Some b) at in
+      let (followed, both) = and_parts (is_lowering_followed v.paths_before v.paths v.told) (late_test && test) is in
+      let (keeps, lowers) = and_parts (keeps_paths v.paths_before v.paths) (lowers_one v.told) followed in
+      let (late_is, so) = and_parts late_test test both in (
+        keeps_so keeps,
+        lowers,
+        so,
+        λ rest. rested_for_so (largest_interval (pace_of n)) b at rest.settling rest.is late_is,
+      )
+
+  pub tree_cut : AreWell n (made ++ now) → row_at v ≡ TreeCutOff → (rest : HasComeToRest b at) × CutsLate rest
+  tree_cut well row =
+      let (from, falls) = why TreeCutOff row in
+      let (x, lowers, tree, longer) = late_by (cuts_tree_after n made (made ++ now)) falls in
+      let rest = (from_rest from).rested in
+      let one = lowers_tree n network made now well x.delay x.paths x.few lowers tree in (
+        rest,
+        record {
+          comes = record { lowers = one; longer = longer rest };
+          flight = flight_on (one_as (LowersTree n) GoesDown made now (λ event l. (l.clock, l.port, l.act)) one);
+        },
+      )
+
+  -- or a tree turns
+  pub tree_turned : AreWell n (made ++ now) → row_at v ≡ TreeTurned
+      → (rest : HasComeToRest b at) × ComesLate (TurnsTreeLink n) rest
+  tree_turned well row =
+      let (from, turns) = why TreeTurned row in
+      let (x, lowers, tree, longer) = late_by (turns_tree_after n made (made ++ now)) turns in
+      let rest = (from_rest from).rested in (
+        rest,
+        record {
+          lowers = turns_tree_by n network made now well x.delay x.paths x.few lowers tree;
+          longer = longer rest;
+        },
+      )
+
   -- or a far end hangs
   pub failed : AreWell n (made ++ now) → row_at v ≡ FailedEnd
-      → HasComeToRest b at × FailsEndFirst n made now × FlightIsGone n made (gone_by n v.paths v.used_before)
+      → HasComeToRest b at × FailsEndFirst n made now × FlightIsGone n made (gone_by n v.paths_before v.used_before)
   failed well row =
       let (from, fails, far) = why FailedEnd row in
-      ((from_rest from).rested, failing_end well fails far, flight_so (fails_so fails).keeps.delay)
+      ((from_rest from).rested, failing_end well fails far, flight_so)
 
   -- or a system that others heard
   pub heard : AreWell n (made ++ now) → (row_at v ≡ FailedHeard) ⊎ (row_at v ≡ FailureCutsOff)
       → HasComeToRest b at × FailsHeardFirst n made now
-      × ((sync_paths n (made ++ now)).delay ≡ (sync_paths n made).delay)
   heard well which =
       let (from, fails) = by which in
-      ((from_rest from).rested, failing_heard well fails, (fails_so fails).keeps.delay)
+      ((from_rest from).rested, failing_heard well fails)
     where
       by : (row_at v ≡ FailedHeard) ⊎ (row_at v ≡ FailureCutsOff) → Why FailedHeard
       by (inl row) = why FailedHeard row

@@ -15,6 +15,7 @@ use Rattle.gptp_links.specs.Queue.{Frame, frame}
 use Rattle.gptp_pdelay.specs.Peer.{is_capable}
 use Rattle.gptp_scenario.specs.declared.change.Act.{Act}
 use Rattle.gptp_scenario.specs.declared.change.Act.TheVariants.{Deliver, Expire, Change as Changing}
+use Rattle.gptp_scenario.specs.SettlingTime.{silence_span}
 use Rattle.gptp_setup.specs.Intervals.{interval_of}
 use Rattle.gptp_setup.specs.SettlingParams.{SettlingParams}
 use Rattle.gptp_setup.specs.declared.setup.Params.{Params}
@@ -41,7 +42,7 @@ use Rattle.gptp_invariants.specs.ChoiceSeenLaws.{IsNoChange}
 use Rattle.gptp_invariants.specs.ChoiceSettlesAsMachine.{IsWorld}
 use Rattle.gptp_invariants.specs.DelayLinkView.{LinkPlace, asker_view, follow_up_view, other_direction, reads_as_reply, response_view, setting_view}
 use Rattle.gptp_invariants.specs.DelayMeasured.{LinkIsMeasured}
-use Rattle.gptp_invariants.specs.FailedUnanswered.{IsLastAnswered, IsLastReply, IsOff, IsOldBy, IsSilent, IsUnansweredAt, silence_span, silent_setting, silent_view}
+use Rattle.gptp_invariants.specs.FailedUnanswered.{IsLastAnswered, IsLastReply, IsOff, IsOldBy, IsSilent, IsUnansweredAt, silent_setting, silent_view}
 use Rattle.gptp_invariants.proofs.DelayEndLemmas.{HearsWhatFits}
 use Rattle.gptp_invariants.proofs.DelayLinkCallLemmas.{asker_timer}
 use Rattle.gptp_invariants.proofs.PortInputLemmas.{IsOfPort}

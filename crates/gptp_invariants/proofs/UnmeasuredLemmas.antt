@@ -57,7 +57,8 @@ module _ (Says : Option Measurement → ℕ → Progress → Type 0)
 
       by : (waits lost : Bool)
           → Is (part_asked s now (λ q.
-          if waits then (if lost then reset_peer q else record q { progress = Closed; lost = q.lost + 1 }) else q) x).peer
+          if waits then (if lost then reset_peer q else record q { progress = Closed; lost = q.lost + 1 })
+          else q) x).peer
       by true true = none p.threshold _ refl
       by true false = opens p.last p.threshold p.progress _ so refl
       by false lost = opens p.last p.threshold p.progress _ so refl

@@ -9,7 +9,7 @@ use Rattle.gptp_links.specs.Fate.{Draw}
 use Rattle.gptp_scenario.specs.declared.change.Act.TheVariants.{Change as Changing}
 use Rattle.gptp_scenario.specs.declared.change.Change.TheVariants.{Priority1}
 use Rattle.gptp_scenario.specs.Params.{KeepPace}
-use Rattle.gptp_scenario.specs.SettlingTime.{capability_span}
+use Rattle.gptp_scenario.specs.SettlingTime.{capability_span, silence_span}
 use Rattle.gptp_setup.specs.SettlingParams.{SettlingParams, largest_interval}
 use Rattle.gptp_system.specs.Input.{Priority}
 use Rattle.gptp_model.specs.declared.done.Done.{Done}
@@ -25,7 +25,6 @@ use Rattle.gptp_setup.proofs.IntervalLemmas.{interval_positive}
 use Rattle.std.proofs.Math.Nat.{add-mul, mul-le-mul_left}
 use Rattle.gptp_invariants.specs.DelayLinkView.{LinkPlace}
 use Rattle.gptp_invariants.specs.DelayMeasured.{StationIsLiveAt, LinkIsMeasured, LinkStandsAt}
-use Rattle.gptp_invariants.specs.FailedUnanswered.{silence_span}
 use Rattle.gptp_invariants.specs.WorldNews.{AllLive, AreReadyBy, AreSilentBy, IsReadyBy}
 use Rattle.gptp_invariants.specs.WorldNewsLaws.{GainIsNews, NewsAreDone, PriorityIsNews, ReadyIsReadyLater, UnansweredIsSilent, WatchedIsReady}
 use Rattle.gptp_invariants.proofs.DelayCapableKeptLemmas.{HaveParams, known_params, same_receiver, same_sender}

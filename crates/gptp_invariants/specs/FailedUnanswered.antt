@@ -1,5 +1,5 @@
 -- A world as the machine of gptp_pdelay_machine sees a port of a live station on a link whose other end has failed.
-use Rattle.std.specs.Prelude.{◌≡◌, ◌⊎◌, ◌<◌, ◌≤◌, ◌+◌, ◌*◌, ℕ, Bool, true, false, List, Some, None, slice_get}
+use Rattle.std.specs.Prelude.{◌≡◌, ◌⊎◌, ◌<◌, ◌≤◌, ◌+◌, ℕ, Bool, true, false, List, Some, None, slice_get}
 use Rattle.gptp_lists.specs.Members.{In}
 use Rattle.gptp_links.specs.Queue.{Frame}
 use Rattle.gptp_pdelay.specs.Peer.{PeerState, is_capable}
@@ -89,12 +89,6 @@ pub record IsLastAnswered (sent : ℕ) (at : LinkPlace) (w : WorldState) : Type 
       → reads_as_reply f.octets r
       → IsLastReply (silent_setting at w link) sent (silent_view at w link).asker f.due
   pub inv : InvUnanswered (silent_setting at w link) sent (silent_view at w link)
-
--- How long a port beside a system that fails may stay capable. The last of its requests that is answered went before
--- the failure. The next one goes a peer delay interval later, and is lost, as are those after it. Each is given up an
--- interval after it went. The port isn't capable once one more is lost than may be.
-abbrev pub silence_span : SettlingParams → ℕ
-silence_span p = (p.params.lost + 2) * interval_of p.params.pdelay
 
 -- The port there isn't capable, and stays so: no reply to it is in flight.
 pub record IsOff (at : LinkPlace) (w : WorldState) : Type 0 where

@@ -14,12 +14,13 @@ use Rattle.gptp_bmca_machine.specs.Levels.{Invariant}
 use Rattle.gptp_bmca_machine.specs.Network.{Network}
 use Rattle.gptp_invariants.specs.ChoiceCalm.{HaveQuietLinks, SettlingTimes, delay_in, network_with, paths_with, step_with, wait_with}
 use Rattle.gptp_scenario.specs.Params.{KeepPace}
+use Rattle.gptp_scenario.specs.SettlingTime.{silence_span}
 use Rattle.gptp_invariants.specs.DelayFirstAt.{IsFirstBy}
 use Rattle.gptp_invariants.specs.ChoiceSettlesAsMachine.{IsWorld}
 use Rattle.gptp_invariants.specs.DelayLinkView.{LinkPlace}
 use Rattle.gptp_invariants.specs.DelayMeasured.{LinkIsMeasured, LinkStandsAt}
 use Rattle.gptp_invariants.specs.WorldSound.{IsSoundWorld}
-use Rattle.gptp_invariants.specs.FailedUnanswered.{IsLastAnswered, IsOff, StandsUnanswered, silence_span}
+use Rattle.gptp_invariants.specs.FailedUnanswered.{IsLastAnswered, IsOff, StandsUnanswered}
 use Rattle.gptp_invariants.specs.WorldStanding.{snapshot_of}
 use Rattle.gptp_invariants.specs.ChoiceView.{says_announce, says_sync, view}
 use Rattle.gptp_invariants.specs.DelayWatched.{IsWatched}

@@ -99,8 +99,8 @@ WatchedIsReady = (p : SettlingParams) (start : ℕ) (w : WorldState)
     → w.last_change + 2 * largest_interval p + 3 * interval_of p.params.pdelay ≤ start
     → AreReadyBy p start w
 
--- where ports ask at least as often as they announce, each port beside a failed system is silent from a time on by which
--- it has been unanswered for long enough since the last change
+-- where ports ask at least as often as they announce, each port beside a failed system is silent from a time on by
+-- which it has been unanswered for long enough since the last change
 abbrev pub UnansweredIsSilent : Type 0
 UnansweredIsSilent = (p : SettlingParams) (start : ℕ) (w : WorldState)
     → KeepPace p → FailedNeighboursAreSilent p w → w.last_change + capability_span p ≤ start → AreSilentBy p start w

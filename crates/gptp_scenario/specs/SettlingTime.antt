@@ -1,7 +1,7 @@
 -- By when a calm network has settled after its last change (profile).
-use Rattle.std.specs.Prelude.{ℕ, ◌+◌, ◌-◌, ◌*◌, List}
+use Rattle.std.specs.Prelude.{ℕ, ◌+◌, ◌-◌, ◌*◌, pred, List}
 use Rattle.gptp_setup.specs.Intervals.{interval_of}
-use Rattle.gptp_setup.specs.SettlingParams.{largest_interval, SettlingParams}
+use Rattle.gptp_setup.specs.SettlingParams.{largest_interval, longest_span, SettlingParams}
 use Rattle.gptp_setup.specs.declared.setup.Params.{Params}
 use Rattle.gptp_scenario.specs.Calm.{last_change}
 use Rattle.gptp_scenario.specs.InUse.{count_live}
@@ -34,3 +34,31 @@ abbrev pub settles : NetworkState → List Timed → ℕ
 settles n events =
     last_change events
     + settling_span_with (pace_of n) (sync_paths n events) (count_live n.systems events)
+
+-- ---- after a loss
+
+-- How long a port beside a system that fails may stay capable. The last of its requests that is answered went before
+-- the failure. The next one goes a peer delay interval later, and is lost, as are those after it. Each is given up an
+-- interval after it went. The port isn't capable once one more is lost than may be.
+abbrev pub silence_span : SettlingParams → ℕ
+silence_span p = (p.params.lost + 2) * interval_of p.params.pdelay
+
+-- What a failed system told comes to its neighbours within the greatest delay of a link, and they hold it for the
+-- longest receipt timeout. Then it has aged.
+abbrev pub aging_span : SettlingParams → SyncPaths → ℕ
+aging_span p paths = longest_span p + paths.delay
+
+-- the greatest delay for each system of a path but one
+abbrev pub way_span : SyncPaths → ℕ
+way_span paths = pred paths.systems * paths.delay
+
+-- An announce interval and the greatest delay for each system of a path but one: so much later who is told a right
+-- trace holds it, and tells it.
+abbrev pub echo_span : SettlingParams → SyncPaths → ℕ
+echo_span p paths = pred paths.systems * (largest_interval p + paths.delay)
+
+-- How long a network that had come to rest takes at most to settle after losses, where this was the greatest delay just
+-- before or is now: for each system of a path a turn, in which what was told comes and is dropped. Then an announce
+-- interval passes, and a way.
+abbrev pub loss_span : SettlingParams → SyncPaths → ℕ → ℕ
+loss_span p paths most = paths.systems * (longest_span p + most) + largest_interval p + way_span paths

@@ -32,14 +32,16 @@ use Rattle.gptp_theorem.proofs.CalmLemmas.{pace_stands, quiet_stands}
 use Rattle.gptp_theorem.proofs.SyncPathLemmas.{paths_stand}
 use Rattle.gptp_settling_time.specs.ChoiceAlone.{ChoiceStands}
 use Rattle.gptp_settling_time.specs.Exactly.{SettlesBy}
-use Rattle.gptp_settling_time.specs.InTurn.{Aging, AnyPast, BeginsBy, ChoosesAfter, Cleared, Gained, Heard, IsTakenAs, Left, Lost, Past, RestsAs, SettlesAfter, Starting, Turned}
-use Rattle.gptp_settling_time.proofs.AgingToLemmas.{IsAgingTo, aging_to_act, aging_to_chooses, aging_to_later, aging_to_settled}
+use Rattle.gptp_settling_time.specs.InTurn.{Aging, AnyPast, BeginsBy, ChoosesAfter, Cleared, Fallen, Gained, Heard, IsTakenAs, Left, Lost, Past, RestsFrom, SettlesAfter, Starting, Turned, TurnedTree}
+use Rattle.gptp_settling_time.proofs.AgingToLemmas.{IsAgingTo, aging_to_act, aging_to_chooses, aging_to_claimed, aging_to_later, aging_to_settled}
 use Rattle.gptp_settling_time.proofs.BegunLemmas.{begun_keeps}
 use Rattle.gptp_settling_time.proofs.ClaimedToLemmas.{IsClaimedTo, claimed_act, claimed_later, claimed_settled}
 use Rattle.gptp_settling_time.proofs.ClearedToLemmas.{IsClearedTo, cleared_left, cleared_to_act, cleared_to_claimed, cleared_to_later}
 use Rattle.gptp_settling_time.proofs.KeptToLemmas.{IsNewsTo, KeepsTo, keeps_act, keeps_later, news_act_to, news_later_to}
 use Rattle.gptp_settling_time.proofs.LeftToLemmas.{IsLeftTo, left_to_act, left_to_chooses, left_to_later, left_to_settled}
+use Rattle.gptp_settling_time.proofs.FallenToLemmas.{IsFallenTo, fallen_to_act, fallen_to_claimed, fallen_to_later, fallen_to_settled}
 use Rattle.gptp_settling_time.proofs.LostToLemmas.{IsLostTo, lost_to_act, lost_to_chooses, lost_to_claimed, lost_to_later, lost_to_settled}
+use Rattle.gptp_settling_time.proofs.TurnedTreeToLemmas.{IsTurnedTreeTo, turned_tree_to_act, turned_tree_to_later, turned_tree_to_settled}
 use Rattle.gptp_settling_time.proofs.TurnedToLemmas.{IsTurnedTo, turned_to_act, turned_to_claimed, turned_to_later, turned_to_settled}
 use Rattle.gptp_settling_time.proofs.StartEventLemmas.{IsStartingTo, begun_soon_claimed, begun_soon_news, starting_act, starting_begins, starting_later}
 use Rattle.gptp_settling_time.proofs.TimedNewsLemmas.{CanSettle, has_settled}
@@ -52,8 +54,10 @@ IsAfter d events (Gained start) w = IsNewsTo d start events w
 IsAfter d events (Heard start) w = IsClaimedTo d events start w
 IsAfter d events (Left start) w = IsLeftTo d events start w
 IsAfter d events (Turned silent now) w = IsTurnedTo d events silent now w
+IsAfter d events (Fallen silent now) w = IsFallenTo d events silent now w
+IsAfter d events (TurnedTree silent now) w = IsTurnedTreeTo d events silent now w
 IsAfter d events (Cleared since silent right old) w = IsClearedTo d events since silent right old w
-IsAfter d events (Aging aged silent) w = IsAgingTo d events aged silent w
+IsAfter d events (Aging ago aged silent) w = IsAgingTo d ago events aged silent w
 IsAfter d events (Lost since most silent) w = IsLostTo d events since most silent w
 
 module _ (d : DocumentState) (events : List Timed) where
@@ -64,8 +68,10 @@ module _ (d : DocumentState) (events : List Timed) where
   after_keeps (Heard start) w so = so.keeps
   after_keeps (Left start) w so = so.keeps
   after_keeps (Turned silent now) w so = so.keeps
+  after_keeps (Fallen silent now) w so = so.keeps
+  after_keeps (TurnedTree silent now) w so = so.keeps
   after_keeps (Cleared since silent right old) w so = so.keeps
-  after_keeps (Aging aged silent) w so = so.keeps
+  after_keeps (Aging ago aged silent) w so = so.keeps
   after_keeps (Lost since most silent) w so = so.keeps
 
   pub after_later : (past : Past) (w : WorldState) (time : ℕ) → w.time ≤ time → NothingBefore time w.net.pending
@@ -76,9 +82,13 @@ module _ (d : DocumentState) (events : List Timed) where
   after_later (Heard start) w time later first so = claimed_later d events start w time later first so
   after_later (Left start) w time later first so = left_to_later d events start w time later first so
   after_later (Turned silent now) w time later first so = turned_to_later d events silent now w time later first so
+  after_later (Fallen silent now) w time later first so = fallen_to_later d events silent now w time later first so
+  after_later (TurnedTree silent now) w time later first so =
+      turned_tree_to_later d events silent now w time later first so
   after_later (Cleared since silent right old) w time later first so = cleared_to_later d events since silent right old
       w time later first so
-  after_later (Aging aged silent) w time later first so = aging_to_later d events aged silent w time later first so
+  after_later (Aging ago aged silent) w time later first so =
+      aging_to_later d ago events aged silent w time later first so
   after_later (Lost since most silent) w time later first so =
       lost_to_later d events since most silent w time later first so
 
@@ -96,10 +106,14 @@ module _ (d : DocumentState) (events : List Timed) where
       so
   after_act answers (Turned silent now) t fate drawn w next was so =
       turned_to_act d events silent now answers t fate drawn w next was so
+  after_act answers (Fallen silent now) t fate drawn w next was so =
+      fallen_to_act d events silent now answers t fate drawn w next was so
+  after_act answers (TurnedTree silent now) t fate drawn w next was so =
+      turned_tree_to_act d events silent now answers t fate drawn w next was so
   after_act answers (Cleared since silent right old) t fate drawn w next was so =
       cleared_to_act d events since silent right old answers t fate drawn w next was so
-  after_act answers (Aging aged silent) t fate drawn w next was so =
-      aging_to_act d events aged silent answers t fate drawn w next was so
+  after_act answers (Aging ago aged silent) t fate drawn w next was so =
+      aging_to_act d ago events aged silent answers t fate drawn w next was so
   after_act answers (Lost since most silent) t fate drawn w next was so =
       lost_to_act d events since most silent answers t fate drawn w next was so
 
@@ -107,48 +121,28 @@ module _ (d : DocumentState) (events : List Timed) where
 
 -- what is so of a world is so of it as it may be taken
 module _ (d : DocumentState) (playable : IsPlayable d) (events : List Timed) (w : WorldState) where
-  rests_as : (past seen : Past) → RestsAs d.network events past w.time seen → IsAfter d events past w
-      → IsAfter d events seen w
-  rests_as AnyPast seen none so = absurd none
-  rests_as Starting seen none so = absurd none
-  rests_as (Gained start) seen none so = absurd none
-  rests_as (Heard start) seen none so = absurd none
-  rests_as (Left silent) seen none so = absurd none
-  rests_as (Turned silent now) AnyPast none so = absurd none
-  rests_as (Turned silent now) Starting none so = absurd none
-  rests_as (Turned silent now) (Gained start) none so = absurd none
-  rests_as (Turned silent now) (Heard start) rest so = turned_to_claimed d events silent now w start so playable rest
-  rests_as (Turned silent now) (Left start) none so = absurd none
-  rests_as (Turned silent now) (Turned start was) none so = absurd none
-  rests_as (Turned silent now) (Cleared start dark clean last) none so = absurd none
-  rests_as (Turned silent now) (Aging gone start) none so = absurd none
-  rests_as (Turned silent now) (Lost begun most start) none so = absurd none
-  rests_as (Cleared since silent right old) AnyPast none so = absurd none
-  rests_as (Cleared since silent right old) Starting none so = absurd none
-  rests_as (Cleared since silent right old) (Gained start) none so = absurd none
-  rests_as (Cleared since silent right old) (Heard start) rest so = cleared_to_claimed d events since silent right old
-      w start so playable rest
-  rests_as (Cleared since silent right old) (Left start) none so = absurd none
-  rests_as (Cleared since silent right old) (Turned start now) none so = absurd none
-  rests_as (Cleared since silent right old) (Cleared start dark clean last) none so = absurd none
-  rests_as (Cleared since silent right old) (Aging gone start) none so = absurd none
-  rests_as (Cleared since silent right old) (Lost begun most start) none so = absurd none
-  rests_as (Aging aged silent) seen none so = absurd none
-  rests_as (Lost since most silent) AnyPast none so = absurd none
-  rests_as (Lost since most silent) Starting none so = absurd none
-  rests_as (Lost since most silent) (Gained start) none so = absurd none
-  rests_as (Lost since most silent) (Heard start) rest so =
+  rests_from : (past : Past) (start : ℕ) → RestsFrom d.network events past w.time start → IsAfter d events past w
+      → IsClaimedTo d events start w
+  rests_from AnyPast start none so = absurd none
+  rests_from Starting start none so = absurd none
+  rests_from (Gained since) start none so = absurd none
+  rests_from (Heard since) start none so = absurd none
+  rests_from (Left silent) start none so = absurd none
+  rests_from (Turned silent now) start rest so = turned_to_claimed d events silent now w start so playable rest
+  rests_from (Fallen silent now) start rest so = fallen_to_claimed d events silent now w start so playable rest
+  rests_from (TurnedTree silent now) start none so = absurd none
+  rests_from (Cleared since silent right old) start rest so =
+      cleared_to_claimed d events since silent right old w start so playable rest
+  rests_from (Aging ago aged silent) start rest so =
+      aging_to_claimed d ago events aged silent w start so playable rest
+  rests_from (Lost since most silent) start rest so =
       lost_to_claimed d events since most silent w start so playable rest
-  rests_as (Lost since most silent) (Left start) none so = absurd none
-  rests_as (Lost since most silent) (Turned start now) none so = absurd none
-  rests_as (Lost since most silent) (Cleared start dark clean last) none so = absurd none
-  rests_as (Lost since most silent) (Aging gone start) none so = absurd none
-  rests_as (Lost since most silent) (Lost begun more start) none so = absurd none
 
   pub taken_as : (past seen : Past) → IsTakenAs d.network events past w.time seen → IsAfter d events past w
       → IsAfter d events seen w
   taken_as past seen (inl same) so = subst (λ x. IsAfter d events x w) (sym same) so
-  taken_as past seen (inr rests) so = rests_as past seen rests so
+  taken_as past seen (inr (start, same, rest)) so =
+      subst (λ x. IsAfter d events x w) (sym same) (rests_from past start rest so)
 
 -- ---- it begins
 
@@ -169,8 +163,10 @@ begins_after answers d playable fate until first w ts k (Heard start) (little, b
 }
 begins_after answers d playable fate until first w ts k (Left start) none = absurd none
 begins_after answers d playable fate until first w ts k (Turned silent now) none = absurd none
+begins_after answers d playable fate until first w ts k (Fallen silent now) none = absurd none
+begins_after answers d playable fate until first w ts k (TurnedTree silent now) none = absurd none
 begins_after answers d playable fate until first w ts k (Cleared since silent right old) none = absurd none
-begins_after answers d playable fate until first w ts k (Aging aged silent) none = absurd none
+begins_after answers d playable fate until first w ts k (Aging ago aged silent) none = absurd none
 begins_after answers d playable fate until first w ts k (Lost since most silent) none = absurd none
 
 -- ---- it settles
@@ -257,15 +253,23 @@ module _ (d : DocumentState) (playable : IsPlayable d) (all : List Timed) (calm 
       turned_to_settled d all silent now w so playable calm off
       (subst (λ (x : SyncPaths). now + 1 + pred x.systems * x.delay ≤ w.time) (paths so.keeps)
       (omega (arith, passed, on)))
+  after_settles (Fallen silent now) so (off, passed) =
+      fallen_to_settled d all silent now w so playable calm off
+      (subst (λ (x : SyncPaths). now + 1 + 2 * (pred x.systems * x.delay) ≤ w.time) (paths so.keeps)
+      (omega (arith, passed, on)))
+  after_settles (TurnedTree silent now) so (off, passed) =
+      turned_tree_to_settled d all silent now w so playable calm off
+      (subst (λ (x : SyncPaths). now + 1 + 2 * (pred x.systems * x.delay) ≤ w.time) (paths so.keeps)
+      (omega (arith, passed, on)))
   after_settles (Cleared since silent right old) so (off, inl passed) =
       left_to_settled d all silent w (cleared_left d all since silent right old w so) playable calm off
       (inl (omega (arith, passed, on)))
   after_settles (Cleared since silent right old) so (off, inr used) =
       left_to_settled d all silent w (cleared_left d all since silent right old w so) playable calm off (inr used)
-  after_settles (Aging aged silent) so (off, inl passed) =
-      aging_to_settled d all aged silent w so playable calm off (inl (omega (arith, passed, on)))
-  after_settles (Aging aged silent) so (off, inr used) =
-      aging_to_settled d all aged silent w so playable calm off (inr used)
+  after_settles (Aging ago aged silent) so (off, inl passed) =
+      aging_to_settled d ago all aged silent w so playable calm off (inl (omega (arith, passed, on)))
+  after_settles (Aging ago aged silent) so (off, inr used) =
+      aging_to_settled d ago all aged silent w so playable calm off (inr used)
   after_settles (Lost since most silent) so (off, passed, inl late) =
       lost_to_settled d all since most silent w so playable (omega (arith, passed, on)) (inl (omega (arith, late, on)))
   after_settles (Lost since most silent) so (off, passed, inr used) =
@@ -284,13 +288,16 @@ module _ (d : DocumentState) (playable : IsPlayable d) (all : List Timed) (calm 
   after_chooses (Heard start) so settles = chooses_so (after_settles (Heard start) so settles).0
   after_chooses (Left silent) so off = left_to_chooses d all silent w so playable calm off
   after_chooses (Turned silent now) so settles = chooses_so (after_settles (Turned silent now) so settles).0
+  after_chooses (Fallen silent now) so settles = chooses_so (after_settles (Fallen silent now) so settles).0
+  after_chooses (TurnedTree silent now) so settles =
+      chooses_so (after_settles (TurnedTree silent now) so settles).0
   after_chooses (Cleared since silent right old) so off =
       left_to_chooses d all silent w (cleared_left d all since silent right old w so) playable calm off
-  after_chooses (Aging aged silent) so (off, inl gone) =
-      aging_to_chooses d all aged silent w so playable calm off (inl (omega (arith, gone, on)))
-  after_chooses (Aging aged silent) so (off, inr (inl late)) =
-      aging_to_chooses d all aged silent w so playable calm off (inr (inl (omega (arith, late, on))))
-  after_chooses (Aging aged silent) so (off, inr (inr used)) =
-      aging_to_chooses d all aged silent w so playable calm off (inr (inr used))
+  after_chooses (Aging ago aged silent) so (off, inl gone) =
+      aging_to_chooses d ago all aged silent w so playable calm off (inl (omega (arith, gone, on)))
+  after_chooses (Aging ago aged silent) so (off, inr (inl late)) =
+      aging_to_chooses d ago all aged silent w so playable calm off (inr (inl (omega (arith, late, on))))
+  after_chooses (Aging ago aged silent) so (off, inr (inr used)) =
+      aging_to_chooses d ago all aged silent w so playable calm off (inr (inr used))
   after_chooses (Lost since most silent) so (off, passed) =
       lost_to_chooses d all since most silent w so playable (omega (arith, passed, on))

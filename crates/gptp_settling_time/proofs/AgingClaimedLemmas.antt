@@ -274,10 +274,12 @@ module _ (p : SettlingParams) (g : Snapshot) (aged silent : ℕ) (w : WorldState
   pub aging_settles : silent ≤ w.time → Settled w × IsBoundedWorld w
   aging_settles late =
       let settled : Settled w =
-      seen_settles p left_n w world refl net calm aging_left.invariant settled_by_now (omega arith) (omega arith) late in (
+      seen_settles p left_n w world refl net calm aging_left.invariant settled_by_now (omega arith) (omega arith) late
+      in (
         settled,
         bounded_by p w world settled (λ place station here live best is_best.
-            systems_bounded says_announce left_n (view w) place (station_view station) best net calm aging_left.invariant
+            systems_bounded says_announce left_n (view w) place (station_view station) best net calm
+            aging_left.invariant
             (station_there w.stations place station here) live is_best (omega arith)),
       )
 

@@ -53,12 +53,14 @@ use Rattle.gptp_invariants.proofs.WorldOutlineLemmas.{acts_time}
 use Rattle.gptp_invariants.proofs.WorldStandsLemmas.{stands_well}
 use Rattle.gptp_invariants.proofs.WorldSystemLemmas.{clock_there, live_there}
 use Rattle.gptp_invariants.proofs.WorldWayLemmas.{one_way, way_of}
+use Rattle.gptp_invariants.proofs.ChoiceCalmFactLemmas.{used_is}
+use Rattle.gptp_settling_time.proofs.AgesByLemmas.{UnlinkedAgeBy, by_kept, by_reduced}
+use Rattle.gptp_settling_time.proofs.AgesByWorldLemmas.{WorldAgesBy}
 use Rattle.gptp_settling_time.proofs.AgingLemmas.{UnlinkedAge, ages_kept, ages_reduced}
 use Rattle.gptp_settling_time.proofs.AgingClaimedLemmas.{IsAgingAlways, aging_after, aging_facts, aging_network, named_in, same_aging, stay_of}
 use Rattle.gptp_settling_time.proofs.AgingStillLemmas.{IsAgingSeen, IsEmptied, aging_kept, emptied_reduced, still_emptied}
 use Rattle.gptp_settling_time.proofs.AlwaysClaimedLemmas.{IsStanding}
 use Rattle.gptp_settling_time.proofs.EmptiedLemmas.{AreEmptied, IsAlike, emptied_after, lanes_emptied}
-use Rattle.gptp_settling_time.proofs.FailedAloneLemmas.{used_between}
 use Rattle.gptp_settling_time.proofs.FailedUpLemmas.{delay_set, used_set}
 use Rattle.gptp_settling_time.proofs.FitsLemmas.{IsLeftUnmoved}
 use Rattle.gptp_settling_time.proofs.LeftClaimedLemmas.{HaveAskedLong}
@@ -170,7 +172,6 @@ module _ (p : SettlingParams) (before : Snapshot) (aged silent owner port : ℕ)
     alike : IsAlike n n'
     alike =
         let same = same_aging p aged silent taken w' keeps in
-        let delays = delay_now in
         record {
           graph = snapshot_now;
           wiring = record {
@@ -180,7 +181,6 @@ module _ (p : SettlingParams) (before : Snapshot) (aged silent owner port : ℕ)
                 ∙ lane_set w.net.channels k.place k.channel (lost k.channel) q k.is.here refl refl;
             log = λ q. ap (λ (x : Network). x.log_of q) same;
             interval = λ q. ap (λ (x : Network). x.interval_of q) same;
-            most = omega (arith, delays);
           };
           most = delay_now;
           interval = refl;
@@ -304,7 +304,7 @@ module _ (p : SettlingParams) (before : Snapshot) (aged silent owner port : ℕ)
       fits = fits_taken;
       still = still_emptied says_announce before n n' well' alike.wiring
           (λ a b joins. subst (λ h. Joins h a b) snapshot_now joins) same_unmoved less (view w) (view taken) is_emptied
-          after_taken fits_taken claims.still;
+          aging.late after_taken fits_taken claims.still;
       itself = record {
         lanes = λ j l f a there flies said known. elim (is_emptied.lanes j l there) [
           | inl stood ↦
@@ -360,6 +360,50 @@ module _ (p : SettlingParams) (before : Snapshot) (aged silent owner port : ℕ)
           ages = λ i q r grown. absurd (young (sender direction k.channel).port _ (touch_view x.touch) touch grown);
         })))
 
+    -- not both ends live
+    both : (ds es : List Draw) (one other_one : Answer)
+        → Calls tells.place_a (PortDown k.channel.a.port) taken ds one tells.between
+        → Calls tells.place_b (PortDown k.channel.b.port) tells.between es other_one w' → ⊥
+    both ds es one other_one c d =
+        let lived : (old : Station) × (slice_get taken.stations tells.place_b ≡ Some old)
+        × (lives_as old ≡ lives_as d.station) =
+        alike_there lives_as lives_as taken.stations tells.between.stations
+        (sym (if_live_stand tells.place_a k.channel.a.port taken tells.first tells.between tells.at_a)) tells.place_b
+        d.station d.here in
+        let (old, at_old, same) = lived in
+        let live_b : old.live ≡ true = ap (λ (y : Bool × ℕ). y.0) same ∙ d.live in
+        let has_a = among_has tells.place_a k.channel.a tells.station_a taken tells.is_a (ports FromA) in
+        let has_b = among_has tells.place_b k.channel.b tells.station_b taken tells.is_b (ports FromB) in
+        let from : stations_have_clock (live_stations w.stations) k.channel.a.clock ≡ true =
+        clock_there (live_stations w.stations) k.channel.a.clock
+        (subst (λ v. In v (clocks g)) (has_a c.station c.here).0
+        (In-clocks g (standing_system c.station)
+        (live_there w.stations tells.place_a c.station c.here c.live))) in
+        let to : stations_have_clock (live_stations w.stations) k.channel.b.clock ≡ true =
+        clock_there (live_stations w.stations) k.channel.b.clock
+        (subst (λ v. In v (clocks g)) (has_b old at_old).0
+        (In-clocks g (standing_system old) (live_there w.stations tells.place_b old at_old live_b))) in
+        let is_used = used_is (live_stations w.stations) FromA k.channel up from to in
+        let no : true ≡ false = sym is_used ∙ unused in
+        absurd cc
+
+    -- so the world goes on to one that one call at most leads to
+    either : (Is : WorldState → Type 0) → Is taken → (MachineSteps says_announce (view taken) (view w') → Is w') → Is w'
+    either Is at_taken step = by tells.at_a tells.at_b
+      where
+        by : CallsIfLive tells.place_a (PortDown k.channel.a.port) taken tells.first tells.between
+            → CallsIfLive tells.place_b (PortDown k.channel.b.port) tells.between tells.second w' → Is w'
+        by (inl (one, c)) (inl (two, d)) = absurd (both tells.first tells.second one two c d)
+        by (inl (one, c)) (inr (failed, none, same)) =
+            step (subst (λ v. MachineSteps says_announce (view taken) (view v)) (sym same)
+            (call_steps FromA tells.place_a tells.station_a tells.first one tells.between tells.is_a.here
+            tells.is_a.named c))
+        by (inr (failed, none, same)) (inl (two, d)) =
+            step (call_steps FromB tells.place_b tells.station_b tells.second two w' tells.is_b.here tells.is_b.named
+            (subst (λ v. Calls tells.place_b (PortDown k.channel.b.port) v tells.second two w') same d))
+        by (inr (failed, none, same)) (inr (failed_too, none_too, same_too)) =
+            subst Is (sym (same_too ∙ same)) at_taken
+
     module _ (quiet' : HaveQuietLinks p.params w') where
       after_then : UnlinkedAge says_announce g' (stay_of p) aged (view w') → IsAfterLoss n' (view w')
       after_then ages = aging_after p aged silent w' standing' asked' quiet' ages off late'
@@ -373,51 +417,8 @@ module _ (p : SettlingParams) (before : Snapshot) (aged silent owner port : ℕ)
           aging_kept says_announce before n' (stay_of p) aged (view taken) (view w') aging.well well' left' after_taken
           after_then ages' step seen_taken
 
-      -- not both ends live
-      both : (ds es : List Draw) (one other_one : Answer)
-          → Calls tells.place_a (PortDown k.channel.a.port) taken ds one tells.between
-          → Calls tells.place_b (PortDown k.channel.b.port) tells.between es other_one w' → ⊥
-      both ds es one other_one c d =
-          let lived : (old : Station) × (slice_get taken.stations tells.place_b ≡ Some old)
-          × (lives_as old ≡ lives_as d.station) =
-          alike_there lives_as lives_as taken.stations tells.between.stations
-          (sym (if_live_stand tells.place_a k.channel.a.port taken tells.first tells.between tells.at_a)) tells.place_b
-          d.station d.here in
-          let (old, at_old, same) = lived in
-          let live_b : old.live ≡ true = ap (λ (y : Bool × ℕ). y.0) same ∙ d.live in
-          let has_a = among_has tells.place_a k.channel.a tells.station_a taken tells.is_a (ports FromA) in
-          let has_b = among_has tells.place_b k.channel.b tells.station_b taken tells.is_b (ports FromB) in
-          let from : stations_have_clock (live_stations w.stations) k.channel.a.clock ≡ true =
-          clock_there (live_stations w.stations) k.channel.a.clock
-          (subst (λ v. In v (clocks g)) (has_a c.station c.here).0
-          (In-clocks g (standing_system c.station)
-          (live_there w.stations tells.place_a c.station c.here c.live))) in
-          let to : stations_have_clock (live_stations w.stations) k.channel.b.clock ≡ true =
-          clock_there (live_stations w.stations) k.channel.b.clock
-          (subst (λ v. In v (clocks g)) (has_b old at_old).0
-          (In-clocks g (standing_system old) (live_there w.stations tells.place_b old at_old live_b))) in
-          let is_used = used_between (live_stations w.stations) FromA k.channel up from to in
-          let no : true ≡ false = sym is_used ∙ unused in
-          absurd cc
-
       seen' : IsAgingSeen says_announce before n' (stay_of p) aged (view w')
-      seen' = by tells.at_a tells.at_b
-        where
-          by : CallsIfLive tells.place_a (PortDown k.channel.a.port) taken tells.first tells.between
-              → CallsIfLive tells.place_b (PortDown k.channel.b.port) tells.between tells.second w'
-              → IsAgingSeen says_announce before n' (stay_of p) aged (view w')
-          by (inl (one, c)) (inl (two, d)) = absurd (both tells.first tells.second one two c d)
-          by (inl (one, c)) (inr (failed, none, same)) =
-              stepped (subst (λ v. MachineSteps says_announce (view taken) (view v)) (sym same)
-              (call_steps FromA tells.place_a tells.station_a tells.first one tells.between tells.is_a.here
-              tells.is_a.named c))
-          by (inr (failed, none, same)) (inl (two, d)) =
-              stepped (call_steps FromB tells.place_b tells.station_b tells.second two w' tells.is_b.here
-              tells.is_b.named
-              (subst (λ v. Calls tells.place_b (PortDown k.channel.b.port) v tells.second two w') same d))
-          by (inr (failed, none, same)) (inr (failed_too, none_too, same_too)) =
-              subst (λ v. IsAgingSeen says_announce before n' (stay_of p) aged (view v)) (sym (same_too ∙ same))
-              seen_taken
+      seen' = either (λ v. IsAgingSeen says_announce before n' (stay_of p) aged (view v)) seen_taken stepped
 
     way' : pred (path_bound g') * delay_in w' ≤ w'.time
     way' =
@@ -436,3 +437,20 @@ module _ (p : SettlingParams) (before : Snapshot) (aged silent owner port : ℕ)
       late = late';
       seen = λ quiet' lapses. seen' quiet';
     }
+
+    -- and what ages by its link does
+    pub down_by : (By : PortIdentity → ℕ → Type 0) → WorldAgesBy p By w → WorldAgesBy p By w'
+    down_by By ages quiet' =
+        either (λ v. UnlinkedAgeBy says_announce g' (stay_of p) By (view v)) ages_taken
+        (λ step. by_kept says_announce (network_setting n') (stay_of p) By (view taken) (view w') after_taken.calm.facts
+        (aging_facts p aged silent w' standing' asked' quiet') (named_in p w' is') step ages_taken)
+      where
+        ages_taken : UnlinkedAgeBy says_announce g' (stay_of p) By (view taken)
+        ages_taken =
+            subst (λ h. UnlinkedAgeBy says_announce h (stay_of p) By (view taken)) (sym snapshot_now)
+            (by_reduced says_announce g (stay_of p) By (view w) (view taken)
+            (emptied_reduced (view w) (view taken) is_emptied) (ages quiet))
+
+    pub down_ages : (By : PortIdentity → ℕ → Type 0) → WorldAgesBy p By w
+        → IsAgingAlways p before aged silent w' × WorldAgesBy p By w'
+    down_ages By ages = (down_aging, down_by By ages)

@@ -1,7 +1,7 @@
 -- What is known of each state while what is held of a failed system ages: it ages, all that is held and in flight fits
 -- the snapshot of before, and each unmoved system keeps its root and steps and tells them. Once nothing is received at
 -- ports without a link each link is at its stage.
-use Rattle.std.proofs.Common.{◌≡◌, ◌⊎◌, ◌≤◌, ◌<◌, ◌+◌, ℕ, ℤ, suc, true, false, List, [], ◌∷◌, Some, slice_get, sym, ap, subst, ◌∙◌, inl, inr, arith}
+use Rattle.std.proofs.Common.{◌≡◌, ◌⊎◌, ◌≤◌, ◌<◌, ◌+◌, ℕ, ℤ, suc, true, false, List, [], Some, slice_get, sym, ap, subst, ◌∙◌, inl, inr, arith}
 use Rattle.gptp_lists.specs.Members.{In}
 use Rattle.gptp_graph.specs.Snapshot.{IsWellFormed, Joins, PortIdentity, Snapshot, System, clocks, port_of}
 use Rattle.gptp_graph.proofs.LinkLemmas.{Joins-clock, Joins-sym}
@@ -10,12 +10,12 @@ use Rattle.gptp_bmca_machine.specs.Calm.{Calm}
 use Rattle.gptp_bmca_machine.specs.Frame.{Announce, AnnounceFrame, Lane, Spelling}
 use Rattle.gptp_bmca_machine.specs.Levels.{Invariant, LeadsFarther, LevelSettles}
 use Rattle.gptp_bmca_machine.specs.Link.{Ends, Stand}
-use Rattle.gptp_bmca_machine.specs.LinkStage.{FinalAnnounceStays, FinalTail, IsFinal, LinkStage}
+use Rattle.gptp_bmca_machine.specs.LinkStage.{FinalAnnounceStays, IsFinal, LinkStage}
 use Rattle.gptp_bmca_machine.specs.LossLaws.{EverythingFits, IsAfterLoss, IsWhatIsLeft, Unmoved}
 use Rattle.gptp_bmca_machine.specs.Network.{IsSettlingNetwork, Network, settled_from, wiring}
 use Rattle.gptp_bmca_machine.specs.RestLaws.{SameWiring}
 use Rattle.gptp_bmca_machine.specs.Station.{Held, MachineState, Station}
-use Rattle.gptp_bmca_machine.proofs.LinkStageLemmas.{settled}
+use Rattle.gptp_bmca_machine.proofs.LinkStageLemmas.{settled, tail_over}
 use Rattle.gptp_bmca_machine.proofs.LossLemmas.{fits_kept}
 use Rattle.gptp_bmca_machine.proofs.PlaceLemmas.{same_there}
 use Rattle.gptp_bmca_machine.proofs.RestingLemmas.{links_stay}
@@ -181,8 +181,9 @@ still_settled says n w net calm invariant late d best v p u q close on from pv p
       lane = stand.lane;
     }
 
--- a stage is one by longer delays too
-module _ (says : Spelling) (n n' : Network) (same : SameWiring n n') (d : ℕ) (best : System) (v p u q : ℕ) where
+-- at a time by which what was sent first has come, a stage is one by other delays too
+module _ (says : Spelling) (n n' : Network) (same : SameWiring n n') (d : ℕ) (best : System) (v p u q now : ℕ)
+    (late : n.most ≤ now) where
   final_so : (a : Announce) → IsFinal (still n d best v p u q) a → IsFinal (still n' d best v p u q) a
   final_so a x = record {
     root = x.root;
@@ -192,35 +193,23 @@ module _ (says : Spelling) (n n' : Network) (same : SameWiring n n') (d : ℕ) (
     qualified = x.qualified;
   }
 
-  tail_so : (fs : List AnnounceFrame) → FinalTail says (still n d best v p u q) n.most fs
-      → FinalTail says (still n' d best v p u q) n'.most fs
-  tail_so [] none = none
-  tail_so (f ∷ fs) (inl (due, said, all)) =
-      let most = same.most in
-      inl (omega (arith, due, most), said, λ x a at told. final_so a (all x a at told))
-  tail_so (f ∷ fs) (inr tail) = inr (tail_so fs tail)
-
   stage_so : (announce : ℕ) (held : Held) (fs : List AnnounceFrame)
+      → ((f : AnnounceFrame) → In f fs → now ≤ f.due)
       → LinkStage says (still n d best v p u q) announce held fs
       → LinkStage says (still n' d best v p u q) announce held fs
-  stage_so announce held fs (inl waits) = inl waits
-  stage_so announce held fs (inr (inl tail)) = inr (inl (tail_so fs tail))
-  stage_so announce held fs (inr (inr stays)) = inr (inr (record {
+  stage_so announce held fs left (inl waits) = inl waits
+  stage_so announce held fs left (inr (inl tail)) =
+      absurd (tail_over says (still n d best v p u q) n.most now fs tail late left)
+  stage_so announce held fs left (inr (inr stays)) = inr (inr (record {
     what = stays.what;
     holds = stays.holds;
     final = final_so stays.what.said stays.final;
     flight = λ f a at said. final_so a (stays.flight f a at said);
     next = elim stays.next [
-      | inl timer ↦ inl (omega (arith, timer, interval))
-      | inr (f, at, said, due) ↦ inr (f, at, said, omega (arith, due, interval, most))
+      | inl timer ↦ let interval = same.interval (port_of v (suc p)) in inl (omega (arith, timer, interval))
+      | inr (f, at, said, due) ↦ inr (f, at, said, due)
     ];
   }))
-    where
-      interval : n'.interval_of (port_of v (suc p)) ≡ n.interval_of (port_of v (suc p))
-      interval = same.interval (port_of v (suc p))
-
-      most : n.most ≤ n'.most
-      most = same.most
 
 -- Each live system stands as it did, and each lane is as it was, or down and empty.
 pub record IsEmptied (w w' : MachineState) : Type 0 where
@@ -241,11 +230,15 @@ emptied_reduced w w' is = record {
 module _ (says : Spelling) (g : Snapshot) (n n' : Network) (well' : IsWellFormed n'.graph) (same : SameWiring n n')
     (links : (a b : PortIdentity) → Joins n'.graph a b → Joins n.graph a b)
     (back : (v : ℕ) → Unmoved g n' v → Unmoved g n v) (left' : IsWhatIsLeft g n') (w w' : MachineState)
-    (emptied : IsEmptied w w') (after' : IsAfterLoss n' w') (fits' : EverythingFits says g n' w')
-    (tell : (d : ℕ) → StillSettles says g n d w) where
+    (emptied : IsEmptied w w') (late : n.most ≤ w.time) (after' : IsAfterLoss n' w')
+    (fits' : EverythingFits says g n' w') (tell : (d : ℕ) → StillSettles says g n d w) where
   pub still_emptied : (d : ℕ) → StillSettles says g n' d w'
   still_emptied d best v p u q close on from pv pu l stand ready =
-      stage_so says n n' same d best v p u q pv.announce pu.held l.frames
+      stage_so says n n' same d best v p u q w.time late pv.announce pu.held l.frames
+      (λ f flies.
+      let left = after'.calm.left (n'.lane (port_of v (suc p))) l f stand.lane flies in
+      let time = emptied.time in
+      omega (arith, left, time))
       (tell d best v p u q close was always pv pu l stood ready)
     where
       joined : Joins n'.graph (port_of u (suc q)) (port_of v (suc p))
@@ -305,7 +298,7 @@ module _ (says : Spelling) (n : Network) (w : MachineState) (calm : Calm n w) (b
     (lived : (v : ℕ) → In v (clocks g) → In v (clocks n.graph)) (w' : MachineState) (emptied : IsEmptied w w') where
   pub ages_begin : UnlinkedAge says g stay aged w'
   ages_begin = record {
-    held = λ i s place r at live unlinked holds.
+    held = λ i s place r at live holds unlinked.
         let stood = emptied.stations i s at live in
         let came = ((calm.facts.stations i s stood live).held place r holds).came in
         let span = named i s place r stood live holds in

@@ -1,5 +1,5 @@
 -- A world of which claims are made of all links always: no announce interval has to pass.
-use Rattle.std.proofs.Common.{◌≡◌, ◌≢◌, ◌<◌, ◌≤◌, ◌+◌, ◌*◌, ℕ, suc, Bool, true, false, List, [], ◌∷◌, map, Some, slice_get, refl, sym, ap, subst, ◌∙◌, inl, inr, arith}
+use Rattle.std.proofs.Common.{◌≡◌, ◌≢◌, ◌<◌, ◌≤◌, ◌+◌, ◌*◌, ℕ, suc, true, false, List, [], ◌∷◌, map, Some, slice_get, refl, sym, ap, subst, ◌∙◌, inl, inr, arith}
 use Rattle.gptp_lists.specs.Members.{In}
 use Rattle.gptp_lists.proofs.MappedLemmas.{alike, same_there, some_same}
 use Rattle.gptp_lists.proofs.SystemSpecLemmas.{In-map}
@@ -17,8 +17,6 @@ use Rattle.gptp_scenario.specs.declared.change.Act.{Act}
 use Rattle.gptp_system.specs.declared.port.Port.{Port}
 use Rattle.gptp_system.specs.Facts.{IsShown}
 use Rattle.gptp_system.specs.State.{clock, number}
-use Rattle.gptp_receipt.specs.declared.held.Held.{Held}
-use Rattle.gptp_receipt.specs.declared.held.Held.TheVariants as helds
 use Rattle.gptp_model.specs.Acts.{Acts, at as at_time}
 use Rattle.gptp_model.specs.declared.done.Done.{Done}
 use Rattle.gptp_model.specs.declared.station.Station.{Station}
@@ -74,6 +72,7 @@ use Rattle.gptp_setup.specs.SettlingParams.{largest_interval}
 use Rattle.gptp_settling_time.proofs.HeardLemmas.{IsHeardAt, heard_acts, heard_due, heard_later, heard_link, heard_now, heard_on}
 use Rattle.gptp_settling_time.proofs.LinkStoodLemmas.{stood_in}
 use Rattle.gptp_settling_time.proofs.OrderedLemmas.{link_seen, tells}
+use Rattle.gptp_settling_time.proofs.MasterLemmas.{on_capable}
 use Rattle.gptp_invariants.proofs.DelayCapableKeptLemmas.{stood}
 use Rattle.gptp_invariants.proofs.WorldNewsCourseLemmas.{later_keeps}
 use Rattle.gptp_invariants.proofs.DelayUsedLinkLemmas.{LivesSomewhere, receiver_lives}
@@ -154,12 +153,6 @@ lane_at w is from to way =
 
 -- ---- the port that asks is on exactly where it is capable
 
-not_off : (q : Port) (h : Held) (capable : Bool) → is_capable q.peer ≡ capable → IsShown h q
-    → (h ≡ helds.Disabled → ⊥)
-    → is_capable q.peer ≡ true
-not_off q h true is shown on = is
-not_off q h false is shown on = absurd (on (shown.off is))
-
 module _ (p : SettlingParams) (w : WorldState) (is : IsWorld p w) (at : LinkPlace) (l : IsLinkOf at w) (u i : ℕ)
     (asks_there : port_identity_number (sender at.direction l.channel) ≡ port_of u (suc i)) (s : SeenStation)
     (q : SeenPort)
@@ -202,7 +195,7 @@ module _ (p : SettlingParams) (w : WorldState) (is : IsWorld p w) (at : LinkPlac
   on_is_capable : q.held ≢ Disabled → is_capable l.asking.state.peer ≡ true
   on_is_capable on =
       ap (λ (x : Port). is_capable x.peer) (sym state_is)
-      ∙ not_off port.port port.held (is_capable port.port.peer) refl shown
+      ∙ on_capable port.port port.held (is_capable port.port.peer) refl shown
       (λ off. on (held_is ∙ ap (held_view (span_at seen.station.system)) off))
 
   pub capable_is_on : is_capable l.asking.state.peer ≡ true → q.held ≢ Disabled
@@ -390,10 +383,11 @@ module _ (p : SettlingParams) (start : ℕ) (w : WorldState) (news : IsStanding 
   on_way from to joins way =
       heard (place_of_way p w is quiet from to way) (way_stands p w is quiet from to way joins)
 
-  -- what is in flight there is due within the greatest delay
-  due_soon : (j : ℕ) (l : Lane) (f : SeenFrame) → slice_get (lanes_view w.net.channels) j ≡ Some l → In f l.frames
-      → Joins (snapshot_of w) l.from l.to → f.due ≤ w.time + delay_in w
-  due_soon j l f there member joins =
+  -- what is in flight there is due within the greatest delay of its link
+  pub due_by_link : (j : ℕ) (l : Lane) (f : SeenFrame) (there : slice_get (lanes_view w.net.channels) j ≡ Some l)
+      (member : In f l.frames) → Joins (snapshot_of w) l.from l.to
+      → f.due ≤ w.time + (frame_from w j l f there member).channel.bounds.max
+  due_by_link j l f there member joins =
       let at = frame_from w j l f there member in
       let way = way_of w l.from l.to joins in
       let one = one_way w is.sound is.encodable way.link at.link way.direction at.direction way.channel at.channel
@@ -401,18 +395,31 @@ module _ (p : SettlingParams) (start : ℕ) (w : WorldState) (news : IsStanding 
       let place = place_of_way p w is quiet l.from l.to way in
       let x = on_way l.from l.to joins way in
       let link = heard_link p start place w x in
-      let same_channel : link.channel ≡ way.channel =
-      same_there w.net.channels way.link link.channel way.channel link.here way.here in
-      let short : link.channel.bounds.max ≤ delay_in w =
-      subst (λ (c : Channel). c.bounds.max ≤ delay_in w) (sym same_channel)
-      (delay_of_used (live_stations w.stations) w.net.channels way.link way.channel way.here way.used) in
+      let same_channel : link.channel ≡ at.channel =
+      same_there w.net.channels way.link link.channel way.channel link.here way.here ∙ one.same_channel in
       let among : In at.frame (world_queue way.direction link.channel) =
-      subst (λ (c : Channel). In at.frame (world_queue way.direction c)) (sym (same_channel ∙ one.same_channel))
+      subst (λ (c : Channel). In at.frame (world_queue way.direction c)) (sym same_channel)
       (subst (λ d. In at.frame (world_queue d at.channel)) (sym one.same_way) at.among) in
       let latest = heard_due p start place w x (link_frame_view at.frame)
       (In-map link_frame_view at.frame (world_queue way.direction link.channel) among) in
       let is_due : f.due ≡ at.frame.due = ap (λ (g : SeenFrame). g.due) at.is in
-      omega (arith, latest, short, is_due)
+      let most : link.channel.bounds.max ≡ at.channel.bounds.max =
+      ap (λ (c : Channel). c.bounds.max) same_channel in
+      omega (arith, latest, most, is_due)
+
+  -- so it is within that of all links in use
+  due_soon : (j : ℕ) (l : Lane) (f : SeenFrame) → slice_get (lanes_view w.net.channels) j ≡ Some l → In f l.frames
+      → Joins (snapshot_of w) l.from l.to → f.due ≤ w.time + delay_in w
+  due_soon j l f there member joins =
+      let at = frame_from w j l f there member in
+      let way = way_of w l.from l.to joins in
+      let one = one_way w is.sound is.encodable way.link at.link way.direction at.direction way.channel at.channel
+      way.here at.here (way.from ∙ ap (λ (z : Lane). z.from) at.lane_is) in
+      let short : at.channel.bounds.max ≤ delay_in w =
+      subst (λ (c : Channel). c.bounds.max ≤ delay_in w) one.same_channel
+      (delay_of_used (live_stations w.stations) w.net.channels way.link way.channel way.here way.used) in
+      let due = due_by_link j l f there member joins in
+      omega (arith, due, short)
 
   -- what the machine knows of each state, at the times of this network
   start_facts : (m : ℕ) → StationFacts (network_setting (start_network p m start w)) (view w)

@@ -35,6 +35,7 @@ use Rattle.gptp_theorem.proofs.CalmLemmas.{quiet_stands}
 use Rattle.gptp_theorem.proofs.SyncPathLemmas.{paths_stand}
 use Rattle.gptp_settling_time.specs.Gains.{HasRested, exchanged_from}
 use Rattle.gptp_settling_time.proofs.KeptToLemmas.{KeepsTo}
+use Rattle.gptp_settling_time.proofs.NamedWorldLemmas.{named_begins}
 use Rattle.gptp_settling_time.proofs.NewsSoonLemmas.{IsNewsFrom}
 use Rattle.gptp_settling_time.proofs.SinceSetLemmas.{IsUnsetSince, unset_known}
 
@@ -71,6 +72,8 @@ module _ {F : Type 0} (answers : Bounds → ℕ → F → Option ℕ → F → T
       claim = claim;
       stands = stands;
       unset = subst (λ since. IsUnsetSince p since w) stands.last (unset_known p w claim.world);
+      named = named_begins p w claim.world claim.pace.largest
+          (starts_are_last _ (initial n) k.draws w refl k.starts);
       slow = begun_none_faster answers n fate fate_after w sound.wired.setups k;
       short = λ most within.
           starts_short most (range_with_len 0 (length n.systems)) (initial n) w k.draws

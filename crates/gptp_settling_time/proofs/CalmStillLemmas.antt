@@ -1,5 +1,5 @@
--- What leaves the same systems alive and the same links in use leaves a calm network calm, where nothing lapses for want
--- of Sync.
+-- What leaves the same systems alive and the same links in use leaves a calm network calm, where nothing lapses for
+-- want of Sync.
 use Rattle.std.proofs.Common.{◌≡◌, ℕ, true, List, [], ◌∷◌, ◌++◌, sym, subst, ◌∙◌, inl, inr}
 use Rattle.std.specs.Prelude.{◌&&◌, ◌==◌, get_or}
 use Rattle.std.proofs.lemmas.Bool.{and_from, eq-eqb, eqb-true}

@@ -1,6 +1,6 @@
 -- A world in which a far end of its links is lost: what is held is sound in what is left, and what is in flight is so
 -- but for what is due soon.
-use Rattle.std.proofs.Common.{List, Some, ap, arith, inl, inr, pred, slice_get, subst, suc, sym, ℕ, ◌*◌, ◌+◌, ◌∙◌, ◌≡◌, ◌≢◌, ◌≤◌, ◌⊎◌}
+use Rattle.std.proofs.Common.{List, Some, ap, arith, inl, inr, slice_get, subst, suc, sym, ℕ, ◌+◌, ◌∙◌, ◌≡◌, ◌≢◌, ◌≤◌, ◌⊎◌}
 use Rattle.gptp_lists.specs.Members.{In}
 use Rattle.gptp_graph.specs.Best.{IsBest}
 use Rattle.gptp_graph.specs.Distance.{IsDistance}
@@ -8,14 +8,14 @@ use Rattle.gptp_graph.specs.Snapshot.{Adjacent, IsWellFormed, Joins, PortIdentit
 use Rattle.gptp_links.specs.declared.link.Direction.{Direction}
 use Rattle.gptp_links.specs.declared.link.Direction.TheVariants.{FromA, FromB}
 use Rattle.gptp_links.specs.Fate.{Draw}
-use Rattle.gptp_setup.specs.SettlingParams.{SettlingParams, largest_interval}
+use Rattle.gptp_setup.specs.SettlingParams.{SettlingParams}
 use Rattle.gptp_scenario.specs.Calm.{NothingLapses}
 use Rattle.gptp_system.specs.Input.{PortDown}
 use Rattle.gptp_model.specs.Changing.{TellsEnds, taken_down}
 use Rattle.gptp_model.specs.World.{Channel, WorldState, receiver, sender}
 use Rattle.gptp_bmca_machine.specs.SoundEverywhere.{IsSoundEverywhere}
 use Rattle.gptp_bmca_machine.specs.SoundLaws.{AllAreNear}
-use Rattle.gptp_invariants.specs.ChoiceCalm.{HaveQuietLinks, delay_in}
+use Rattle.gptp_invariants.specs.ChoiceCalm.{HaveQuietLinks}
 use Rattle.gptp_invariants.specs.ChoiceSettlesAsMachine.{IsWorld}
 use Rattle.gptp_invariants.specs.ChoiceView.{says_announce, view}
 use Rattle.gptp_invariants.specs.WorldNews.{AreReadyBy}
@@ -23,17 +23,15 @@ use Rattle.gptp_invariants.specs.WorldSound.{IsSoundWorld}
 use Rattle.gptp_invariants.specs.WorldStanding.{snapshot_of}
 use Rattle.gptp_invariants.proofs.WorldStandsLemmas.{stands_well}
 use Rattle.gptp_settling_time.specs.Losses.{IsCutOff, IsFarEnd}
-use Rattle.gptp_settling_time.proofs.ClearedLemmas.{GoesBy, IsBecomingRight, IsCleared}
+use Rattle.gptp_settling_time.proofs.BecomesSoundLemmas.{GoesBy, becoming, nearer_echo}
+use Rattle.gptp_settling_time.proofs.ClearedLemmas.{IsCleared, left_is_now}
 use Rattle.gptp_settling_time.proofs.FarEndLemmas.{HasAllBut}
 use Rattle.gptp_settling_time.proofs.FitsLemmas.{IsLeftUnmoved, best_before, joined_stays}
-use Rattle.gptp_settling_time.proofs.LeftClaimedLemmas.{HaveAskedBy, IsLeftAlways, left_calm, left_net, left_network}
+use Rattle.gptp_settling_time.proofs.LeftClaimedLemmas.{HaveAskedBy, IsLeftAlways, left_network}
 use Rattle.gptp_settling_time.proofs.LostEndLemmas.{but_old_reduced, lost_end_sound}
 use Rattle.gptp_settling_time.proofs.LoweredLemmas.{still_joins}
 use Rattle.gptp_settling_time.proofs.ReducedLemmas.{IsReduced}
 use Rattle.gptp_settling_time.proofs.NamesItselfLemmas.{AllNameItself}
-use Rattle.gptp_settling_time.proofs.RightBeginLemmas.{right_begins, root_right}
-use Rattle.gptp_settling_time.proofs.TellsRightLemmas.{right_last}
-use Rattle.gptp_graph.specs.PathBound.{path_bound}
 use Rattle.gptp_settling_time.proofs.SettledSeenLemmas.{IsSettledSeen}
 use Rattle.gptp_settling_time.proofs.SoundButOldLemmas.{IsSoundButOld}
 use Rattle.gptp_settling_time.proofs.TakenDownLemmas.{told_keeps}
@@ -55,7 +53,8 @@ module _ (p : SettlingParams) (since silent old : ℕ) (w w' : WorldState) (is' 
     (left : IsLeftAlways p (snapshot_of w) silent w') (asked : HaveAskedBy since w')
     (x : ℕ) (far : IsFarEnd (snapshot_of w) x)
     (has : HasAllBut (snapshot_of w) (snapshot_of w') x)
-    (gone : (a b : PortIdentity) → Joins (snapshot_of w') a b → a.clock ≢ x) (due : AreDueBy old w) where
+    (gone : (a b : PortIdentity) → Joins (snapshot_of w') a b → a.clock ≢ x)
+    (due : HaveQuietLinks p.params w' → NothingLapses p.params → AreDueBy old w') where
   pub clears : IsCleared p (snapshot_of w) since silent 0 old w'
   clears = record {
     left = left;
@@ -66,7 +65,7 @@ module _ (p : SettlingParams) (since silent old : ℕ) (w w' : WorldState) (is' 
         (snapshot_of w') (stands_well w' is'.sound is'.between is'.encodable)
         (subst (λ h. IsLeftUnmoved h (snapshot_of w')) same left.left) x (subst (λ h. IsFarEnd h x) same far)
         (subst (λ h. HasAllBut h (snapshot_of w') x) same has) gone (view w') less (left.seen quiet off).unlinked old
-        due);
+        (due quiet off));
   }
     where
       same : snapshot_of w ≡ seen.n.graph
@@ -90,48 +89,20 @@ cleared_reduced p g since silent right old w w' same less quiet late left asked 
 
 -- ---- another link goes down
 
--- The best tells what is right, and so do its neighbours at once: so much later all do, an announce interval and the
--- greatest delay for each system of a path but two.
-abbrev pub nearer_echo : SettlingParams → WorldState → ℕ
-nearer_echo p w = pred (pred (path_bound (snapshot_of w))) * (largest_interval p + delay_in w)
-
 -- links begin to tell right traces, where what names the best in no steps names it alone
-module _ (p : SettlingParams) (g : Snapshot) (since silent gone : ℕ) (w : WorldState)
-    (left : IsLeftAlways p g silent w) (asked : HaveAskedBy since w)
-    (goes : GoesBy p gone w) (before : Snapshot)
-    (was : (v u : ℕ) (best : System) → Adjacent (snapshot_of w) v u → IsBest (snapshot_of w) v best
+pub rights : (p : SettlingParams) (g : Snapshot) (since silent gone : ℕ) (w : WorldState) → IsLeftAlways p g silent w
+    → HaveAskedBy since w → GoesBy p gone w → (before : Snapshot)
+    → ((v u : ℕ) (best : System) → Adjacent (snapshot_of w) v u → IsBest (snapshot_of w) v best
     → IsDistance (snapshot_of w) v 0 → IsBest before v best)
-    (itself : HaveQuietLinks p.params w → NothingLapses p.params
-    → AllNameItself says_announce (left_network p silent w) before (view w)) where
-  becomes : HaveQuietLinks p.params w → NothingLapses p.params
-      → IsBecomingRight p (left_network p silent w) (suc (w.time + nearer_echo p w)) gone
-      (w.time + nearer_echo p w + gone) w
-  becomes quiet off =
-      let n = left_network p silent w in
-      let seen = left.seen quiet off in
-      let by = right_last n (suc w.time) (pred (path_bound (snapshot_of w))) in
-      record {
-        base = suc w.time;
-        goes = goes;
-        levels = right_begins says_announce n (suc w.time) (view w) (omega arith)
-            (root_right says_announce before n (left_net p silent w left.standing.world) left.near (view w)
-            (record {
-              calm = left_calm p silent w left.standing left.asked quiet seen.unlinked;
-              invariant = seen.invariant;
-              late = let past = left.late in omega (arith, past);
-              none = seen.unlinked;
-            }) was (itself quiet off) (suc w.time));
-        is = omega (arith, by);
-        early = omega arith;
-        by = omega arith;
-      }
-
-  pub rights : IsCleared p g since silent (suc (w.time + nearer_echo p w)) (w.time + nearer_echo p w + gone) w
-  rights = record {
-    left = left;
-    asked = asked;
-    sound = λ quiet off. inr (gone, becomes quiet off);
-  }
+    → (HaveQuietLinks p.params w → NothingLapses p.params
+    → AllNameItself says_announce (left_network p silent w) before (view w))
+    → IsCleared p g since silent (suc (w.time + nearer_echo p w)) (w.time + nearer_echo p w + gone) w
+rights p g since silent gone w left asked goes before was itself = record {
+  left = left;
+  asked = asked;
+  sound = λ quiet off.
+      becoming p g silent gone w (left_is_now p g silent w left) goes before was quiet off (itself quiet off);
+}
 
 -- who is the best after a loss by which no system is moved was so before
 pub was_best : (g g' : Snapshot) → IsWellFormed g → IsWellFormed g' → IsLeftUnmoved g g' → (v u : ℕ) (best : System)

@@ -190,6 +190,6 @@ module _ (p : SettlingParams) (before : Snapshot) (silent owner port : ℕ) (w :
     pub dead_left : IsLeftAlways p before silent w'
     dead_left =
         begins_left p before silent w w' is' left.well seen reduced unchanged still
-        (wires p w is k.place k.channel k.is.here draws w' is' tells seen left.near (left_network p silent w') delay_now
-        refl) fits standing' asked' (λ quiet'. unlinked') (subst AllAreNear (sym snapshot_now) left.near)
+        (wires p w is k.place k.channel k.is.here draws w' is' tells seen left.near (left_network p silent w') refl)
+        fits standing' asked' (λ quiet'. unlinked') (subst AllAreNear (sym snapshot_now) left.near)
         (subst (LostAreFarther before) (sym snapshot_now) left.farther) now_late

@@ -8,7 +8,6 @@ use Rattle.gptp_links.specs.Fate.{Draw}
 use Rattle.gptp_links.specs.Queue.{Frame}
 use Rattle.gptp_links.specs.declared.link.Direction.{Direction}
 use Rattle.gptp_system.specs.Input.{Input, Priority}
-use Rattle.gptp_system.specs.State.{clock}
 use Rattle.gptp_model.specs.Changing.{CallsIfLive, TellsEnds}
 use Rattle.gptp_model.specs.World.{Channel, WorldState, sender, world_queue}
 use Rattle.gptp_model.proofs.StayLemmas.{sender_same}

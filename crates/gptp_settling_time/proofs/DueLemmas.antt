@@ -15,6 +15,7 @@ use Rattle.gptp_invariants.proofs.ChoiceCalmFactLemmas.{frame_from}
 use Rattle.gptp_invariants.proofs.WorldDueLemmas.{frames_on_links}
 use Rattle.gptp_invariants.proofs.WorldWayLemmas.{used_joins}
 use Rattle.gptp_settling_time.proofs.SettledSeenLemmas.{IsSettledSeen}
+use Rattle.gptp_settling_time.proofs.ReducedLemmas.{IsReduced}
 use Rattle.gptp_lists.proofs.MappedLemmas.{alike}
 use Rattle.gptp_model.proofs.BareLemmas.{bare}
 use Rattle.gptp_invariants.proofs.ChoiceCalmKeptLemmas.{KeepsNetwork}
@@ -23,6 +24,13 @@ use Rattle.gptp_invariants.proofs.ChoiceCalmKeptLemmas.{KeepsNetwork}
 abbrev pub AreDueBy : ℕ → WorldState → Type 0
 AreDueBy old w = (j : ℕ) (l : Lane) (f : AnnounceFrame) (a : Announce) → slice_get (view w).lanes j ≡ Some l
     → In f l.frames → says_announce f.octets a → f.due ≤ old
+
+-- so it is where lanes are emptied, and nothing else enters them
+pub due_reduced : (old : ℕ) (w w' : WorldState) → IsReduced (view w) (view w') → AreDueBy old w → AreDueBy old w'
+due_reduced old w w' less due j l f a there member said = elim (less.lanes j l there) [
+  | inl stood ↦ due j l f a stood member said
+  | inr (none, down) ↦ absurd (subst (In f) none member)
+]
 
 -- by an announce interval
 pub due_by_interval : (p : SettlingParams) (w : WorldState) → IsWorld p w → AreDueBy (w.time + largest_interval p) w

@@ -29,11 +29,11 @@ use Rattle.gptp_invariants.proofs.SyncFollowMeasureLemmas.{measured_right}
 use Rattle.gptp_invariants.proofs.SyncFollowWorldLemmas.{done_carries, used_within}
 use Rattle.gptp_theorem.specs.PlayedLaws.{IsPlayable}
 use Rattle.gptp_theorem.proofs.CalmLemmas.{quiet_stands}
-use Rattle.gptp_theorem.proofs.PlayedLemmas.{no_change}
 use Rattle.gptp_theorem.proofs.SettlingInvariantLemmas.{events_fit, events_made}
+use Rattle.gptp_theorem.proofs.CalmKeptLemmas.{no_change}
 use Rattle.gptp_settling_time.specs.ExactInTurn.{ActsAreExactInTurn, last_set}
 use Rattle.gptp_settling_time.specs.Exactly.{AreExactFrom}
-use Rattle.gptp_settling_time.specs.InTurn.{Aging, AnyPast, Cleared, Gained, Heard, Left, Lost, Past, SettlesAfter, SettlesByEvents, Starting, Turned}
+use Rattle.gptp_settling_time.specs.InTurn.{Aging, AnyPast, Cleared, Fallen, Gained, Heard, Left, Lost, Past, SettlesAfter, SettlesByEvents, Starting, Turned, TurnedTree}
 use Rattle.gptp_settling_time.proofs.AgingClaimedLemmas.{aging_measured}
 use Rattle.gptp_settling_time.proofs.LostClaimedLemmas.{lost_measured}
 use Rattle.gptp_settling_time.proofs.AsIfChangedLemmas.{changed_at, exact_so, known_so, measured_links_so, measured_so, was_done_so, world_so}
@@ -43,6 +43,8 @@ use Rattle.gptp_settling_time.proofs.AfterLemmas.{IsAfter, after_act, after_keep
 use Rattle.gptp_settling_time.proofs.InTurnLemmas.{in_turn}
 use Rattle.gptp_settling_time.proofs.LaterLemmas.{AreSteps}
 use Rattle.gptp_settling_time.proofs.LeftClaimedLemmas.{left_measured}
+use Rattle.gptp_settling_time.proofs.FallAlwaysLemmas.{fallen_measured}
+use Rattle.gptp_settling_time.proofs.TurnedTreeLemmas.{turned_tree_measured}
 use Rattle.gptp_settling_time.proofs.MovedAlwaysLemmas.{moved_measured}
 use Rattle.gptp_settling_time.proofs.NewsMeasuredLemmas.{news_measured}
 use Rattle.gptp_settling_time.proofs.NewsSoonLemmas.{news_now}
@@ -99,8 +101,14 @@ module _ (d : DocumentState) (playable : IsPlayable d) (all : List Timed) (calm 
   have_measured (Turned silent time) w so settles links on =
       let change = (after_keeps d all (Turned silent time) w so).stands.last in
       moved_measured p so.before silent time w so.since.moved links (omega (arith, behind, on, change))
-  have_measured (Aging aged silent) w so settles links on =
-      let change = (after_keeps d all (Aging aged silent) w so).stands.last in
+  have_measured (Fallen silent time) w so settles links on =
+      let change = (after_keeps d all (Fallen silent time) w so).stands.last in
+      fallen_measured p so.before silent time w so.since links (omega (arith, behind, on, change))
+  have_measured (TurnedTree silent time) w so settles links on =
+      let change = (after_keeps d all (TurnedTree silent time) w so).stands.last in
+      turned_tree_measured p so.before silent time w so.since links (omega (arith, behind, on, change))
+  have_measured (Aging ago aged silent) w so settles links on =
+      let change = (after_keeps d all (Aging ago aged silent) w so).stands.last in
       aging_measured p so.before aged silent w so.since links (omega (arith, behind, on, change))
   have_measured (Lost since most silent) w so settles links on =
       let change = (after_keeps d all (Lost since most silent) w so).stands.last in

@@ -1,29 +1,30 @@
 -- A choice bound of a time gives what the network came from then, and when it has settled by that.
-use Rattle.std.proofs.Common.{◌≡◌, ◌⊎◌, inl, inr, ◌<◌, ◌≤◌, ◌+◌, ◌*◌, ℕ, suc, List, [], ◌∷◌, ◌++◌, refl, sym, ap, subst, ◌∙◌, append_assoc, arith}
-use Rattle.std.specs.Prelude.{min}
+use Rattle.std.proofs.Common.{◌≡◌, ◌⊎◌, inl, inr, ◌<◌, ◌≤◌, ◌+◌, ◌*◌, ℕ, suc, List, [], ◌∷◌, ◌++◌, refl, sym, ap, subst, ◌∙◌, append_assoc, max, arith}
 use Rattle.std.specs.List.{AllByRecursion}
-use Rattle.std.proofs.Math.Nat.{le-max_right}
+use Rattle.std.proofs.Math.Nat.{le-max_left, le-max_right}
 use native.Mathlib.Decide.{dec_le}
 use Rattle.gptp_setup.specs.SettlingParams.{largest_interval}
 use Rattle.gptp_scenario.specs.Calm.{IsCalm, NothingLapses}
 use Rattle.gptp_scenario.specs.Network.{IsNetwork, NetworkState, pace_of}
 use Rattle.gptp_scenario.specs.SettlingAtOnce.{settling_span_at_once}
-use Rattle.gptp_scenario.specs.SettlingTime.{settling_span_with}
+use Rattle.gptp_scenario.specs.SettlingTime.{loss_span, settling_span_with, silence_span, way_span}
 use Rattle.gptp_scenario.specs.SyncWait.{sync_paths}
 use Rattle.gptp_scenario.specs.declared.change.Timed.{Timed}
 use Rattle.gptp_network.specs.Document.{DocumentState}
 use Rattle.gptp_network.specs.Events.{AreInOrder}
 use Rattle.gptp_network.specs.Snapshot.{events_by}
-use Rattle.gptp_settling_time.specs.HowSoon.{AreGainEvents, AreHeardEvents, AreReadyAtStart, AreStartEvents, BoundsAging, BoundsAnyLoss, BoundsEvents, BoundsLoss, BoundsStart, IsChoiceAloneBound, IsChoiceBound, IsChoiceBoundAfter, IsLossBoundAfter, IsRestBoundAfter, EachEvent, NoneBetween, OneEvent, RestsAfterLoss, events_at, way_span}
-use Rattle.gptp_settling_time.specs.InTurn.{Aging, AnyPast, AreCapableSoon, BeginsBy, ChoosesAfter, ChoosesByEvents, ComesByEvents, EventLeads, Gained, Heard, LeadOn, Left, Lost, Past, SettlesAfter, SettlesByEvents, Starting, StartsWith, TellsNothing, Turned, UsedVaryLittle}
-use Rattle.gptp_settling_time.specs.Losses.{FailsHeard, LowersLink, LowersUnused, TurnsLink, UpIsUsed, aging_span, loss_span}
-use Rattle.gptp_settling_time.proofs.CalmLessLemmas.{failure_calm, fails_calm}
+use Rattle.gptp_settling_time.specs.HowSoon.{AreGainEvents, AreHeardEvents, AreReadyAtStart, AreStartEvents, BoundsAging, BoundsAnyLoss, BoundsEvents, BoundsLoss, BoundsStart, IsChoiceAloneBound, IsChoiceBound, IsChoiceBoundAfter, IsLossBoundAfter, IsRestBoundAfter, EachEvent, NoneBetween, OneEvent, RestsAfterLoss, events_at}
+use Rattle.gptp_settling_time.specs.InTurn.{Aging, AnyPast, AreCapableSoon, BeginsBy, ChoosesAfter, ChoosesByEvents, ComesByEvents, EventLeads, Fallen, FallsCalm, FlightIsGone, Gained, Heard, LeadOn, LeadsByTree, Left, Lost, Past, SettlesAfter, SettlesByEvents, Starting, StartsWith, TellsNothing, Turned, TurnedTree, TurnsTreeCalm, UsedVaryLittle}
+use Rattle.gptp_settling_time.specs.TreeLosses.{LowersTree, TurnsTreeLink}
+use Rattle.gptp_settling_time.specs.Losses.{AgesWithin, FailsHeard, LowersLink, LowersUnused, TurnsLink, UpIsUsed}
+use Rattle.gptp_settling_time.proofs.CalmLessLemmas.{fails_calm}
 use Rattle.gptp_settling_time.proofs.CutLemmas.{IsBy, all_by}
 use Rattle.gptp_settling_time.proofs.MomentLemmas.{all_at, last_by, parted}
 use Rattle.gptp_settling_time.proofs.LeadOnLemmas.{HasRested, HasSettled, IsLed, after_idle, any_leads, gains_led, heard_led, idle_led, lead_as, leads_on, led_as, next, rested_so, settled_later, taken_later, wider_led}
 use Rattle.gptp_settling_time.proofs.LosesLeadLemmas.{LosesBy, any_rests, loses_by}
-use Rattle.gptp_settling_time.proofs.LossLeadLemmas.{IsLeftBy, ages_leads, aging_lead, cleared_led, dead_lead, loss_leads, settles_chooses, turn_leads}
-use Rattle.gptp_invariants.specs.FailedUnanswered.{silence_span}
+use Rattle.gptp_settling_time.proofs.LossLeadLemmas.{IsLeftBy, dead_lead, heard_lead, loss_leads, settles_chooses, tree_leads, turn_leads}
+use Rattle.gptp_settling_time.proofs.LossRestLemmas.{cleared_led, last_at}
+use Rattle.gptp_settling_time.proofs.SilentSpanLemmas.{none_silent}
 
 -- ---- a document
 
@@ -210,11 +211,100 @@ module _ (n : NetworkState) (network : IsNetwork n) (off : NothingLapses n.param
           ]) in
           record { first = before.first; begins = before.begins; last = x; lead = lead; settles = rested }
 
+    -- A tree is moved, an announce interval after the time before has come to rest.
+    module _ (Moves : List Timed → Timed → Type 0) (Calm : Timed → Type 0) (then : ℕ)
+        (before : IsFollowedTo n before_now last then) (soon : last + then + largest_interval (pace_of n) < time)
+        (calm : (event : Timed) → Moves before_now event → Calm event) (Tree : ℕ → ℕ → Past)
+        (is_tree : (past : Past) (event : Timed) (silent now : ℕ)
+        → LeadsByTree n before_now past event (Calm event) silent now
+        → EventLeads n before_now past event (Tree silent now)) where
+      moves_on : (now : List Timed) → at_now ≡ now → OneEvent Moves before_now now
+          → (silent : ℕ) × LeadOn n [] before.first (events_by time all) (Tree silent time)
+      moves_on [] same none = absurd none
+      moves_on (event ∷ other ∷ now) same none = absurd none
+      moves_on (event ∷ []) same moves =
+          let here : event.at ≡ time =
+          (subst (AllByRecursion (λ (t : Timed). t.at ≡ time)) same (all_at time all)).0 in
+          let (seen, taken, is) = before.settles in
+          let over = last_by last all in
+          let (silent, leads) = tree_leads n before_now event (suc (last + then)) (omega (arith, over))
+          (omega (arith, soon, here)) (Calm event) seen is (calm event moves) in
+          let past : Past = Tree silent event.at in (
+            silent,
+            subst (λ at. LeadOn n [] before.first (events_by time all) (Tree silent at)) here
+                (subst (λ es. LeadOn n [] before.first es past)
+                (sym (parted all last time order less between ∙ ap (λ es. before_now ++ es) same))
+                (leads_on n [] before.first before.last past before_now (event ∷ []) before.lead (
+                  seen,
+                  taken_later n before_now before.last seen (suc (last + then)) event.at (omega (arith, soon, here))
+                      taken,
+                  past,
+                  is_tree seen event silent event.at leads,
+                  refl,
+                ))),
+          )
+
+    -- it is cut off and falls back
+    falls_on : (then : ℕ) → IsCalm n before_now → (before : IsFollowedTo n before_now last then)
+        → last + then + largest_interval (pace_of n) < time → OneEvent (LowersTree n) before_now at_now
+        → (silent : ℕ) × LeadOn n [] before.first (events_by time all) (Fallen silent time)
+    falls_on then calm before soon lowers =
+        moves_on (LowersTree n) (FallsCalm n before_now) then before soon
+        (λ event moves. record { lowers = moves; calm = calm; off = off }) Fallen (λ past event silent now leads. leads)
+        at_now refl lowers
+
+    -- or it turns to its one way out
+    turns_on : (then : ℕ) → IsCalm n before_now → (before : IsFollowedTo n before_now last then)
+        → last + then + largest_interval (pace_of n) < time → OneEvent (TurnsTreeLink n) before_now at_now
+        → (silent : ℕ) × LeadOn n [] before.first (events_by time all) (TurnedTree silent time)
+    turns_on then calm before soon turns =
+        moves_on (TurnsTreeLink n) (TurnsTreeCalm n before_now) then before soon
+        (λ event moves. record { turns = moves; calm = calm; off = off }) TurnedTree
+        (λ past event silent now leads. leads) at_now refl turns
+
+    -- it has come to rest once the tree has settled and what was in flight is gone
+    fall_followed : (then rest gone : ℕ) → IsCalm n before_now → IsCalm n (events_by time all)
+        → IsFollowedTo n before_now last then → last + then + largest_interval (pace_of n) < time
+        → OneEvent (LowersTree n) before_now at_now → FlightIsGone n (events_by time all) gone
+        → rest ≡ max (2 * way_span (sync_paths n (events_by time all))) gone
+        → IsFollowedTo n (events_by time all) time rest
+    fall_followed then rest gone calm_then calm before soon lowers flight is =
+        let (silent, lead) = falls_on then calm_then before soon lowers in
+        let way : ℕ = way_span (sync_paths n (events_by time all)) in
+        let start : ℕ = suc (time + way) in
+        let ways = le-max_left (2 * way) gone in
+        let flown = le-max_right (2 * way) gone in
+        let over : start + way ≤ suc (time + rest) = omega (arith, is, ways) in
+        record {
+          first = before.first;
+          begins = before.begins;
+          last = Fallen silent time;
+          lead = lead;
+          settles = (
+            Heard start,
+            inr (
+              start,
+              refl,
+              record {
+                calm = calm;
+                off = off;
+                later = omega arith;
+                flight = gone;
+                is_gone = flight;
+                gone = omega (arith, is, flown);
+                over = over;
+              },
+            ),
+            over,
+          );
+        }
+
   bound_calm : (earlier : List ℕ) (time rest : ℕ) → IsRestBoundAfter n all earlier time rest
       → IsCalm n (events_by time all)
   bound_calm [] time rest (start, (calm, is)) = calm
   bound_calm (last ∷ earlier) time rest (inl (later, between, (calm, is))) = calm
-  bound_calm (last ∷ earlier) time rest (inr (later, between, calm, nothing, before, loses)) = calm
+  bound_calm (last ∷ earlier) time rest (inr (inl (later, between, calm, nothing, before, loses))) = calm
+  bound_calm (last ∷ earlier) time rest (inr (inr (later, between, calm, nothing, before, falls, asks))) = calm
 
   followed : (earlier : List ℕ) (time rest : ℕ) → IsRestBoundAfter n all earlier time rest
       → IsFollowedTo n (events_by time all) time rest
@@ -230,9 +320,13 @@ module _ (n : NetworkState) (network : IsNetwork n) (off : NothingLapses n.param
       (inl (later, between, (calm, inr (nothing, inr (then, bound, soon, sharp))))) =
       next_followed last time later between then rest (bound_calm earlier last then bound)
       (followed earlier last then bound) soon sharp
-  followed (last ∷ earlier) time rest (inr (later, between, calm, nothing, (then, bound, soon), loses)) =
+  followed (last ∷ earlier) time rest (inr (inl (later, between, calm, nothing, (then, bound, soon), loses))) =
       loss_followed last time later between then rest (bound_calm earlier last then bound)
       (followed earlier last then bound) soon calm loses
+  followed (last ∷ earlier) time rest
+      (inr (inr (later, between, calm, nothing, (then, bound, soon), lowers, (gone, flight, is)))) =
+      fall_followed last time later between then rest gone (bound_calm earlier last then bound) calm
+      (followed earlier last then bound) soon lowers flight is
 
   -- a choice bound is one by which the network has come to rest
   choice_rests : (earlier : List ℕ) (time choice : ℕ) → IsChoiceBoundAfter n all earlier time choice
@@ -341,50 +435,50 @@ module _ (d : DocumentState) (network : IsNetwork d.network) (order : AreInOrder
             }
 
         -- by the first a system fails that others hear, and what they hold of it ages on
+        aging : (span : ℕ) → FailsHeard n earlier event → EachEvent (LowersUnused n) (earlier ++ event ∷ []) now
+            → AgesWithin n earlier (earlier ++ event ∷ now) event.at span
+            → LeadOn n [] before.first (events_by time d.events)
+            (Aging earlier (suc (event.at + span)) (suc (event.at + silence_span (pace_of n))))
+        aging span fails others within =
+            let past : Past = Aging earlier (suc (event.at + span)) (suc (event.at + silence_span (pace_of n))) in
+            subst (λ es. LeadOn n [] before.first es past) (sym parts)
+            (leads_on n [] before.first before.last past earlier (event ∷ now) before.lead
+            (lead_as n earlier event now before.last seen past
+            (taken_later n earlier before.last seen (suc (last + choice_then)) event.at
+            (omega (arith, soon, here)) before.settles.1)
+            (heard_lead n earlier event now seen span off calm_then then fails others within)))
+
         heard : (held quiet : ℕ) → held ≤ choice → quiet ≤ roles → FailsHeard n earlier event
             → EachEvent (LowersUnused n) (earlier ++ event ∷ []) now → BoundsAging n earlier (event ∷ now) held quiet
             → IsLost
-        heard held quiet less quiet_less fails others bounds =
-            let p = pace_of n in
-            let span : ℕ = aging_span p (sync_paths n earlier) in
-            let aged : ℕ = suc (event.at + span) in
-            let silent : ℕ = suc (event.at + silence_span p) in
+        heard held quiet less quiet_less fails others (inl (used, is_choice, is_roles)) =
+            let used_so : UpIsUsed n (events_by time d.events) = subst (UpIsUsed n) (sym parts) used in
             record {
               first = before.first;
               begins = before.begins;
-              last = Aging aged silent;
-              lead = led (Aging aged silent) (Aging aged silent)
-                  (ages_leads n earlier event seen aged silent then
-                  (record { fails = fails; calm = calm_then; off = off; gone = refl; unanswered = refl }))
-                  (aging_lead n (earlier ++ event ∷ []) now aged silent off
-                  (failure_calm n earlier event off calm_then fails.clock fails.act) others);
+              last = Aging earlier (suc (event.at + 0)) (suc (event.at + silence_span (pace_of n)));
+              lead = aging 0 fails others (none_silent n earlier (earlier ++ event ∷ now) event.at 0 used);
               calm = calm;
-              settles = λ settled late. (off, settles bounds settled late);
-              chooses = λ settled late. (off, chooses bounds settled late);
+              settles = λ settled late. (off, inr used_so);
+              chooses = λ settled late. (off, inr (inr used_so));
             }
-          where
-            used_so : UpIsUsed n (earlier ++ event ∷ now) → UpIsUsed n (events_by time d.events)
-            used_so = subst (UpIsUsed n) (sym parts)
-
-            settles : BoundsAging n earlier (event ∷ now) held quiet → (settled : ℕ) → time + roles < settled
-                → (suc (event.at + silence_span (pace_of n)) ≤ settled) ⊎ UpIsUsed n (events_by time d.events)
-            settles (inl (used, is_choice, is_roles)) settled late = inr (used_so used)
-            settles (inr (is_choice, is_roles)) settled late = inl (omega (arith, here, is_roles, late, quiet_less))
-
-            chooses : BoundsAging n earlier (event ∷ now) held quiet → (settled : ℕ) → time + choice < settled
-                → (suc (event.at + aging_span (pace_of n) (sync_paths n earlier)) ≤ settled)
-                ⊎ ((suc (event.at + silence_span (pace_of n)) ≤ settled) ⊎ UpIsUsed n (events_by time d.events))
-            chooses (inl (used, is_choice, is_roles)) settled late = inr (inr (used_so used))
-            chooses (inr (is_choice, is_roles)) settled late =
-                lesser (aging_span (pace_of n) (sync_paths n earlier)) (silence_span (pace_of n)) is_choice
-              where
-                lesser : (a b : ℕ) → held ≡ min a b
-                    → (suc (event.at + a) ≤ settled)
-                    ⊎ ((suc (event.at + b) ≤ settled) ⊎ UpIsUsed n (events_by time d.events))
-                lesser a b is = elim (dec_le a b) [
-                  | yes first ↦ inl (omega (arith, here, is, late, less, first))
-                  | no over ↦ inr (inl (omega (arith, here, is, late, less, over)))
-                ]
+        heard held quiet less quiet_less fails others (inr ((span, within, is_choice), is_roles)) = record {
+          first = before.first;
+          begins = before.begins;
+          last = Aging earlier (suc (event.at + span)) (suc (event.at + silence_span (pace_of n)));
+          lead = aging span fails others (subst (λ t. AgesWithin n earlier (earlier ++ event ∷ now) t span)
+              (last_at earlier event now time
+              (subst (AllByRecursion (λ (t : Timed). t.at ≡ time)) is (all_at time d.events)) ∙ sym here) within);
+          calm = calm;
+          settles = λ settled late. (off, inl (omega (arith, here, is_roles, late, quiet_less)));
+          chooses = λ settled late. (
+            off,
+            elim (dec_le span (silence_span (pace_of n))) [
+              | yes first ↦ inl (omega (arith, here, is_choice, late, less, first))
+              | no over ↦ inr (inl (omega (arith, here, is_choice, late, less, over)))
+            ],
+          );
+        }
 
         -- whatever is taken away
         any_lost : BoundsAnyLoss n earlier (event ∷ now) choice roles → IsLost
@@ -443,9 +537,52 @@ module _ (d : DocumentState) (network : IsNetwork d.network) (order : AreInOrder
             heard held quiet (omega (arith, is_later)) (omega (arith, roles_later, more)) fails others bounds
         by (inr (inr (inr (inr any)))) = any_lost any
 
+    -- a tree is cut off, or turns to its one way out
+    tree_by : (last choice_then : ℕ) (less : last < time) (between : NoneBetween d.events last time)
+        → NothingLapses d.network.params → IsCalm d.network (events_by last d.events)
+        → IsCalm d.network (events_by time d.events) → IsFollowedTo d.network (events_by last d.events) last choice_then
+        → last + choice_then + largest_interval (pace_of d.network) < time
+        → OneEvent (LowersTree d.network) (events_by last d.events) (events_at time d.events)
+        ⊎ OneEvent (TurnsTreeLink d.network) (events_by last d.events) (events_at time d.events)
+        → choice ≡ 2 * way_span (sync_paths d.network (events_by time d.events)) → roles ≡ choice → IsLost
+    tree_by last choice_then less between off calm_then calm before soon (inl lowers) is_choice same =
+        let (silent, lead) = falls_on d.network network off d.events order last time less between choice_then calm_then
+        before soon lowers in
+        record {
+          first = before.first;
+          begins = before.begins;
+          last = Fallen silent time;
+          lead = lead;
+          calm = calm;
+          settles = λ settled late. (off, omega (arith, is_choice, same, late));
+          chooses = λ settled late. (off, omega (arith, is_choice, late));
+        }
+    tree_by last choice_then less between off calm_then calm before soon (inr turns) is_choice same =
+        let (silent, lead) = turns_on d.network network off d.events order last time less between choice_then calm_then
+        before soon turns in
+        record {
+          first = before.first;
+          begins = before.begins;
+          last = TurnedTree silent time;
+          lead = lead;
+          calm = calm;
+          settles = λ settled late. (off, omega (arith, is_choice, same, late));
+          chooses = λ settled late. (off, omega (arith, is_choice, late));
+        }
+
     lost_after : (earlier : List ℕ) → IsLossBoundAfter d.network d.events earlier time choice roles → IsLost
     lost_after [] none = absurd none
-    lost_after (last ∷ earlier) (less, between, calm, off, (choice_then, bound, soon), loses) =
+    lost_after (last ∷ earlier)
+        (inr (inl (less, between, calm, off, (choice_then, bound, soon), lowers, (is_choice, same)))) =
+        tree_by last choice_then less between off
+        (bound_calm d.network network off d.events order earlier last choice_then bound) calm
+        (followed d.network network off d.events order earlier last choice_then bound) soon (inl lowers) is_choice same
+    lost_after (last ∷ earlier)
+        (inr (inr (less, between, calm, off, (choice_then, bound, soon), turns, (is_choice, same)))) =
+        tree_by last choice_then less between off
+        (bound_calm d.network network off d.events order earlier last choice_then bound) calm
+        (followed d.network network off d.events order earlier last choice_then bound) soon (inr turns) is_choice same
+    lost_after (last ∷ earlier) (inl (less, between, calm, off, (choice_then, bound, soon), loses)) =
         lost_by last choice_then (events_at time d.events) off refl (parted d.events last time order less between)
         (bound_calm d.network network off d.events order earlier last choice_then bound) calm
         (followed d.network network off d.events order earlier last choice_then bound) soon loses

@@ -25,6 +25,7 @@ use Rattle.gptp_settling_time.proofs.MadeLemmas.{made_last, made_time}
 use Rattle.gptp_settling_time.proofs.PassLemmas.{passes_to}
 use Rattle.gptp_settling_time.proofs.AfterLemmas.{IsAfter, after_act, after_chooses, after_keeps, after_later, after_settles, begins_after, taken_as}
 use Rattle.gptp_settling_time.proofs.LeadsLemmas.{leads_to}
+use Rattle.gptp_settling_time.proofs.NamedAfterLemmas.{IsNamedAfter, named_act, named_as, named_fresh, named_later}
 
 module _ {F : Type 0} (answers : Bounds → ℕ → F → Option ℕ → F → Type 0) (d : DocumentState)
     (playable : IsPlayable d) (all : List Timed) (last : Past) (until : ℕ) (So : WorldState → Type 0)
@@ -50,18 +51,19 @@ module _ {F : Type 0} (answers : Bounds → ℕ → F → Option ℕ → F → T
       record { early = omega (arith, change, now); each = λ t member on. passed.each t member }
   in_turn made past (event ∷ events) ts fate fate_after w w' are is fit (seen, taken, next, leads, others)
       (first, rest, drawn, between, k, on, split) so now =
-      let passed = passes_to answers (IsAfter d made past) (after_later d made past)
-      (λ t one other v next_is was v_is. after_act d made answers past t one other v next_is was v_is)
-      event.at k.first fate k.drawn w k.between k.passes so in
+      let passed = passes_to answers (IsNamedAfter d made past) (named_later d playable made past)
+      (λ t one other v next_is was v_is. named_act d playable made past answers t one other v next_is was v_is)
+      event.at k.first fate k.drawn w k.between k.passes (named_fresh d playable made past w so now) in
       let moment : k.between.time ≡ event.at = ap (λ (v : WorldState). v.time) k.passes.is in
       steps_more answers So all event first rest ts fate drawn w between k passed.soon
       (made_time answers d playable made event k.drawn drawn k.between between k.done is.0 fit.0 k.made) split
       (in_turn (made ++ event ∷ []) next events rest drawn fate_after between w'
       (append_assoc made (event ∷ []) events ∙ are) is.1 fit.1 others on
       (leads_to answers d playable made event k.drawn drawn k.between between k.done is.0 fit.0 k.made
-      (after_keeps d made past k.between passed.end) moment seen next leads
+      (after_keeps d made past k.between passed.end.so) moment seen next leads
+      (named_as d made k.between event.at past seen taken passed.end.named)
       (taken_as d playable made k.between past seen (subst (λ t. IsTakenAs net made past t seen) (sym moment) taken)
-      passed.end))
+      passed.end.so))
       (made_last answers d playable made event k.drawn drawn k.between between k.done is.0 fit.0 k.made))
 
 -- ---- the law

@@ -25,12 +25,13 @@ use Rattle.gptp_invariants.proofs.WorldShortLemmas.{acts_short, later_short}
 use Rattle.gptp_theorem.specs.Reached.{StandsAsPlanned}
 use Rattle.gptp_theorem.proofs.SettlingInvariantLemmas.{least_of}
 use Rattle.gptp_theorem.proofs.KeptLemmas.{acts_stand, time_stands}
-use Rattle.gptp_theorem.proofs.PlayedLemmas.{no_change}
+use Rattle.gptp_theorem.proofs.CalmKeptLemmas.{no_change}
 use Rattle.gptp_settling_time.specs.ExactInTurn.{last_set}
 use Rattle.gptp_settling_time.specs.Gains.{AreSparedBy, HasDelaysWithin}
 use Rattle.gptp_settling_time.proofs.AskedInTimeLemmas.{AreAskedInTime, are_asked_acts, are_asked_later}
 use Rattle.gptp_settling_time.proofs.BetweenFailedLemmas.{AreGoneBetween, gone_acts, gone_later}
 use Rattle.gptp_settling_time.proofs.DelayWithinLemmas.{itself_fits}
+use Rattle.gptp_settling_time.proofs.NamedWorldLemmas.{IsNamedWorld, named_acts, named_later}
 use Rattle.gptp_settling_time.proofs.NewsSoonLemmas.{IsNewsFrom, from_done, from_later}
 use Rattle.gptp_settling_time.proofs.SinceSetLemmas.{IsUnsetSince, unset_acts, unset_later}
 use Rattle.gptp_settling_time.proofs.TimedNewsLemmas.{IsTimed, timed_act, timed_later}
@@ -47,6 +48,7 @@ pub record KeepsTo (d : DocumentState) (events : List Timed) (w : WorldState) : 
   pub short : (most : ℕ) → HasDelaysWithin d.network events most → IsShort most w
   pub asked : (time : ℕ) → AreSparedBy d.network [] events time → WereAskedInTime time w
   pub unset : IsUnsetSince (pace_of d.network) (last_set events) w
+  pub named : IsNamedWorld (pace_of d.network) w
 
 -- and it is one since news, whose ports are capable from a start on
 pub record IsNewsTo (d : DocumentState) (start : ℕ) (events : List Timed) (w : WorldState) : Type 0 where
@@ -72,6 +74,8 @@ module _ (d : DocumentState) (events : List Timed) where
         let (gone, past, asked, all) = keeps.asked by spared in
         (gone, past, are_asked_later gone time w later asked, gone_later gone time w all);
     unset = unset_later (pace_of d.network) (last_set events) w time later keeps.unset;
+    named = named_later (pace_of d.network) time w keeps.claim.world
+        (claim_later (pace_of d.network) w time later first keeps.claim).world later first keeps.named;
   }
 
   pub news_later_to : (start : ℕ) (w : WorldState) (time : ℕ) → w.time ≤ time → NothingBefore time w.net.pending
@@ -128,6 +132,14 @@ module _ (d : DocumentState) (events : List Timed) where
           unset = unset_acts (pace_of d.network) (last_set events) timed.act (at timed.at w) was.draws t.told.done
               t.after (no_change next.item timed.act w next.act) was.acts
               (unset_later (pace_of d.network) (last_set events) w timed.at was.ready.timely.now keeps.unset);
+          named = named_acts (pace_of d.network) timed.act (at timed.at w) was.draws t.told.done t.after
+              (no_change next.item timed.act w next.act) was.acts
+              (claim_later (pace_of d.network) w timed.at was.ready.timely.now was.ready.timely.first keeps.claim).world
+              (claim_kept answers (pace_of d.network) timed fate drawn w t.after t.told.done (next_fits w timed next)
+              (next_prompt w timed next) (next_octet next.item timed.act w next.act) was keeps.claim).world
+              (named_later (pace_of d.network) timed.at w keeps.claim.world
+              (claim_later (pace_of d.network) w timed.at was.ready.timely.now was.ready.timely.first keeps.claim).world
+              was.ready.timely.now was.ready.timely.first keeps.named);
         }
 
     pub news_act_to : (start : ℕ) → IsNewsTo d start events w → IsNewsTo d start events t.after

@@ -6,15 +6,15 @@ use Rattle.std.proofs.Math.Nat.{le-max_left, le-max_right}
 use Rattle.gptp_setup.specs.SettlingParams.{largest_interval, longest_span}
 use Rattle.gptp_scenario.specs.Calm.{IsCalm, NothingLapses, last_change}
 use Rattle.gptp_scenario.specs.Network.{IsNetwork, NetworkState, pace_of}
-use Rattle.gptp_scenario.specs.SettlingTime.{capability_span}
+use Rattle.gptp_scenario.specs.SettlingTime.{capability_span, way_span}
 use Rattle.gptp_scenario.specs.SyncWait.{sync_paths}
 use Rattle.gptp_scenario.specs.declared.change.Act.{Act}
 use Rattle.gptp_scenario.specs.declared.change.Act.TheVariants.{Deliver, Expire, Change as Changing}
 use Rattle.gptp_scenario.specs.declared.change.Change.TheVariants.{LinkDown, LinkUp, LinkSet, Fail, Recover, Priority1, Inject}
 use Rattle.gptp_scenario.specs.declared.change.Timed.{Timed}
 use Rattle.gptp_scenario.specs.declared.sync_wait.SyncPaths.{SyncPaths}
-use Rattle.gptp_settling_time.specs.HowSoon.{AfterIdleEvents, AreGainEvents, AreHeardEvents, AreWiderEvents, EachEvent, IsGainEvent, IsGainToo, IsHeardEvent, IsHeardToo, IsIdleEvent, IsStillEvent, TurnsUnused, way_span}
-use Rattle.gptp_settling_time.specs.InTurn.{Aging, AnyPast, Cleared, EventLeads, Gained, HasSettledAnyhow, HasSettledHeard, HasSettledSince, Heard, IsTakenAs, LeadOn, LeavesSettled, Left, Lost, MakesNothing, Past, RestsAs, SettlesAfter, Starting, Turned, TurnsInVain, WidensLink}
+use Rattle.gptp_settling_time.specs.HowSoon.{AfterIdleEvents, AreGainEvents, AreHeardEvents, AreWiderEvents, EachEvent, IsGainEvent, IsGainToo, IsHeardEvent, IsHeardToo, IsIdleEvent, IsStillEvent, TurnsUnused}
+use Rattle.gptp_settling_time.specs.InTurn.{Aging, AnyPast, Cleared, EventLeads, Fallen, Gained, HasSettledAnyhow, HasSettledHeard, HasSettledSince, Heard, IsTakenAs, LeadOn, LeavesSettled, Left, Lost, MakesNothing, Past, RestsFrom, SettlesAfter, Starting, Turned, TurnedTree, TurnsInVain, WidensLink}
 use Rattle.gptp_settling_time.specs.Losses.{LeavesChoice}
 use Rattle.gptp_settling_time.proofs.MadeLemmas.{adds_later}
 use Rattle.gptp_settling_time.proofs.SamePathsLemmas.{idle_paths, priority_paths, turned_paths}
@@ -50,8 +50,10 @@ HasSettled n events (Gained start) time = HasSettledSince n events start time
 HasSettled n events (Heard start) time = HasSettledHeard n events start time
 HasSettled n events (Left start) time = ⊥
 HasSettled n events (Turned silent now) time = ⊥
+HasSettled n events (Fallen silent now) time = ⊥
+HasSettled n events (TurnedTree silent now) time = ⊥
 HasSettled n events (Cleared begun silent right old) time = ⊥
-HasSettled n events (Aging aged silent) time = ⊥
+HasSettled n events (Aging ago aged silent) time = ⊥
 HasSettled n events (Lost since most silent) time = ⊥
 
 pub settled_later : (n : NetworkState) (events : List Timed) (past : Past) (time later : ℕ) → time ≤ later
@@ -63,8 +65,10 @@ settled_later n events (Gained start) time later less is = omega (arith, is, les
 settled_later n events (Heard start) time later less is = omega (arith, is, less)
 settled_later n events (Left start) time later less is = absurd is
 settled_later n events (Turned silent now) time later less is = absurd is
+settled_later n events (Fallen silent now) time later less is = absurd is
+settled_later n events (TurnedTree silent now) time later less is = absurd is
 settled_later n events (Cleared begun silent right old) time later less is = absurd is
-settled_later n events (Aging aged silent) time later less is = absurd is
+settled_later n events (Aging ago aged silent) time later less is = absurd is
 settled_later n events (Lost since most silent) time later less is = absurd is
 
 -- or it has so as it may be taken
@@ -74,18 +78,15 @@ HasRested n events past time = (seen : Past) × IsTakenAs n events past time see
 pub taken_later : (n : NetworkState) (events : List Timed) (past seen : Past) (time later : ℕ) → time ≤ later
     → IsTakenAs n events past time seen → IsTakenAs n events past later seen
 taken_later n events past seen time later less (inl same) = inl same
-taken_later n events past seen time later less (inr rests) = inr (by past seen rests)
+taken_later n events past seen time later less (inr (start, same, rests)) = inr (start, same, by past rests)
   where
-    by : (past seen : Past) → RestsAs n events past time seen → RestsAs n events past later seen
-    by AnyPast seen none = absurd none
-    by Starting seen none = absurd none
-    by (Gained start) seen none = absurd none
-    by (Heard start) seen none = absurd none
-    by (Left silent) seen none = absurd none
-    by (Turned silent now) AnyPast none = absurd none
-    by (Turned silent now) Starting none = absurd none
-    by (Turned silent now) (Gained start) none = absurd none
-    by (Turned silent now) (Heard start) is =
+    by : (past : Past) → RestsFrom n events past time start → RestsFrom n events past later start
+    by AnyPast none = absurd none
+    by Starting none = absurd none
+    by (Gained since) none = absurd none
+    by (Heard since) none = absurd none
+    by (Left silent) none = absurd none
+    by (Turned silent now) is =
         let over = is.over in
         record {
           calm = is.calm;
@@ -95,15 +96,20 @@ taken_later n events past seen time later less (inr rests) = inr (by past seen r
           unlinked = is.unlinked;
           over = omega (arith, over, less);
         }
-    by (Turned silent now) (Left start) none = absurd none
-    by (Turned silent now) (Turned start was) none = absurd none
-    by (Turned silent now) (Cleared start dark clean last) none = absurd none
-    by (Turned silent now) (Aging gone start) none = absurd none
-    by (Turned silent now) (Lost begun most start) none = absurd none
-    by (Cleared begun silent right old) AnyPast none = absurd none
-    by (Cleared begun silent right old) Starting none = absurd none
-    by (Cleared begun silent right old) (Gained start) none = absurd none
-    by (Cleared begun silent right old) (Heard start) is =
+    by (Fallen silent now) is =
+        let gone = is.gone in
+        let over = is.over in
+        record {
+          calm = is.calm;
+          off = is.off;
+          later = is.later;
+          flight = is.flight;
+          is_gone = is.is_gone;
+          gone = omega (arith, gone, less);
+          over = omega (arith, over, less);
+        }
+    by (TurnedTree silent now) none = absurd none
+    by (Cleared begun silent right old) is =
         let gone = is.gone in
         let over = is.over in
         record {
@@ -114,73 +120,39 @@ taken_later n events past seen time later less (inr rests) = inr (by past seen r
           unlinked = elim is.unlinked [ inl past ↦ inl (omega (arith, past, less)) | inr used ↦ inr used ];
           over = omega (arith, over, less);
         }
-    by (Cleared begun silent right old) (Left start) none = absurd none
-    by (Cleared begun silent right old) (Turned start now) none = absurd none
-    by (Cleared begun silent right old) (Cleared start dark clean last) none = absurd none
-    by (Cleared begun silent right old) (Aging gone start) none = absurd none
-    by (Cleared begun silent right old) (Lost since most start) none = absurd none
-    by (Aging aged silent) seen none = absurd none
-    by (Lost since most silent) AnyPast none = absurd none
-    by (Lost since most silent) Starting none = absurd none
-    by (Lost since most silent) (Gained start) none = absurd none
-    by (Lost since most silent) (Heard start) is =
+    by (Aging ago aged silent) is =
         let told = is.told in
+        let unlinked = is.unlinked in
+        let over = is.over in
+        record {
+          calm = is.calm;
+          off = is.off;
+          by = is.by;
+          since = is.since;
+          gone = is.gone;
+          flight = is.flight;
+          is_gone = is.is_gone;
+          told = omega (arith, told, less);
+          later = is.later;
+          unlinked = omega (arith, unlinked, less);
+          over = omega (arith, over, less);
+        }
+    by (Lost begun most silent) is =
         let over = is.over in
         record {
           off = is.off;
-          told = omega (arith, told, less);
           later = is.later;
           unlinked = elim is.unlinked [ inl past ↦ inl (omega (arith, past, less)) | inr used ↦ inr used ];
           over = omega (arith, over, less);
         }
-    by (Lost since most silent) (Left start) none = absurd none
-    by (Lost since most silent) (Turned start now) none = absurd none
-    by (Lost since most silent) (Cleared start dark clean last) none = absurd none
-    by (Lost since most silent) (Aging gone start) none = absurd none
-    by (Lost since most silent) (Lost begun more start) none = absurd none
 
 -- what is taken so is taken as nothing else
 taken_on : (n : NetworkState) (events : List Timed) (past seen other : Past) (time : ℕ)
     → IsTakenAs n events past time seen → IsTakenAs n events seen time other → IsTakenAs n events past time other
 taken_on n events past seen other time (inl same) on = subst (λ x. IsTakenAs n events x time other) same on
-taken_on n events past seen other time (inr rests) (inl same) =
-    inr (subst (RestsAs n events past time) (sym same) rests)
-taken_on n events past seen other time (inr rests) (inr again) = absurd (by past seen rests again)
-  where
-    by : (past seen : Past) → RestsAs n events past time seen → RestsAs n events seen time other → ⊥
-    by AnyPast seen none again = none
-    by Starting seen none again = none
-    by (Gained start) seen none again = none
-    by (Heard start) seen none again = none
-    by (Left silent) seen none again = none
-    by (Turned silent now) AnyPast none again = none
-    by (Turned silent now) Starting none again = none
-    by (Turned silent now) (Gained start) none again = none
-    by (Turned silent now) (Heard start) rests again = again
-    by (Turned silent now) (Left start) none again = none
-    by (Turned silent now) (Turned start was) none again = none
-    by (Turned silent now) (Cleared start dark clean last) none again = none
-    by (Turned silent now) (Aging gone start) none again = none
-    by (Turned silent now) (Lost begun most start) none again = none
-    by (Cleared begun silent right old) AnyPast none again = none
-    by (Cleared begun silent right old) Starting none again = none
-    by (Cleared begun silent right old) (Gained start) none again = none
-    by (Cleared begun silent right old) (Heard start) rests again = again
-    by (Cleared begun silent right old) (Left start) none again = none
-    by (Cleared begun silent right old) (Turned start now) none again = none
-    by (Cleared begun silent right old) (Cleared start dark clean last) none again = none
-    by (Cleared begun silent right old) (Aging gone start) none again = none
-    by (Cleared begun silent right old) (Lost since most start) none again = none
-    by (Aging aged silent) seen none again = none
-    by (Lost since most silent) AnyPast none again = none
-    by (Lost since most silent) Starting none again = none
-    by (Lost since most silent) (Gained start) none again = none
-    by (Lost since most silent) (Heard start) rests again = again
-    by (Lost since most silent) (Left start) none again = none
-    by (Lost since most silent) (Turned start now) none again = none
-    by (Lost since most silent) (Cleared start dark clean last) none again = none
-    by (Lost since most silent) (Aging gone start) none again = none
-    by (Lost since most silent) (Lost begun more start) none again = none
+taken_on n events past seen other time (inr (start, same, rests)) (inl on) = inr (start, on ∙ same, rests)
+taken_on n events past seen other time (inr (start, same, rests)) (inr (from, is, again)) =
+    absurd (subst (λ x. RestsFrom n events x time from) same again)
 
 settled_so : (n : NetworkState) (events : List Timed) (past : Past) (time : ℕ) → NothingLapses n.params
     → HasSettled n events past time → SettlesAfter n events past time
@@ -190,8 +162,10 @@ settled_so n events (Gained start) time off is = inl (off, is)
 settled_so n events (Heard start) time off is = (off, is)
 settled_so n events (Left start) time off is = absurd is
 settled_so n events (Turned silent now) time off is = absurd is
+settled_so n events (Fallen silent now) time off is = absurd is
+settled_so n events (TurnedTree silent now) time off is = absurd is
 settled_so n events (Cleared begun silent right old) time off is = absurd is
-settled_so n events (Aging aged silent) time off is = absurd is
+settled_so n events (Aging ago aged silent) time off is = absurd is
 settled_so n events (Lost since most silent) time off is = absurd is
 
 -- what has come to rest has settled
@@ -199,42 +173,26 @@ pub rested_so : (n : NetworkState) (events : List Timed) (past : Past) (time : �
     → HasRested n events past time → SettlesAfter n events past time
 rested_so n events past time off (seen, inl same, is) =
     settled_so n events past time off (subst (λ x. HasSettled n events x time) same is)
-rested_so n events past time off (seen, inr rests, is) = by past seen rests
+rested_so n events past time off (seen, inr (start, same, rests), is) = by past rests
   where
-    by : (past seen : Past) → RestsAs n events past time seen → SettlesAfter n events past time
-    by AnyPast seen none = absurd none
-    by Starting seen none = absurd none
-    by (Gained start) seen none = absurd none
-    by (Heard start) seen none = absurd none
-    by (Left silent) seen none = absurd none
-    by (Turned silent now) AnyPast none = absurd none
-    by (Turned silent now) Starting none = absurd none
-    by (Turned silent now) (Gained start) none = absurd none
-    by (Turned silent now) (Heard start) rest = let told = rest.told in (off, omega (arith, told))
-    by (Turned silent now) (Left start) none = absurd none
-    by (Turned silent now) (Turned start was) none = absurd none
-    by (Turned silent now) (Cleared start dark clean last) none = absurd none
-    by (Turned silent now) (Aging gone start) none = absurd none
-    by (Turned silent now) (Lost begun most start) none = absurd none
-    by (Cleared begun silent right old) AnyPast none = absurd none
-    by (Cleared begun silent right old) Starting none = absurd none
-    by (Cleared begun silent right old) (Gained start) none = absurd none
-    by (Cleared begun silent right old) (Heard start) rest = (off, rest.unlinked)
-    by (Cleared begun silent right old) (Left start) none = absurd none
-    by (Cleared begun silent right old) (Turned start now) none = absurd none
-    by (Cleared begun silent right old) (Cleared start dark clean last) none = absurd none
-    by (Cleared begun silent right old) (Aging gone start) none = absurd none
-    by (Cleared begun silent right old) (Lost since most start) none = absurd none
-    by (Aging aged silent) seen none = absurd none
-    by (Lost since most silent) AnyPast none = absurd none
-    by (Lost since most silent) Starting none = absurd none
-    by (Lost since most silent) (Gained start) none = absurd none
-    by (Lost since most silent) (Heard start) rest = (off, rest.told, rest.unlinked)
-    by (Lost since most silent) (Left start) none = absurd none
-    by (Lost since most silent) (Turned start now) none = absurd none
-    by (Lost since most silent) (Cleared start dark clean last) none = absurd none
-    by (Lost since most silent) (Aging gone start) none = absurd none
-    by (Lost since most silent) (Lost begun more start) none = absurd none
+    by : (past : Past) → RestsFrom n events past time start → SettlesAfter n events past time
+    by AnyPast none = absurd none
+    by Starting none = absurd none
+    by (Gained since) none = absurd none
+    by (Heard since) none = absurd none
+    by (Left silent) none = absurd none
+    by (Turned silent now) rest = let told = rest.told in (off, omega (arith, told))
+    by (Fallen silent now) rest =
+        let later = rest.later in
+        let over = rest.over in
+        (off, omega (arith, later, over))
+    by (TurnedTree silent now) none = absurd none
+    by (Cleared begun silent right old) rest = (off, rest.unlinked)
+    by (Aging ago aged silent) rest = (off, inl rest.unlinked)
+    by (Lost begun most silent) rest =
+        let later = rest.later in
+        let over = rest.over in
+        (off, omega (arith, later, over), rest.unlinked)
 
 -- ---- an event leads from a network that has settled
 
@@ -288,8 +246,10 @@ module _ (n : NetworkState) (made : List Timed) (event : Timed) where
       inl (takes, inl (inr (omega (arith, settled, less), leaves)))
   gain_leads (Left start) next settled less gain = absurd settled
   gain_leads (Turned silent now) next settled less gain = absurd settled
+  gain_leads (Fallen silent now) next settled less gain = absurd settled
+  gain_leads (TurnedTree silent now) next settled less gain = absurd settled
   gain_leads (Cleared begun silent right old) next settled less gain = absurd settled
-  gain_leads (Aging aged silent) next settled less gain = absurd settled
+  gain_leads (Aging ago aged silent) next settled less gain = absurd settled
   gain_leads (Lost since most silent) next settled less gain = absurd settled
 
   heard_leads : (past : Past) (next : ℕ) → HasSettled n made past event.at → IsHeardEvent n next made event
@@ -304,8 +264,10 @@ module _ (n : NetworkState) (made : List Timed) (event : Timed) where
   heard_leads (Heard start) next settled (inr better) = inr (inl (settled, inl better))
   heard_leads (Left start) next settled heard = absurd settled
   heard_leads (Turned silent now) next settled heard = absurd settled
+  heard_leads (Fallen silent now) next settled heard = absurd settled
+  heard_leads (TurnedTree silent now) next settled heard = absurd settled
   heard_leads (Cleared begun silent right old) next settled heard = absurd settled
-  heard_leads (Aging aged silent) next settled heard = absurd settled
+  heard_leads (Aging ago aged silent) next settled heard = absurd settled
   heard_leads (Lost since most silent) next settled heard = absurd settled
 
   -- what makes nothing of what stands leads from a network that has settled to one that has settled by then, as if its
@@ -327,8 +289,10 @@ module _ (n : NetworkState) (made : List Timed) (event : Timed) where
     way_over (Heard start) settled = omega (arith, settled)
     way_over (Left start) settled = absurd settled
     way_over (Turned silent now) settled = absurd settled
+    way_over (Fallen silent now) settled = absurd settled
+    way_over (TurnedTree silent now) settled = absurd settled
     way_over (Cleared begun silent right old) settled = absurd settled
-    way_over (Aging aged silent) settled = absurd settled
+    way_over (Aging ago aged silent) settled = absurd settled
     way_over (Lost begun most silent) settled = absurd settled
 
     pub same_paths : IsStillEvent n made event → sync_paths n more ≡ sync_paths n made
@@ -351,8 +315,10 @@ module _ (n : NetworkState) (made : List Timed) (event : Timed) where
       idle_leads (Heard start) settled = inr (inl (settled, inr (inl (leaves_so (way_over (Heard start) settled)))))
       idle_leads (Left start) settled = absurd settled
       idle_leads (Turned silent now) settled = absurd settled
+      idle_leads (Fallen silent now) settled = absurd settled
+      idle_leads (TurnedTree silent now) settled = absurd settled
       idle_leads (Cleared begun silent right old) settled = absurd settled
-      idle_leads (Aging aged silent) settled = absurd settled
+      idle_leads (Aging ago aged silent) settled = absurd settled
       idle_leads (Lost begun most silent) settled = absurd settled
 
       pub idle_settled : (past : Past) → HasSettled n made past event.at → HasSettled n more (Heard since) event.at
@@ -407,7 +373,8 @@ led_as n made [] past seen time settled at late taken is = record {
         (other, taken_on n made past seen other settled (taken_later n made past seen time settled late taken) on, has)
 led_as n made (event ∷ now) past seen time settled (here, at) late taken is = record {
   last = is.last;
-  lead = lead_as n made event now past seen is.last (subst (λ t. IsTakenAs n made past t seen) (sym here) taken) is.lead;
+  lead = lead_as n made event now past seen is.last (subst (λ t. IsTakenAs n made past t seen) (sym here) taken)
+      is.lead;
   settles = is.settles;
 }
 
@@ -518,8 +485,10 @@ module _ (n : NetworkState) (network : IsNetwork n) where
     )
     widens_leads made event (Left start) settled by here calm is late widens soon = absurd is
     widens_leads made event (Turned silent now) settled by here calm is late widens soon = absurd is
+    widens_leads made event (Fallen silent now) settled by here calm is late widens soon = absurd is
+    widens_leads made event (TurnedTree silent now) settled by here calm is late widens soon = absurd is
     widens_leads made event (Cleared begun silent right old) settled by here calm is late widens soon = absurd is
-    widens_leads made event (Aging aged silent) settled by here calm is late widens soon = absurd is
+    widens_leads made event (Aging ago aged silent) settled by here calm is late widens soon = absurd is
     widens_leads made event (Lost begun most silent) settled by here calm is late widens soon = absurd is
 
     pub wider_led : (made now : List Timed) (past : Past) (settled : ℕ) → AllNow now → IsCalm n made

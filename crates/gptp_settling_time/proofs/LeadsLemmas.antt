@@ -5,7 +5,7 @@ use Rattle.gptp_vector.specs.declared.port.PortId.{PortId}
 use Rattle.gptp_links.specs.declared.bounds.Bounds.{Bounds}
 use Rattle.gptp_setup.specs.Intervals.{interval_of}
 use Rattle.gptp_setup.specs.SettlingParams.{SettlingParams, largest_interval}
-use Rattle.gptp_scenario.specs.Calm.{NothingLapses, last_change}
+use Rattle.gptp_scenario.specs.Calm.{IsCalm, NothingLapses, last_change}
 use Rattle.gptp_scenario.specs.Network.{NetworkState, pace_of}
 use Rattle.gptp_scenario.specs.SettlingAtOnce.{settling_span_at_once}
 use Rattle.gptp_scenario.specs.SettlingTime.{capability_span}
@@ -22,6 +22,7 @@ use Rattle.gptp_model.specs.World.{WorldState, port_id}
 use Rattle.gptp_network.specs.Document.{DocumentState}
 use Rattle.gptp_invariants.specs.WorldEncodableLaws.{SetsAnOctet}
 use Rattle.gptp_invariants.specs.ChoiceCalm.{HaveQuietLinks, delay_in, sync_paths_of}
+use Rattle.gptp_invariants.specs.ChoiceView.{says_announce, view}
 use Rattle.gptp_invariants.specs.WorldNews.{AreReadyBy, AreSilentBy, IsNews}
 use Rattle.gptp_invariants.specs.WorldSound.{IsSoundWorld}
 use Rattle.gptp_invariants.specs.WorldStanding.{snapshot_of}
@@ -32,9 +33,15 @@ use Rattle.gptp_theorem.proofs.CalmLemmas.{quiet_stands}
 use Rattle.gptp_theorem.proofs.SettlingInvariantLemmas.{IsFitEvent, least_of}
 use Rattle.gptp_theorem.proofs.SyncPathLemmas.{paths_stand}
 use Rattle.gptp_settling_time.specs.Gains.{ChangesNothing, LeavesCapable, TakesNothing}
-use Rattle.gptp_settling_time.specs.InTurn.{AddsHeard, Aging, AnyPast, BettersClock, BringsUp, Cleared, ClearsBy, EventLeads, FailsNow, Gained, HasSettledAnyhow, HasSettledHeard, HasSettledSince, Heard, LeavesSettled, LeavesStanding, Left, LosesNow, Lost, LowersUnusedCalm, MakesNothing, Past, RecoversAlone, Starting, Turned, TurnsInVain, TurnsNow, WidensFrom}
-use Rattle.gptp_settling_time.proofs.AgingDownLemmas.{down_aging}
+use Rattle.gptp_settling_time.specs.InTurn.{AddsHeard, AgesSooner, Aging, AnyPast, BettersClock, BringsUp, Cleared, ClearsBy, EventLeads, FailsNow, Fallen, FallsCalm, Gained, HasSettledAnyhow, HasSettledHeard, HasSettledSince, Heard, LeadsByTree, LeavesSettled, LeavesStanding, Left, LosesNow, Lost, LowersUnusedCalm, MakesNothing, Past, RecoversAlone, Starting, TreeNow, Turned, TurnedTree, TurnsInVain, TurnsNow, TurnsTreeCalm, WidensFrom}
+use Rattle.gptp_settling_time.proofs.AgingDownLemmas.{down_ages}
+use Rattle.gptp_settling_time.proofs.AgesByLemmas.{by_map}
+use Rattle.gptp_settling_time.proofs.AgesByWorldLemmas.{WorldAgesBy, aging_by}
+use Rattle.gptp_settling_time.proofs.AgingClaimedLemmas.{stay_of}
 use Rattle.gptp_settling_time.proofs.AgingToLemmas.{IsAgingTo, aging_to_later}
+use Rattle.gptp_settling_time.proofs.SilentDownLemmas.{over_down}
+use Rattle.gptp_settling_time.proofs.SilentLinksLemmas.{AgesOver, over_within}
+use Rattle.gptp_settling_time.proofs.UpPortsLemmas.{IsUpAt, by_up}
 use Rattle.gptp_settling_time.proofs.AlwaysClaimedLemmas.{IsClaimedAlways, since_later}
 use Rattle.gptp_settling_time.proofs.BegunLemmas.{rested_sound}
 use Rattle.gptp_settling_time.proofs.ClaimedToLemmas.{IsClaimedTo}
@@ -42,6 +49,12 @@ use Rattle.gptp_settling_time.proofs.GainLemmas.{better_lives, down_so, few_so, 
 use Rattle.gptp_settling_time.proofs.DeadDownLemmas.{asked_on, dead_left, reduced as dead_reduced, snapshot_now}
 use Rattle.gptp_settling_time.proofs.FailedDownLemmas.{lowered_claimed, lowered_news}
 use Rattle.gptp_settling_time.proofs.FailedUpLemmas.{raised_claimed, raised_from}
+use Rattle.gptp_settling_time.proofs.FallMadeLemmas.{fallen_to}
+use Rattle.gptp_settling_time.proofs.FallenToLemmas.{IsFallenTo}
+use Rattle.gptp_settling_time.proofs.TurnedTreeMadeLemmas.{turned_tree_to}
+use Rattle.gptp_settling_time.proofs.TurnedTreeToLemmas.{IsTurnedTreeTo}
+use Rattle.gptp_settling_time.proofs.NamedAfterLemmas.{NamesAfter}
+use Rattle.gptp_settling_time.proofs.NamedLemmas.{IsNamedFrom}
 use Rattle.gptp_settling_time.proofs.HeardLemmas.{heard_on}
 use Rattle.gptp_settling_time.proofs.KeptToLemmas.{KeepsTo, keeps_later}
 use Rattle.gptp_settling_time.proofs.LinkUpLemmas.{link_up_claimed}
@@ -67,7 +80,8 @@ use Rattle.gptp_settling_time.proofs.LostPowerLemmas.{told_anew}
 use Rattle.gptp_settling_time.proofs.LostToLemmas.{IsLostTo, lost_to_later}
 use Rattle.gptp_settling_time.proofs.WorldMovesLemmas.{near_so, stays_unmoved}
 use Rattle.gptp_graph.specs.Snapshot.{Snapshot}
-use Rattle.gptp_settling_time.specs.Losses.{LowersUnused}
+use Rattle.gptp_settling_time.specs.Losses.{AgesWithin, LowersUnused}
+use Rattle.gptp_settling_time.proofs.AgedLemmas.{aged_begins}
 use Rattle.gptp_settling_time.proofs.ClearedLemmas.{IsCleared}
 use Rattle.gptp_settling_time.proofs.ClearedToLemmas.{IsClearedTo, cleared_to_later}
 use Rattle.gptp_settling_time.proofs.ClearsLemmas.{cleared_reduced}
@@ -399,8 +413,10 @@ module _ {F : Type 0} (answers : Bounds → ℕ → F → Option ℕ → F → T
         (left_so start (since_later p start event.at w k.ready.timely.now k.ready.timely.first so.since) nothing)
     leads_to_heard (Left start) next none so = absurd none
     leads_to_heard (Turned silent now) next none so = absurd none
+    leads_to_heard (Fallen silent now) next none so = absurd none
+    leads_to_heard (TurnedTree silent now) next none so = absurd none
     leads_to_heard (Cleared since silent right old) next none so = absurd none
-    leads_to_heard (Aging aged silent) next none so = absurd none
+    leads_to_heard (Aging ago aged silent) next none so = absurd none
     leads_to_heard (Lost since most silent) next none so = absurd none
 
     -- in each case it has rested
@@ -524,8 +540,10 @@ module _ {F : Type 0} (answers : Bounds → ℕ → F → Option ℕ → F → T
           since = fallen_left left.before silent falls left.since;
         })
     leads_to_left (Turned silent now) next none so = absurd none
+    leads_to_left (Fallen silent now) next none so = absurd none
+    leads_to_left (TurnedTree silent now) next none so = absurd none
     leads_to_left (Cleared since silent right old) next none so = absurd none
-    leads_to_left (Aging aged silent) next none so = absurd none
+    leads_to_left (Aging ago aged silent) next none so = absurd none
     leads_to_left (Lost since most silent) next none so = absurd none
 
     leads_to_turned : (past : Past) (silent now : ℕ) → EventLeads n made past event (Turned silent now)
@@ -539,8 +557,10 @@ module _ {F : Type 0} (answers : Bounds → ℕ → F → Option ℕ → F → T
         turns start silent now (rested_heard start settled so.since) by
     leads_to_turned (Left start) silent now none so = absurd none
     leads_to_turned (Turned start was) silent now none so = absurd none
+    leads_to_turned (Fallen start was) silent now none so = absurd none
+    leads_to_turned (TurnedTree start was) silent now none so = absurd none
     leads_to_turned (Cleared since start right old) silent now none so = absurd none
-    leads_to_turned (Aging aged start) silent now none so = absurd none
+    leads_to_turned (Aging ago aged start) silent now none so = absurd none
     leads_to_turned (Lost since most start) silent now none so = absurd none
 
     clears : (start since silent right old : ℕ) → HasRestedSo p start event.at then
@@ -550,23 +570,59 @@ module _ {F : Type 0} (answers : Bounds → ℕ → F → Option ℕ → F → T
         since silent right old
 
     -- what ages goes on to age
-    ages_on : (aged silent : ℕ) → LowersUnusedCalm n made event → IsAgingTo d made aged silent w
-        → IsAgingTo d more aged silent w'
-    ages_on aged silent falls so =
+    ages_on : (ago : List Timed) (aged silent : ℕ) → LowersUnusedCalm n made event → IsAgingTo d ago made aged silent w
+        → IsAgingTo d ago more aged silent w'
+    ages_on ago aged silent falls so =
         let x = falls.lowers in
-        let then_so = aging_to_later d made aged silent w event.at k.ready.timely.now k.ready.timely.first so in
+        let then_so = aging_to_later d ago made aged silent w event.at k.ready.timely.now k.ready.timely.first so in
         let world = keeps_then.claim.world in
         let end : PortId = port_id x.clock x.port in
         let came : Acts (Changing (LinkDown x.clock x.port)) then k.draws done w' =
         subst (λ act. Acts act then k.draws done w') x.act k.acts in
         let quiet = (quiet_stands n made then playable.network keeps_then.stands world.sound falls.calm).links in
+        let (since, by_down) = down_ages p then_so.before aged silent x.clock x.port then k.draws done w'
+        after.claim.world after.claim.measured came then_so.since quiet falls.off
+        (up_so n made then keeps_then.stands end x.up came.1.place came.1.channel came.1.is)
+        (unused_so n made then keeps_then.stands world.sound end x.failed)
+        (AgesOver n ago made then_so.failed) then_so.by in
+        let world' = after.claim.world in
+        let by : WorldAgesBy p (AgesOver n ago more then_so.failed) w' =
+        λ links. by_map says_announce (snapshot_of w') (stay_of p)
+        (λ port until. AgesOver n ago made then_so.failed port until × IsUpAt w' port)
+        (AgesOver n ago more then_so.failed) (view w')
+        (λ port until unlinked (is_over, is_up).
+        over_down n ago made event x w' after.stands world'.sound world'.encodable then_so.failed port until is_over
+        is_up)
+        (by_up p w' world' (AgesOver n ago made then_so.failed) by_down links) in
         record {
           keeps = after;
           before = then_so.before;
-          since = down_aging p then_so.before aged silent x.clock x.port then k.draws done w' after.claim.world
-              after.claim.measured came then_so.since quiet falls.off
-              (up_so n made then keeps_then.stands end x.up came.1.place came.1.channel came.1.is)
-              (unused_so n made then keeps_then.stands world.sound end x.failed);
+          since = since;
+          sound = aged_begins p then_so.before aged silent w' since last_now;
+          failed = then_so.failed;
+          unanswered = then_so.unanswered;
+          by = by;
+        }
+
+    -- it has aged sooner where faster links alone are silent still
+    ages_sooner : (ago : List Timed) (gone aged silent : ℕ) → AgesSooner n ago more aged silent
+        → IsAgingTo d ago more gone silent w' → IsAgingTo d ago more aged silent w'
+    ages_sooner ago gone aged silent (failed, span, same, within, is) so =
+        let unanswered = so.unanswered in
+        let time : failed ≡ so.failed = omega (arith, same, unanswered) in
+        let since = aging_by p so.before gone silent (AgesOver n ago more so.failed) aged w' so.since so.by
+        (λ port until is_over.
+        let less = over_within n ago more so.failed span (subst (λ t. AgesWithin n ago more t span) time within) port
+        until is_over in
+        omega (arith, less, is, time)) in
+        record {
+          keeps = so.keeps;
+          before = so.before;
+          since = since;
+          sound = aged_begins p so.before aged silent w' since last_now;
+          failed = so.failed;
+          unanswered = so.unanswered;
+          by = so.by;
         }
 
     leads_to_cleared : (past : Past) (since silent right old : ℕ)
@@ -581,6 +637,8 @@ module _ {F : Type 0} (answers : Bounds → ℕ → F → Option ℕ → F → T
         clears start since silent right old (rested_heard start settled so.since) by
     leads_to_cleared (Left start) since silent right old none so = absurd none
     leads_to_cleared (Turned start now) since silent right old none so = absurd none
+    leads_to_cleared (Fallen start now) since silent right old none so = absurd none
+    leads_to_cleared (TurnedTree start now) since silent right old none so = absurd none
     leads_to_cleared (Cleared start dark clean last) since silent right old (falls, past, (begun, by, is, gone)) so =
         let x = cleared_to_later d made start dark clean last w event.at k.ready.timely.now k.ready.timely.first so in
         subst (λ t. IsClearedTo d more t silent right old w') (sym begun)
@@ -592,34 +650,42 @@ module _ {F : Type 0} (answers : Bounds → ℕ → F → Option ℕ → F → T
           before = x.before;
           is = fallen_cleared x.before dark falls x.is.left start clean last past x.is;
         }))))
-    leads_to_cleared (Aging aged dark) since silent right old (falls, same, anew) so =
+    leads_to_cleared (Aging ago aged dark) since silent right old (falls, same, anew) so =
         subst (λ t. IsClearedTo d more since t right old w') (sym same)
-        (told_anew d playable more event.at aged dark since right old w' after time_now last_now
-        (ages_on aged dark falls so) anew)
+        (told_anew d playable ago more event.at aged dark since right old w' after time_now last_now
+        (ages_on ago aged dark falls so) anew)
     leads_to_cleared (Lost begun most start) since silent right old none so = absurd none
 
-    ages : (start aged silent : ℕ) → HasRestedSo p start event.at then → FailsNow n made event aged silent
-        → IsAgingTo d more aged silent w'
-    ages start aged silent rest =
-        aging_so d playable made event then k.draws done w' k.acts refl time_now last_now keeps_then after start rest
-        aged silent
+    ages : (ago : List Timed) (start aged silent : ℕ) → HasRestedSo p start event.at then → ago ≡ made
+        → FailsNow n made event aged silent → IsAgingTo d ago more aged silent w'
+    ages ago start aged silent rest same now =
+        subst (λ es. IsAgingTo d es more aged silent w') (sym same)
+        (aging_so d playable made event then k.draws done w' k.acts refl time_now last_now keeps_then after start rest
+        aged silent now)
 
-    leads_to_aging : (past : Past) (aged silent : ℕ) → EventLeads n made past event (Aging aged silent)
-        → IsAfter d made past w → IsAgingTo d more aged silent w'
-    leads_to_aging AnyPast aged silent (settled, now) so =
-        ages (last_change made + capability_span p) aged silent (rested_any settled) now
-    leads_to_aging Starting aged silent none so = absurd none
-    leads_to_aging (Gained start) aged silent (settled, now) so =
-        ages start aged silent (rested_gained start settled so.news) now
-    leads_to_aging (Heard start) aged silent (settled, now) so =
-        ages start aged silent (rested_heard start settled so.since) now
-    leads_to_aging (Left start) aged silent none so = absurd none
-    leads_to_aging (Turned start was) aged silent none so = absurd none
-    leads_to_aging (Cleared since start right old) aged silent none so = absurd none
-    leads_to_aging (Aging gone start) aged silent (falls, same_aged, same_silent) so =
-        subst (λ time. IsAgingTo d more time silent w') (sym same_aged)
-        (subst (λ time. IsAgingTo d more gone time w') (sym same_silent) (ages_on gone start falls so))
-    leads_to_aging (Lost since most start) aged silent none so = absurd none
+    leads_to_aging : (past : Past) (ago : List Timed) (aged silent : ℕ)
+        → EventLeads n made past event (Aging ago aged silent) → IsAfter d made past w
+        → IsAgingTo d ago more aged silent w'
+    leads_to_aging AnyPast ago aged silent (settled, same, now) so =
+        ages ago (last_change made + capability_span p) aged silent (rested_any settled) same now
+    leads_to_aging Starting ago aged silent none so = absurd none
+    leads_to_aging (Gained start) ago aged silent (settled, same, now) so =
+        ages ago start aged silent (rested_gained start settled so.news) same now
+    leads_to_aging (Heard start) ago aged silent (settled, same, now) so =
+        ages ago start aged silent (rested_heard start settled so.since) same now
+    leads_to_aging (Left start) ago aged silent none so = absurd none
+    leads_to_aging (Turned start was) ago aged silent none so = absurd none
+    leads_to_aging (Fallen start was) ago aged silent none so = absurd none
+    leads_to_aging (TurnedTree start was) ago aged silent none so = absurd none
+    leads_to_aging (Cleared since start right old) ago aged silent none so = absurd none
+    leads_to_aging (Aging old gone start) ago aged silent (falls, same_ago, same_silent, sooner) so =
+        subst (λ es. IsAgingTo d es more aged silent w') (sym same_ago)
+        (subst (λ time. IsAgingTo d old more aged time w') (sym same_silent)
+        (elim sooner [
+          | inl same ↦ subst (λ time. IsAgingTo d old more time start w') (sym same) (ages_on old gone start falls so)
+          | inr is ↦ ages_sooner old gone aged start is (ages_on old gone start falls so)
+        ]))
+    leads_to_aging (Lost since most start) ago aged silent none so = absurd none
 
     loses_now : (start since most silent : ℕ) → HasRestedSo p start event.at then
         → LosesNow n made event since most silent → IsLostTo d more since most silent w'
@@ -638,8 +704,10 @@ module _ {F : Type 0} (answers : Bounds → ℕ → F → Option ℕ → F → T
         loses_now start since most silent (rested_heard start settled so.since) now
     leads_to_lost (Left start) since most silent none so = absurd none
     leads_to_lost (Turned start was) since most silent none so = absurd none
+    leads_to_lost (Fallen start was) since most silent none so = absurd none
+    leads_to_lost (TurnedTree start was) since most silent none so = absurd none
     leads_to_lost (Cleared begun start right old) since most silent none so = absurd none
-    leads_to_lost (Aging aged start) since most silent none so = absurd none
+    leads_to_lost (Aging ago aged start) since most silent none so = absurd none
     leads_to_lost (Lost begun delay start) since most silent (more_now, same_since, same_most, same_silent) so =
         loses_more d playable made event then k.draws done w' is k.acts fit.octet refl time_now last_now keeps_then
         after since most silent
@@ -661,16 +729,20 @@ module _ {F : Type 0} (answers : Bounds → ℕ → F → Option ℕ → F → T
         (record { keeps = keeps; news = inl so.since.news }) nothing capable
     leads_to_gain (Left start) next (inl (nothing, none)) so = absurd none
     leads_to_gain (Turned silent now) next (inl (nothing, none)) so = absurd none
+    leads_to_gain (Fallen silent now) next (inl (nothing, none)) so = absurd none
+    leads_to_gain (TurnedTree silent now) next (inl (nothing, none)) so = absurd none
     leads_to_gain (Cleared since silent right old) next (inl (nothing, none)) so = absurd none
-    leads_to_gain (Aging aged silent) next (inl (nothing, none)) so = absurd none
+    leads_to_gain (Aging ago aged silent) next (inl (nothing, none)) so = absurd none
     leads_to_gain (Lost since most silent) next (inl (nothing, none)) so = absurd none
     leads_to_gain Starting next (inl (nothing, none)) so = absurd none
     leads_to_gain AnyPast next (inr (inl (nothing, stays))) so = absurd stays
     leads_to_gain Starting next (inr (inl (nothing, stays))) so = absurd stays
     leads_to_gain (Left start) next (inr (inl (nothing, stays))) so = absurd stays
     leads_to_gain (Turned silent now) next (inr (inl (nothing, stays))) so = absurd stays
+    leads_to_gain (Fallen silent now) next (inr (inl (nothing, stays))) so = absurd stays
+    leads_to_gain (TurnedTree silent now) next (inr (inl (nothing, stays))) so = absurd stays
     leads_to_gain (Cleared since silent right old) next (inr (inl (nothing, stays))) so = absurd stays
-    leads_to_gain (Aging aged silent) next (inr (inl (nothing, stays))) so = absurd stays
+    leads_to_gain (Aging ago aged silent) next (inr (inl (nothing, stays))) so = absurd stays
     leads_to_gain (Lost since most silent) next (inr (inl (nothing, stays))) so = absurd stays
     leads_to_gain (Gained start) next (inr (inl (nothing, same))) so = left_news start next nothing same so.news
     leads_to_gain (Heard start) next (inr (inl (nothing, same))) so =
@@ -683,8 +755,10 @@ module _ {F : Type 0} (answers : Bounds → ℕ → F → Option ℕ → F → T
     leads_to_gain (Heard start) next (inr (inr none)) so = absurd none
     leads_to_gain (Left start) next (inr (inr none)) so = absurd none
     leads_to_gain (Turned silent now) next (inr (inr none)) so = absurd none
+    leads_to_gain (Fallen silent now) next (inr (inr none)) so = absurd none
+    leads_to_gain (TurnedTree silent now) next (inr (inr none)) so = absurd none
     leads_to_gain (Cleared since silent right old) next (inr (inr none)) so = absurd none
-    leads_to_gain (Aging aged silent) next (inr (inr none)) so = absurd none
+    leads_to_gain (Aging ago aged silent) next (inr (inr none)) so = absurd none
     leads_to_gain (Lost since most silent) next (inr (inr none)) so = absurd none
 
     leads_to_start : (past : Past) → EventLeads n made past event Starting → IsAfter d made past w
@@ -697,18 +771,72 @@ module _ {F : Type 0} (answers : Bounds → ℕ → F → Option ℕ → F → T
     leads_to_start (Heard start) none so = absurd none
     leads_to_start (Left start) none so = absurd none
     leads_to_start (Turned silent now) none so = absurd none
+    leads_to_start (Fallen silent now) none so = absurd none
+    leads_to_start (TurnedTree silent now) none so = absurd none
     leads_to_start (Cleared since silent right old) none so = absurd none
-    leads_to_start (Aging aged silent) none so = absurd none
+    leads_to_start (Aging ago aged silent) none so = absurd none
     leads_to_start (Lost since most silent) none so = absurd none
 
-    pub leads_to : (past next : Past) → EventLeads n made past event next → IsAfter d made past w
-        → IsAfter d more next w'
-    leads_to past AnyPast leads so = after
-    leads_to past Starting leads so = leads_to_start past leads so
-    leads_to past (Gained next) leads so = record { keeps = after; news = leads_to_gain past next leads so }
-    leads_to past (Heard next) leads so = leads_to_heard past next leads so
-    leads_to past (Left next) leads so = leads_to_left past next leads so
-    leads_to past (Turned silent now) leads so = leads_to_turned past silent now leads so
-    leads_to past (Cleared since silent right old) leads so = leads_to_cleared past since silent right old leads so
-    leads_to past (Aging aged silent) leads so = leads_to_aging past aged silent leads so
-    leads_to past (Lost since most silent) leads so = leads_to_lost past since most silent leads so
+    -- a tree is so moved
+    module _ (Moves : Type 0) (calm : Moves → IsCalm n made) (off : Moves → NothingLapses n.params)
+        (few : Moves → (sync_paths n made).systems ≤ 255) (Is : ℕ → ℕ → Type 0)
+        (is_moved : (start stood : ℕ) → HasRestedSo p start event.at then → IsNamedFrom p stood w
+        → stood + largest_interval p ≤ event.at → Moves → Is start event.at) where
+      tree_now : (start stood silent now : ℕ) → HasRestedSo p start event.at then → IsNamedFrom p stood w
+          → TreeNow n made event Moves start stood silent now → Is silent now
+      tree_now start stood silent now rest named (later, since, moves, by, here) =
+          subst (Is silent) (sym here)
+          (subst (λ t. Is t event.at) (sym by) (is_moved start stood rest named since moves))
+
+      leads_by_tree : (past : Past) (silent now : ℕ) → LeadsByTree n made past event Moves silent now
+          → NamesAfter d made past w → IsAfter d made past w → Is silent now
+      leads_by_tree AnyPast silent now (stood, settled, (later, since, moves, by, here)) named so =
+          let passed = settled.passed in
+          tree_now (last_change made + capability_span p) stood silent now
+          (rested_any (record { calm = settled.calm; passed = omega (arith, passed, since) }))
+          (named stood (calm moves) (few moves) (inl (off moves, passed)) later) (later, since, moves, by, here)
+      leads_by_tree Starting silent now none named so = absurd none
+      leads_by_tree (Gained start) silent now (stood, settled, (later, since, moves, by, here)) named so =
+          tree_now start stood silent now (rested_gained start (omega (arith, settled, since)) so.news)
+          (named stood (calm moves) (few moves) (inl (off moves, settled)) later) (later, since, moves, by, here)
+      leads_by_tree (Heard start) silent now (stood, settled, (later, since, moves, by, here)) named so =
+          tree_now start stood silent now (rested_heard start (omega (arith, settled, since)) so.since)
+          (named stood (calm moves) (few moves) (off moves, settled) later) (later, since, moves, by, here)
+      leads_by_tree (Left start) silent now none named so = absurd none
+      leads_by_tree (Turned start was) silent now none named so = absurd none
+      leads_by_tree (Fallen start was) silent now none named so = absurd none
+      leads_by_tree (TurnedTree start was) silent now none named so = absurd none
+      leads_by_tree (Cleared since start right old) silent now none named so = absurd none
+      leads_by_tree (Aging ago aged start) silent now none named so = absurd none
+      leads_by_tree (Lost since most start) silent now none named so = absurd none
+
+    leads_to_fallen : (past : Past) (silent now : ℕ) → EventLeads n made past event (Fallen silent now)
+        → NamesAfter d made past w → IsAfter d made past w → IsFallenTo d more silent now w'
+    leads_to_fallen =
+        leads_by_tree (FallsCalm n made event) (λ x. x.calm) (λ x. x.off) (λ x. x.lowers.few)
+        (λ silent now. IsFallenTo d more silent now w') (λ start stood rest named since falls.
+        fallen_to d playable made event then k.draws done w' k.acts refl time_now keeps_then after start rest stood
+        named since falls)
+
+    leads_to_turned_tree : (past : Past) (silent now : ℕ) → EventLeads n made past event (TurnedTree silent now)
+        → NamesAfter d made past w → IsAfter d made past w → IsTurnedTreeTo d more silent now w'
+    leads_to_turned_tree =
+        leads_by_tree (TurnsTreeCalm n made event) (λ x. x.calm) (λ x. x.off) (λ x. x.turns.few)
+        (λ silent now. IsTurnedTreeTo d more silent now w') (λ start stood rest named since turns.
+        turned_tree_to d playable made event then k.draws done w' k.acts refl time_now keeps_then after start rest stood
+        named since turns)
+
+    pub leads_to : (past next : Past) → EventLeads n made past event next → NamesAfter d made past w
+        → IsAfter d made past w → IsAfter d more next w'
+    leads_to past AnyPast leads named so = after
+    leads_to past Starting leads named so = leads_to_start past leads so
+    leads_to past (Gained next) leads named so = record { keeps = after; news = leads_to_gain past next leads so }
+    leads_to past (Heard next) leads named so = leads_to_heard past next leads so
+    leads_to past (Left next) leads named so = leads_to_left past next leads so
+    leads_to past (Turned silent now) leads named so = leads_to_turned past silent now leads so
+    leads_to past (Fallen silent now) leads named so = leads_to_fallen past silent now leads named so
+    leads_to past (TurnedTree silent now) leads named so = leads_to_turned_tree past silent now leads named so
+    leads_to past (Cleared since silent right old) leads named so = leads_to_cleared past since silent right old
+        leads so
+    leads_to past (Aging ago aged silent) leads named so = leads_to_aging past ago aged silent leads so
+    leads_to past (Lost since most silent) leads named so = leads_to_lost past since most silent leads so

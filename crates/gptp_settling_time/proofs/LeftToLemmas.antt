@@ -1,6 +1,6 @@
 -- Worlds of documents since a loss that moved no system.
 use Rattle.std.proofs.Common.{◌≡◌, ◌≤◌, ◌⊎◌, ◌*◌, ℕ, zero, suc, pred, true, false, Option, List, slice_get, sym, ap, subst, ◌∙◌, inl, inr, arith}
-use Rattle.std.proofs.Math.Nat.{mul-le-mul_right}
+use Rattle.std.proofs.Math.Nat.{mul-le-mul_left, mul-le-mul_right}
 use Rattle.gptp_lists.proofs.MappedLemmas.{alike, same_there}
 use Rattle.gptp_graph.specs.Snapshot.{Snapshot}
 use Rattle.gptp_links.specs.declared.bounds.Bounds.{Bounds}
@@ -28,7 +28,7 @@ use Rattle.gptp_invariants.proofs.DelayUsedLinkLemmas.{receiver_lives}
 use Rattle.gptp_theorem.specs.PlayedLaws.{IsPlayable}
 use Rattle.gptp_theorem.specs.Reached.{channel_wire}
 use Rattle.gptp_theorem.proofs.CalmLemmas.{quiet_stands}
-use Rattle.gptp_theorem.proofs.PlayedLemmas.{no_change}
+use Rattle.gptp_theorem.proofs.CalmKeptLemmas.{no_change}
 use Rattle.gptp_settling_time.specs.ChoiceAlone.{ChoiceStands}
 use Rattle.gptp_settling_time.specs.Losses.{UpIsUsed}
 use Rattle.gptp_settling_time.proofs.DueLemmas.{UpIsInUse}
@@ -37,10 +37,12 @@ use Rattle.gptp_settling_time.proofs.KeptToLemmas.{KeepsTo, keeps_act, keeps_lat
 use Rattle.gptp_settling_time.proofs.LeftClaimedLemmas.{IsLeftAlways, left_acts, left_chooses, left_later, left_now, left_settles}
 
 -- the way that is left is no longer
-pub less_way : (systems fewer delay same : ℕ) → fewer ≤ systems → same ≡ delay
-    → pred fewer * same ≤ pred systems * delay
-less_way systems fewer delay same few is =
-    subst (λ d. pred fewer * d ≤ pred systems * delay) (sym is) (mul-le-mul_right delay (by fewer systems few))
+pub less_way : (systems fewer delay least : ℕ) → fewer ≤ systems → least ≤ delay
+    → pred fewer * least ≤ pred systems * delay
+less_way systems fewer delay least few is =
+    let shorter = mul-le-mul_left (pred fewer) is in
+    let less = mul-le-mul_right delay (by fewer systems few) in
+    omega (arith, shorter, less)
   where
     by : (a b : ℕ) → a ≤ b → pred a ≤ pred b
     by zero b less = omega arith

@@ -302,7 +302,6 @@ module _ (p : SettlingParams) (start next owner port : ℕ) (w : WorldState) (dr
         lane = lane_same;
         log = λ q. refl;
         interval = λ q. refl;
-        most = delay_more;
       }
 
       later_since : (d : ℕ) → since n (suc d) ≤ since n_v (suc d)

@@ -25,8 +25,8 @@ TellersLive says k w = (j : ℕ) (l : Lane) (f : AnnounceFrame) (a : Announce) �
     → In f l.frames → says f.octets a → In l.to.clock (clocks k.graph) → k.gone ≤ f.due
     → In l.from.clock (clocks k.graph)
 
--- So it is; and what is in flight over links, and what live systems hold, is as clean as when it was sent asks for. What
--- is due so late that it was sent by then is so wherever it is in flight, and a live system told it.
+-- So it is; and what is in flight over links, and what live systems hold, is as clean as when it was sent asks for.
+-- What is due so late that it was sent by then is so wherever it is in flight, and a live system told it.
 pub record ToldIsClean (says : Spelling) (k : NetworkSetting) (w : MachineState) : Type 0 where
   pub tellers : TellersLive says k w
   pub flight : (j : ℕ) (l : Lane) (f : AnnounceFrame) (a : Announce) (c : ℕ) → slice_get w.lanes j ≡ Some l

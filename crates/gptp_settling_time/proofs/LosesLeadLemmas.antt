@@ -1,11 +1,11 @@
 -- Events of a time that take something away lead a network that has settled to one that has lost.
-use Rattle.std.proofs.Common.{List, [], arith, inl, inr, refl, subst, suc, sym, ℕ, ◌++◌, ◌+◌, ◌∷◌, ◌≡◌, ◌≤◌, ◌⊎◌}
+use Rattle.std.proofs.Common.{List, [], arith, inl, inr, refl, subst, suc, sym, ℕ, ◌*◌, ◌++◌, ◌+◌, ◌∷◌, ◌≡◌, ◌≤◌, ◌⊎◌}
 use Rattle.std.specs.List.{AllByRecursion}
 use Rattle.std.proofs.Math.Nat.{le-max_left, le-max_right}
-use Rattle.gptp_setup.specs.SettlingParams.{SettlingParams}
-use Rattle.gptp_invariants.specs.FailedUnanswered.{silence_span}
+use Rattle.gptp_setup.specs.SettlingParams.{SettlingParams, largest_interval, longest_span}
 use Rattle.gptp_scenario.specs.Calm.{IsCalm, IsLive, NothingLapses}
 use Rattle.gptp_scenario.specs.Network.{IsNetwork, NetworkState, pace_of}
+use Rattle.gptp_scenario.specs.SettlingTime.{loss_span, silence_span}
 use Rattle.gptp_scenario.specs.SyncWait.{sync_paths}
 use Rattle.gptp_scenario.specs.declared.change.Act.{Act}
 use Rattle.gptp_scenario.specs.declared.change.Act.TheVariants.{Deliver, Expire, Change as Changing}
@@ -14,7 +14,7 @@ use Rattle.gptp_scenario.specs.declared.change.Timed.{Timed}
 use Rattle.gptp_scenario.specs.declared.sync_wait.SyncPaths.{SyncPaths}
 use Rattle.gptp_settling_time.specs.HowSoon.{BoundsAnyLoss, EachEvent, IsLossToo, LosesEvents, NoneFails, RestsAfterAnyLoss, RolesAfterLoss, delay_between}
 use Rattle.gptp_settling_time.specs.InTurn.{Heard, LeadOn, Lost, Past}
-use Rattle.gptp_settling_time.specs.Losses.{AreSilentAfter, LosesAny, UpIsUsed, loss_span}
+use Rattle.gptp_settling_time.specs.Losses.{AreSilentAfter, LosesAny, UpIsUsed}
 use Rattle.gptp_settling_time.proofs.CalmStillLemmas.{idle_calm}
 use Rattle.gptp_settling_time.proofs.LeadOnLemmas.{HasSettled, IsLed, idle_leads, idle_settled, makes_nothing, same_paths, since}
 use Rattle.gptp_settling_time.proofs.LossLeadLemmas.{loses_leads}
@@ -194,18 +194,23 @@ module _ (n : NetworkState) (time : ℕ) (network : IsNetwork n) (off : NothingL
       let x = loses_by choice rest bounds in
       let span = x.span in
       let more = x.more in
+      let paths = sync_paths n (made ++ now) in
+      let start : ℕ = suc (time + paths.systems * (longest_span (pace_of n) + x.most) + largest_interval (pace_of n)) in
       record {
         last = Lost time x.most x.silent;
         lead = x.lead;
         settles = (
-          Heard time,
-          inr (record {
-            off = off;
-            told = omega (arith, span, more);
-            later = omega arith;
-            unlinked = x.quiet;
-            over = omega (arith, span, more);
-          }),
+          Heard start,
+          inr (
+            start,
+            refl,
+            record {
+              off = off;
+              later = omega arith;
+              unlinked = x.quiet;
+              over = omega (arith, span, more);
+            },
+          ),
           omega (arith, span, more),
         );
       }

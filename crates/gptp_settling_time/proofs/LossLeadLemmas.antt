@@ -1,22 +1,19 @@
 -- A loss leads a network that has settled to what is left, or in which a system turns, or that is cleared.
-use Rattle.std.proofs.Common.{List, [], ap, append-nil, append_assoc, arith, inl, inr, max, pred, refl, subst, suc, sym, zero, ℕ, ◌*◌, ◌++◌, ◌+◌, ◌∙◌, ◌∷◌, ◌≡◌, ◌≤◌, ◌⊎◌}
-use Rattle.std.specs.List.{AllByRecursion}
-use Rattle.std.proofs.Math.Nat.{le-max_left, le-max_right, mul-le-mul_left}
+use Rattle.std.proofs.Common.{List, [], ap, append-nil, append_assoc, arith, inl, inr, refl, subst, suc, sym, ℕ, ◌*◌, ◌++◌, ◌+◌, ◌<◌, ◌∙◌, ◌∷◌, ◌≡◌, ◌≤◌, ◌⊎◌}
+use Rattle.std.proofs.Math.Nat.{le-max_left}
 use Rattle.gptp_setup.specs.SettlingParams.{largest_interval, longest_span}
 use Rattle.gptp_scenario.specs.Calm.{IsCalm, NothingLapses, last_change}
 use Rattle.gptp_scenario.specs.Network.{NetworkState, pace_of}
-use Rattle.gptp_scenario.specs.SettlingTime.{capability_span}
+use Rattle.gptp_scenario.specs.SettlingTime.{aging_span, capability_span, silence_span}
 use Rattle.gptp_scenario.specs.SyncWait.{sync_paths}
 use Rattle.gptp_scenario.specs.declared.change.Timed.{Timed}
-use Rattle.gptp_scenario.specs.declared.sync_wait.SyncPaths.{SyncPaths}
-use Rattle.gptp_settling_time.specs.HowSoon.{CutsOneEnd, EachEvent, FailsEndFirst, FailsHeardFirst, LowersOneLink, RestsAfterOneLoss, TurnsOneLink, TurnsUnused, way_span}
-use Rattle.gptp_settling_time.specs.InTurn.{Aging, AnyPast, ChoosesAfter, Cleared, CutsCalm, EventLeads, FailsCalm, FailsNow, FlightIsGone, Gained, Heard, LeadOn, Left, LosesNow, Lost, LowersCalm, Past, SettlesAfter, Starting, Turned, TurnsCalm, echo_span, nearer_echo_span, turned_echo_span}
-use Rattle.gptp_settling_time.specs.Losses.{CutsFarEnd, FailsFarEnd, FailsHeard, LowersLink, LowersUnused, TurnsLink, UpIsUsed, aging_span}
-use Rattle.gptp_settling_time.proofs.CalmLessLemmas.{failure_calm, fails_calm, lowers_calm}
+use Rattle.gptp_settling_time.specs.HowSoon.{EachEvent, TurnsUnused}
+use Rattle.gptp_settling_time.specs.InTurn.{AgesSooner, Aging, AnyPast, ChoosesAfter, Cleared, EventLeads, FailsCalm, FailsNow, Fallen, Gained, Heard, LeadOn, LeadsByTree, Left, LosesNow, Lost, LowersCalm, Past, SettlesAfter, Starting, Turned, TurnedTree, TurnsCalm}
+use Rattle.gptp_settling_time.specs.Losses.{AgesWithin, FailsHeard, LowersUnused}
+use Rattle.gptp_settling_time.proofs.CalmLessLemmas.{failure_calm, lowers_calm}
 use Rattle.gptp_settling_time.proofs.SamePathsLemmas.{turned_paths}
-use Rattle.gptp_settling_time.proofs.LeftToLemmas.{less_way}
-use Rattle.gptp_settling_time.proofs.LeadOnLemmas.{HasSettled, IsLed}
-use Rattle.gptp_invariants.specs.FailedUnanswered.{silence_span}
+use Rattle.gptp_settling_time.proofs.LeadOnLemmas.{HasSettled}
+use Rattle.gptp_settling_time.proofs.SilentSpanLemmas.{failure_within}
 
 module _ (n : NetworkState) (made : List Timed) (event : Timed) (roles : ℕ) where
   -- after a loss by which no system is moved the network is left so that its choice stands
@@ -61,9 +58,29 @@ module _ (n : NetworkState) (made : List Timed) (event : Timed) (roles : ℕ) wh
   }
   loss_leads (Left silent) settled loses = absurd settled
   loss_leads (Turned silent now) settled loses = absurd settled
+  loss_leads (Fallen silent now) settled loses = absurd settled
+  loss_leads (TurnedTree silent now) settled loses = absurd settled
   loss_leads (Cleared begun silent right old) settled loses = absurd settled
-  loss_leads (Aging aged silent) settled loses = absurd settled
+  loss_leads (Aging ago aged silent) settled loses = absurd settled
   loss_leads (Lost since most silent) settled loses = absurd settled
+
+-- after one by which a tree is so moved it is, where the choice had stood for an announce interval
+module _ (n : NetworkState) (made : List Timed) (event : Timed) (stood : ℕ) (later : last_change made < stood)
+    (quiet : stood + largest_interval (pace_of n) ≤ event.at) (Moves : Type 0) where
+  pub tree_leads : (past : Past) → HasSettled n made past stood → Moves
+      → (silent : ℕ) × LeadsByTree n made past event Moves silent event.at
+  tree_leads AnyPast settled moves =
+      (last_change made + capability_span (pace_of n), (stood, settled, (later, quiet, moves, refl, refl)))
+  tree_leads Starting settled moves = absurd settled
+  tree_leads (Gained start) settled moves = (start, (stood, settled, (later, quiet, moves, refl, refl)))
+  tree_leads (Heard start) settled moves = (start, (stood, settled, (later, quiet, moves, refl, refl)))
+  tree_leads (Left silent) settled moves = absurd settled
+  tree_leads (Turned silent now) settled moves = absurd settled
+  tree_leads (Fallen silent now) settled moves = absurd settled
+  tree_leads (TurnedTree silent now) settled moves = absurd settled
+  tree_leads (Cleared begun silent right old) settled moves = absurd settled
+  tree_leads (Aging ago aged silent) settled moves = absurd settled
+  tree_leads (Lost since most silent) settled moves = absurd settled
 
 -- after one by which a system turns it has turned
 module _ (n : NetworkState) (made : List Timed) (event : Timed) where
@@ -89,21 +106,25 @@ module _ (n : NetworkState) (made : List Timed) (event : Timed) where
       record { silent = start; leads = (settled, (turns, refl, refl)); early = omega (arith, settled) }
   turn_leads (Left silent) settled turns = absurd settled
   turn_leads (Turned silent now) settled turns = absurd settled
+  turn_leads (Fallen silent now) settled turns = absurd settled
+  turn_leads (TurnedTree silent now) settled turns = absurd settled
   turn_leads (Cleared begun silent right old) settled turns = absurd settled
-  turn_leads (Aging aged silent) settled turns = absurd settled
+  turn_leads (Aging ago aged silent) settled turns = absurd settled
   turn_leads (Lost since most silent) settled turns = absurd settled
 
   -- after one of a system that others hear what they hold of it ages
   pub ages_leads : (past : Past) (aged silent : ℕ) → HasSettled n made past event.at → FailsNow n made event aged silent
-      → EventLeads n made past event (Aging aged silent)
-  ages_leads AnyPast aged silent settled now = (settled, now)
+      → EventLeads n made past event (Aging made aged silent)
+  ages_leads AnyPast aged silent settled now = (settled, refl, now)
   ages_leads Starting aged silent settled now = absurd settled
-  ages_leads (Gained start) aged silent settled now = (settled, now)
-  ages_leads (Heard start) aged silent settled now = (settled, now)
+  ages_leads (Gained start) aged silent settled now = (settled, refl, now)
+  ages_leads (Heard start) aged silent settled now = (settled, refl, now)
   ages_leads (Left start) aged silent settled now = absurd settled
   ages_leads (Turned start was) aged silent settled now = absurd settled
+  ages_leads (Fallen start was) aged silent settled now = absurd settled
+  ages_leads (TurnedTree start was) aged silent settled now = absurd settled
   ages_leads (Cleared begun start right old) aged silent settled now = absurd settled
-  ages_leads (Aging gone start) aged silent settled now = absurd settled
+  ages_leads (Aging ago gone start) aged silent settled now = absurd settled
   ages_leads (Lost since most start) aged silent settled now = absurd settled
 
   -- after any other it has lost
@@ -115,8 +136,10 @@ module _ (n : NetworkState) (made : List Timed) (event : Timed) where
   loses_leads (Heard start) since most silent settled now = (settled, now)
   loses_leads (Left start) since most silent settled now = absurd settled
   loses_leads (Turned start was) since most silent settled now = absurd settled
+  loses_leads (Fallen start was) since most silent settled now = absurd settled
+  loses_leads (TurnedTree start was) since most silent settled now = absurd settled
   loses_leads (Cleared begun start right old) since most silent settled now = absurd settled
-  loses_leads (Aging aged start) since most silent settled now = absurd settled
+  loses_leads (Aging ago aged start) since most silent settled now = absurd settled
   loses_leads (Lost begun delay start) since most silent settled now = absurd settled
 
 -- what settles has its choice
@@ -128,8 +151,10 @@ settles_chooses n events (Gained start) settled is = is
 settles_chooses n events (Heard start) settled is = is
 settles_chooses n events (Left silent) settled (off, late) = off
 settles_chooses n events (Turned silent now) settled so = so
+settles_chooses n events (Fallen silent now) settled so = so
+settles_chooses n events (TurnedTree silent now) settled so = so
 settles_chooses n events (Cleared begun silent right old) settled (off, late) = off
-settles_chooses n events (Aging aged silent) settled (off, late) = (off, inr late)
+settles_chooses n events (Aging ago aged silent) settled (off, late) = (off, inr late)
 settles_chooses n events (Lost since most silent) settled (off, passed, late) = (off, passed)
 
 -- a network that is left stays so where links go down of which an end has failed
@@ -145,7 +170,7 @@ dead_lead n made (event ∷ now) silent off calm (lowers, others) = (
 )
 
 -- so does one that is cleared
-dead_clear : (n : NetworkState) (made now : List Timed) (begun silent old : ℕ) → NothingLapses n.params
+pub dead_clear : (n : NetworkState) (made now : List Timed) (begun silent old : ℕ) → NothingLapses n.params
     → IsCalm n made → EachEvent (LowersUnused n) made now
     → LeadOn n made (Cleared begun silent 0 old) now (Cleared begun silent 0 old)
 dead_clear n made [] begun silent old off calm each = refl
@@ -158,7 +183,7 @@ dead_clear n made (event ∷ now) begun silent old off calm (lowers, others) = (
 )
 
 -- and what is in use stays
-dead_paths : (n : NetworkState) (made now : List Timed) → EachEvent (LowersUnused n) made now
+pub dead_paths : (n : NetworkState) (made now : List Timed) → EachEvent (LowersUnused n) made now
     → sync_paths n (made ++ now) ≡ sync_paths n made
 dead_paths n made [] each = ap (sync_paths n) (append-nil made)
 dead_paths n made (event ∷ now) (lowers, others) =
@@ -168,466 +193,74 @@ dead_paths n made (event ∷ now) (lowers, others) =
     (subst (TurnsUnused n made) (sym lowers.act) lowers.failed)
 
 -- and what ages goes on to age
-pub aging_lead : (n : NetworkState) (made now : List Timed) (aged silent : ℕ) → NothingLapses n.params → IsCalm n made
-    → EachEvent (LowersUnused n) made now → LeadOn n made (Aging aged silent) now (Aging aged silent)
-aging_lead n made [] aged silent off calm each = refl
-aging_lead n made (event ∷ now) aged silent off calm (lowers, others) = (
-  Aging aged silent,
+aging_lead : (n : NetworkState) (ago made now : List Timed) (other : Timed) (gone aged silent : ℕ)
+    → NothingLapses n.params → IsCalm n made → EachEvent (LowersUnused n) made (other ∷ now)
+    → AgesSooner n ago (made ++ other ∷ now) aged silent
+    → LeadOn n made (Aging ago gone silent) (other ∷ now) (Aging ago aged silent)
+aging_lead n ago made [] other gone aged silent off calm (lowers, others) sooner = (
+  Aging ago gone silent,
   inl refl,
-  Aging aged silent,
-  (record { lowers = lowers; calm = calm; off = off }, refl, refl),
-  aging_lead n (made ++ event ∷ []) now aged silent off (lowers_calm n made event off calm lowers) others,
+  Aging ago aged silent,
+  (record { lowers = lowers; calm = calm; off = off }, refl, refl, inr sooner),
+  refl,
+)
+aging_lead n ago made (event ∷ now) other gone aged silent off calm (lowers, others) sooner = (
+  Aging ago gone silent,
+  inl refl,
+  Aging ago gone silent,
+  (record { lowers = lowers; calm = calm; off = off }, refl, refl, inl refl),
+  aging_lead n ago (made ++ other ∷ []) now event gone aged silent off (lowers_calm n made other off calm lowers) others
+      (subst (λ es. AgesSooner n ago es aged silent) (sym (append_assoc made (other ∷ []) (event ∷ now))) sooner),
 )
 
--- after the loss of a far end it is cleared
-module _ (n : NetworkState) (made : List Timed) (event : Timed) (gone : ℕ) (flight : FlightIsGone n made gone) where
-  record IsClearedBy (past : Past) (by : ℕ) : Type 0 where
-    since : ℕ
-    silent : ℕ
-    leads : EventLeads n made past event (Cleared since silent 0 (event.at + gone))
-    early : since + way_span (sync_paths n made) ≤ event.at
-    over : silent ≤ by
-
-  -- by a link that cuts it off, as ports without a link were off
-  cut_leads : (past : Past) → HasSettled n made past event.at → CutsCalm n made event
-      → IsClearedBy past event.at
-  cut_leads AnyPast settled cuts =
-      let passed = settled.passed in
-      let over = le-max_left (capability_span (pace_of n)) (2 * largest_interval (pace_of n)
-      + (sync_paths n made).systems * (longest_span (pace_of n) + (sync_paths n made).delay)) in
-      record {
-        since = last_change made + capability_span (pace_of n);
-        silent = last_change made + capability_span (pace_of n);
-        leads = (settled, inl (refl, inl (inl (cuts, refl), refl, (gone, flight, refl))));
-        early = omega (arith, passed, over);
-        over = omega (arith, passed, over);
-      }
-  cut_leads Starting settled cuts = absurd settled
-  cut_leads (Gained start) settled cuts = record {
-    since = start;
-    silent = start;
-    leads = (settled, inl (refl, inl (inl (cuts, refl), refl, (gone, flight, refl))));
-    early = omega (arith, settled);
-    over = omega (arith, settled);
-  }
-  cut_leads (Heard start) settled cuts = record {
-    since = start;
-    silent = start;
-    leads = (settled, inl (refl, inl (inl (cuts, refl), refl, (gone, flight, refl))));
-    early = omega (arith, settled);
-    over = omega (arith, settled);
-  }
-  cut_leads (Left silent) settled cuts = absurd settled
-  cut_leads (Turned silent now) settled cuts = absurd settled
-  cut_leads (Cleared begun silent right last) settled cuts = absurd settled
-  cut_leads (Aging aged silent) settled cuts = absurd settled
-  cut_leads (Lost since most silent) settled cuts = absurd settled
-
-  -- or as it fails, once the ports beside it have been unanswered for long enough
-  fail_leads : (past : Past) → HasSettled n made past event.at → FailsCalm n made event
-      → IsClearedBy past (suc (event.at + silence_span (pace_of n)))
-  fail_leads AnyPast settled fails =
-      let passed = settled.passed in
-      let over = le-max_left (capability_span (pace_of n)) (2 * largest_interval (pace_of n)
-      + (sync_paths n made).systems * (longest_span (pace_of n) + (sync_paths n made).delay)) in
-      record {
-        since = last_change made + capability_span (pace_of n);
-        silent = suc (event.at + silence_span (pace_of n));
-        leads = (settled, inl (refl, inl (inr (fails, refl), refl, (gone, flight, refl))));
-        early = omega (arith, passed, over);
-        over = omega arith;
-      }
-  fail_leads Starting settled fails = absurd settled
-  fail_leads (Gained start) settled fails = record {
-    since = start;
-    silent = suc (event.at + silence_span (pace_of n));
-    leads = (settled, inl (refl, inl (inr (fails, refl), refl, (gone, flight, refl))));
-    early = omega (arith, settled);
-    over = omega arith;
-  }
-  fail_leads (Heard start) settled fails = record {
-    since = start;
-    silent = suc (event.at + silence_span (pace_of n));
-    leads = (settled, inl (refl, inl (inr (fails, refl), refl, (gone, flight, refl))));
-    early = omega (arith, settled);
-    over = omega arith;
-  }
-  fail_leads (Left silent) settled fails = absurd settled
-  fail_leads (Turned silent now) settled fails = absurd settled
-  fail_leads (Cleared begun silent right last) settled fails = absurd settled
-  fail_leads (Aging aged silent) settled fails = absurd settled
-  fail_leads (Lost since most silent) settled fails = absurd settled
-
--- after another such link goes down it is, once right traces are told
-module _ (n : NetworkState) (made : List Timed) (event : Timed) (gone : ℕ)
-    (flight : FlightIsGone n (made ++ event ∷ []) gone) where
-  abbrev echo : ℕ
-  echo = nearer_echo_span n (made ++ event ∷ [])
-
-  record IsRightedBy (past : Past) : Type 0 where
-    since : ℕ
-    leads : EventLeads n made past event (Cleared since since (event.at + 1 + echo) (event.at + echo + gone))
-    early : since + way_span (sync_paths n made) ≤ event.at
-
-  right_leads : (past : Past) → HasSettled n made past event.at → LowersCalm n made event → IsRightedBy past
-  right_leads AnyPast settled lowers =
-      let passed = settled.passed in
-      let over = le-max_left (capability_span (pace_of n)) (2 * largest_interval (pace_of n)
-      + (sync_paths n made).systems * (longest_span (pace_of n) + (sync_paths n made).delay)) in
-      record {
-        since = last_change made + capability_span (pace_of n);
-        leads = (settled, inl (refl, inr (lowers, refl, refl, (gone, flight, refl))));
-        early = omega (arith, passed, over);
-      }
-  right_leads Starting settled lowers = absurd settled
-  right_leads (Gained start) settled lowers = record {
-    since = start;
-    leads = (settled, inl (refl, inr (lowers, refl, refl, (gone, flight, refl))));
-    early = omega (arith, settled);
-  }
-  right_leads (Heard start) settled lowers = record {
-    since = start;
-    leads = (settled, inl (refl, inr (lowers, refl, refl, (gone, flight, refl))));
-    early = omega (arith, settled);
-  }
-  right_leads (Left silent) settled lowers = absurd settled
-  right_leads (Turned silent now) settled lowers = absurd settled
-  right_leads (Cleared begun silent right last) settled lowers = absurd settled
-  right_leads (Aging aged silent) settled lowers = absurd settled
-  right_leads (Lost since most silent) settled lowers = absurd settled
-
--- as a system fails that others hear it is, where each link that is up then is in use
-module _ (n : NetworkState) (made : List Timed) (event : Timed) (aged silent : ℕ)
-    (now : FailsNow n made event aged silent) (used : UpIsUsed n (made ++ event ∷ [])) where
-  abbrev EchoesPower : Past → Type 0
-  EchoesPower past = EventLeads n made past event
-      (Cleared event.at silent (event.at + 1 + nearer_echo_span n (made ++ event ∷ []))
-      (event.at + nearer_echo_span n (made ++ event ∷ []) + (sync_paths n (made ++ event ∷ [])).delay))
-
-  power_leads : (past : Past) → HasSettled n made past event.at → EchoesPower past
-  power_leads AnyPast settled = (settled, inr (aged, now, (used, refl, refl, refl)))
-  power_leads Starting settled = absurd settled
-  power_leads (Gained start) settled = (settled, inr (aged, now, (used, refl, refl, refl)))
-  power_leads (Heard start) settled = (settled, inr (aged, now, (used, refl, refl, refl)))
-  power_leads (Left start) settled = absurd settled
-  power_leads (Turned start was) settled = absurd settled
-  power_leads (Cleared begun start right last) settled = absurd settled
-  power_leads (Aging gone start) settled = absurd settled
-  power_leads (Lost since most start) settled = absurd settled
-
--- Else it goes on to age until the last link goes down of which an end has failed, at this time.
-power_lead : (n : NetworkState) (made now : List Timed) (other : Timed) (time aged silent : ℕ) → NothingLapses n.params
-    → IsCalm n made → AllByRecursion (λ (t : Timed). t.at ≡ time) (other ∷ now)
-    → EachEvent (LowersUnused n) made (other ∷ now) → UpIsUsed n (made ++ other ∷ now)
-    → LeadOn n made (Aging aged silent) (other ∷ now)
-    (Cleared time silent (time + 1 + nearer_echo_span n (made ++ other ∷ now))
-    (time + nearer_echo_span n (made ++ other ∷ now) + (sync_paths n (made ++ other ∷ now)).delay))
-power_lead n made [] other time aged silent off calm (at, none) (lowers, others) used =
-    let last = Cleared time silent (time + 1 + nearer_echo_span n (made ++ other ∷ []))
-    (time + nearer_echo_span n (made ++ other ∷ []) + (sync_paths n (made ++ other ∷ [])).delay) in (
-      Aging aged silent,
+-- So it does from when a system fails that others hear, as long as what came over the links that are silent after all
+-- of the events.
+pub heard_lead : (n : NetworkState) (made : List Timed) (event : Timed) (now : List Timed) (past : Past) (span : ℕ)
+    → NothingLapses n.params → IsCalm n made → HasSettled n made past event.at → FailsHeard n made event
+    → EachEvent (LowersUnused n) (made ++ event ∷ []) now → AgesWithin n made (made ++ event ∷ now) event.at span
+    → LeadOn n made past (event ∷ now)
+    (Aging made (suc (event.at + span)) (suc (event.at + silence_span (pace_of n))))
+heard_lead n made event [] past span off calm settled fails lowers within =
+    let aged = suc (event.at + span) in
+    let silent = suc (event.at + silence_span (pace_of n)) in (
+      past,
       inl refl,
-      last,
-      (
-        record { lowers = lowers; calm = calm; off = off },
-        refl,
-        (
-          used,
-          sym at,
-          ap (λ t. t + 1 + nearer_echo_span n (made ++ other ∷ [])) (sym at),
-          ap (λ t. t + nearer_echo_span n (made ++ other ∷ []) + (sync_paths n (made ++ other ∷ [])).delay) (sym at),
-        ),
-      ),
+      Aging made aged silent,
+      ages_leads n made event past aged silent settled (record {
+        fails = fails;
+        calm = calm;
+        off = off;
+        span = span;
+        within = within;
+        gone = refl;
+        unanswered = refl;
+      }),
       refl,
     )
-power_lead n made (event ∷ now) other time aged silent off calm (at, later) (lowers, others) used =
-    let all : (made ++ other ∷ []) ++ event ∷ now ≡ made ++ other ∷ event ∷ now =
-    append_assoc made (other ∷ []) (event ∷ now) in (
-      Aging aged silent,
+heard_lead n made event (other ∷ now) past span off calm settled fails lowers within =
+    let aged = suc (event.at + span) in
+    let silent = suc (event.at + silence_span (pace_of n)) in
+    let most = aging_span (pace_of n) (sync_paths n made) in
+    let gone = suc (event.at + most) in (
+      past,
       inl refl,
-      Aging aged silent,
-      (record { lowers = lowers; calm = calm; off = off }, refl, refl),
-      subst (λ es. LeadOn n (made ++ other ∷ []) (Aging aged silent) (event ∷ now)
-          (Cleared time silent (time + 1 + nearer_echo_span n es)
-          (time + nearer_echo_span n es + (sync_paths n es).delay))) all
-          (power_lead n (made ++ other ∷ []) now event time aged silent off
-          (lowers_calm n made other off calm lowers) later others (subst (UpIsUsed n) (sym all) used)),
+      Aging made gone silent,
+      ages_leads n made event past gone silent settled (record {
+        fails = fails;
+        calm = calm;
+        off = off;
+        span = most;
+        within = failure_within n made event fails;
+        gone = refl;
+        unanswered = refl;
+      }),
+      aging_lead n made (made ++ event ∷ []) now other gone aged silent off
+          (failure_calm n made event off calm fails.clock fails.act) lowers (
+            event.at,
+            span,
+            refl,
+            subst (λ es. AgesWithin n made es event.at span) (sym (append_assoc made (event ∷ []) (other ∷ now)))
+                within,
+            refl,
+          ),
     )
-
--- What was in flight as all but the neighbours of the best tell what is right is gone once they do too.
-nearer_within : (systems hop gone : ℕ) → gone ≤ hop → pred (pred systems) * hop + gone ≤ max (pred systems * hop) gone
-nearer_within zero hop gone soon = let least = le-max_right (0 * hop) gone in omega (arith, least)
-nearer_within (suc zero) hop gone soon = let least = le-max_right (0 * hop) gone in omega (arith, least)
-nearer_within (suc (suc k)) hop gone soon =
-    let most = le-max_left (suc k * hop) gone in omega (arith, most, soon)
-
--- it has come to rest by so much later
-module _ (n : NetworkState) (off : NothingLapses n.params) (time : ℕ) (made now : List Timed) (past : Past) (rest : ℕ)
-    (at : AllByRecursion (λ (t : Timed). t.at ≡ time) now) (calm_then : IsCalm n made) (calm : IsCalm n (made ++ now))
-    (settled : HasSettled n made past time) where
-  -- the event that loses the end is the first of them
-  module _ (event : Timed) (others : List Timed) (same : now ≡ event ∷ others) where
-    here : event.at ≡ time
-    here = (subst (AllByRecursion (λ (t : Timed). t.at ≡ time)) same at).0
-
-    settled_then : HasSettled n made past event.at
-    settled_then = subst (HasSettled n made past) (sym here) settled
-
-    -- it is cleared, and taken as heard from when its ports were capable
-    led : (since silent right old : ℕ) → EventLeads n made past event (Cleared since silent right old)
-        → LeadOn n (made ++ event ∷ []) (Cleared since silent right old) others (Cleared since silent right old)
-        → old ≤ time + rest → (silent ≤ suc (time + rest)) ⊎ UpIsUsed n (made ++ now)
-        → since + way_span (sync_paths n (made ++ now)) ≤ suc (time + rest)
-        → IsLed n made now past (suc (time + rest))
-    led since silent right old leads lead less unlinked over = record {
-      last = Cleared since silent right old;
-      lead = subst (λ es. LeadOn n made past es (Cleared since silent right old)) (sym same)
-          (past, inl refl, Cleared since silent right old, leads, lead);
-      settles = (
-        Heard since,
-        inr (record {
-          calm = calm;
-          off = off;
-          gone = omega (arith, less);
-          later = omega arith;
-          unlinked = unlinked;
-          over = over;
-        }),
-        over,
-      );
-    }
-
-    -- the way that is left is no longer
-    module _ (others_lower : EachEvent (LowersUnused n) (made ++ event ∷ []) others)
-        (delay : (sync_paths n (made ++ event ∷ [])).delay ≡ (sync_paths n made).delay)
-        (fewer : (sync_paths n (made ++ event ∷ [])).systems ≤ (sync_paths n made).systems) where
-      way_then : way_span (sync_paths n (made ++ now)) ≤ way_span (sync_paths n made)
-      way_then =
-          let parts : made ++ now ≡ (made ++ event ∷ []) ++ others =
-          ap (λ es. made ++ es) same ∙ sym (append_assoc made (event ∷ []) others) in
-          let paths : sync_paths n (made ++ now) ≡ sync_paths n (made ++ event ∷ []) =
-          ap (sync_paths n) parts ∙ dead_paths n (made ++ event ∷ []) others others_lower in
-          subst (λ (x : SyncPaths). way_span x ≤ way_span (sync_paths n made)) (sym paths)
-          (less_way (sync_paths n made).systems (sync_paths n (made ++ event ∷ [])).systems (sync_paths n made).delay
-          (sync_paths n (made ++ event ∷ [])).delay fewer delay)
-
-    cut_led : CutsFarEnd n made event → others ≡ [] → (gone : ℕ) → FlightIsGone n made gone
-        → rest ≡ max (2 * way_span (sync_paths n (made ++ now))) gone → IsLed n made now past (suc (time + rest))
-    cut_led cuts alone gone flight is =
-        let x = cut_leads n made event gone flight past settled_then
-        (record { cuts = cuts; calm = calm_then; off = off }) in
-        let l = cuts.lowers in
-        let less = way_then (subst (EachEvent (LowersUnused n) (made ++ event ∷ [])) (sym alone) tt) l.delay l.paths in
-        let before = here in
-        let early = x.early in
-        let over = x.over in
-        let gone_most = le-max_right (2 * way_span (sync_paths n (made ++ now))) gone in
-        led x.since x.silent 0 (event.at + gone) x.leads
-        (subst (λ es. LeadOn n (made ++ event ∷ []) (Cleared x.since x.silent 0 (event.at + gone)) es
-        (Cleared x.since x.silent 0 (event.at + gone))) (sym alone) refl) (omega (arith, before, is, gone_most))
-        (inl (omega (arith, over, before))) (omega (arith, early, before, less))
-
-    -- another such link goes down
-    right_led : LowersLink n made event → others ≡ [] → (gone : ℕ) → FlightIsGone n (made ++ now) gone
-        → rest ≡ max (echo_span n (made ++ now)) gone → IsLed n made now past (suc (time + rest))
-    right_led lowers alone gone flight is =
-        let one : made ++ now ≡ made ++ event ∷ [] =
-        ap (λ es. made ++ es) (same ∙ ap (λ es. event ∷ es) alone) in
-        let x = right_leads n made event gone (subst (λ es. FlightIsGone n es gone) one flight) past settled_then
-        (record { lowers = lowers; calm = calm_then; off = off }) in
-        let less = way_then (subst (EachEvent (LowersUnused n) (made ++ event ∷ [])) (sym alone) tt) lowers.delay
-        lowers.paths in
-        let last : Past = Cleared x.since x.since (event.at + 1 + nearer_echo_span n (made ++ event ∷ []))
-        (event.at + nearer_echo_span n (made ++ event ∷ []) + gone) in
-        let within : nearer_echo_span n (made ++ event ∷ []) + gone ≤ max (echo_span n (made ++ now)) gone =
-        subst (λ es. nearer_echo_span n es + gone ≤ max (echo_span n (made ++ now)) gone) one
-        (nearer_within (sync_paths n (made ++ now)).systems
-        (largest_interval (pace_of n) + (sync_paths n (made ++ now)).delay) gone (gone_soon flight)) in
-        let before = here in
-        let early = x.early in
-        led x.since x.since (event.at + 1 + nearer_echo_span n (made ++ event ∷ []))
-        (event.at + nearer_echo_span n (made ++ event ∷ []) + gone) x.leads
-        (subst (λ es. LeadOn n (made ++ event ∷ []) last es last) (sym alone) refl)
-        (omega (arith, before, is, within)) (inl (omega (arith, early, before)))
-        (omega (arith, early, before, less))
-      where
-        gone_soon : FlightIsGone n (made ++ now) gone
-            → gone ≤ largest_interval (pace_of n) + (sync_paths n (made ++ now)).delay
-        gone_soon (inl (used, delay)) = omega (arith, delay)
-        gone_soon (inr interval) = omega (arith, interval)
-
-    fail_led : FailsFarEnd n made event → EachEvent (LowersUnused n) (made ++ event ∷ []) others
-        → (UpIsUsed n (made ++ now) × FlightIsGone n made rest)
-        ⊎ ((gone : ℕ) × FlightIsGone n made gone × (rest ≡ max (silence_span (pace_of n)) gone))
-        → IsLed n made now past (suc (time + rest))
-    fail_led fails lowers (inl (used, flight)) =
-        let x = fail_leads n made event rest flight past settled_then
-        (record { fails = fails; calm = calm_then; off = off }) in
-        let less = way_then lowers fails.delay fails.paths in
-        let before = here in
-        let early = x.early in
-        led x.since x.silent 0 (event.at + rest) x.leads
-        (dead_clear n (made ++ event ∷ []) others x.since x.silent (event.at + rest) off
-        (fails_calm n made event off calm_then fails) lowers) (omega (arith, before)) (inr used)
-        (omega (arith, early, before, less))
-    fail_led fails lowers (inr (gone, flight, is)) =
-        let x = fail_leads n made event gone flight past settled_then
-        (record { fails = fails; calm = calm_then; off = off }) in
-        let less = way_then lowers fails.delay fails.paths in
-        let before = here in
-        let early = x.early in
-        let over = x.over in
-        let silent_most = le-max_left (silence_span (pace_of n)) gone in
-        let gone_most = le-max_right (silence_span (pace_of n)) gone in
-        led x.since x.silent 0 (event.at + gone) x.leads
-        (dead_clear n (made ++ event ∷ []) others x.since x.silent (event.at + gone) off
-        (fails_calm n made event off calm_then fails) lowers) (omega (arith, is, gone_most, before))
-        (inl (omega (arith, over, before, is, silent_most))) (omega (arith, early, before, less))
-
-    -- one system turns, and it is taken as heard from now on
-    turned_led : TurnsLink n made event → others ≡ [] → rest ≡ turned_echo_span n (made ++ now)
-        → IsLed n made now past (suc (time + rest))
-    turned_led turns alone is =
-        let x = turn_leads n made event past settled_then (record { turns = turns; calm = calm_then; off = off }) in
-        let last : Past = Turned x.silent event.at in
-        let before = here in
-        let over : event.at + way_span (sync_paths n (made ++ now)) ≤ suc (time + rest) =
-        omega (arith, before, is) in
-        record {
-          last = last;
-          lead = subst (λ es. LeadOn n made past es last) (sym (same ∙ ap (λ es. event ∷ es) alone))
-              (past, inl refl, last, x.leads, refl);
-          settles = (
-            Heard event.at,
-            inr (record {
-              calm = calm;
-              off = off;
-              told = omega (arith, before, is);
-              later = omega arith;
-              unlinked = x.early;
-              over = over;
-            }),
-            over,
-          );
-        }
-
-    -- a system fails that others hear
-    power_led : FailsHeard n made event → EachEvent (LowersUnused n) (made ++ event ∷ []) others
-        → UpIsUsed n (made ++ now) → max (echo_span n (made ++ now)) (sync_paths n (made ++ now)).delay ≤ rest
-        → IsLed n made now past (suc (time + rest))
-    power_led fails lowers used long = by others refl
-      where
-        aged : ℕ
-        aged = suc (event.at + aging_span (pace_of n) (sync_paths n made))
-
-        silent : ℕ
-        silent = suc (event.at + silence_span (pace_of n))
-
-        falls : FailsNow n made event aged silent
-        falls = record { fails = fails; calm = calm_then; off = off; gone = refl; unanswered = refl }
-
-        less : way_span (sync_paths n (made ++ now)) ≤ way_span (sync_paths n made)
-        less = way_then lowers fails.delay fails.paths
-
-        old : ℕ
-        old = time + nearer_echo_span n (made ++ now) + (sync_paths n (made ++ now)).delay
-
-        right : ℕ
-        right = time + 1 + nearer_echo_span n (made ++ now)
-
-        within : nearer_echo_span n (made ++ now) + (sync_paths n (made ++ now)).delay ≤ rest
-        within =
-            let hop = largest_interval (pace_of n) + (sync_paths n (made ++ now)).delay in
-            let most = nearer_within (sync_paths n (made ++ now)).systems hop (sync_paths n (made ++ now)).delay
-            (omega arith) in
-            omega (arith, long, most)
-
-        ends : LeadOn n made past now (Cleared time silent right old) → IsLed n made now past (suc (time + rest))
-        ends lead =
-            let way : way_span (sync_paths n (made ++ now)) ≤ echo_span n (made ++ now) =
-            mul-le-mul_left (pred (sync_paths n (made ++ now)).systems) (omega arith) in
-            let over : time + way_span (sync_paths n (made ++ now)) ≤ suc (time + rest) = omega (arith, way, long) in
-            record {
-              last = Cleared time silent right old;
-              lead = lead;
-              settles = (
-                Heard time,
-                inr (record {
-                  calm = calm;
-                  off = off;
-                  gone = omega (arith, within);
-                  later = omega arith;
-                  unlinked = inr used;
-                  over = over;
-                }),
-                over,
-              );
-            }
-
-        by : (es : List Timed) → others ≡ es → IsLed n made now past (suc (time + rest))
-        by [] alone =
-            let one : made ++ now ≡ made ++ event ∷ [] =
-            ap (λ es. made ++ es) (same ∙ ap (λ es. event ∷ es) alone) in
-            let leads = power_leads n made event aged silent falls (subst (UpIsUsed n) one used) past settled_then in
-            let last : Past = Cleared time silent right old in
-            ends (subst (λ es. LeadOn n made past es last) (sym (same ∙ ap (λ es. event ∷ es) alone)) (
-              past,
-              inl refl,
-              last,
-              subst (λ t. EventLeads n made past event (Cleared t silent (t + 1 + nearer_echo_span n (made ++ now))
-                  (t + nearer_echo_span n (made ++ now) + (sync_paths n (made ++ now)).delay))) here
-                  (subst (λ es. EventLeads n made past event (Cleared event.at silent (event.at + 1 + nearer_echo_span n es)
-                  (event.at + nearer_echo_span n es + (sync_paths n es).delay))) (sym one) leads),
-              refl,
-            ))
-        by (other ∷ more) alone =
-            let all : made ++ now ≡ (made ++ event ∷ []) ++ other ∷ more =
-            ap (λ es. made ++ es) (same ∙ ap (λ es. event ∷ es) alone) ∙ sym (append_assoc made (event ∷ [])
-            (other ∷ more)) in
-            let last : Past = Cleared time silent right old in
-            let at_then = (subst (AllByRecursion (λ (t : Timed). t.at ≡ time)) same at).1 in
-            ends (subst (λ es. LeadOn n made past es last) (sym (same ∙ ap (λ es. event ∷ es) alone)) (
-              past,
-              inl refl,
-              Aging aged silent,
-              ages_leads n made event past aged silent settled_then falls,
-              subst (λ es. LeadOn n (made ++ event ∷ []) (Aging aged silent) (other ∷ more)
-                  (Cleared time silent (time + 1 + nearer_echo_span n es)
-                  (time + nearer_echo_span n es + (sync_paths n es).delay))) (sym all)
-                  (power_lead n (made ++ event ∷ []) more other time aged silent off
-                  (failure_calm n made event off calm_then fails.clock fails.act)
-                  (subst (AllByRecursion (λ (t : Timed). t.at ≡ time)) alone at_then)
-                  (subst (EachEvent (LowersUnused n) (made ++ event ∷ [])) alone lowers)
-                  (subst (UpIsUsed n) all used)),
-            ))
-
-  lost_led : (es : List Timed) → now ≡ es
-      → (CutsOneEnd n made es
-      × ((gone : ℕ) × FlightIsGone n made gone × (rest ≡ max (2 * way_span (sync_paths n (made ++ now))) gone)))
-      ⊎ ((FailsEndFirst n made es
-      × ((UpIsUsed n (made ++ now) × FlightIsGone n made rest)
-      ⊎ ((gone : ℕ) × FlightIsGone n made gone × (rest ≡ max (silence_span (pace_of n)) gone))))
-      ⊎ ((LowersOneLink n made es
-      × ((gone : ℕ) × FlightIsGone n (made ++ now) gone × (rest ≡ max (echo_span n (made ++ now)) gone)))
-      ⊎ ((TurnsOneLink n made es × (rest ≡ turned_echo_span n (made ++ now)))
-      ⊎ (FailsHeardFirst n made es × UpIsUsed n (made ++ now)
-      × (max (echo_span n (made ++ now)) (sync_paths n (made ++ now)).delay ≤ rest)))))
-      → IsLed n made now past (suc (time + rest))
-  lost_led [] same (inl (none, flight)) = absurd none
-  lost_led [] same (inr (inl (none, after))) = absurd none
-  lost_led [] same (inr (inr (inl (none, after)))) = absurd none
-  lost_led [] same (inr (inr (inr (inl (none, after))))) = absurd none
-  lost_led [] same (inr (inr (inr (inr (none, used, long))))) = absurd none
-  lost_led (event ∷ other ∷ others) same (inl (none, flight)) = absurd none
-  lost_led (event ∷ other ∷ others) same (inr (inr (inl (none, after)))) = absurd none
-  lost_led (event ∷ other ∷ others) same (inr (inr (inr (inl (none, after))))) = absurd none
-  lost_led (event ∷ []) same (inl (cuts, (gone, flight, is))) = cut_led event [] same cuts refl gone flight is
-  lost_led (event ∷ []) same (inr (inr (inl (lowers, (gone, flight, is))))) =
-      right_led event [] same lowers refl gone flight is
-  lost_led (event ∷ []) same (inr (inr (inr (inl (turns, is))))) = turned_led event [] same turns refl is
-  lost_led (event ∷ others) same (inr (inl ((fails, lowers), by))) = fail_led event others same fails lowers by
-  lost_led (event ∷ others) same (inr (inr (inr (inr ((fails, lowers), used, long))))) =
-      power_led event others same fails lowers used long
-
-  pub cleared_led : RestsAfterOneLoss n made now rest → IsLed n made now past (suc (time + rest))
-  cleared_led loses = lost_led now refl loses

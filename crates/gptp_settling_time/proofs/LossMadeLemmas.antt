@@ -5,9 +5,10 @@ use Rattle.gptp_graph.specs.PathBound.{path_bound}
 use Rattle.gptp_links.specs.declared.link.Direction.{Direction}
 use Rattle.gptp_links.specs.declared.link.Direction.TheVariants.{FromA, FromB}
 use Rattle.gptp_links.specs.Fate.{Draw}
-use Rattle.gptp_setup.specs.SettlingParams.{SettlingParams, largest_interval}
+use Rattle.gptp_setup.specs.SettlingParams.{SettlingParams}
 use Rattle.gptp_scenario.specs.Calm.{IsCalm, NothingLapses, IsUsed}
 use Rattle.gptp_scenario.specs.Network.{NetworkState, pace_of, IsEnd}
+use Rattle.gptp_scenario.specs.SettlingTime.{aging_span, silence_span}
 use Rattle.gptp_scenario.specs.SyncWait.{sync_paths}
 use Rattle.gptp_scenario.specs.declared.change.Act.TheVariants.{Change as Changing}
 use Rattle.gptp_scenario.specs.declared.change.Change.TheVariants.{LinkDown, Fail}
@@ -34,14 +35,19 @@ use Rattle.gptp_theorem.proofs.SyncPathLemmas.{paths_stand}
 use Rattle.gptp_settling_time.specs.InTurn.{ClearsBy, ClearsFarEnd, ClearsTraces, CutsCalm, FailsCalm, FailsNow, FlightIsGone, LeavesStanding, LowersCalm, TurnsCalm, TurnsNow, nearer_echo_span}
 use Rattle.gptp_settling_time.proofs.GainLemmas.{lives_so, up_so}
 use Rattle.gptp_settling_time.proofs.FailedAloneLemmas.{all_but, failed_left, less as failed_reduced, none_joined, ready_on as failed_ready}
+use Rattle.gptp_settling_time.proofs.AgedLemmas.{aged_begins}
+use Rattle.gptp_settling_time.proofs.AgesByWorldLemmas.{WorldAgesBy, aging_by}
 use Rattle.gptp_settling_time.proofs.AgingToLemmas.{IsAgingTo}
-use Rattle.gptp_settling_time.proofs.FailedHeardLemmas.{failed_aging}
+use Rattle.gptp_settling_time.proofs.FailedHeardLemmas.{failed_ages_by}
+use Rattle.gptp_settling_time.proofs.GoesToLemmas.{echo_to, goes_to}
+use Rattle.gptp_settling_time.proofs.HoldSpanLemmas.{ages_over}
 use Rattle.gptp_settling_time.proofs.KeptToLemmas.{KeepsTo}
 use Rattle.gptp_settling_time.proofs.LeftToLemmas.{IsLeftTo, less_way, up_in_use}
 use Rattle.gptp_settling_time.proofs.LostEndLemmas.{sound_reduced}
 use Rattle.gptp_settling_time.proofs.LostPowerLemmas.{told_anew}
 use Rattle.gptp_settling_time.proofs.LoweredLemmas.{act_left, ends, less as lowered_reduced, ready_on as lowered_ready, stay}
 use Rattle.gptp_settling_time.proofs.SettledSeenLemmas.{HasSettledSeen, IsSettledSeen}
+use Rattle.gptp_settling_time.proofs.SilentLinksLemmas.{AgesOver, over_within}
 use Rattle.gptp_settling_time.proofs.TakenDownLemmas.{told_lives}
 use Rattle.gptp_settling_time.proofs.ToldAnewLemmas.{IsTurnedAlways, anew_begins}
 use Rattle.gptp_settling_time.proofs.TurnedToLemmas.{IsTurnedTo}
@@ -49,13 +55,13 @@ use Rattle.gptp_settling_time.proofs.TurnsBeginLemmas.{act_turned}
 use Rattle.gptp_settling_time.proofs.WorldMovesLemmas.{cut_off_so, far_end_so, near_so, stays_joined, turns_so}
 use Rattle.gptp_bmca_machine.specs.SoundLaws.{AllAreNear}
 use Rattle.gptp_invariants.specs.ChoiceView.{says_announce, view}
-use Rattle.gptp_invariants.specs.FailedUnanswered.{silence_span}
-use Rattle.gptp_settling_time.specs.Losses.{FailsFarEnd, IsCutOff, IsFarEnd, LowersLink}
-use Rattle.gptp_settling_time.proofs.ClearedLemmas.{GoesBy, IsCleared}
+use Rattle.gptp_settling_time.specs.Losses.{AgesWithin, FailsFarEnd, IsCutOff, IsFarEnd, LowersLink}
+use Rattle.gptp_settling_time.proofs.BecomesSoundLemmas.{GoesBy, goes_due, nearer_echo}
+use Rattle.gptp_settling_time.proofs.ClearedLemmas.{IsCleared}
 use Rattle.gptp_settling_time.proofs.ClearedToLemmas.{IsClearedTo}
-use Rattle.gptp_settling_time.proofs.ClearsLemmas.{all_but_cut, clears, cut_joins_none, nearer_echo, ready_asked, rights, was_best}
-use Rattle.gptp_settling_time.proofs.DueLemmas.{AreDueBy, due_by_delay, due_by_interval}
-use Rattle.gptp_settling_time.proofs.LeftClaimedLemmas.{HaveAskedBy, IsLeftAlways, left_network}
+use Rattle.gptp_settling_time.proofs.ClearsLemmas.{all_but_cut, clears, cut_joins_none, ready_asked, rights, was_best}
+use Rattle.gptp_settling_time.proofs.DueLemmas.{AreDueBy, due_by_delay, due_by_interval, due_reduced}
+use Rattle.gptp_settling_time.proofs.LeftClaimedLemmas.{HaveAskedBy, IsLeftAlways, left_network, left_seen}
 use Rattle.gptp_settling_time.proofs.NamesItselfLemmas.{itself_begins}
 use Rattle.gptp_settling_time.proofs.ReducedLemmas.{IsReduced}
 
@@ -94,20 +100,19 @@ module _ (d : DocumentState) (playable : IsPlayable d) (made : List Timed) (even
     paths_after : sync_paths n more ≡ sync_paths_of w'
     paths_after = paths_stand n more w' playable.network after.stands after.claim.world.sound
 
-    same_delay : (sync_paths n more).delay ≡ (sync_paths n made).delay → delay_in w' ≡ delay_in then
-    same_delay same =
-        sym (ap (λ (y : SyncPaths). y.delay) paths_after) ∙ same ∙ ap (λ (y : SyncPaths). y.delay) paths_then
-
     -- the way that is left is no longer
-    way_over : (sync_paths n more).delay ≡ (sync_paths n made).delay
+    way_over : (sync_paths n more).delay ≤ (sync_paths n made).delay
         → (sync_paths n more).systems ≤ (sync_paths n made).systems
         → pred (path_bound (snapshot_of w')) * delay_in w' ≤ w'.time
-    way_over same fewer =
-        let shorter : path_bound (snapshot_of w') ≤ path_bound (snapshot_of then) =
-        subst (λ (x : SyncPaths). path_bound (snapshot_of w') ≤ x.systems) paths_then
-        (subst (λ (x : SyncPaths). x.systems ≤ (sync_paths n made).systems) paths_after fewer) in
-        let less = less_way (path_bound (snapshot_of then)) (path_bound (snapshot_of w')) (delay_in then) (delay_in w')
-        shorter (same_delay same) in
+    way_over least fewer =
+        let less : pred (path_bound (snapshot_of w')) * delay_in w'
+        ≤ pred (path_bound (snapshot_of then)) * delay_in then =
+        subst (λ (x : SyncPaths). pred x.systems * x.delay
+        ≤ pred (path_bound (snapshot_of then)) * delay_in then) paths_after
+        (subst (λ (x : SyncPaths). pred (sync_paths n more).systems * (sync_paths n more).delay
+        ≤ pred x.systems * x.delay) paths_then
+        (less_way (sync_paths n made).systems (sync_paths n more).systems (sync_paths n made).delay
+        (sync_paths n more).delay fewer least)) in
         let over = rest.over in
         omega (arith, over, less, time)
 
@@ -140,8 +145,8 @@ module _ (d : DocumentState) (playable : IsPlayable d) (made : List Timed) (even
       lowered_since =
           act_left p start x.clock x.port then draws done w' keeps.claim.pace world_then after.claim.world
           keeps.claim.measured after.claim.measured came was_up lowered_seen lowered_near lowered_quiet past rest.ready
-          rest.silent (stays_joined d playable made event then w' keeps after x.moves) (same_delay x.delay)
-          (way_over x.delay x.paths) rest.sound
+          rest.silent (stays_joined d playable made event then w' keeps after x.moves) (way_over x.delay x.paths)
+          rest.sound
 
       lowered_asked : HaveAskedBy start w'
       lowered_asked =
@@ -164,8 +169,9 @@ module _ (d : DocumentState) (playable : IsPlayable d) (made : List Timed) (even
           rest.silent (stays_joined d playable made event then w' keeps after x.moves))
 
       -- it cuts off a far end
-      module _ (lost old : ℕ) (far : IsFarEnd (snapshot_of then) lost) (cut : IsCutOff (snapshot_of w') lost)
-          (lost_end : (came.1.channel.a.clock ≡ lost) ⊎ (came.1.channel.b.clock ≡ lost)) (due : AreDueBy old then) where
+      module _ (lost gone old : ℕ) (far : IsFarEnd (snapshot_of then) lost) (cut : IsCutOff (snapshot_of w') lost)
+          (lost_end : (came.1.channel.a.clock ≡ lost) ⊎ (came.1.channel.b.clock ≡ lost)) (goes : GoesBy p gone w')
+          (is : old ≡ event.at + gone) where
         cut_since : IsCleared p (snapshot_of then) start start 0 old w'
         cut_since =
             clears p start start old then w' after.claim.world lowered_seen lowered_near rest.sound lowered_less
@@ -173,13 +179,18 @@ module _ (d : DocumentState) (playable : IsPlayable d) (made : List Timed) (even
             (all_but_cut p then world_then came.1.place came.1.channel came.1.is.here draws w' after.claim.world
             (ends p start x.clock x.port then draws done w' keeps.claim.pace world_then after.claim.world
             keeps.claim.measured after.claim.measured came was_up) lowered_seen lowered_near lost lost_end)
-            (cut_joins_none (snapshot_of w') lost cut) due
+            (cut_joins_none (snapshot_of w') lost cut)
+            (λ quiet off.
+            subst (λ t. AreDueBy t w') (omega (arith, is, time))
+            (goes_due p gone w' after.claim.world
+            (left_seen p (snapshot_of then) start w' lowered_since quiet off) goes))
 
     abbrev lowers_by : CutsCalm n made event → LowersCalm n made event
     lowers_by cuts = record { lowers = cuts.cuts.lowers; calm = cuts.calm; off = cuts.off }
 
-    cut_to : (old : ℕ) → CutsCalm n made event → AreDueBy old then → IsClearedTo d more start start 0 old w'
-    cut_to old calm due =
+    cut_to : (gone old : ℕ) → CutsCalm n made event → GoesBy p gone w' → old ≡ event.at + gone
+        → IsClearedTo d more start start 0 old w'
+    cut_to gone old calm goes by =
         let lowers = lowers_by calm in
         let y = calm.cuts in
         let channel = (came lowers).1.channel in
@@ -191,8 +202,8 @@ module _ (d : DocumentState) (playable : IsPlayable d) (made : List Timed) (even
         record {
           keeps = after;
           before = snapshot_of then;
-          is = cut_since lowers y.lost old (far_end_so d playable made then keeps y.lost y.far)
-              (cut_off_so d playable more w' after y.lost y.cut) lost_end due;
+          is = cut_since lowers y.lost gone old (far_end_so d playable made then keeps y.lost y.far)
+              (cut_off_so d playable more w' after y.lost y.cut) lost_end goes by;
         }
 
     -- a system fails that is the far end of its links
@@ -218,8 +229,8 @@ module _ (d : DocumentState) (playable : IsPlayable d) (made : List Timed) (even
           (seen_then fails.calm fails.off) (near_so d playable made then keeps y.few)
           (far_end_so d playable made then keeps y.clock y.far)
           (stays_joined d playable made event then w' keeps after y.moves) rest.sound start next keeps.claim.pace
-          keeps.claim.measured after.claim.measured (omega (arith, over, at_time)) (same_delay y.delay)
-          (way_over y.delay y.paths) rest.ready failed_quiet rest.silent (omega (arith, at_time, long))
+          keeps.claim.measured after.claim.measured (omega (arith, over, at_time)) (way_over y.delay y.paths)
+          rest.ready failed_quiet rest.silent (omega (arith, at_time, long))
 
       failed_asked : HaveAskedBy start w'
       failed_asked =
@@ -241,7 +252,10 @@ module _ (d : DocumentState) (playable : IsPlayable d) (made : List Timed) (even
             (failed_reduced p y.clock then draws done w' world_then after.claim.world came_fail lived) failed_since
             failed_asked y.clock (far_end_so d playable made then keeps y.clock y.far)
             (all_but p y.clock then draws done w' world_then after.claim.world came_fail lived)
-            (none_joined p y.clock then draws done w' world_then after.claim.world came_fail lived) due;
+            (none_joined p y.clock then draws done w' world_then after.claim.world came_fail lived)
+            (λ quiet off.
+            due_reduced old then w'
+            (failed_reduced p y.clock then draws done w' world_then after.claim.world came_fail lived) due);
       }
 
     -- so each number may stand for what it is
@@ -263,18 +277,12 @@ module _ (d : DocumentState) (playable : IsPlayable d) (made : List Timed) (even
     gone_by gone calm off (inr is) =
         subst (λ t. AreDueBy t then) (omega (arith, is, at_time)) (due_by_interval p then world_then)
 
-    goes_by : (gone : ℕ) → FlightIsGone n more gone → GoesBy p gone w'
-    goes_by gone (inl (used, is)) =
-        inl (up_in_use d more w' after used, is ∙ ap (λ (u : SyncPaths). u.delay) paths_after)
-    goes_by gone (inr is) = inr is
-
     -- links begin to tell right traces
     rights_to : (right gone old : ℕ) → LowersCalm n made event → right ≡ event.at + 1 + nearer_echo_span n more
         → FlightIsGone n more gone → old ≡ event.at + nearer_echo_span n more + gone
         → IsClearedTo d more start start right old w'
     rights_to right gone old lowers right_is flight old_is =
-        let echo : nearer_echo_span n more ≡ nearer_echo p w' =
-        ap (λ (u : SyncPaths). pred (pred u.systems) * (largest_interval p + u.delay)) paths_after in
+        let echo : nearer_echo_span n more ≡ nearer_echo p w' = echo_to d playable more w' after in
         subst (λ t. IsClearedTo d more start start t old w') (sym (right_is ∙ omega (arith, echo, time)))
         (subst (λ t. IsClearedTo d more start start (suc (w'.time + nearer_echo p w')) t w')
         (sym (old_is ∙ omega (arith, echo, time)))
@@ -282,7 +290,7 @@ module _ (d : DocumentState) (playable : IsPlayable d) (made : List Timed) (even
           keeps = after;
           before = snapshot_of then;
           is = rights p (snapshot_of then) start start gone w' (lowered_since lowers) (lowered_asked lowers)
-              (goes_by gone flight) (snapshot_of then)
+              (goes_to d playable more w' after gone flight) (snapshot_of then)
               (was_best (snapshot_of then) (snapshot_of w') (lowered_since lowers).well
               (stands_well w' after.claim.world.sound after.claim.world.between after.claim.world.encodable)
               (lowered_since lowers).left)
@@ -294,10 +302,10 @@ module _ (d : DocumentState) (playable : IsPlayable d) (made : List Timed) (even
     ends_to : (since silent right old : ℕ) → since ≡ start
         → ClearsFarEnd n made event start silent right old ⊎ ClearsTraces n made event start silent right old
         → IsClearedTo d more since silent right old w'
-    ends_to since silent right old begun (inl (inl (cuts, same), zero, (gone, flight, is))) =
+    ends_to since silent right old begun (inl (zero, inl (cuts, same, (gone, flight, is)))) =
         cleared_so start 0 since silent right old begun same zero
-        (cut_to old cuts (subst (λ t. AreDueBy t then) (sym is) (gone_by gone cuts.calm cuts.off flight)))
-    ends_to since silent right old begun (inl (inr (fails, same), zero, (gone, flight, is))) =
+        (cut_to gone old cuts (goes_to d playable more w' after gone flight) is)
+    ends_to since silent right old begun (inl (zero, inr (fails, same, (gone, flight, is)))) =
         cleared_so silent 0 since silent right old begun refl zero
         (failed_cleared fails silent (omega (arith, same)) old
         (subst (λ t. AreDueBy t then) (sym is) (gone_by gone fails.calm fails.off flight)))
@@ -306,34 +314,49 @@ module _ (d : DocumentState) (playable : IsPlayable d) (made : List Timed) (even
         old_is)
 
     -- a system fails that others hear
-    pub aging_so : (aged silent : ℕ) → FailsNow n made event aged silent → IsAgingTo d more aged silent w'
+    pub aging_so : (aged silent : ℕ) → FailsNow n made event aged silent → IsAgingTo d made more aged silent w'
     aging_so aged silent now =
         let x = now.fails in
         let over = rest.over in
         let gone = now.gone in
+        let late : ℕ = suc (event.at + aging_span p (sync_paths n made)) in
         let delay : (sync_paths n made).delay ≡ delay_in then = ap (λ (y : SyncPaths). y.delay) paths_then in
         let came : Acts (Changing (Fail x.clock)) then draws done w' =
         subst (λ act. Acts act then draws done w') x.act acts in
+        let unanswered = now.unanswered in
+        let (since_late, by_link) = failed_ages_by p x.clock then draws done w' world_then after.claim.world came
+        (lives_so n made then keeps.stands world_then.sound x.clock x.live came.1.place came.1.station
+        (record { here = came.1.is.here; named = came.1.is.named }))
+        (seen_then now.calm now.off) (near_so d playable made then keeps x.few)
+        (stays_joined d playable made event then w' keeps after x.moves) rest.sound start late silent
+        keeps.claim.pace keeps.claim.measured after.claim.measured (omega (arith, over, at_time))
+        (omega (arith, over, at_time)) (way_over x.delay x.paths) rest.ready
+        (quiet_stands n made then playable.network keeps.stands world_then.sound now.calm).links rest.silent
+        (omega (arith, at_time, unanswered)) (omega (arith, delay, at_time)) keeps.named in
+        let by : WorldAgesBy p (AgesOver n made more then.time) w' =
+        ages_over n made event x.clock x.act then w' world_then keeps.stands after.stands after.claim.world.sound
+        keeps.claim.pace.largest by_link in
+        let within = subst (λ t. AgesWithin n made more t now.span) (sym at_time) now.within in
+        let since = aging_by p (snapshot_of then) late silent (AgesOver n made more then.time) aged w' since_late by
+        (λ port until is_over.
+        let less = over_within n made more then.time now.span within port until is_over in
+        omega (arith, less, gone, at_time)) in
         record {
           keeps = after;
           before = snapshot_of then;
-          since = failed_aging p x.clock then draws done w' world_then after.claim.world came
-              (lives_so n made then keeps.stands world_then.sound x.clock x.live came.1.place came.1.station
-              (record { here = came.1.is.here; named = came.1.is.named }))
-              (seen_then now.calm now.off) (near_so d playable made then keeps x.few)
-              (stays_joined d playable made event then w' keeps after x.moves) rest.sound start aged silent
-              keeps.claim.pace keeps.claim.measured after.claim.measured (omega (arith, over, at_time))
-              (same_delay x.delay) (way_over x.delay x.paths) rest.ready
-              (quiet_stands n made then playable.network keeps.stands world_then.sound now.calm).links rest.silent
-              (let unanswered = now.unanswered in omega (arith, at_time, unanswered))
-              (omega (arith, gone, delay, at_time));
+          since = since;
+          sound = aged_begins p (snapshot_of then) aged silent w' since last;
+          failed = then.time;
+          unanswered = omega (arith, unanswered, at_time);
+          by = by;
         }
 
     pub cleared_to : (since silent right old : ℕ) → ClearsBy n made event start since silent right old
         → IsClearedTo d more since silent right old w'
     cleared_to since silent right old (inl (begun, which)) = ends_to since silent right old begun which
     cleared_to since silent right old (inr (aged, now, anew)) =
-        told_anew d playable more event.at aged silent since right old w' after time last (aging_so aged silent now) anew
+        told_anew d playable made more event.at aged silent since right old w' after time last
+        (aging_so aged silent now) anew
 
     -- a link goes down that so moves one system
     turned_to : TurnsCalm n made event → IsTurnedTo d more start event.at w'
@@ -367,7 +390,7 @@ module _ (d : DocumentState) (playable : IsPlayable d) (made : List Timed) (even
               (near_so d playable made then keeps x.few)
               (live_ends channel used) x.moved was far best turns
               (near_so d playable more w' after (omega (arith, few, fewer)))
-              (end_of channel x.moved moved) (same_delay x.delay) (way_over x.delay x.paths) rest.sound)
+              (end_of channel x.moved moved) (way_over x.delay x.paths) rest.sound)
               (time ∙ sym at_time) (last ∙ time ∙ sym at_time)
               (told_lives channel _ draws w'
               (ends p start x.clock x.port then draws done w' keeps.claim.pace world_then after.claim.world

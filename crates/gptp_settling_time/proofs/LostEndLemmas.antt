@@ -27,7 +27,7 @@ module _ (says : Spelling) (n : Network) (net : IsSettlingNetwork n) (w : Machin
     (left : IsLeftUnmoved n.graph g') (x : ℕ) (far : IsFarEnd n.graph x) (has : HasAllBut n.graph g' x)
     (gone : (p q : PortIdentity) → Joins g' p q → p.clock ≢ x) (w' : MachineState) (less : IsReduced w w')
     (none : UnlinkedHoldNothing g' w') (old : ℕ)
-    (due : (j : ℕ) (l : Lane) (f : AnnounceFrame) (a : Announce) → slice_get w.lanes j ≡ Some l → In f l.frames
+    (due : (j : ℕ) (l : Lane) (f : AnnounceFrame) (a : Announce) → slice_get w'.lanes j ≡ Some l → In f l.frames
     → says f.octets a → f.due ≤ old) where
   abbrev g : Snapshot
   g = n.graph
@@ -88,11 +88,11 @@ module _ (says : Spelling) (n : Network) (net : IsSettlingNetwork n) (w : Machin
   -- ---- what is in flight
 
   flight_still : (j : ℕ) (l : Lane) (f : AnnounceFrame) (a : Announce) → slice_get w.lanes j ≡ Some l → In f l.frames
-      → says f.octets a → IsSoundSent g' l.from a ⊎ IsOldOn g' old l.from l.to f.due
-  flight_still j l f a at among said = elim (Joins-dec g' l.from l.to) [
-    | no apart ↦ inr (record { by = due j l f a at among said; farther = λ joins. absurd (apart joins) })
+      → says f.octets a → f.due ≤ old → IsSoundSent g' l.from a ⊎ IsOldOn g' old l.from l.to f.due
+  flight_still j l f a at among said soon = elim (Joins-dec g' l.from l.to) [
+    | no apart ↦ inr (record { by = soon; farther = λ joins. absurd (apart joins) })
     | yes joins ↦ elim (either says n net w calm invariant late near l.from l.to (left.links l.from l.to joins)) [
-      | inl farther ↦ inr (record { by = due j l f a at among said; farther = λ joined. so joins farther })
+      | inl farther ↦ inr (record { by = soon; farther = λ joined. so joins farther })
       | inr nearer ↦
           let is = sound.lanes j l at f a among said in
           inl (record {
@@ -118,7 +118,7 @@ module _ (says : Spelling) (n : Network) (net : IsSettlingNetwork n) (w : Machin
   pub lost_end_sound : IsSoundButOld says g' old w'
   lost_end_sound = record {
     lanes = λ j l f a at among said. elim (less.lanes j l at) [
-      | inl stood ↦ flight_still j l f a stood among said
+      | inl stood ↦ flight_still j l f a stood among said (due j l f a at among said)
       | inr (empty, down) ↦ absurd (subst (In f) empty among)
     ];
     stations = λ i s at live place r holds. held_still i s place r at live holds;

@@ -22,7 +22,8 @@ use Rattle.gptp_settling_time.specs.Losses.{UpIsUsed}
 use Rattle.gptp_settling_time.proofs.AgingClaimedLemmas.{IsAgingAlways, aging_left, aging_now}
 use Rattle.gptp_settling_time.proofs.AgingToLemmas.{IsAgingTo}
 use Rattle.gptp_settling_time.proofs.ClearedToLemmas.{IsClearedTo}
-use Rattle.gptp_settling_time.proofs.ClearsLemmas.{nearer_echo, rights, was_best}
+use Rattle.gptp_settling_time.proofs.BecomesSoundLemmas.{nearer_echo}
+use Rattle.gptp_settling_time.proofs.ClearsLemmas.{rights, was_best}
 use Rattle.gptp_settling_time.proofs.DueLemmas.{UpIsInUse, in_use_joins}
 use Rattle.gptp_settling_time.proofs.FitsLemmas.{flight_still}
 use Rattle.gptp_settling_time.proofs.KeptToLemmas.{KeepsTo}
@@ -63,11 +64,11 @@ module _ (p : SettlingParams) (g : Snapshot) (aged silent : ℕ) (w : WorldState
   lost_left = left_itself p silent w is.standing is.asked is.near is.way left_so
 
 -- so right traces are told in a world of a document, as the last link goes down that isn't used
-pub aging_cleared : (d : DocumentState) (events : List Timed) (aged silent : ℕ) (w : WorldState)
-    → IsAgingTo d events aged silent w → UpIsUsed d.network events → w.last_change ≡ w.time
+pub aging_cleared : (d : DocumentState) (ago events : List Timed) (aged silent : ℕ) (w : WorldState)
+    → IsAgingTo d ago events aged silent w → UpIsUsed d.network events → w.last_change ≡ w.time
     → IsClearedTo d events w.time silent (suc (w.time + nearer_echo (pace_of d.network) w))
     (w.time + nearer_echo (pace_of d.network) w + delay_in w) w
-aging_cleared d events aged silent w so used now =
+aging_cleared d ago events aged silent w so used now =
     let p = pace_of d.network in
     let is = so.since in
     let in_use = up_in_use d events w so.keeps used in
@@ -83,11 +84,11 @@ aging_cleared d events aged silent w so used now =
     }
 
 -- so it is told of a document
-pub told_anew : (d : DocumentState) (playable : IsPlayable d) (events : List Timed)
+pub told_anew : (d : DocumentState) (playable : IsPlayable d) (ago events : List Timed)
     (time aged silent since right old : ℕ) (w : WorldState) → KeepsTo d events w → w.time ≡ time
-    → w.last_change ≡ w.time → IsAgingTo d events aged silent w → TellsAnew d.network events time since right old
+    → w.last_change ≡ w.time → IsAgingTo d ago events aged silent w → TellsAnew d.network events time since right old
     → IsClearedTo d events since silent right old w
-told_anew d playable events time aged silent since right old w keeps here last so (used, begun, right_is, old_is) =
+told_anew d playable ago events time aged silent since right old w keeps here last so (used, begun, right_is, old_is) =
     let p = pace_of d.network in
     let paths : sync_paths d.network events ≡ sync_paths_of w =
     paths_stand d.network events w playable.network keeps.stands keeps.claim.world.sound in
@@ -97,4 +98,4 @@ told_anew d playable events time aged silent since right old w keeps here last s
     subst (λ t. IsClearedTo d events t silent right old w) (here ∙ sym begun)
     (subst (λ t. IsClearedTo d events w.time silent t old w) (omega (arith, right_is, here, echo))
     (subst (λ t. IsClearedTo d events w.time silent (suc (w.time + nearer_echo p w)) t w)
-    (omega (arith, old_is, here, echo, delay)) (aging_cleared d events aged silent w so used last)))
+    (omega (arith, old_is, here, echo, delay)) (aging_cleared d ago events aged silent w so used last)))

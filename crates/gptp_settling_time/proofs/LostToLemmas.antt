@@ -3,6 +3,7 @@ use Rattle.std.proofs.Common.{◌⊎◌, ◌≤◌, ◌+◌, ℕ, suc, Option, L
 use Rattle.gptp_links.specs.declared.bounds.Bounds.{Bounds}
 use Rattle.gptp_setup.specs.SettlingParams.{SettlingParams}
 use Rattle.gptp_scenario.specs.Network.{pace_of}
+use Rattle.gptp_scenario.specs.SettlingTime.{loss_span}
 use Rattle.gptp_scenario.specs.SyncWait.{sync_paths}
 use Rattle.gptp_scenario.specs.declared.change.Timed.{Timed}
 use Rattle.gptp_scenario.specs.declared.sync_wait.SyncPaths.{SyncPaths}
@@ -20,11 +21,11 @@ use Rattle.gptp_invariants.specs.WorldBounded.{IsBoundedWorld}
 use Rattle.gptp_invariants.specs.WorldNews.{AreSilentBy}
 use Rattle.gptp_invariants.proofs.WorldNewsLemmas.{silent_from_now}
 use Rattle.gptp_theorem.specs.PlayedLaws.{IsPlayable}
-use Rattle.gptp_theorem.proofs.PlayedLemmas.{no_change}
 use Rattle.gptp_theorem.proofs.SyncPathLemmas.{paths_stand}
+use Rattle.gptp_theorem.proofs.CalmKeptLemmas.{no_change}
 use Rattle.gptp_settling_time.specs.ChoiceAlone.{ChoiceStands}
 use Rattle.gptp_settling_time.specs.InTurn.{HasToldAll}
-use Rattle.gptp_settling_time.specs.Losses.{UpIsUsed, loss_span}
+use Rattle.gptp_settling_time.specs.Losses.{UpIsUsed}
 use Rattle.gptp_settling_time.proofs.ClaimedToLemmas.{IsClaimedTo}
 use Rattle.gptp_settling_time.proofs.KeptToLemmas.{KeepsTo, keeps_act, keeps_later}
 use Rattle.gptp_settling_time.proofs.LeftToLemmas.{none_unanswered}
@@ -79,11 +80,14 @@ module _ (d : DocumentState) (events : List Timed) (since most silent : ℕ) whe
   -- once it has come to rest claims are made of all links always
   pub lost_to_claimed : (w : WorldState) (start : ℕ) → IsLostTo d events since most silent w → IsPlayable d
       → HasToldAll d.network events since most silent start w.time → IsClaimedTo d events start w
-  lost_to_claimed w start so playable rest = record {
-    keeps = so.keeps;
-    since = lost_claimed p since most silent w so.is (late w so playable rest.told) start rest.later
-        (silent_by rest.unlinked);
-  }
+  lost_to_claimed w start so playable rest =
+      let later = rest.later in
+      let over = rest.over in
+      record {
+        keeps = so.keeps;
+        since = lost_claimed p since most silent w so.is (late w so playable (omega (arith, later, over))) start
+            (omega (arith, later)) (silent_by rest.unlinked);
+      }
     where
       silent_by : (silent ≤ w.time) ⊎ UpIsUsed d.network events → AreSilentBy p start w
       silent_by (inl past) =

@@ -5,7 +5,7 @@ use Rattle.std.proofs.Common.{◌≡◌, ◌≢◌, ◌⊎◌, ◌<◌, ◌≤�
 use Rattle.std.proofs.lemmas.Option.{same_Some}
 use Rattle.gptp_lists.specs.Members.{In}
 use Rattle.gptp_lists.proofs.MappedLemmas.{same_there}
-use Rattle.gptp_lists.proofs.PlaceLemmas.{get-set_other, get-set_same, same_place}
+use Rattle.gptp_lists.proofs.PlaceLemmas.{get-set_other, get-set_same, same_place, member_there}
 use Rattle.gptp_graph.specs.PathBound.{path_bound}
 use Rattle.gptp_graph.specs.Snapshot.{IsLinked, IsWellFormed, Joins, PortIdentity, Snapshot, System, clocks, port_of}
 use Rattle.gptp_graph.proofs.ExistenceLemmas.{distance_exists}
@@ -45,7 +45,6 @@ use Rattle.gptp_bmca_machine.specs.Frame.{Lane}
 use Rattle.gptp_bmca_machine.specs.Network.{Network}
 use Rattle.gptp_bmca_machine.specs.RestLaws.{SameWiring}
 use Rattle.gptp_bmca_machine.specs.SoundLaws.{AllAreNear, UnlinkedAreOff}
-use Rattle.gptp_bmca_machine.proofs.PlaceLemmas.{there_within}
 use Rattle.gptp_bmca_machine.specs.Station.{Disabled, Port as SeenPort, Received, Reception as SeenReception, Station as SeenStation}
 use Rattle.gptp_invariants.specs.ChoiceCalm.{HaveQuietLinks, delay_in}
 use Rattle.gptp_invariants.specs.ChoiceSettlesAsMachine.{IsWorld}
@@ -406,7 +405,7 @@ module _ (p : SettlingParams) (w : WorldState) (is : IsWorld p w) (place : ℕ) 
             let keep = span_at station.system in
             let places = shown.places in
             let within = place_within j station.system.held h there in
-            let (q, at_q) = there_within station.system.ports j (omega (arith, places, within)) in
+            let (q, at_q) = member_there station.system.ports j (omega (arith, places, within)) in
             disabled_from keep h
             (dark at (station_view station) j (port_view keep h q) (station_there w.stations at station stands) live
             (port_there keep station.system.held station.system.ports j h q there at_q) (alone i is_n cut j apart)))
@@ -430,11 +429,9 @@ module _ (p : SettlingParams) (w : WorldState) (is : IsWorld p w) (place : ℕ) 
   still_b = second_still PortDown channel taken draws w' k (is.between place channel here).apart
 
   -- a network of the world then has the wiring of one that it had
-  pub wires : (n : Network) → delay_in w' ≡ delay_in w → n ≡ wired_as n (start_network p 0 0 w') → SameWiring seen.n n
-  wires n delay wired =
+  pub wires : (n : Network) → n ≡ wired_as n (start_network p 0 0 w') → SameWiring seen.n n
+  wires n wired =
       let started = same_start p 0 0 taken w' keeps in
-      let most = seen.most in
-      let delays : n.most ≡ delay_in w' = ap (λ (x : Network). x.most) wired in
       record {
         place = λ v. ap (λ (x : Network). x.place v) wired ∙ keeps.places v ∙ seen.same.place v;
         lane = λ q.
@@ -445,7 +442,6 @@ module _ (p : SettlingParams) (w : WorldState) (is : IsWorld p w) (place : ℕ) 
         interval = λ q.
             ap (λ (x : Network). x.interval_of q) wired ∙ ap (λ (x : Network). x.interval_of q) started
             ∙ seen.same.interval q;
-        most = omega (arith, delay, delays, most);
       }
 
   module _ (stay : StayOrAreAlone w w') where
@@ -531,8 +527,8 @@ module _ (p : SettlingParams) (w : WorldState) (is : IsWorld p w) (place : ℕ) 
         (sym keeps.systems) (Joins-clock g p q well joins)))
 
     module _ (next : ℕ) (pace : KeepPace p) (measured' : LinkIsMeasured w') (past : next ≤ w.time)
-        (delay : delay_in w' ≡ delay_in w) (way : pred (path_bound g') * delay_in w' ≤ w'.time)
-        (sound : IsSoundWorld w) (ready' : AreReadyBy p next w') (silent : AreSilentBy p next w) where
+        (way : pred (path_bound g') * delay_in w' ≤ w'.time) (sound : IsSoundWorld w) (ready' : AreReadyBy p next w')
+        (silent : AreSilentBy p next w) where
       by_now : next ≤ w'.time
       by_now = let time = told.time in omega (arith, past, time)
 
@@ -560,7 +556,7 @@ module _ (p : SettlingParams) (w : WorldState) (is : IsWorld p w) (place : ℕ) 
 
       pub lowered_left : IsLeftAlways p g next w'
       lowered_left =
-          begins_left p g next w w' is' well seen less left left (wires (left_network p next w') delay refl)
+          begins_left p g next w w' is' well seen less left left (wires (left_network p next w') refl)
           (sound_fits p w seen sound) standing_then asked_then unlinked_then near_then farther_then way
 
 -- ---- the act
@@ -624,8 +620,8 @@ module _ (p : SettlingParams) (next owner port : ℕ) (w : WorldState) (draws : 
         pub stay : StayOrAreAlone w w'
         stay v known = elim (unmoved v known) [ inl is ↦ inl is | inr cut ↦ inr (cut, dark) ]
 
-        pub act_left : delay_in w' ≡ delay_in w → pred (path_bound (snapshot_of w')) * delay_in w' ≤ w'.time
-            → IsSoundWorld w → IsLeftAlways p (snapshot_of w) next w'
-        act_left delay way sound =
+        pub act_left : pred (path_bound (snapshot_of w')) * delay_in w' ≤ w'.time → IsSoundWorld w
+            → IsLeftAlways p (snapshot_of w) next w'
+        act_left way sound =
             lowered_left p w is at_link.place at_link.channel at_link.is.here draws w' is' ends seen near stay next
-            pace measured' past delay way sound (ready_on ready) silent
+            pace measured' past way sound (ready_on ready) silent

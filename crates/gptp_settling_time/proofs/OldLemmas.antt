@@ -14,9 +14,10 @@ use Rattle.gptp_bmca_machine.specs.LinkStage.{AllFinal, FrameSaysAnnounce, IsFin
 use Rattle.gptp_bmca_machine.specs.Network.{Network}
 use Rattle.gptp_bmca_machine.specs.Reacts.{PortStep}
 use Rattle.gptp_bmca_machine.specs.Station.{Held, HoldsAt, MachineState, Mine, Port, Received, Reception, Station}
-use Rattle.gptp_bmca_machine.specs.Touch.{Disable, Enable, Grow, Hear, HeldInTouch, IsUsable, Other, Replaces, StationTouch, Tick}
+use Rattle.gptp_bmca_machine.specs.Touch.{Grow, Hear, HeldInTouch, IsUsable, Replaces, StationTouch}
 use Rattle.gptp_bmca_machine.specs.Vectors.{master, message}
 use Rattle.gptp_bmca_machine.proofs.HearingLemmas.{final_kept, final_taken, mid_on, mid_stays}
+use Rattle.gptp_bmca_machine.proofs.LinkLemmas.{is_hear}
 use Rattle.gptp_bmca_machine.proofs.LinkStageLemmas.{begins}
 use Rattle.gptp_bmca_machine.proofs.PlaceLemmas.{same_holds, same_place, same_there}
 use Rattle.gptp_bmca_machine.proofs.RestLemmas.{Chooses}
@@ -76,16 +77,6 @@ pub record HoldsOld (says : Spelling) (k : Wiring) (from : PortIdentity) (e : �
   pub young : (last < r.at + r.span)
       ⊎ ((f : AnnounceFrame) × In f fs × FrameSaysAnnounce says f × (f.due < r.at + r.span))
   pub tail : TurnTail says k from e best last fs
-
--- whether an input is an Announce that is heard
-is_hear : (touch : StationTouch) → ((m : ℕ) × (a : Announce) × (touch ≡ Hear m a))
-    ⊎ ((m : ℕ) (a : Announce) → touch ≡ Hear m a → ⊥)
-is_hear (Hear m a) = inl (m, a, refl)
-is_hear (Tick m) = inr (λ k a is. absurd cc)
-is_hear (Grow m) = inr (λ k a is. absurd cc)
-is_hear (Enable m) = inr (λ k a is. absurd cc)
-is_hear (Disable m) = inr (λ k a is. absurd cc)
-is_hear Other = inr (λ k a is. absurd cc)
 
 module _ (says : Spelling) (g : Snapshot) (n : Network) (x d e : ℕ) (best : System) (t : TurnsOne g n x d e best)
     (p y q : ℕ) (joins : Joins n.graph (port_of x (suc p)) (port_of y (suc q)))

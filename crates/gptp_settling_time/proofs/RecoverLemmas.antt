@@ -199,7 +199,8 @@ module _ (p : SettlingParams) (by next number : ℕ) (w : WorldState) (draws : L
     through_own So called so =
         (start_ports_told k.place (λ ports v. IsOrderly v × So v)
         (λ port ports v ds answer v' c of is.
-        (calls_orderly k.place (PortUp port) v ds answer v' is.0 c, called port v ds answer v' c is.0 is.1)) now draws w'
+        (calls_orderly k.place (PortUp port) v ds answer v' is.0 c, called port v ds answer v' c is.0 is.1)) now draws
+        w'
         starts (orderly, so)).1
 
     params_begun : HaveParams p begun

@@ -1,4 +1,5 @@
--- How links begin to tell what is right in a network that has settled: what the best tells is, and others tell it later.
+-- How links begin to tell what is right in a network that has settled: what the best tells is, and others tell it
+-- later.
 use Rattle.std.proofs.Common.{◌≡◌, ◌<◌, ◌≤◌, ℕ, zero, suc, [], ◌∷◌, Some, slice_get, sym, ap, subst, ◌∙◌, inl, inr, arith}
 use Rattle.gptp_lists.specs.Members.{In}
 use Rattle.gptp_graph.specs.Best.{IsBest}

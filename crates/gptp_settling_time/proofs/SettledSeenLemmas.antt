@@ -76,7 +76,6 @@ settled_in p w n is net calm invariant late =
         lane = λ q. ap (λ (x : Network). x.lane q) (sym is);
         log = λ q. ap (λ (x : Network). x.log_of q) (sym is);
         interval = λ q. ap (λ (x : Network). x.interval_of q) (sym is);
-        most = omega (arith, most);
       };
       most = most;
     }
@@ -120,15 +119,12 @@ module _ (p : SettlingParams) (m start : ℕ) (w : WorldState) (world : IsWorld 
       (on_links says_announce (snapshot_of w) (view w) sound)
 
   wired : SameWiring seen.n (start_network p m start w)
-  wired =
-      let most = seen.most in
-      record {
-        place = seen.same.place;
-        lane = seen.same.lane;
-        log = seen.same.log;
-        interval = seen.same.interval;
-        most = omega (arith, most);
-      }
+  wired = record {
+    place = seen.same.place;
+    lane = seen.same.lane;
+    log = seen.same.log;
+    interval = seen.same.interval;
+  }
 
   pub always_seen : Invariant says_announce (start_network p m start w) (view w)
   always_seen = record {
@@ -146,6 +142,5 @@ module _ (p : SettlingParams) (m start : ℕ) (w : WorldState) (world : IsWorld 
           lane = wired.lane;
           log = wired.log;
           interval = wired.interval;
-          most = wired.most;
         }) d best v pp u q near leads;
   }

@@ -12,7 +12,6 @@ use Rattle.gptp_links.specs.declared.link.Direction.TheVariants.{FromA, FromB}
 use Rattle.gptp_links.specs.Fate.{Draw}
 use Rattle.gptp_setup.specs.SettlingParams.{SettlingParams}
 use Rattle.gptp_system.specs.Input.{PortDown}
-use Rattle.gptp_system.specs.State.{clock}
 use Rattle.gptp_model.specs.Act.{in_state}
 use Rattle.gptp_model.specs.Changing.{CallsIfLive, TellsEnds, lost, taken_down}
 use Rattle.gptp_model.specs.World.{Channel, WorldState, receiver, sender}

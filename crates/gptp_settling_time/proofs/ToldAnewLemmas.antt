@@ -36,8 +36,8 @@ use Rattle.gptp_invariants.proofs.ChoiceSeenActLemmas.{acts_seen}
 use Rattle.gptp_invariants.proofs.ChoiceSettlesAsMachineLemmas.{kept_back, paths_bound}
 use Rattle.gptp_invariants.proofs.WorldNewsCourseLemmas.{later_keeps}
 use Rattle.gptp_settling_time.proofs.AlwaysClaimedLemmas.{IsClaimedAlways}
-use Rattle.gptp_settling_time.proofs.ClearedLemmas.{BecomesSound, IsCleared, cleared_claimed, cleared_step, same_time}
-use Rattle.gptp_settling_time.proofs.ClearsLemmas.{nearer_echo}
+use Rattle.gptp_settling_time.proofs.BecomesSoundLemmas.{BecomesSound, nearer_echo, same_time}
+use Rattle.gptp_settling_time.proofs.ClearedLemmas.{IsCleared, cleared_claimed, cleared_step}
 use Rattle.gptp_settling_time.proofs.DueLemmas.{AreDueBy, due_by_interval}
 use Rattle.gptp_settling_time.proofs.LeftClaimedLemmas.{HaveAskedBy, IsLeftAlways, asked_acts, asked_later, left_calm, left_itself, left_net, left_network, same_left}
 use Rattle.gptp_settling_time.proofs.MovedAlwaysLemmas.{IsMovedAlways, calm_now, moved_acts, moved_later, moved_seen, nothing_held, turned_by}
@@ -113,15 +113,12 @@ module _ (p : SettlingParams) (g : Snapshot) (silent start : ℕ) (w : WorldStat
           (subst (λ z. FlightsFit says_announce z (start + way_in w) (view w)) is.same (flights quiet off)))
 
       wired : SameWiring seen.n (left_network p silent w)
-      wired =
-          let delay = seen.most in
-          record {
-            place = seen.same.place;
-            lane = seen.same.lane;
-            log = seen.same.log;
-            interval = seen.same.interval;
-            most = omega (arith, delay);
-          }
+      wired = record {
+        place = seen.same.place;
+        lane = seen.same.lane;
+        log = seen.same.log;
+        interval = seen.same.interval;
+      }
 
       left_so : IsLeftSeen says_announce (snapshot_of w) (left_network p silent w) (view w)
       left_so = record {

@@ -24,8 +24,8 @@ use Rattle.gptp_invariants.specs.WorldStanding.{snapshot_of}
 use Rattle.gptp_invariants.proofs.WorldNewsActLemmas.{silent_by_later}
 use Rattle.gptp_theorem.specs.PlayedLaws.{IsPlayable}
 use Rattle.gptp_theorem.proofs.CalmLemmas.{quiet_stands}
-use Rattle.gptp_theorem.proofs.PlayedLemmas.{no_change}
 use Rattle.gptp_theorem.proofs.SyncPathLemmas.{paths_stand}
+use Rattle.gptp_theorem.proofs.CalmKeptLemmas.{no_change}
 use Rattle.gptp_settling_time.specs.InTurn.{HasToldAnew}
 use Rattle.gptp_settling_time.proofs.ClaimedToLemmas.{IsClaimedTo}
 use Rattle.gptp_settling_time.proofs.KeptToLemmas.{KeepsTo, keeps_act, keeps_later}
@@ -92,10 +92,12 @@ module _ (d : DocumentState) (events : List Timed) (silent time : ℕ) where
 
     -- claims are made of all links always
     pub turned_to_claimed : IsClaimedTo d events start w
-    turned_to_claimed = record {
-      keeps = so.keeps;
-      since = turned_claimed pace so.before silent time w so.since
-          (quiet_stands d.network events w playable.network so.keeps.stands so.keeps.claim.world.sound
-          rest.calm).links rest.off over start rest.later
-          (silent_by_later pace silent start w rest.unlinked so.since.moved.standing.silent);
-    }
+    turned_to_claimed =
+        let later = rest.later in
+        record {
+          keeps = so.keeps;
+          since = turned_claimed pace so.before silent time w so.since
+              (quiet_stands d.network events w playable.network so.keeps.stands so.keeps.claim.world.sound
+              rest.calm).links rest.off over start (omega (arith, later))
+              (silent_by_later pace silent start w rest.unlinked so.since.moved.standing.silent);
+        }

@@ -28,7 +28,7 @@ use Rattle.gptp_invariants.proofs.ChoiceTakeUpLemmas.{BeginApart}
 use Rattle.gptp_invariants.proofs.WorldAnsweringLemmas.{IsAnswering}
 use Rattle.gptp_settling_time.proofs.LoweredLemmas.{CanLose, StandsReduced, goes_down_reduced, reduced_on}
 use Rattle.gptp_settling_time.proofs.ReducedLemmas.{IsReducedStation, reduced_itself}
-use Rattle.gptp_settling_time.proofs.TurnsAwayLemmas.{TurnsAway}
+use Rattle.gptp_settling_time.proofs.EndAnswersLemmas.{EndAnswers}
 
 -- ---- the end that isn't moved
 
@@ -131,7 +131,7 @@ module _ (p : SettlingParams) (w : WorldState) (place : ℕ) (channel : Channel)
       ap (λ (m : Lane). m.frames) at.is
       ∙ ap (map frame_view) (flows.still (sym (ap (λ (m : Lane). m.is_up) at.is) ∙ off))
 
-  pub turns_down : TurnsAway says_announce n x port (view w) (view w')
+  pub turns_down : EndAnswers says_announce n x port place_z (view w) (view w')
   turns_down = record {
     s = seen.call.s;
     s' = seen.call.s';
@@ -148,6 +148,7 @@ module _ (p : SettlingParams) (w : WorldState) (place : ℕ) (channel : Channel)
         (subst (λ touch. StationReacts says_announce seen.call.s touch u.time seen.call.s' seen.call.sends) touch_is
         seen.call.reacts);
     others = others;
+    stood = stood;
     lanes = lanes;
   }
     where
@@ -161,6 +162,13 @@ module _ (p : SettlingParams) (w : WorldState) (place : ℕ) (channel : Channel)
                 let (old, at_old, lesser) = first.reduced.stations i mid stood in
                 (old, at_old, reduced_on old mid m lesser less)
           ]
+
+      stood : (i : ℕ) (m : SeenStation) → slice_get (view w').stations i ≡ Some m → i ≢ n.place x → i ≢ place_z
+          → slice_get (view w).stations i ≡ Some m
+      stood i m at other away = elim (seen.call.stations i m (sym (second.others i away) ∙ at)) [
+        | inl (same, is) ↦ absurd (other (same ∙ call_place))
+        | inr (apart_i, before) ↦ sym (first.others i away) ∙ before
+      ]
 
       lanes : (j : ℕ) (l' : Lane) → slice_get (view w').lanes j ≡ Some l'
           → ((l : Lane) × (slice_get (view w).lanes j ≡ Some l) × LaneStep x seen.call.sends l l')

@@ -39,7 +39,8 @@ use Rattle.std.proofs.lemmas.List.{length-append}
 use Rattle.gptp_settling_time.proofs.BesideLemmas.{IsDark, IsFresh, IsMoving, above, neighbour_at, hears_old, late, on_x, on_y}
 use Rattle.gptp_settling_time.proofs.RestNamesLemmas.{HeldDown, held_down, whole_names}
 use Rattle.gptp_settling_time.proofs.TurnLemmas.{IsBeside, TurnsOne}
-use Rattle.gptp_settling_time.proofs.TurnsAwayLemmas.{TurnsAway, at_place, held_before, known_x, moving', port_stood, received'}
+use Rattle.gptp_settling_time.proofs.EndAnswersLemmas.{EndAnswers, at_place, held_before, known_x, port_stood, received'}
+use Rattle.gptp_settling_time.proofs.TurnsAwayLemmas.{moved_x, moving'}
 
 -- ---- what is told at once is behind what was told before
 
@@ -76,7 +77,7 @@ tail_behind says k from e best last (f ∷ fs) news final tail =
 module _ (says : Spelling) (n0 n : Network) (x d e : ℕ) (best : System) (t : TurnsOne n0.graph n x d e best)
     (net0 : IsSettlingNetwork n0) (w : MachineState) (calm0 : Calm n0 w) (invariant0 : Invariant says n0 w)
     (late0 : settled_from n0 ≤ w.time) (near0 : AllAreNear n0.graph) (sound0 : IsSoundEverywhere says n0.graph w)
-    (same : SameWiring n0 n) (w' : MachineState) (lost : ℕ) (a : TurnsAway says n x lost w w')
+    (same : SameWiring n0 n) (w' : MachineState) (lost other : ℕ) (a : EndAnswers says n x lost other w w')
     (kept' : IsAfterLoss n w') (dark' : IsDark n w') where
   abbrev g : Snapshot
   g = n0.graph
@@ -89,21 +90,28 @@ module _ (says : Spelling) (n0 n : Network) (x d e : ℕ) (best : System) (t : T
 
   fits_then : (i : ℕ) (m : Station) (place : ℕ) (r : Reception) → slice_get w'.stations i ≡ Some m → m.live ≡ true
       → HoldsAt m place r → CameFits g m.clock (suc place) r
-  fits_then = received' says n0 n x d e best t net0 w calm0 invariant0 late0 near0 sound0 same w' lost a kept' dark'
+  fits_then = received' says n0 n x t.well t.left (moved_x says n0 n x d e best t) net0 w calm0 invariant0 late0
+      sound0 same w' lost other a
+      kept'
 
   moving_now : IsMoving says g n x e best w'
-  moving_now = moving' says n0 n x d e best t net0 w calm0 invariant0 late0 near0 sound0 same w' lost a kept' dark'
+  moving_now = moving' says n0 n x d e best t net0 w calm0 invariant0 late0 near0 sound0 same w' lost other a kept'
+      dark'
 
   placed : (c : ℕ) (s : Station) → slice_get w.stations (n.place c) ≡ Some s
       → slice_get w.stations (n0.place c) ≡ Some s
-  placed = at_place says n0 n x d e best t net0 w calm0 invariant0 late0 near0 sound0 same w' lost a kept' dark'
+  placed = at_place says n0 n x t.well t.left (moved_x says n0 n x d e best t) net0 w calm0 invariant0 late0 sound0
+      same w' lost other a
+      kept'
 
   -- ---- what the system tells now
 
   known : In x (clocks n.graph)
   known =
       subst (λ c. In c (clocks n.graph)) named'
-      (known_x says n0 n x d e best t net0 w calm0 invariant0 late0 near0 sound0 same w' lost a kept' dark')
+      (known_x says n0 n x t.well t.left (moved_x says n0 n x d e best t) net0 w calm0 invariant0 late0 sound0 same
+      w' lost other a
+      kept')
 
   close : e < 255
   close =
@@ -114,7 +122,9 @@ module _ (says : Spelling) (n0 n : Network) (x d e : ℕ) (best : System) (t : T
   -- what it holds came from who was nearer
   came : (place : ℕ) (r : Reception) → HoldsAt a.s' place r → HeldDown g x place r d
   came place r holds =
-      let o = held_before says n0 n x d e best t net0 w calm0 invariant0 late0 near0 sound0 same w' lost a kept' dark'
+      let o = held_before says n0 n x t.well t.left (moved_x says n0 n x d e best t) net0 w calm0 invariant0 late0
+      sound0 same w' lost other a
+      kept'
       (n.place x) a.s' place r a.there live' holds in
       let clock = o.clock ∙ named' in
       subst (λ c. HeldDown g c place r d) clock
@@ -421,13 +431,7 @@ module _ (says : Spelling) (n0 n : Network) (x d e : ℕ) (best : System) (t : T
                 let long = hears_y.long stays.what stays.holds stays.final.log in
                 inl (omega (arith, soon, now, long))
             | inr (f, among, said, due) ↦
-                let long = hears_y.long stays.what stays.holds stays.final.log in
-                inr (
-                  f,
-                  subst (In f) (sym step.behind) (In-left f old_l.frames step.news among),
-                  said,
-                  omega (arith, due, long),
-                )
+                inr (f, subst (In f) (sym step.behind) (In-left f old_l.frames step.news among), said, due)
           ];
           tail = subst (TurnTail says k from e best (w.time + n.most)) (sym step.behind)
               (tail_behind says k from e best (w.time + n.most) old_l.frames step.news stays.flight
@@ -450,7 +454,9 @@ module _ (says : Spelling) (n0 n : Network) (x d e : ℕ) (best : System) (t : T
     pub old' : (turned : ℕ) → OldAt says g n x d e best t p y q joins heard (w.time + n.most) turned w'
     old' turned s pu l at there at_l =
         by_port s pu l at there at_l tells
-        (port_stood says n0 n x d e best t net0 w calm0 invariant0 late0 near0 sound0 same w' lost a kept' dark' y q
+        (port_stood says n0 n x t.well t.left (moved_x says n0 n x d e best t) net0 w calm0 invariant0 late0 sound0
+        same w' lost other a
+        kept' y q
         s pu neighbour.apart neighbour.known at there (on s pu l at there at_l))
         (a.lanes (n.lane from) l at_l)
 

@@ -306,14 +306,13 @@ module _ (p : SettlingParams) (next owner value : ℕ) (w : WorldState) (draws :
           lane = wires.lane;
           log = wires.log;
           interval = wires.interval;
-          most = wires.most;
         }) d best a pp u q close
         (leads_back g g' well well' same d best a pp u q
         (subst (λ h. LeadsFarther h d best a pp u q) (ap (λ (y : Network). y.graph) wired) leads)));
   }
     where
       wires : SameWiring seen.n n
-      wires = wiring_same p w w' r seen.n n seen.same seen.most wired
+      wires = wiring_same p w w' r seen.n n seen.same wired
 
   -- ---- the claims
 

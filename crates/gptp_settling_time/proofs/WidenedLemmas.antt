@@ -1,7 +1,7 @@
 -- A link in use whose delays get wider: in a world that has settled all stands as it did, and claims are made of all
 -- links always.
-use Rattle.std.proofs.Common.{◌≡◌, ◌≢◌, ◌<◌, ◌≤◌, ◌+◌, ◌-◌, ◌*◌, ◌/◌, ◌%◌, ℕ, zero, suc, Bool, true, false, List, [], ◌∷◌, map, Some, slice_get, slice_set, refl, sym, ap, subst, ◌∙◌, inl, inr, arith}
-use Rattle.std.specs.Prelude.{if◌then◌else◌, max}
+use Rattle.std.proofs.Common.{◌≡◌, ◌≢◌, ◌<◌, ◌≤◌, ◌+◌, ◌-◌, ◌*◌, ◌/◌, ◌%◌, ℕ, zero, suc, true, List, [], ◌∷◌, map, Some, slice_get, slice_set, refl, sym, ap, subst, ◌∙◌, inl, inr, arith}
+use Rattle.std.specs.Prelude.{if◌then◌else◌}
 use Rattle.std.proofs.lemmas.Nat.{div-add-mod', mod_below}
 use Rattle.std.proofs.lemmas.Option.{same_Some}
 use Rattle.gptp_lists.specs.Members.{In}
@@ -42,7 +42,7 @@ use Rattle.gptp_bmca_machine.specs.RestLaws.{SameWiring}
 use Rattle.gptp_bmca_machine.specs.Sound.{ReceivedFits}
 use Rattle.gptp_bmca_machine.proofs.SoundEverywhereLemmas.{on_links}
 use Rattle.gptp_bmca_machine.proofs.SoundLemmas.{received_fits}
-use Rattle.gptp_invariants.specs.ChoiceCalm.{HaveQuietLinks, greatest_channel_delay, paths_with}
+use Rattle.gptp_invariants.specs.ChoiceCalm.{HaveQuietLinks, paths_with}
 use Rattle.gptp_invariants.specs.ChoiceSettlesAsMachine.{IsWorld}
 use Rattle.gptp_invariants.specs.ChoiceView.{lane_view, lanes_view, says_announce, station_view, view}
 use Rattle.gptp_invariants.specs.DelayFirstAt.{IsFirstBy}
@@ -158,33 +158,6 @@ links_set systems (first ∷ channels) zero c b here =
 links_set systems (first ∷ channels) (suc i) c b here =
     ap (λ rest. if channel_is_used systems first then standing_link first ∷ rest else rest)
     (links_set systems channels i c b here)
-
--- ---- a greatest delay gets no smaller
-
-first_more : (used : Bool) (a b rest : ℕ) → a ≤ b
-    → (if used then max a rest else rest) ≤ (if used then max b rest else rest)
-first_more true a b rest more = omega (arith, more)
-first_more false a b rest more = omega arith
-
-rest_more : (used : Bool) (a rest more : ℕ) → rest ≤ more
-    → (if used then max a rest else rest) ≤ (if used then max a more else more)
-rest_more true a rest more is = omega (arith, is)
-rest_more false a rest more is = is
-
-delay_set_more : (systems : List System) (channels : List Channel) (i : ℕ) (c : Channel) (b : Bounds)
-    → slice_get channels i ≡ Some c → c.bounds.max ≤ b.max
-    → greatest_channel_delay systems channels
-    ≤ greatest_channel_delay systems (slice_set channels i (record c { bounds = b }))
-delay_set_more systems [] i c b here more = omega arith
-delay_set_more systems (first ∷ channels) zero c b here more =
-    let rest : ℕ = greatest_channel_delay systems channels in
-    subst (λ (x : Channel). (if channel_is_used systems x then max x.bounds.max rest else rest)
-    ≤ (if channel_is_used systems c then max b.max rest else rest)) (sym (same_Some first c here))
-    (first_more (channel_is_used systems c) c.bounds.max b.max rest more)
-delay_set_more systems (first ∷ channels) (suc i) c b here more =
-    rest_more (channel_is_used systems first) first.bounds.max (greatest_channel_delay systems channels)
-    (greatest_channel_delay systems (slice_set channels i (record c { bounds = b })))
-    (delay_set_more systems channels i c b here more)
 
 -- ---- the link gets wider
 
@@ -479,16 +452,12 @@ module _ (p : SettlingParams) (start next by place : ℕ) (w : WorldState) (is :
           (on_links says_announce (snapshot_of widened) (view widened) sound')
 
       wired : SameWiring seen.n (start_network p m next widened)
-      wired =
-          let most = seen.most in
-          let more = delay_set_more (live_stations w.stations) w.net.channels place channel b here wider.most in
-          record {
-            place = seen.same.place;
-            lane = λ q. lane_set w.net.channels place channel new q here refl refl ∙ seen.same.lane q;
-            log = seen.same.log;
-            interval = seen.same.interval;
-            most = omega (arith, most, more);
-          }
+      wired = record {
+        place = seen.same.place;
+        lane = λ q. lane_set w.net.channels place channel new q here refl refl ∙ seen.same.lane q;
+        log = seen.same.log;
+        interval = seen.same.interval;
+      }
 
       -- so it is in every network with the wiring and the delays of this world
       last_stages : (n : Network) → n.graph ≡ snapshot_of widened → SameWiring seen.n n
@@ -518,7 +487,6 @@ module _ (p : SettlingParams) (start next by place : ℕ) (w : WorldState) (is :
               lane = same.lane;
               log = same.log;
               interval = same.interval;
-              most = same.most;
             });
         in_turn = λ m bounded calm short. absurd (none_short p (paths_with m widened) off short);
       }

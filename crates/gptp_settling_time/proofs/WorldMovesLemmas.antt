@@ -24,7 +24,7 @@ use Rattle.gptp_settling_time.specs.Losses.{IsCutOff, IsFarEnd, IsTurned, IsUnmo
 use Rattle.gptp_settling_time.proofs.KeptToLemmas.{KeepsTo}
 
 -- a system is unmoved between two snapshots that is so between others of the same systems and links
-unmoved_alike : (g h g' h' : Snapshot) → AreAlike g h → AreAlike g' h' → (v : ℕ) → IsUnmoved h h' v
+pub unmoved_alike : (g h g' h' : Snapshot) → AreAlike g h → AreAlike g' h' → (v : ℕ) → IsUnmoved h h' v
     → IsUnmoved g g' v
 unmoved_alike g h g' h' before now v unmoved =
     let back = turned g' h' now in
@@ -34,11 +34,11 @@ unmoved_alike g h g' h' before now v unmoved =
     }
 
 -- so are links
-joins_alike : (g h : Snapshot) → AreAlike g h → (p q : PortIdentity) → Joins g p q → Joins h p q
+pub joins_alike : (g h : Snapshot) → AreAlike g h → (p q : PortIdentity) → Joins g p q → Joins h p q
 joins_alike g h alike_is p q =
     subst (λ (ls : List Link). In (record { a = p; b = q }) ls ⊎ In (record { a = q; b = p }) ls) alike_is.links
 
-adjacent_alike : (g h : Snapshot) → AreAlike g h → (v u : ℕ) → Adjacent g v u → Adjacent h v u
+pub adjacent_alike : (g h : Snapshot) → AreAlike g h → (v u : ℕ) → Adjacent g v u → Adjacent h v u
 adjacent_alike g h alike_is v u (m, q, joins) =
     (m, q, joins_alike g h alike_is (port_of v m) (port_of u q) joins)
 
@@ -75,7 +75,7 @@ turned_alike g h g' h' before now x d e best t = record {
 -- a world of a document has the systems and links that its events leave
 module _ (d : DocumentState) (playable : IsPlayable d) (events : List Timed) (w : WorldState)
     (keeps : KeepsTo d events w) where
-  alike_so : (g : Snapshot) → StandsAfter d.network events g → AreAlike (snapshot_of w) g
+  pub alike_so : (g : Snapshot) → StandsAfter d.network events g → AreAlike (snapshot_of w) g
   alike_so g stands =
       let (systems, links) = snapshots_stand d.network events w g keeps.stands keeps.claim.world.sound stands in
       record { systems = systems; links = links }

@@ -18,9 +18,12 @@
 --   twice the greatest delay for each system of a path but one.
 -- - By the first event a system fails that others hear, and no other comes but such links. The choice stands once what
 --   they hold of it has aged, or once no port beside it is capable. Roles stand by the latter.
+-- - By the one event a link goes down that so cuts a tree off, or turns one to its one way out, an announce interval
+--   after the time before has come to rest. Choice and roles ask for twice the greatest delay for each system of a
+--   path but one.
 -- - By the events anything is taken away, whatever is moved. The choice asks for the longest receipt timeout and the
---   greatest delay for each system of a path, and then for an announce interval and the greatest delay for each but one.
---   Roles stand then too, once the ports beside a system that failed aren't capable any more.
+--   greatest delay for each system of a path, and then for an announce interval and the greatest delay for each but
+--   one. Roles stand then too, once the ports beside a system that failed aren't capable any more.
 --
 -- Events make nothing of what stands that change nothing, and so does a link with a failed end that comes up or goes
 -- down. So does a priority1 that moves no system: one that gets worse, for instance, of a system that is nobody's best.
@@ -30,14 +33,14 @@
 -- no link, the last where no path has more than 255 systems. At time 0 links may go down and come up, systems fail and
 -- a priority1 be set. Not followed are other delays that are set, octets that are put onto a link, and gains and losses
 -- of one time. There the span stands.
-use Rattle.std.specs.Prelude.{◌≡◌, ◌<◌, ◌≤◌, ◌⊎◌, ◌+◌, ◌*◌, ◌==◌, ℕ, ⊤, max, min, pred, suc, List, [], ◌∷◌, ◌++◌, filter}
+use Rattle.std.specs.Prelude.{◌≡◌, ◌<◌, ◌≤◌, ◌⊎◌, ◌+◌, ◌*◌, ◌==◌, ℕ, ⊤, max, min, suc, List, [], ◌∷◌, ◌++◌, filter}
 use Rattle.gptp_lists.specs.Members.{In}
 use Rattle.gptp_setup.specs.Intervals.{interval_of}
 use Rattle.gptp_setup.specs.SettlingParams.{SettlingParams, largest_interval}
-use Rattle.gptp_scenario.specs.Calm.{IsCalm, IsLive, NothingLapses}
+use Rattle.gptp_scenario.specs.Calm.{IsCalm, IsLive, NothingLapses, last_change}
 use Rattle.gptp_scenario.specs.Network.{NetworkState, pace_of}
 use Rattle.gptp_scenario.specs.SettlingAtOnce.{settling_span_at_once}
-use Rattle.gptp_scenario.specs.SettlingTime.{settling_span_with}
+use Rattle.gptp_scenario.specs.SettlingTime.{echo_span, loss_span, settling_span_with, silence_span, way_span}
 use Rattle.gptp_scenario.specs.SyncWait.{sync_paths}
 use Rattle.gptp_scenario.specs.declared.change.Act.{Act}
 use Rattle.gptp_scenario.specs.declared.change.Act.TheVariants.{Change as Changing}
@@ -48,9 +51,9 @@ use Rattle.gptp_model.specs.World.{port_id}
 use Rattle.gptp_network.specs.Document.{DocumentState}
 use Rattle.gptp_network.specs.Snapshot.{events_by}
 use Rattle.gptp_settling_time.specs.Gains.{ChangesNothing, EndHasFailed, LeavesCapable, TakesNothing}
-use Rattle.gptp_invariants.specs.FailedUnanswered.{silence_span}
-use Rattle.gptp_settling_time.specs.InTurn.{AddsHeard, BettersClock, FlightIsGone, MakesNothing, NoneUsed, TellsNothing, UsedVaryLittle, WidensLink, echo_span, turned_echo_span}
-use Rattle.gptp_settling_time.specs.Losses.{CutsFarEnd, FailsFarEnd, FailsHeard, LeavesChoice, LosesAny, LowersLink, LowersUnused, TurnsLink, UpIsUsed, aging_span, loss_span}
+use Rattle.gptp_settling_time.specs.InTurn.{AddsHeard, BettersClock, FlightIsGone, MakesNothing, NoneUsed, TellsNothing, UsedVaryLittle, WidensLink, turned_echo_span}
+use Rattle.gptp_settling_time.specs.Losses.{AgesWithin, CutsFarEnd, FailsFarEnd, FailsHeard, LeavesChoice, LosesAny, LowersLink, LowersUnused, TurnsLink, UpIsUsed}
+use Rattle.gptp_settling_time.specs.TreeLosses.{LowersTree, TurnsTreeLink}
 
 -- ---- times
 
@@ -61,10 +64,6 @@ events_at time = filter (λ (t : Timed). t.at == time)
 -- no event lies between two times: one that is later than the first is no earlier than the second
 abbrev pub NoneBetween : List Timed → ℕ → ℕ → Type 0
 NoneBetween events last time = (event : Timed) → In event events → last < event.at → time ≤ event.at
-
--- the greatest delay for each system of a path but one
-abbrev pub way_span : SyncPaths → ℕ
-way_span paths = pred paths.systems * paths.delay
 
 -- ---- events that are followed, by what stands just before each
 
@@ -240,13 +239,17 @@ FailsHeardFirst n made [] = ⊥
 FailsHeardFirst n made (event ∷ events) =
     FailsHeard n made event × EachEvent (LowersUnused n) (made ++ event ∷ []) events
 
+-- What others hold of it has aged so much later, or no port beside it is capable, whichever is sooner.
+abbrev pub HeldFor : NetworkState → List Timed → List Timed → ℕ → Type 0
+HeldFor n made now held = (span : ℕ) × AgesWithin n made (made ++ now) (last_change (made ++ now)) span
+    × (held ≡ min span (silence_span (pace_of n)))
+
 -- How soon the choice and the roles stand after them: at once where each link that is up is in use. Else the choice
--- stands once what is held of the failed system has aged, or no port beside it is capable, whichever is sooner.
+-- stands once nothing is held of the failed system.
 abbrev pub BoundsAging : NetworkState → List Timed → List Timed → ℕ → ℕ → Type 0
 BoundsAging n made now choice roles =
     (UpIsUsed n (made ++ now) × (choice ≡ 0) × (roles ≡ 0))
-    ⊎ ((choice ≡ min (aging_span (pace_of n) (sync_paths n made)) (silence_span (pace_of n)))
-    × (roles ≡ silence_span (pace_of n)))
+    ⊎ (HeldFor n made now choice × (roles ≡ silence_span (pace_of n)))
 
 -- ---- any loss
 
@@ -334,25 +337,62 @@ LosesNext n events Then last time Asks =
     × ((then : ℕ) × Then then × (last + then < time))
     × Asks (events_by last events) (events_at time events)
 
+-- By the one event of a time a tree is so moved, and all events up to it ask for what `Asks` says. Nothing lapses for
+-- want of Sync. The network is calm. The event comes an announce interval after the time before has come to rest, by
+-- one of its bounds.
+abbrev pub TreeNext : NetworkState → (List Timed → Timed → Type 0) → List Timed → (ℕ → Type 0) → ℕ → ℕ
+    → (List Timed → Type 0) → Type 0
+TreeNext n Moves events Then last time Asks =
+    (last < time)
+    × NoneBetween events last time
+    × IsCalm n (events_by time events)
+    × NothingLapses n.params
+    × ((then : ℕ) × Then then × (last + then + largest_interval (pace_of n) < time))
+    × OneEvent Moves (events_by last events) (events_at time events)
+    × Asks (events_by time events)
+
+-- a tree is cut off
+abbrev pub FallsNext : NetworkState → List Timed → (ℕ → Type 0) → ℕ → ℕ → (List Timed → Type 0) → Type 0
+FallsNext n = TreeNext n (LowersTree n)
+
+-- a tree turns to its one way out
+abbrev pub TurnsNext : NetworkState → List Timed → (ℕ → Type 0) → ℕ → ℕ → (List Timed → Type 0) → Type 0
+TurnsNext n = TreeNext n (TurnsTreeLink n)
+
+-- The tree drops the best of before within a way, and settles within another.
+abbrev pub BoundsTree : NetworkState → ℕ → ℕ → List Timed → Type 0
+BoundsTree n choice roles events = (choice ≡ 2 * way_span (sync_paths n events)) × (roles ≡ choice)
+
 -- ---- rest
 
+-- How much later a network has come to rest after a system failed that others hear. At once right traces are told where
+-- each link that is up is in use. Else they are 1 ns later than what they hold of it has aged, or no port beside it is
+-- capable; and roles have to stand.
+abbrev pub RestsOnceTold : NetworkState → List Timed → List Timed → ℕ → Type 0
+RestsOnceTold n made now rest =
+    (UpIsUsed n (made ++ now)
+    × (max (echo_span (pace_of n) (sync_paths n (made ++ now))) (sync_paths n (made ++ now)).delay ≤ rest))
+    ⊎ ((gone : ℕ) × FlightIsGone n (made ++ now) gone
+    × ((held : ℕ) × HeldFor n made now held
+    × (max (silence_span (pace_of n)) (held + 1 + max (echo_span (pace_of n) (sync_paths n (made ++ now))) gone)
+    ≤ rest)))
+
 -- How much later a network has come to rest after a loss by which one system is moved at most, but for such as are cut
--- off. After the loss of a far end what was in flight has to be gone. Where it fails and a link is up then that isn't in
--- use, roles have to stand too. After another link goes down that moves no system right traces have to be told first.
--- Where it so moves one system the network settles before, within two ways. Right traces have to be told, too, where a
--- system fails that others hear, and each link that is up then is in use.
+-- off. After the loss of a far end what was in flight has to be gone. Where it fails and a link is up then that isn't
+-- in use, roles have to stand too. After another link goes down that moves no system right traces have to be told
+-- first. Where it so moves one system the network settles before, within two ways.
 abbrev pub RestsAfterOneLoss : NetworkState → List Timed → List Timed → ℕ → Type 0
 RestsAfterOneLoss n made now rest =
     (CutsOneEnd n made now
-    × ((gone : ℕ) × FlightIsGone n made gone × (rest ≡ max (2 * way_span (sync_paths n (made ++ now))) gone)))
+    × ((gone : ℕ) × FlightIsGone n (made ++ now) gone × (rest ≡ max (2 * way_span (sync_paths n (made ++ now))) gone)))
     ⊎ ((FailsEndFirst n made now
     × ((UpIsUsed n (made ++ now) × FlightIsGone n made rest)
     ⊎ ((gone : ℕ) × FlightIsGone n made gone × (rest ≡ max (silence_span (pace_of n)) gone))))
     ⊎ ((LowersOneLink n made now
-    × ((gone : ℕ) × FlightIsGone n (made ++ now) gone × (rest ≡ max (echo_span n (made ++ now)) gone)))
+    × ((gone : ℕ) × FlightIsGone n (made ++ now) gone
+    × (rest ≡ max (echo_span (pace_of n) (sync_paths n (made ++ now))) gone)))
     ⊎ ((TurnsOneLink n made now × (rest ≡ turned_echo_span n (made ++ now)))
-    ⊎ (FailsHeardFirst n made now × UpIsUsed n (made ++ now)
-    × (max (echo_span n (made ++ now)) (sync_paths n (made ++ now)).delay ≤ rest)))))
+    ⊎ (FailsHeardFirst n made now × RestsOnceTold n made now rest))))
 
 -- After any loss it has once roles stand: what is in flight by then is told by live systems over links in use, as all
 -- that is held is.
@@ -362,14 +402,20 @@ RestsAfterAnyLoss n made now rest = (choice : ℕ) × BoundsAnyLoss n made now c
 abbrev pub RestsAfterLoss : NetworkState → List Timed → List Timed → ℕ → Type 0
 RestsAfterLoss n made now rest = RestsAfterOneLoss n made now rest ⊎ RestsAfterAnyLoss n made now rest
 
+-- After a tree was cut off it has come to rest once the tree has settled and what was in flight is gone.
+abbrev pub RestsTree : NetworkState → ℕ → List Timed → Type 0
+RestsTree n rest events =
+    (gone : ℕ) × FlightIsGone n events gone × (rest ≡ max (2 * way_span (sync_paths n events)) gone)
+
 -- By so much later than a time the network has come to rest, by the times before it, the latest first: it has settled,
 -- and nothing that is held, or in flight, names what is gone. The first time of all is 0.
 abbrev pub IsRestBoundAfter : NetworkState → List Timed → List ℕ → ℕ → ℕ → Type 0
 IsRestBoundAfter n events [] time rest = BoundsFirst n events time rest
 IsRestBoundAfter n events (last ∷ earlier) time rest =
     BoundsNext n events (λ then. IsRestBoundAfter n events earlier last then) last time rest
-    ⊎ LosesNext n events (λ then. IsRestBoundAfter n events earlier last then) last time
+    ⊎ (LosesNext n events (λ then. IsRestBoundAfter n events earlier last then) last time
     (λ made now. RestsAfterLoss n made now rest)
+    ⊎ FallsNext n events (λ then. IsRestBoundAfter n events earlier last then) last time (RestsTree n rest))
 
 -- ---- bounds
 
@@ -385,6 +431,8 @@ IsLossBoundAfter n events [] time choice roles = ⊥
 IsLossBoundAfter n events (last ∷ earlier) time choice roles =
     LosesNext n events (λ then. IsRestBoundAfter n events earlier last then) last time
     (λ made now. BoundsLoss n made now choice roles)
+    ⊎ (FallsNext n events (λ then. IsRestBoundAfter n events earlier last then) last time (BoundsTree n choice roles)
+    ⊎ TurnsNext n events (λ then. IsRestBoundAfter n events earlier last then) last time (BoundsTree n choice roles))
 
 -- a choice bound of a document at a time: by then the choice stands, and the roles do
 abbrev pub IsChoiceBound : DocumentState → ℕ → ℕ → Type 0

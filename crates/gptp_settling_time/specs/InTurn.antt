@@ -11,10 +11,16 @@
 --   system of a path but one later. It has come to rest, as if all had been heard, once right traces have been told by
 --   distance since.
 -- - Cleared: a system was lost that was the far end of its links, so that nobody holds what names it. Or another link
---   went down that moved none, or a system that others heard lost its power, and right traces have been told by distance
---   since. When what was in flight is gone, and ports without a link aren't capable, the network has come to rest as if
---   all had been heard.
--- - Aging: a system failed that others heard. What they hold of it ages, and the choice stands once that is gone.
+--   went down that moved none, or a system that others heard lost its power, and right traces have been told by
+--   distance since. When what was in flight is gone, and ports without a link aren't capable, the network has come to
+--   rest as if all had been heard.
+-- - TurnedTree: a link went down, by which a tree turned to its one way out. The network settles 1 ns and twice the
+--   greatest delay for each system of a path but one later.
+-- - Fallen: a link went down and so cut a tree off. The network settles 1 ns and twice the greatest delay for each
+--   system of a path but one later. When what was in flight is gone too, it has come to rest as if all had been heard.
+-- - Aging: a system failed that others heard. What they hold of it ages, and the choice stands once that is gone. The
+--   network has come to rest, as if all had been heard, once right traces have been told by distance since, what was in
+--   flight is gone, and ports without a link aren't capable.
 -- - Lost: anything was taken away at one time, whatever was moved. The network settles as one that has gained, once all
 --   that is held is told by live systems over links in use. It has come to rest then, as if all had been heard.
 --
@@ -33,7 +39,8 @@
 -- A settled network is left where a link goes down by which no system is moved but such as are cut off. It is left,
 -- too, where a system fails that is the far end of each of its links. Then roles stand once the ports beside it aren't
 -- capable any more, or at once where each link that is up is in use. A network that is left stays so where a link goes
--- down of which an end has failed.
+-- down of which an end has failed. A tree that a link cuts off falls back where what is in flight names the best: where
+-- the choice had stood for an announce interval.
 use Rattle.std.specs.Prelude.{◌≡◌, ◌<◌, ◌≤◌, ◌⊎◌, ◌+◌, ◌*◌, ℕ, ⊤, pred, suc, List, [], ◌∷◌, ◌++◌, Option, Some, slice_get}
 use Rattle.gptp_lists.specs.Members.{In}
 use Rattle.gptp_vector.specs.declared.port.PortId.{PortId}
@@ -43,7 +50,7 @@ use Rattle.gptp_scenario.specs.Calm.{IsCalm, IsUsed, NothingLapses, last_change}
 use Rattle.gptp_scenario.specs.Change.{link_after}
 use Rattle.gptp_scenario.specs.Network.{IsEnd, NetworkState, pace_of}
 use Rattle.gptp_scenario.specs.SettlingAtOnce.{settling_span_at_once}
-use Rattle.gptp_scenario.specs.SettlingTime.{capability_span, settling_span_with}
+use Rattle.gptp_scenario.specs.SettlingTime.{capability_span, echo_span, loss_span, settling_span_with, silence_span, way_span}
 use Rattle.gptp_scenario.specs.SyncWait.{sync_paths}
 use Rattle.gptp_scenario.specs.declared.change.Act.{Act}
 use Rattle.gptp_scenario.specs.declared.change.Act.TheVariants.{Change as Changing}
@@ -59,8 +66,8 @@ use Rattle.gptp_settling_time.specs.ChoiceAlone.{ChoiceStandsAs}
 use Rattle.gptp_settling_time.specs.Documents.{IsSettledAs}
 use Rattle.gptp_settling_time.specs.Exactly.{SettlesBy}
 use Rattle.gptp_settling_time.specs.Gains.{AreCapableAnyway, AreCapableNext, AreCapableStill, ChangesNothing, EndHasFailed, HasRested, IsDownAfter, IsNoWorse, JoinsLive, LeavesCapable, TakesNothing, UsesNoLink, exchanged_from}
-use Rattle.gptp_invariants.specs.FailedUnanswered.{silence_span}
-use Rattle.gptp_settling_time.specs.Losses.{AreSilentAfter, CutsFarEnd, FailsFarEnd, FailsHeard, LeavesChoice, LosesAny, LowersLink, LowersUnused, TurnsLink, UpIsUsed, aging_span, loss_span}
+use Rattle.gptp_settling_time.specs.Losses.{AgesWithin, AreSilentAfter, CutsFarEnd, FailsFarEnd, FailsHeard, LeavesChoice, LosesAny, LowersLink, LowersUnused, TurnsLink, UpIsUsed}
+use Rattle.gptp_settling_time.specs.TreeLosses.{LowersTree, TurnsTreeLink}
 
 -- What a network came from. The numbers are times, but for the second of a loss.
 pub data Past : Type 0 where
@@ -73,11 +80,14 @@ pub data Past : Type 0 where
   Left : ℕ → Past
   -- from the first on ports without a link aren't capable; at the second a system turned
   Turned : ℕ → ℕ → Past
+  -- from the first on ports without a link aren't capable; at the second a tree was cut off, or turned
+  Fallen : ℕ → ℕ → Past
+  TurnedTree : ℕ → ℕ → Past
   -- from the first on its ports are capable; from the second on those without a link aren't; from the third on what is
   -- held is right; and by the fourth what was in flight is gone
   Cleared : ℕ → ℕ → ℕ → ℕ → Past
   -- from the first on what is held of the failed system is gone; from the second on ports without a link aren't capable
-  Aging : ℕ → ℕ → Past
+  Aging : List Timed → ℕ → ℕ → Past
   -- at the first something was taken away; what was in flight is gone so much later as the second says; from the third
   -- on ports without a link aren't capable
   Lost : ℕ → ℕ → ℕ → Past
@@ -218,6 +228,18 @@ pub record TurnsCalm (n : NetworkState) (before : List Timed) (event : Timed) : 
   pub calm : IsCalm n before
   pub off : NothingLapses n.params
 
+-- a link goes down that so cuts a tree off, in such a network
+pub record FallsCalm (n : NetworkState) (before : List Timed) (event : Timed) : Type 0 where
+  pub lowers : LowersTree n before event
+  pub calm : IsCalm n before
+  pub off : NothingLapses n.params
+
+-- a link goes down by which a tree so turns, in such a network
+pub record TurnsTreeCalm (n : NetworkState) (before : List Timed) (event : Timed) : Type 0 where
+  pub turns : TurnsTreeLink n before event
+  pub calm : IsCalm n before
+  pub off : NothingLapses n.params
+
 -- a system fails that is the far end of each of its links, in such a network
 pub record FailsCalm (n : NetworkState) (before : List Timed) (event : Timed) : Type 0 where
   pub fails : FailsFarEnd n before event
@@ -249,19 +271,18 @@ abbrev pub FlightIsGone : NetworkState → List Timed → ℕ → Type 0
 FlightIsGone n events gone =
     (UpIsUsed n events × (gone ≡ (sync_paths n events).delay)) ⊎ (gone ≡ largest_interval (pace_of n))
 
+-- what is in flight at this time is gone by another
+abbrev pub FlightIsGoneBy : NetworkState → List Timed → ℕ → ℕ → Type 0
+FlightIsGoneBy n events time old = (gone : ℕ) × FlightIsGone n events gone × (old ≡ time + gone)
+
 -- A far end is cut off, or it fails. Nothing that is held names what is gone, nor does anything that is still taken.
+-- What is in flight over a link that goes down is lost. What a system that fails has sent still comes.
 abbrev pub ClearsFarEnd : NetworkState → List Timed → Timed → ℕ → ℕ → ℕ → ℕ → Type 0
 ClearsFarEnd n before event start silent right old =
-    ((CutsCalm n before event × (silent ≡ start))
-    ⊎ (FailsCalm n before event × (silent ≡ suc (event.at + silence_span (pace_of n)))))
-    × (right ≡ 0)
-    × ((gone : ℕ) × FlightIsGone n before gone × (old ≡ event.at + gone))
-
--- An announce interval and the greatest delay for each system of a path but one: so much later who is told a right
--- trace holds it, and tells it.
-abbrev pub echo_span : NetworkState → List Timed → ℕ
-echo_span n events =
-    pred (sync_paths n events).systems * (largest_interval (pace_of n) + (sync_paths n events).delay)
+    (right ≡ 0)
+    × ((CutsCalm n before event × (silent ≡ start) × FlightIsGoneBy n (before ++ event ∷ []) event.at old)
+    ⊎ (FailsCalm n before event × (silent ≡ suc (event.at + silence_span (pace_of n)))
+    × FlightIsGoneBy n before event.at old))
 
 -- The best always tells a right trace, so that its neighbours do at once. All others do so much later.
 abbrev pub nearer_echo_span : NetworkState → List Timed → ℕ
@@ -282,7 +303,9 @@ pub record FailsNow (n : NetworkState) (before : List Timed) (event : Timed) (ag
   pub fails : FailsHeard n before event
   pub calm : IsCalm n before
   pub off : NothingLapses n.params
-  pub gone : aged ≡ suc (event.at + aging_span (pace_of n) (sync_paths n before))
+  pub span : ℕ
+  pub within : AgesWithin n before (before ++ event ∷ []) event.at span
+  pub gone : aged ≡ suc (event.at + span)
   pub unanswered : silent ≡ suc (event.at + silence_span (pace_of n))
 
 -- Each link that is up then is in use: from now on right traces are told, first by the best and its neighbours.
@@ -329,8 +352,10 @@ LeadsToGain n before (Gained start) event next = AreCapableStill n before start 
 LeadsToGain n before (Heard start) event next = AreCapableStill n before start event next
 LeadsToGain n before (Left silent) event next = ⊥
 LeadsToGain n before (Turned silent time) event next = ⊥
+LeadsToGain n before (Fallen silent time) event next = ⊥
+LeadsToGain n before (TurnedTree silent time) event next = ⊥
 LeadsToGain n before (Cleared since silent right old) event next = ⊥
-LeadsToGain n before (Aging aged silent) event next = ⊥
+LeadsToGain n before (Aging ago aged silent) event next = ⊥
 LeadsToGain n before (Lost since most silent) event next = ⊥
 
 abbrev pub LeadsToHeard : NetworkState → List Timed → Past → Timed → ℕ → Type 0
@@ -353,8 +378,10 @@ LeadsToHeard n before (Heard start) event next =
     ⊎ (MakesNothing n before event start × (next ≡ start)))
 LeadsToHeard n before (Left silent) event next = ⊥
 LeadsToHeard n before (Turned silent time) event next = ⊥
+LeadsToHeard n before (Fallen silent time) event next = ⊥
+LeadsToHeard n before (TurnedTree silent time) event next = ⊥
 LeadsToHeard n before (Cleared since silent right old) event next = ⊥
-LeadsToHeard n before (Aging aged silent) event next = ⊥
+LeadsToHeard n before (Aging ago aged silent) event next = ⊥
 LeadsToHeard n before (Lost since most silent) event next = ⊥
 
 -- a network that had settled is left so
@@ -369,8 +396,10 @@ LeadsToLeft n before (Heard start) event next =
     HasSettledHeard n before start event.at × LeavesStanding n before event start next
 LeadsToLeft n before (Left silent) event next = LowersUnusedCalm n before event × (next ≡ silent)
 LeadsToLeft n before (Turned silent time) event next = ⊥
+LeadsToLeft n before (Fallen silent time) event next = ⊥
+LeadsToLeft n before (TurnedTree silent time) event next = ⊥
 LeadsToLeft n before (Cleared since silent right old) event next = ⊥
-LeadsToLeft n before (Aging aged silent) event next = ⊥
+LeadsToLeft n before (Aging ago aged silent) event next = ⊥
 LeadsToLeft n before (Lost since most silent) event next = ⊥
 
 -- in a network that had settled a system turns by it now
@@ -388,12 +417,30 @@ LeadsToTurned n before (Heard start) event silent time =
     HasSettledHeard n before start event.at × TurnsNow n before event start silent time
 LeadsToTurned n before (Left start) event silent time = ⊥
 LeadsToTurned n before (Turned start now) event silent time = ⊥
+LeadsToTurned n before (Fallen start now) event silent time = ⊥
+LeadsToTurned n before (TurnedTree start now) event silent time = ⊥
 LeadsToTurned n before (Cleared since start right old) event silent time = ⊥
-LeadsToTurned n before (Aging aged start) event silent time = ⊥
+LeadsToTurned n before (Aging ago aged start) event silent time = ⊥
 LeadsToTurned n before (Lost since most start) event silent time = ⊥
 
--- A network that had settled is cleared, and one that is so stays so. One in which something ages is cleared as the last
--- link goes down of which an end has failed.
+-- in a network whose choice had stood for an announce interval a tree is so moved by it now
+abbrev pub TreeNow : NetworkState → List Timed → Timed → Type 0 → ℕ → ℕ → ℕ → ℕ → Type 0
+TreeNow n before event Moves start stood silent time =
+    (last_change before < stood) × (stood + largest_interval (pace_of n) ≤ event.at)
+    × Moves × (silent ≡ start) × (time ≡ event.at)
+
+abbrev pub LeadsByTree : NetworkState → List Timed → Past → Timed → Type 0 → ℕ → ℕ → Type 0
+LeadsByTree n before AnyPast event Moves silent time =
+    (stood : ℕ) × HasSettledAnyhow n before stood
+    × TreeNow n before event Moves (last_change before + capability_span (pace_of n)) stood silent time
+LeadsByTree n before (Gained start) event Moves silent time =
+    (stood : ℕ) × HasSettledSince n before start stood × TreeNow n before event Moves start stood silent time
+LeadsByTree n before (Heard start) event Moves silent time =
+    (stood : ℕ) × HasSettledHeard n before start stood × TreeNow n before event Moves start stood silent time
+LeadsByTree n before past event Moves silent time = ⊥
+
+-- A network that had settled is cleared, and one that is so stays so. One in which something ages is cleared as the
+-- last link goes down of which an end has failed.
 abbrev pub LeadsToCleared : NetworkState → List Timed → Past → Timed → ℕ → ℕ → ℕ → ℕ → Type 0
 LeadsToCleared n before AnyPast event since silent right old =
     HasSettledAnyhow n before event.at
@@ -405,28 +452,41 @@ LeadsToCleared n before (Heard start) event since silent right old =
     HasSettledHeard n before start event.at × ClearsBy n before event start since silent right old
 LeadsToCleared n before (Left start) event since silent right old = ⊥
 LeadsToCleared n before (Turned start now) event since silent right old = ⊥
+LeadsToCleared n before (Fallen start now) event since silent right old = ⊥
+LeadsToCleared n before (TurnedTree start now) event since silent right old = ⊥
 LeadsToCleared n before (Cleared start dark clean last) event since silent right old =
     LowersUnusedCalm n before event × (clean ≤ event.at)
     × ((since ≡ start) × (silent ≡ dark) × (right ≡ clean) × (old ≡ last))
-LeadsToCleared n before (Aging aged dark) event since silent right old =
+LeadsToCleared n before (Aging ago aged dark) event since silent right old =
     LowersUnusedCalm n before event × (silent ≡ dark) × TellsAnew n (before ++ event ∷ []) event.at since right old
 LeadsToCleared n before (Lost start most dark) event since silent right old = ⊥
 
+-- Where a silent link goes down too what came over it is gone. So all has aged sooner by these events, if others were
+-- faster. Ports beside the system are off by a time that says when it failed.
+abbrev pub AgesSooner : NetworkState → List Timed → List Timed → ℕ → ℕ → Type 0
+AgesSooner n ago events aged silent = (failed : ℕ) × (span : ℕ)
+    × (silent ≡ suc (failed + silence_span (pace_of n)))
+    × AgesWithin n ago events failed span
+    × (aged ≡ suc (failed + span))
+
 -- It goes on to age where a link goes down of which an end has failed.
-abbrev pub LeadsToAging : NetworkState → List Timed → Past → Timed → ℕ → ℕ → Type 0
-LeadsToAging n before AnyPast event aged silent =
-    HasSettledAnyhow n before event.at × FailsNow n before event aged silent
-LeadsToAging n before Starting event aged silent = ⊥
-LeadsToAging n before (Gained start) event aged silent =
-    HasSettledSince n before start event.at × FailsNow n before event aged silent
-LeadsToAging n before (Heard start) event aged silent =
-    HasSettledHeard n before start event.at × FailsNow n before event aged silent
-LeadsToAging n before (Left start) event aged silent = ⊥
-LeadsToAging n before (Turned start now) event aged silent = ⊥
-LeadsToAging n before (Cleared since start right old) event aged silent = ⊥
-LeadsToAging n before (Aging gone start) event aged silent =
-    LowersUnusedCalm n before event × (aged ≡ gone) × (silent ≡ start)
-LeadsToAging n before (Lost since most start) event aged silent = ⊥
+abbrev pub LeadsToAging : NetworkState → List Timed → Past → Timed → List Timed → ℕ → ℕ → Type 0
+LeadsToAging n before AnyPast event ago aged silent =
+    HasSettledAnyhow n before event.at × (ago ≡ before) × FailsNow n before event aged silent
+LeadsToAging n before Starting event ago aged silent = ⊥
+LeadsToAging n before (Gained start) event ago aged silent =
+    HasSettledSince n before start event.at × (ago ≡ before) × FailsNow n before event aged silent
+LeadsToAging n before (Heard start) event ago aged silent =
+    HasSettledHeard n before start event.at × (ago ≡ before) × FailsNow n before event aged silent
+LeadsToAging n before (Left start) event ago aged silent = ⊥
+LeadsToAging n before (Turned start now) event ago aged silent = ⊥
+LeadsToAging n before (Fallen start now) event ago aged silent = ⊥
+LeadsToAging n before (TurnedTree start now) event ago aged silent = ⊥
+LeadsToAging n before (Cleared since start right old) event ago aged silent = ⊥
+LeadsToAging n before (Aging old gone start) event ago aged silent =
+    LowersUnusedCalm n before event × (ago ≡ old) × (silent ≡ start)
+    × ((aged ≡ gone) ⊎ AgesSooner n old (before ++ event ∷ []) aged start)
+LeadsToAging n before (Lost since most start) event ago aged silent = ⊥
 
 -- In a network that had settled something is taken away now. What is in flight comes within a greatest delay.
 pub record LosesNow (n : NetworkState) (before : List Timed) (event : Timed) (since most silent : ℕ) : Type 0 where
@@ -453,8 +513,10 @@ LeadsToLost n before (Heard start) event since most silent =
     HasSettledHeard n before start event.at × LosesNow n before event since most silent
 LeadsToLost n before (Left start) event since most silent = ⊥
 LeadsToLost n before (Turned start now) event since most silent = ⊥
+LeadsToLost n before (Fallen start now) event since most silent = ⊥
+LeadsToLost n before (TurnedTree start now) event since most silent = ⊥
 LeadsToLost n before (Cleared begun start right old) event since most silent = ⊥
-LeadsToLost n before (Aging aged start) event since most silent = ⊥
+LeadsToLost n before (Aging ago aged start) event since most silent = ⊥
 LeadsToLost n before (Lost begun delay start) event since most silent =
     LosesMore n before event since silent × (since ≡ begun) × (most ≡ delay) × (silent ≡ start)
 
@@ -466,8 +528,10 @@ StaysFrom (Gained start) next = next ≡ start
 StaysFrom (Heard start) next = next ≡ start
 StaysFrom (Left silent) next = ⊥
 StaysFrom (Turned silent time) next = ⊥
+StaysFrom (Fallen silent time) next = ⊥
+StaysFrom (TurnedTree silent time) next = ⊥
 StaysFrom (Cleared since silent right old) next = ⊥
-StaysFrom (Aging aged silent) next = ⊥
+StaysFrom (Aging ago aged silent) next = ⊥
 StaysFrom (Lost since most silent) next = ⊥
 
 -- nothing is told as the network starts, and this is the last event then
@@ -478,8 +542,10 @@ StartsFrom n before (Gained start) event next = ⊥
 StartsFrom n before (Heard start) event next = ⊥
 StartsFrom n before (Left silent) event next = ⊥
 StartsFrom n before (Turned silent time) event next = ⊥
+StartsFrom n before (Fallen silent time) event next = ⊥
+StartsFrom n before (TurnedTree silent time) event next = ⊥
 StartsFrom n before (Cleared since silent right old) event next = ⊥
-StartsFrom n before (Aging aged silent) event next = ⊥
+StartsFrom n before (Aging ago aged silent) event next = ⊥
 StartsFrom n before (Lost since most silent) event next = ⊥
 
 -- nothing is told as the network starts, nor after this event
@@ -490,8 +556,10 @@ StartsStill (Gained start) event = ⊥
 StartsStill (Heard start) event = ⊥
 StartsStill (Left silent) event = ⊥
 StartsStill (Turned silent time) event = ⊥
+StartsStill (Fallen silent time) event = ⊥
+StartsStill (TurnedTree silent time) event = ⊥
 StartsStill (Cleared since silent right old) event = ⊥
-StartsStill (Aging aged silent) event = ⊥
+StartsStill (Aging ago aged silent) event = ⊥
 StartsStill (Lost since most silent) event = ⊥
 
 abbrev pub EventLeads : NetworkState → List Timed → Past → Timed → Past → Type 0
@@ -503,9 +571,13 @@ EventLeads n before past event (Gained next) =
 EventLeads n before past event (Heard next) = LeadsToHeard n before past event next
 EventLeads n before past event (Left next) = LeadsToLeft n before past event next
 EventLeads n before past event (Turned silent time) = LeadsToTurned n before past event silent time
+EventLeads n before past event (Fallen silent time) =
+    LeadsByTree n before past event (FallsCalm n before event) silent time
+EventLeads n before past event (TurnedTree silent time) =
+    LeadsByTree n before past event (TurnsTreeCalm n before event) silent time
 EventLeads n before past event (Cleared since silent right old) = LeadsToCleared n before past event since silent right
     old
-EventLeads n before past event (Aging aged silent) = LeadsToAging n before past event aged silent
+EventLeads n before past event (Aging ago aged silent) = LeadsToAging n before past event ago aged silent
 EventLeads n before past event (Lost since most silent) = LeadsToLost n before past event since most silent
 
 -- ---- rest
@@ -525,39 +597,71 @@ pub record HasCleared (n : NetworkState) (events : List Timed) (since silent old
 -- delay for each system of a path but one, and then they are by distance.
 abbrev pub turned_echo_span : NetworkState → List Timed → ℕ
 turned_echo_span n events =
-    2 * (pred (sync_paths n events).systems * (sync_paths n events).delay) + echo_span n events
+    2 * way_span (sync_paths n events) + echo_span (pace_of n) (sync_paths n events)
 
--- A network in which a system turned at a time has come to rest by another, as one whose ports are capable from a start
--- on. Traces are told anew, and what was in flight is gone by then. Ports without a link aren't capable from the start
--- on. And the greatest delay has passed for each system of a path but one.
+-- A network in which a system turned at a time has come to rest by another, as one whose ports are capable from a later
+-- start on. Traces are told anew, and what was in flight is gone by then. Ports without a link aren't capable from the
+-- start on. And the greatest delay has passed since the start for each system of a path but one.
 pub record HasToldAnew (n : NetworkState) (events : List Timed) (silent turned start time : ℕ) : Type 0 where
   pub calm : IsCalm n events
   pub off : NothingLapses n.params
   pub told : turned + turned_echo_span n events < time
-  pub later : turned ≤ start
+  pub later : turned < start
   pub unlinked : silent ≤ start
   pub over : HasSettledHeard n events start time
 
--- A network that has lost at a time has come to rest by another, as one whose ports are capable from a start on: its
--- choice stands. Ports without a link aren't capable then, or no link is up that isn't in use. And the greatest delay
--- has passed since the start for each system of a path but one.
+-- A network in which a system failed that others heard has come to rest by a time, as one whose ports are capable from
+-- a start on. What they held of it had aged by a moment, no later than that start, or ports without a link weren't
+-- capable. Right traces have been told by distance since the moment, and what was in flight is gone. Ports without a
+-- link aren't capable. And the greatest delay has passed since the start for each system of a path but one.
+pub record HasAged (n : NetworkState) (events : List Timed) (aged silent start time : ℕ) : Type 0 where
+  pub calm : IsCalm n events
+  pub off : NothingLapses n.params
+  pub by : ℕ
+  pub since : last_change events ≤ by
+  pub gone : (aged ≤ by) ⊎ (silent ≤ by)
+  pub flight : ℕ
+  pub is_gone : FlightIsGone n events flight
+  pub told : by + nearer_echo_span n events + flight < time
+  pub later : by ≤ start
+  pub unlinked : silent ≤ time
+  pub over : HasSettledHeard n events start time
+
+-- A network in which a tree was cut off at a time has come to rest by another, as one whose ports are capable from a
+-- start on, by which the tree had dropped the best of before. What was in flight is gone. And the greatest delay has
+-- passed since the start for each system of a path but one.
+pub record HasFallenBack (n : NetworkState) (events : List Timed) (fallen start time : ℕ) : Type 0 where
+  pub calm : IsCalm n events
+  pub off : NothingLapses n.params
+  pub later : fallen + way_span (sync_paths n events) < start
+  pub flight : ℕ
+  pub is_gone : FlightIsGone n events flight
+  pub gone : fallen + flight < time
+  pub over : HasSettledHeard n events start time
+
+-- A network that has lost at a time has come to rest by another, as one whose ports are capable from a start on. The
+-- greatest delay has passed since the start for each system of a path but one, and by then the choice stands. Ports
+-- without a link aren't capable by the other time, or no link is up that isn't in use.
 pub record HasToldAll (n : NetworkState) (events : List Timed) (since most silent start time : ℕ) : Type 0 where
   pub off : NothingLapses n.params
-  pub told : suc (since + loss_span (pace_of n) (sync_paths n events) most) ≤ time
-  pub later : since ≤ start
+  pub later : since + loss_span (pace_of n) (sync_paths n events) most < start + way_span (sync_paths n events)
   pub unlinked : (silent ≤ time) ⊎ UpIsUsed n events
   pub over : HasSettledHeard n events start time
 
--- then it is as if all had been heard from that start on
-abbrev pub RestsAs : NetworkState → List Timed → Past → ℕ → Past → Type 0
-RestsAs n events (Turned silent turned) time (Heard start) = HasToldAnew n events silent turned start time
-RestsAs n events (Cleared since silent right old) time (Heard start) = HasCleared n events since silent old start time
-RestsAs n events (Lost since most silent) time (Heard start) = HasToldAll n events since most silent start time
-RestsAs n events past time seen = ⊥
+-- by this time it has come to rest, as one whose ports are capable from this start on
+abbrev pub RestsFrom : NetworkState → List Timed → Past → ℕ → ℕ → Type 0
+RestsFrom n events (Turned silent turned) time start = HasToldAnew n events silent turned start time
+RestsFrom n events (Fallen silent fallen) time start = HasFallenBack n events fallen start time
+RestsFrom n events (Cleared since silent right old) time start = HasCleared n events since silent old start time
+RestsFrom n events (Aging ago aged silent) time start = HasAged n events aged silent start time
+RestsFrom n events (Lost since most silent) time start = HasToldAll n events since most silent start time
+RestsFrom n events past time start = ⊥
 
--- what the network is taken to come from as an event comes at this time
+-- What the network is taken to come from as an event comes at this time: what it came from, or, once it has come to
+-- rest, it is as if all had been heard.
 abbrev pub IsTakenAs : NetworkState → List Timed → Past → ℕ → Past → Type 0
-IsTakenAs n events past time seen = (seen ≡ past) ⊎ RestsAs n events past time seen
+IsTakenAs n events past time seen =
+    (seen ≡ past) ⊎ ((start : ℕ) × (seen ≡ Heard start) × RestsFrom n events past time start)
 
 -- each event leads from one to the next
 abbrev pub LeadOn : NetworkState → List Timed → Past → List Timed → Past → Type 0
@@ -577,8 +681,10 @@ BeginsBy n (Gained start) = AreCapableSoon n [] start
 BeginsBy n (Heard start) = UsedVaryLittle n [] × AreCapableSoon n [] start
 BeginsBy n (Left silent) = ⊥
 BeginsBy n (Turned silent time) = ⊥
+BeginsBy n (Fallen silent time) = ⊥
+BeginsBy n (TurnedTree silent time) = ⊥
 BeginsBy n (Cleared since silent right old) = ⊥
-BeginsBy n (Aging aged silent) = ⊥
+BeginsBy n (Aging ago aged silent) = ⊥
 BeginsBy n (Lost since most silent) = ⊥
 
 -- By this time a calm network has settled after these events. From any past the span has to pass, the sharper one where
@@ -599,10 +705,17 @@ SettlesAfter n events (Heard start) settled =
 SettlesAfter n events (Left silent) settled = NothingLapses n.params × ((silent ≤ settled) ⊎ UpIsUsed n events)
 SettlesAfter n events (Turned silent time) settled =
     NothingLapses n.params
-    × (time + 1 + pred (sync_paths n events).systems * (sync_paths n events).delay ≤ settled)
+    × (time + 1 + way_span (sync_paths n events) ≤ settled)
+SettlesAfter n events (Fallen silent time) settled =
+    NothingLapses n.params
+    × (time + 1 + 2 * way_span (sync_paths n events) ≤ settled)
+SettlesAfter n events (TurnedTree silent time) settled =
+    NothingLapses n.params
+    × (time + 1 + 2 * way_span (sync_paths n events) ≤ settled)
 SettlesAfter n events (Cleared since silent right old) settled = NothingLapses n.params ×
     ((silent ≤ settled) ⊎ UpIsUsed n events)
-SettlesAfter n events (Aging aged silent) settled = NothingLapses n.params × ((silent ≤ settled) ⊎ UpIsUsed n events)
+SettlesAfter n events (Aging ago aged silent) settled =
+    NothingLapses n.params × ((silent ≤ settled) ⊎ UpIsUsed n events)
 SettlesAfter n events (Lost since most silent) settled =
     NothingLapses n.params
     × (suc (since + loss_span (pace_of n) (sync_paths n events) most) ≤ settled)
@@ -617,8 +730,10 @@ ChoosesAfter n events (Gained start) settled = SettlesAfter n events (Gained sta
 ChoosesAfter n events (Heard start) settled = SettlesAfter n events (Heard start) settled
 ChoosesAfter n events (Left silent) settled = NothingLapses n.params
 ChoosesAfter n events (Turned silent time) settled = SettlesAfter n events (Turned silent time) settled
+ChoosesAfter n events (Fallen silent time) settled = SettlesAfter n events (Fallen silent time) settled
+ChoosesAfter n events (TurnedTree silent time) settled = SettlesAfter n events (TurnedTree silent time) settled
 ChoosesAfter n events (Cleared since silent right old) settled = NothingLapses n.params
-ChoosesAfter n events (Aging aged silent) settled =
+ChoosesAfter n events (Aging ago aged silent) settled =
     NothingLapses n.params × ((aged ≤ settled) ⊎ ((silent ≤ settled) ⊎ UpIsUsed n events))
 ChoosesAfter n events (Lost since most silent) settled =
     NothingLapses n.params × (suc (since + loss_span (pace_of n) (sync_paths n events) most) ≤ settled)

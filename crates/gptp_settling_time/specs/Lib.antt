@@ -3,6 +3,7 @@ pub mod Gains
 pub mod Documents
 pub mod Idle
 pub mod Losses
+pub mod TreeLosses
 pub mod Starts
 pub mod InTurn
 pub mod ExactInTurn

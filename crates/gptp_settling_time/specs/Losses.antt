@@ -3,24 +3,28 @@
 --
 -- An event *moves* a system that lives after it where another system, or the same with another identity, is the best of
 -- its component then, or it is nearer to that or farther from it. So its root or its steps are others.
-use Rattle.std.specs.Prelude.{◌≡◌, ◌≢◌, ◌⊎◌, ◌<◌, ◌≤◌, ◌+◌, ◌*◌, ℕ, pred, suc, true, List, [], ◌∷◌, ◌++◌, Some, slice_get}
+use Rattle.std.specs.Prelude.{◌≡◌, ◌≢◌, ◌⊎◌, ◌<◌, ◌≤◌, ◌+◌, ◌*◌, ℕ, ℤ, suc, true, List, [], ◌∷◌, ◌++◌, Some, slice_get}
 use Rattle.gptp_lists.specs.Members.{In}
 use Rattle.gptp_graph.specs.Best.{IsBest}
 use Rattle.gptp_graph.specs.Distance.{IsDistance}
 use Rattle.gptp_graph.specs.Snapshot.{Adjacent, Joins, Snapshot, System, clocks, port_of}
 use Rattle.gptp_network.specs.Snapshot.{StandsAfter}
-use Rattle.gptp_scenario.specs.Calm.{IsLive, IsUsed}
+use Rattle.gptp_roles.specs.Selection.{clock_of}
+use Rattle.gptp_scenario.specs.Calm.{IsLive, IsUsed, last_change}
 use Rattle.gptp_scenario.specs.Change.{link_after}
-use Rattle.gptp_scenario.specs.Network.{IsEnd, NetworkState}
+use Rattle.gptp_scenario.specs.Network.{IsEnd, NetworkState, pace_of}
+use Rattle.gptp_scenario.specs.SettlingTime.{silence_span}
 use Rattle.gptp_scenario.specs.SyncWait.{sync_paths}
 use Rattle.gptp_scenario.specs.declared.change.Act.{Act}
 use Rattle.gptp_scenario.specs.declared.change.Act.TheVariants.{Change as Changing}
 use Rattle.gptp_scenario.specs.declared.change.Change.TheVariants.{Fail, LinkDown, Priority1}
 use Rattle.gptp_scenario.specs.declared.change.Timed.{Timed}
 use Rattle.gptp_scenario.specs.declared.network.LinkSpec.{LinkSpec}
-use Rattle.gptp_scenario.specs.declared.sync_wait.SyncPaths.{SyncPaths}
+use Rattle.gptp_scenario.specs.declared.network.SystemSpec.{SystemSpec}
+use Rattle.gptp_system.specs.State.{number}
+use Rattle.gptp_vector.specs.declared.port.PortId.{PortId}
 use Rattle.gptp_model.specs.World.{port_id}
-use Rattle.gptp_invariants.specs.FailedUnanswered.{silence_span}
+use Rattle.gptp_setup.specs.Intervals.{interval_of}
 use Rattle.gptp_setup.specs.SettlingParams.{SettlingParams, largest_interval, longest_span}
 use Rattle.gptp_settling_time.specs.Gains.{EndHasFailed, IsUpAfter}
 
@@ -60,7 +64,7 @@ pub record LeavesChoice (n : NetworkState) (before : List Timed) (event : Timed)
   pub few : (sync_paths n before).systems ≤ 255
 
 -- After these events this one takes down a link in use, and no system is moved but such as it cuts off. The greatest
--- delay of a link in use stays, and no path gets longer. None had more than 255 systems.
+-- delay of a link in use gets no greater, and no path longer. None had more than 255 systems.
 pub record LowersLink (n : NetworkState) (before : List Timed) (event : Timed) : Type 0 where
   pub clock : ℕ
   pub port : ℕ
@@ -69,7 +73,7 @@ pub record LowersLink (n : NetworkState) (before : List Timed) (event : Timed) :
       → IsEnd (port_id clock port) (link_after before v)
       → IsUsed n.systems before (link_after before v)
   pub moves : MovesNoneJoined n before event
-  pub delay : (sync_paths n (before ++ event ∷ [])).delay ≡ (sync_paths n before).delay
+  pub delay : (sync_paths n (before ++ event ∷ [])).delay ≤ (sync_paths n before).delay
   pub paths : (sync_paths n (before ++ event ∷ [])).systems ≤ (sync_paths n before).systems
   pub few : (sync_paths n before).systems ≤ 255
 
@@ -104,32 +108,60 @@ pub record CutsFarEnd (n : NetworkState) (before : List Timed) (event : Timed) :
 
 -- After these events this one lets a live system fail that is the far end of each of its links. No shortest path leads
 -- through it, so no system is moved by that; what `moves` says of systems that are cut off isn't needed here. The
--- greatest delay of a link in use stays, and no path gets longer. None had more than 255 systems.
+-- greatest delay of a link in use gets no greater, and no path longer. None had more than 255 systems.
 pub record FailsFarEnd (n : NetworkState) (before : List Timed) (event : Timed) : Type 0 where
   pub clock : ℕ
   pub act : event.act ≡ Changing (Fail clock)
   pub live : IsLive n.systems before clock
   pub far : (g : Snapshot) → StandsAfter n before g → IsFarEnd g clock
   pub moves : MovesNoneJoined n before event
-  pub delay : (sync_paths n (before ++ event ∷ [])).delay ≡ (sync_paths n before).delay
+  pub delay : (sync_paths n (before ++ event ∷ [])).delay ≤ (sync_paths n before).delay
   pub paths : (sync_paths n (before ++ event ∷ [])).systems ≤ (sync_paths n before).systems
   pub few : (sync_paths n before).systems ≤ 255
 
 -- After these events this one lets a live system fail, whoever hears it, and no system is moved but such as are cut
--- off. The greatest delay of a link in use stays, and no path gets longer. None had more than 255 systems.
+-- off. The greatest delay of a link in use gets no greater, and no path longer. None had more than 255 systems.
 pub record FailsHeard (n : NetworkState) (before : List Timed) (event : Timed) : Type 0 where
   pub clock : ℕ
   pub act : event.act ≡ Changing (Fail clock)
   pub live : IsLive n.systems before clock
   pub moves : MovesNoneJoined n before event
-  pub delay : (sync_paths n (before ++ event ∷ [])).delay ≡ (sync_paths n before).delay
+  pub delay : (sync_paths n (before ++ event ∷ [])).delay ≤ (sync_paths n before).delay
   pub paths : (sync_paths n (before ++ event ∷ [])).systems ≤ (sync_paths n before).systems
   pub few : (sync_paths n before).systems ≤ 255
 
--- What a failed system told comes to its neighbours within the greatest delay of a link, and they hold it for the
--- longest receipt timeout. Then it has aged.
-abbrev pub aging_span : SettlingParams → SyncPaths → ℕ
-aging_span p paths = longest_span p + paths.delay
+-- A link was in use after the first events, and after the second ones it is up, but the system at this end of it has
+-- failed. So its other end may still be capable, and hold what came over it.
+abbrev pub IsSilent : NetworkState → List Timed → List Timed → LinkSpec → PortId → Type 0
+IsSilent n made events v failed =
+    IsUsed n.systems made (link_after made v)
+    × ((link_after events v).up ≡ true)
+    × IsEnd failed (link_after events v)
+    × (IsLive n.systems events failed.clock → ⊥)
+
+-- the port announces at this interval
+pub record AnnouncesAt (n : NetworkState) (port : PortId) (log : ℤ) : Type 0 where
+  pub place : ℕ
+  pub system : SystemSpec
+  pub there : slice_get n.systems place ≡ Some system
+  pub clock : clock_of system.identity ≡ port.clock
+  pub interval : number system.intervals.items port.port ≡ Some log
+
+-- So long is held at most what a port told before its system failed at this time: for the longest receipt timeout. Or
+-- it is held for that of the port's own interval, where an announce interval and the longest timeout have passed since
+-- the change before. By then what was held at that change, or in flight, is gone, and all since names that interval.
+abbrev pub IsHoldSpan : NetworkState → List Timed → ℕ → PortId → ℕ → Type 0
+IsHoldSpan n made time port span =
+    (span ≡ longest_span (pace_of n))
+    ⊎ ((last_change made + largest_interval (pace_of n) + longest_span (pace_of n) < time)
+    × ((log : ℤ) × AnnouncesAt n port log × (span ≡ n.params.timeout * interval_of log)))
+
+-- What came over silent links has aged by so much later than their ends failed at this time: it came within the
+-- greatest delay of the link, and is held for such a span.
+abbrev pub AgesWithin : NetworkState → List Timed → List Timed → ℕ → ℕ → Type 0
+AgesWithin n made events time span = (place : ℕ) (v : LinkSpec) (failed : PortId) → slice_get n.links place ≡ Some v
+    → IsSilent n made events v failed
+    → (held : ℕ) × IsHoldSpan n made time failed held × ((link_after events v).bounds.max + held ≤ span)
 
 -- From the first snapshot to the second one system is moved alone, from one distance of its best to a greater one. What
 -- it isn't joined to any more was nearer than it. It has one link at most with each other system then, and is the far
@@ -153,7 +185,7 @@ TurnsSystem n before event x = (g g' : Snapshot) → StandsAfter n before g → 
     → (d : ℕ) × (e : ℕ) × (best : System) × IsTurned g g' x d e best
 
 -- After these events this one takes down a link in use and so moves the system at one of its ends. The greatest delay
--- of a link in use stays, and no path gets longer. None had more than 255 systems.
+-- of a link in use gets no greater, and no path longer. None had more than 255 systems.
 pub record TurnsLink (n : NetworkState) (before : List Timed) (event : Timed) : Type 0 where
   pub clock : ℕ
   pub port : ℕ
@@ -166,7 +198,7 @@ pub record TurnsLink (n : NetworkState) (before : List Timed) (event : Timed) : 
       → IsEnd (port_id clock port) (link_after before v)
       → ((link_after before v).a.clock ≡ moved) ⊎ ((link_after before v).b.clock ≡ moved)
   pub turns : TurnsSystem n before event moved
-  pub delay : (sync_paths n (before ++ event ∷ [])).delay ≡ (sync_paths n before).delay
+  pub delay : (sync_paths n (before ++ event ∷ [])).delay ≤ (sync_paths n before).delay
   pub paths : (sync_paths n (before ++ event ∷ [])).systems ≤ (sync_paths n before).systems
   pub few : (sync_paths n before).systems ≤ 255
 
@@ -187,11 +219,3 @@ LosesAny n before act = ⊥
 abbrev pub AreSilentAfter : SettlingParams → ℕ → ℕ → Act → Type 0
 AreSilentAfter p time silent (Changing (Fail number)) = time + silence_span p < silent
 AreSilentAfter p time silent act = time ≤ silent
-
--- How soon the choice stands after such events, where the paths are these then, and what was in flight is gone after a
--- greatest delay. For each system of a path what it holds ages, and what it then says comes: so all that is held is told
--- by live systems over links in use. Then an announce interval passes, and the greatest delay for each system of a path
--- but one.
-abbrev pub loss_span : SettlingParams → SyncPaths → ℕ → ℕ
-loss_span p paths most =
-    paths.systems * (longest_span p + most) + largest_interval p + pred paths.systems * paths.delay

@@ -196,7 +196,11 @@ choice_is d at choice above ([], inl (first, bounds)) =
 choice_is d at choice above ((last ∷ earlier), inl (late, between, bounds)) =
     choice_of d.network _ (events_by at d.events) choice above bounds
 choice_is d at choice above ([], inr (alone, none)) = absurd none
-choice_is d at choice above ((last ∷ earlier), inr (alone, (late, between, calm, off, before, loses))) =
+choice_is d at choice above ((last ∷ earlier), inr (alone, inl (late, between, calm, off, before, loses))) =
+    absurd (omega (arith, off, above))
+choice_is d at choice above ((last ∷ earlier), inr (alone, inr (inl (late, between, calm, off, before, one, asks)))) =
+    absurd (omega (arith, off, above))
+choice_is d at choice above ((last ∷ earlier), inr (alone, inr (inr (late, between, calm, off, before, one, asks)))) =
     absurd (omega (arith, off, above))
 
 pub over_by : (d : DocumentState) (at from : ℕ) → IsTold d at from → 0 < d.network.params.sync_timeout

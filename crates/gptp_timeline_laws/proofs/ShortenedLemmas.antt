@@ -12,7 +12,8 @@ use Rattle.gptp_network.proofs.SnapshotLemmas.{from_filter}
 use Rattle.gptp_scenario.specs.Calm.{IsCalm}
 use Rattle.gptp_scenario.specs.Network.{NetworkState}
 use Rattle.gptp_scenario.specs.declared.change.Timed.{Timed}
-use Rattle.gptp_settling_time.specs.HowSoon.{BoundsChoice, BoundsEvents, BoundsFirst, BoundsLoss, BoundsNext, BoundsStart, IsChoiceAloneBound, IsChoiceBound, IsChoiceBoundAfter, IsLossBoundAfter, IsRestBoundAfter, LosesNext, RestsAfterLoss, events_at}
+use Rattle.gptp_settling_time.specs.TreeLosses.{LowersTree, TurnsTreeLink}
+use Rattle.gptp_settling_time.specs.HowSoon.{BoundsChoice, BoundsEvents, BoundsFirst, BoundsLoss, BoundsNext, BoundsStart, BoundsTree, IsChoiceAloneBound, IsChoiceBound, IsChoiceBoundAfter, IsLossBoundAfter, IsRestBoundAfter, LosesNext, OneEvent, RestsAfterLoss, RestsTree, TreeNext, events_at}
 use Rattle.gptp_theorem.specs.PlayedLaws.{IsPlayable}
 use Rattle.gptp_timeline.proofs.EventLemmas.{filter_each, filter_in_order}
 use Rattle.gptp_timeline.proofs.PastLemmas.{by_sooner}
@@ -107,6 +108,18 @@ module _ (n : NetworkState) (all : List Timed) (until : ℕ) where
       events_so Asks last time (omega (arith, late, le)) le loses,
     )
 
+    tree_by : (Is : List Timed → Timed → Type 0) (Asks : List Timed → Type 0) → TreeNext n Is all Then last time Asks
+        → TreeNext n Is (events_by until all) More last time Asks
+    tree_by Is Asks (late, between, calm, off, (before, bound, soon), lowers, asks) = (
+      late,
+      λ event member. between event (from_filter (λ (t : Timed). nat_le t.at until) event all member).0,
+      subst (IsCalm n) (sym (by_sooner time until all le)) calm,
+      off,
+      (before, more (omega (arith, late, le)) before bound, soon),
+      events_so (OneEvent Is) last time (omega (arith, late, le)) le lowers,
+      subst Asks (sym (by_sooner time until all le)) asks,
+    )
+
   rest_by : (earlier : List ℕ) (time rest : ℕ) → time ≤ until → IsRestBoundAfter n all earlier time rest
       → IsRestBoundAfter n (events_by until all) earlier time rest
   rest_by [] time rest le bounds = first_by time rest le bounds
@@ -114,10 +127,15 @@ module _ (n : NetworkState) (all : List Timed) (until : ℕ) where
       inl (next_by (λ before. IsRestBoundAfter n all earlier last before)
       (λ before. IsRestBoundAfter n (events_by until all) earlier last before) last time le
       (λ soon before. rest_by earlier last before soon) rest bounds)
-  rest_by (last ∷ earlier) time rest le (inr loses) =
-      inr (loses_by (λ before. IsRestBoundAfter n all earlier last before)
+  rest_by (last ∷ earlier) time rest le (inr (inl loses)) =
+      inr (inl (loses_by (λ before. IsRestBoundAfter n all earlier last before)
       (λ before. IsRestBoundAfter n (events_by until all) earlier last before) last time le
-      (λ soon before. rest_by earlier last before soon) (λ made now. RestsAfterLoss n made now rest) loses)
+      (λ soon before. rest_by earlier last before soon) (λ made now. RestsAfterLoss n made now rest) loses))
+  rest_by (last ∷ earlier) time rest le (inr (inr falls)) =
+      inr (inr (tree_by (λ before. IsRestBoundAfter n all earlier last before)
+      (λ before. IsRestBoundAfter n (events_by until all) earlier last before) last time le
+      (λ soon before. rest_by earlier last before soon) (LowersTree n) (RestsTree n rest)
+      falls))
 
   bound_by : (earlier : List ℕ) (time choice : ℕ) → time ≤ until → IsChoiceBoundAfter n all earlier time choice
       → IsChoiceBoundAfter n (events_by until all) earlier time choice
@@ -131,10 +149,18 @@ module _ (n : NetworkState) (all : List Timed) (until : ℕ) where
       → IsLossBoundAfter n all earlier time choice roles
       → IsLossBoundAfter n (events_by until all) earlier time choice roles
   loss_by [] time choice roles le none = absurd none
-  loss_by (last ∷ earlier) time choice roles le loses =
-      loses_by (λ before. IsRestBoundAfter n all earlier last before)
+  loss_by (last ∷ earlier) time choice roles le (inl loses) =
+      inl (loses_by (λ before. IsRestBoundAfter n all earlier last before)
       (λ before. IsRestBoundAfter n (events_by until all) earlier last before) last time le
-      (λ soon before. rest_by earlier last before soon) (λ made now. BoundsLoss n made now choice roles) loses
+      (λ soon before. rest_by earlier last before soon) (λ made now. BoundsLoss n made now choice roles) loses)
+  loss_by (last ∷ earlier) time choice roles le (inr (inl falls)) =
+      inr (inl (tree_by (λ before. IsRestBoundAfter n all earlier last before)
+      (λ before. IsRestBoundAfter n (events_by until all) earlier last before) last time le
+      (λ soon before. rest_by earlier last before soon) (LowersTree n) (BoundsTree n choice roles) falls))
+  loss_by (last ∷ earlier) time choice roles le (inr (inr turns)) =
+      inr (inr (tree_by (λ before. IsRestBoundAfter n all earlier last before)
+      (λ before. IsRestBoundAfter n (events_by until all) earlier last before) last time le
+      (λ soon before. rest_by earlier last before soon) (TurnsTreeLink n) (BoundsTree n choice roles) turns))
 
 pub short_bound : (d : DocumentState) (until time choice : ℕ) → time ≤ until → IsChoiceBound d time choice
     → IsChoiceBound (shortened until d) time choice

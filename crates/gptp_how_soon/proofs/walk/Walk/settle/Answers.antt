@@ -1,29 +1,26 @@
 -- What is told is what its view says.
-use Rattle.std.proofs.Common.{◌&&◌, ap, ◌∙◌}
+use Rattle.std.proofs.Common.{if◌then◌else◌, ap, ◌∙◌}
 use Rattle.std.specs.Option.{is_some}
-use Rattle.gptp_how_soon.specs.Walk.{cuts_seen, far_seen, moves_any_seen, moves_seen, turns_seen}
+use Rattle.gptp_how_soon.specs.Rest.{no_moves}
+use Rattle.gptp_how_soon.specs.Walk.{moves_seen}
 use Rattle.gptp_how_soon.proofs.SettleLemmas.{settled_so, turned}
 use Rattle.gptp_how_soon.proofs.walk.Walk.settle.Goals as goal
 
 pub returns-clause-is : goal.returns-clause-is
 returns-clause-is c =
     settled_so c.args.network.now c.args.self.now c.args.at c.is_none-first.result c.heard_at_once-followed.result
-    c.is_from_rest-from_rest.result c.is_calm.result c.sets_link.result c.in_ok-moves.moves.moved
-    c.in_ok-moves.moves.any c.in_ok-moves.moves.cut c.in_ok-moves.moves.turned c.in_ok-far.far c.leaves_silent.result
+    c.is_from_rest-from_rest.result c.is_calm.result c.sets_link.result c.leaves_silent.result
+    c.own_intervals-own.result c.held_among.result
+    c.in_ok-moves.moves
     c.args.paths
     c.as_slice-told.result.now c.as_slice-standings.result.now c.as_slice-used.result.now c.as_slice-new.result.now
     c.ready-ready.result c.heard.result c.way_span.result c.row_of.result c.times_by.result
     c.up_is_used-all_used.result
-    c.times_by.ensures.is c.leaves_silent.ensures c.row_of.ensures
-    (c.in_ok-far.ensures ∙ ap (λ asked. asked && far_seen c.args.self.now) c.asks_who_is_far-asked_far.ensures)
-    (c.in_ok-moves.ensures.moved
-    ∙ ap (λ asked. asked && moves_seen c.args.self.now) c.asks_who_is_moved-asked.ensures)
-    (c.in_ok-moves.ensures.any
-    ∙ ap (λ asked. asked && moves_any_seen c.args.self.now) c.asks_who_is_moved-asked.ensures)
-    (c.in_ok-moves.ensures.cut
-    ∙ ap (λ asked. asked && cuts_seen c.args.self.now) c.asks_who_is_moved-asked.ensures)
-    (c.in_ok-moves.ensures.turned
-    ∙ ap (λ asked. asked && turns_seen c.args.self.now) c.asks_who_is_moved-asked.ensures)
+    c.times_by.ensures.is c.leaves_silent.ensures c.held_among.ensures.is
+    c.own_intervals-own.ensures c.row_of.ensures
+    (c.in_ok-moves.ensures
+    ∙ ap (λ asked. if asked then moves_seen c.args.network.now c.args.self.now c.args.at else no_moves)
+    c.asks_who_is_moved-asked.ensures)
     c.is_from_rest-from_rest.ensures c.way_span.ensures.is c.heard.ensures.is
     c.heard_at_once-followed.ensures c.ready-ready.ensures.is c.sets_link.ensures c.is_calm.ensures
     (c.as_slice-new.ensures.value ∙ c.in_ok-new.ensures)
