@@ -160,11 +160,10 @@ module _ (p : SettlingParams) (settled longest : ℕ) (w w' : WorldState) (is : 
 
       soon : (g : Frame) → In g news → g.due ≤ w.time + f.channel.bounds.max
       soon g member =
-          let fresh = is'.world.known.fresh.frames at.link at.direction f'.channel g f'.here (among g member) in
-          let old = is'.old in
+          let fresh = is'.arrive at.link at.direction f'.channel g f'.here (among g member) in
           let here = is'.late in
           let most = ap (λ (y : Bounds). y.max) bounds in
-          omega (arith, fresh, old, here, most, time)
+          omega (arith, fresh, here, most, time)
 
       in_time : AreSentInTime k w.time (map link_frame_view news)
       in_time = record {

@@ -2,7 +2,6 @@
 use Rattle.std.proofs.Common.{◌<◌, ◌≤◌, ◌+◌, ◌^◌, ℕ, List, Option, sym, subst, arith}
 use Rattle.gptp_lists.specs.Members.{In}
 use Rattle.gptp_links.specs.declared.bounds.Bounds.{Bounds}
-use Rattle.gptp_setup.specs.SettlingParams.{largest_interval}
 use Rattle.gptp_scenario.specs.Calm.{last_change}
 use Rattle.gptp_scenario.specs.Network.{pace_of}
 use Rattle.gptp_model.specs.World.{WorldState}
@@ -11,7 +10,7 @@ use Rattle.gptp_network.specs.Snapshot.{events_by}
 use Rattle.gptp_report.specs.Transitions.{ActTrace, Unfolds}
 use Rattle.gptp_theorem.specs.PlayedLaws.{IsPlayable}
 use Rattle.gptp_settling_time.specs.ChoiceBounds.{ChoiceAloneBoundsHold, ChoiceBoundsAreExact, ChoiceBoundsHold}
-use Rattle.gptp_settling_time.specs.ExactInTurn.{last_set}
+use Rattle.gptp_settling_time.specs.ExactInTurn.{arrived_by}
 use Rattle.gptp_settling_time.specs.HowSoon.{IsChoiceBound, NoneBetween}
 use Rattle.gptp_settling_time.proofs.ExactInTurnLemmas.{acts_are_carried_in_turn, acts_are_exact_in_turn, IsCarried}
 use Rattle.gptp_settling_time.proofs.FollowedLemmas.{bound_chooses, bound_settles}
@@ -54,7 +53,7 @@ choice_bounds_are_exact answers d time choice next settled until fate first w ts
     acts_are_exact_in_turn answers d until settled fate first w ts t playable k member shown
     (bound_settles d playable.network playable.events.in_order time choice at settled same late bound)
     (subst (λ es. last_change es < settled) (sym same) (omega (arith, last, late)))
-    (subst (λ es. last_set es + largest_interval (pace_of d.network) ≤ settled) (sym same) old)
+    (subst (λ es. arrived_by (pace_of d.network) es ≤ settled) (sym same) old)
     steps number error offset ahead come leaves near way is_ahead
 
 -- and time is carried right from then on
@@ -63,7 +62,7 @@ pub choice_bounds_carry : {F : Type 0} (answers : Bounds → ℕ → F → Optio
     → IsPlayable d → Unfolds answers d until fate first ts w → In t ts → t.told.timed.at ≤ 10 ^ 18
     → IsChoiceBound d time choice → NoneBetween d.events time next
     → time + choice < settled
-    → last_set (events_by time d.events) + largest_interval (pace_of d.network) ≤ settled
+    → arrived_by (pace_of d.network) (events_by time d.events) ≤ settled
     → settled ≤ t.told.timed.at → t.told.timed.at < next
     → IsCarried answers (pace_of d.network) settled t
 choice_bounds_carry answers d time choice next settled until fate first w ts t playable k member shown bound none late
@@ -74,4 +73,4 @@ choice_bounds_carry answers d time choice next settled until fate first w ts t p
     acts_are_carried_in_turn answers d until settled fate first w ts t playable k member shown
     (bound_settles d playable.network playable.events.in_order time choice at settled same late bound)
     (subst (λ es. last_change es < settled) (sym same) (omega (arith, last, late)))
-    (subst (λ es. last_set es + largest_interval (pace_of d.network) ≤ settled) (sym same) old) on
+    (subst (λ es. arrived_by (pace_of d.network) es ≤ settled) (sym same) old) on
