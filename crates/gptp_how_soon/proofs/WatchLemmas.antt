@@ -54,7 +54,7 @@ roles_later n loss paths row gained held = by (n.params.sync_timeout == 0) row
     by true AnyLosses = lost loss.silent
     by true Gained = omega arith
 
-watched_longer : (n : NetworkState) → IsNetwork n → (at last_set : ℕ) (loss : Loss) (paths : SyncPaths)
+watched_longer : (n : NetworkState) → IsNetwork n → (at : ℕ) (last_set : Option ℕ) (loss : Loss) (paths : SyncPaths)
     (calm sets : Bool) (row : Row) (gained : ℕ) (s : Settling) → loss.held ≤ silence_span (pace_of n)
     → settling_by n at last_set loss paths calm sets row gained ≡ Some s
     → s.choice < watch n at paths (settling_by n at last_set loss paths calm sets row gained)

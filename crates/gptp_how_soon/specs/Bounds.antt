@@ -197,15 +197,20 @@ rest_by p paths sets roles retold sound =
 abbrev pub exact_span : Params → SyncPaths → ℕ
 exact_span p paths = (p.window - 1) * interval_of p.pdelay + paths.systems * (p.threshold + p.residence)
 
--- From when on offsets are exact: the roles stand, links are measured, and an announce interval has passed since the
--- network began and since a link was last set; then what each system uses comes down the tree.
-abbrev pub exact_from : NetworkState → ℕ → ℕ → SyncPaths → Bool → ℕ → ℕ
+-- By when what was in flight as a link was last set has arrived: an announce interval later. Where none was set nothing
+-- is in flight for longer than the greatest delay of its link.
+abbrev pub arrived_by : NetworkState → Option ℕ → ℕ
+arrived_by n None = 0
+arrived_by n (Some time) = time + largest_interval (pace_of n)
+
+-- From when on offsets are exact: the roles stand, links are measured, and what was in flight as a link was last set
+-- has arrived; then what each system uses comes down the tree.
+abbrev pub exact_from : NetworkState → ℕ → Option ℕ → SyncPaths → Bool → ℕ → ℕ
 exact_from n at last_set paths sets roles =
-    max (at + max roles (set_span n.params paths sets)) (last_set + largest_interval (pace_of n))
-    + exact_span n.params paths
+    max (at + max roles (set_span n.params paths sets)) (arrived_by n last_set) + exact_span n.params paths
 
 -- the bounds at a time
-abbrev pub settled : NetworkState → ℕ → ℕ → Loss → SyncPaths → Bool → Row → ℕ → Settling
+abbrev pub settled : NetworkState → ℕ → Option ℕ → Loss → SyncPaths → Bool → Row → ℕ → Settling
 settled n at last_set loss paths sets row gained = record {
   choice = choice_by n loss paths row gained;
   roles = roles_by n loss paths row gained;
@@ -225,11 +230,11 @@ abbrev pub watch : NetworkState → ℕ → SyncPaths → Option Settling → �
 watch n at paths settling = needed_watch n at paths settling + 8 * interval_of n.params.sync
 
 -- what is told of a time
-abbrev pub settling_by : NetworkState → ℕ → ℕ → Loss → SyncPaths → Bool → Bool → Row → ℕ → Option Settling
+abbrev pub settling_by : NetworkState → ℕ → Option ℕ → Loss → SyncPaths → Bool → Bool → Row → ℕ → Option Settling
 settling_by n at last_set loss paths calm sets row gained =
     if calm then Some (settled n at last_set loss paths sets row gained) else None
 
-abbrev pub times_by : NetworkState → ℕ → ℕ → Loss → SyncPaths → Bool → Bool → Row → ℕ → SettlingTime
+abbrev pub times_by : NetworkState → ℕ → Option ℕ → Loss → SyncPaths → Bool → Bool → Row → ℕ → SettlingTime
 times_by n at last_set loss paths calm sets row gained = record {
   at = at;
   settling = settling_by n at last_set loss paths calm sets row gained;

@@ -1,5 +1,5 @@
 -- Offsets are exact in each run from the time on that is told of a time.
-use Rattle.std.proofs.Common.{◌≡◌, ◌<◌, ◌≤◌, ◌+◌, ◌*◌, ◌^◌, ℕ, Bool, true, false, cond, suc, max, List, [], ◌∷◌, Option, filter, refl, ap, ap₂, subst, arith}
+use Rattle.std.proofs.Common.{◌≡◌, ◌<◌, ◌≤◌, ◌+◌, ◌*◌, ◌^◌, ℕ, Bool, true, false, cond, suc, max, List, [], ◌∷◌, Option, Some, None, filter, refl, ap, ap₂, subst, arith}
 use Rattle.std.specs.List.{AllByRecursion}
 use Rattle.std.proofs.Math.Nat.{mul-le-mul}
 use Rattle.gptp_lists.specs.Members.{In}
@@ -7,8 +7,7 @@ use Rattle.gptp_graph.specs.PathBound.{path_bound}
 use Rattle.gptp_graph.proofs.PathBoundLemmas.{IsDistance-within, paths_within}
 use Rattle.gptp_links.specs.declared.bounds.Bounds.{Bounds}
 use Rattle.gptp_setup.specs.SettlingParams.{largest_interval}
-use Rattle.gptp_scenario.specs.Calm.{last_change}
-use Rattle.gptp_scenario.specs.Network.{pace_of}
+use Rattle.gptp_scenario.specs.Network.{NetworkState, pace_of}
 use Rattle.gptp_scenario.specs.SyncWait.{sync_paths}
 use Rattle.gptp_scenario.specs.declared.change.Act.{Act}
 use Rattle.gptp_scenario.specs.declared.change.Act.TheVariants as acts
@@ -27,11 +26,12 @@ use Rattle.gptp_invariants.proofs.WorldStandsLemmas.{stands_well}
 use Rattle.gptp_theorem.specs.PlayedLaws.{IsPlayable}
 use Rattle.gptp_theorem.proofs.SyncPathLemmas.{paths_stand}
 use Rattle.gptp_how_soon.specs.Kinds.{sets_bounds}
-use Rattle.gptp_how_soon.specs.Times.{last_set as set_here}
+use Rattle.gptp_how_soon.specs.Bounds.{arrived_by as arrived_here}
+use Rattle.gptp_how_soon.specs.Times.{last_of as last_here, last_set as set_here}
 use Rattle.gptp_how_soon.specs.declared.bounds.Settling.{Settling}
 use Rattle.gptp_scenario.specs.SettlingTime.{window_span}
 use Rattle.gptp_settling_time.specs.HowSoon.{IsChoiceBound, NoneBetween}
-use Rattle.gptp_settling_time.specs.ExactInTurn.{last_set, sets_link}
+use Rattle.gptp_settling_time.specs.ExactInTurn.{after_set, arrived_by, last_of, sets_link}
 use Rattle.gptp_settling_time.proofs.ChoiceBoundLemmas.{choice_bounds_are_exact, choice_bounds_carry}
 use Rattle.gptp_settling_time.proofs.ExactInTurnLemmas.{IsCarried}
 use Rattle.gptp_how_soon_laws.specs.Exact.{IsExact, IsExactSoon}
@@ -70,8 +70,19 @@ same_kept [] = refl
 same_kept (t ∷ ts) =
     ap₂ (λ test (kept : List Timed). cond test (t ∷ kept) kept) (same_sets t.act) (same_kept ts)
 
-same_set : (events : List Timed) → set_here events ≡ last_set events
-same_set events = ap last_change (same_kept events)
+same_last : (events : List Timed) → last_here events ≡ last_of events
+same_last [] = refl
+same_last (t ∷ ts) = refl
+
+same_arrived : (n : NetworkState) (last : Option ℕ) → arrived_here n last ≡ after_set (largest_interval (pace_of n)) last
+same_arrived n None = refl
+same_arrived n (Some time) = refl
+
+same_set : (n : NetworkState) (events : List Timed) → arrived_here n (set_here events) ≡ arrived_by (pace_of n) events
+same_set n events =
+    same_arrived n (set_here events)
+    ∙ ap (after_set (largest_interval (pace_of n))) (ap last_here (same_kept events)
+    ∙ same_last (filter (λ (t : Timed). sets_link t.act) events))
 
 -- ---- a way has fewer links than a path has systems
 
@@ -102,10 +113,9 @@ come_down steps systems hop most window settled exact at few some is told on =
 
 -- ---- from when on
 
--- the choice of a time stands, and an announce interval has passed since the network began and a link was last set
+-- the choice of a time stands, and an announce interval has passed since a link was last set
 abbrev pub carried_from : DocumentState → ℕ → ℕ → ℕ
-carried_from d time choice =
-    max (time + choice) (last_set (events_by time d.events) + largest_interval (pace_of d.network))
+carried_from d time choice = max (time + choice) (arrived_by (pace_of d.network) (events_by time d.events))
 
 -- and then rates are measured over whole windows, and what each system uses has come down the tree
 abbrev pub come_from : DocumentState → ℕ → ℕ → ℕ
@@ -118,10 +128,10 @@ come_from d time choice =
 pub told_later : (d : DocumentState) (playable : IsPlayable d) (earlier : List ℕ) (time : ℕ) (s : Settling)
     → IsSo d playable earlier time s → come_from d time s.roles ≤ s.exact_from
 told_later d playable earlier time s so =
-    subst (λ last. max (time + s.roles) (last + largest_interval (pace_of d.network)) + window_span d.network.params
+    subst (λ arrived. max (time + s.roles) arrived + window_span d.network.params
     + (sync_paths d.network (events_by time d.events)).systems
     * (d.network.params.threshold + d.network.params.residence)
-    ≤ s.exact_from) (same_set (events_by time d.events)) so.exact
+    ≤ s.exact_from) (same_set d.network (events_by time d.events)) so.exact
 
 -- ---- each act that is done from then on, by a choice bound of a time, and before the next event
 

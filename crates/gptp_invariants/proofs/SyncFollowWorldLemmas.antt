@@ -28,6 +28,7 @@ use Rattle.gptp_invariants.proofs.SyncFollowExpiryLemmas.{expiry_carries}
 use Rattle.gptp_invariants.proofs.SyncFollowLaterLemmas.{known_arrive, time_begins, time_carries}
 use Rattle.gptp_invariants.proofs.SyncFollowTreeLemmas.{well_formed}
 use Rattle.gptp_invariants.proofs.SyncFollowWayLemmas.{follows_parent}
+use Rattle.gptp_invariants.proofs.ChoiceSettledLemmas.{choice_stands}
 
 -- ---- acts
 
@@ -78,7 +79,7 @@ claimed_is_settled_from p settled w claimed quiet choice old late shown = record
   world = claimed.world;
   measured = claimed.measured;
   links = quiet;
-  choice = choice;
+  choice = choice_stands w choice;
   arrive = known_arrive p settled w claimed.world.known old;
   late = late;
   shown = shown;

@@ -16,7 +16,7 @@ use Rattle.gptp_invariants.specs.SyncFollowers.{HasWay, IsFollower, follower, fo
 use Rattle.gptp_invariants.specs.ChoiceSettlesAsMachine.{IsWorld}
 use Rattle.gptp_invariants.specs.DelayLinkView.{LinkPlace}
 use Rattle.gptp_invariants.specs.DelayMeasured.{LinkIsMeasured}
-use Rattle.gptp_invariants.specs.ChoiceSettled.{Settled}
+use Rattle.gptp_invariants.specs.ChoiceSettled.{ChoiceStands}
 use Rattle.gptp_invariants.specs.WorldKnown.{OfEachFrame}
 use Rattle.gptp_invariants.specs.WorldStanding.{snapshot_of}
 
@@ -24,15 +24,15 @@ use Rattle.gptp_invariants.specs.WorldStanding.{snapshot_of}
 abbrev pub ArriveBy : ℕ → WorldState → Type 0
 ArriveBy gone w = OfEachFrame (λ channel f. f.due ≤ max (w.time + channel.bounds.max) gone) w
 
--- The world of a network that is settled from this time on, as it is since: its links in use are quiet and its systems
--- have settled; what was in flight before has arrived by then, no delay is above the longest, and the time is one that
+-- The world of a network that is settled from this time on, as it is since: its links in use are quiet and its choice
+-- stands; what was in flight before has arrived by then, no delay is above the longest, and the time is one that
 -- clocks can show.
 pub record IsSettledFrom (p : SettlingParams) (settled longest : ℕ) (w : WorldState) : Type 0 where
   pub pace : KeepPace p
   pub world : IsWorld p w
   pub measured : LinkIsMeasured w
   pub links : HaveQuietLinks p.params w
-  pub choice : Settled w
+  pub choice : ChoiceStands w
   pub arrive : ArriveBy settled w
   pub late : settled ≤ w.time
   pub shown : w.time ≤ 10 ^ 18

@@ -30,6 +30,7 @@ use Rattle.gptp_invariants.proofs.WorldNewsLemmas.{news_above, news_above_in_tur
 use Rattle.gptp_settling_time.specs.Exactly.{SettlesBy}
 use Rattle.gptp_settling_time.proofs.NewsMeasuredLemmas.{news_measured}
 use Rattle.gptp_settling_time.proofs.NewsSoonLemmas.{IsNewsFrom, from_done, from_later, from_world, news_now}
+use Rattle.gptp_invariants.proofs.ChoiceSettledLemmas.{choice_stands}
 
 -- ---- delays
 
@@ -127,7 +128,7 @@ module _ (p : SettlingParams) (m start settled : ℕ) where
         world = news.world;
         measured = news.measured;
         links = can.quiet;
-        choice = (has_settled w from can by_now).0;
+        choice = choice_stands w (has_settled w from can by_now).0;
         arrive = known_arrive p whole w news.world.known (omega (arith, old));
         late = on;
         shown = shown;

@@ -38,13 +38,12 @@ use Rattle.gptp_scenario.specs.Calm.{last_change}
 use Rattle.gptp_scenario.specs.Network.{pace_of}
 use Rattle.gptp_scenario.specs.SyncWait.{sync_paths}
 use Rattle.gptp_scenario.specs.declared.change.Timed.{Timed}
-use Rattle.gptp_settling_time.specs.ExactInTurn.{last_set}
+use Rattle.gptp_settling_time.specs.ExactInTurn.{arrived_by}
 use Rattle.gptp_settling_time.specs.HowSoon.{IsChoiceBound, NoneBetween}
 use Rattle.gptp_settling_time.proofs.ChoiceBoundLemmas.{choice_bounds_hold}
 use Rattle.gptp_settling_time.proofs.CutLemmas.{acts_by}
 use Rattle.gptp_settling_time.proofs.ExactInTurnLemmas.{IsCarried}
 use Rattle.gptp_settling_time.proofs.MomentLemmas.{last_by}
-use Rattle.gptp_setup.specs.SettlingParams.{largest_interval}
 use Rattle.gptp_scenario.specs.SettlingTime.{window_span}
 use Rattle.gptp_sync_machine.specs.Tree.{IsWayTo}
 use Rattle.gptp_system.specs.State.{local_time, SystemState}
@@ -210,7 +209,7 @@ module _ {F : Type 0} (answers : Bounds → ℕ → F → Option ℕ → F → T
 
   pub told_short : come_from short time choice ≤ exact
   told_short =
-      subst (λ es. max (time + choice) (last_set es + largest_interval (pace_of d.network))
+      subst (λ es. max (time + choice) (arrived_by (pace_of d.network) es)
       + window_span d.network.params
       + (sync_paths d.network es).systems * (d.network.params.threshold + d.network.params.residence)
       ≤ exact) (sym (by_sooner time p.from d.events le)) told

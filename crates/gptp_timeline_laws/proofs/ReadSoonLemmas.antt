@@ -16,7 +16,6 @@ use Rattle.gptp_scenario.specs.Network.{pace_of}
 use Rattle.gptp_scenario.specs.SettlingTime.{window_span}
 use Rattle.gptp_scenario.specs.declared.change.Timed.{Timed}
 use Rattle.gptp_how_soon_laws.proofs.StepLemmas.{IsKept}
-use Rattle.gptp_settling_time.proofs.AsIfChangedLemmas.{changed_at, shows_so}
 use Rattle.gptp_settling_time.proofs.ExactInTurnLemmas.{IsCarried}
 use Rattle.gptp_settling_time.proofs.MomentLemmas.{last_by}
 use Rattle.gptp_system.specs.State.{SystemState}
@@ -52,21 +51,8 @@ module _ {F : Type 0} (answers : Bounds → ℕ → F → Option ℕ → F → T
     (start : ℕ) (is : IsCarried answers (pace_of d.network) start t)
     (late : start + window_span d.network.params
     + suc has.steps * (d.network.params.threshold + d.network.params.residence) ≤ at_of t) where
-  -- a live system of the world as if it had been changed last at another time
-  back : {number : ℕ} {w : WorldState} {s : SystemState} → ShowsLive number (changed_at is.since w) s
-      → ShowsLive number w s
-  back k = record {
-    place = k.place;
-    station = k.station;
-    is = record { here = k.is.here; named = k.is.named };
-    live = k.live;
-    state = k.state;
-  }
-
   pub carried_is_right : IsRight name (reading_error_at has.way has.steps) t t.before
   carried_is_right =
-      let before : WorldState = changed_at is.since t.before in
-      let after : WorldState = changed_at is.since t.after in
       let right = is.right (omega (arith, late)) in
       let close = near answers d playable names events es g name from bound has t kept_so in
       let (phase, leads) = leads_there answers d playable names events es g name from bound has t kept_so in
@@ -80,33 +66,21 @@ module _ {F : Type 0} (answers : Bounds → ℕ → F → Option ℕ → F → T
         draws = kept_so.draws;
         acts = kept_so.acts;
         used = λ uses.
-            let (s, shows) = used_shows answers t.told.timed is.fate is.drawn before after t.told.done name is.was
+            let (s, shows) = used_shows answers t.told.timed is.fate is.drawn t.before t.after t.told.done name is.was
             uses in (
               s,
-              back shows,
-              carried_have_readings answers t.told.timed is.fate is.drawn before after t.told.done is.was
+              shows,
+              carried_have_readings answers t.told.timed is.fate is.drawn t.before t.after t.told.done is.was
                   (pace_of d.network) (start + window_span d.network.params) has.steps name right.is right.right
                   right.carries late close s has.way phase
                   uses shows leads,
             );
         exact = λ later read shown leaves best.
-            carried_reads answers t.told.timed is.fate is.drawn before after t.told.done is.was (pace_of d.network)
+            carried_reads answers t.told.timed is.fate is.drawn t.before t.after t.told.done is.was (pace_of d.network)
             (start + window_span d.network.params) has.steps name right.is right.right right.carries late close later
-            (reading_error_at has.way has.steps later) read shown
-            (record {
-              uses = leaves.uses;
-              system = leaves.system;
-              shows = shows_so is.since leaves.shows;
-              is = leaves.is;
-            })
+            (reading_error_at has.way has.steps later) read shown leaves
             (record { way = has.way; phase = phase; leads = leads; is = refl })
-            (record {
-              best = best.best;
-              is_best = best.is_best;
-              root = best.root;
-              shows = shows_so is.since best.shows;
-              is = best.is;
-            });
+            best;
       })
 
 -- ---- a stretch
