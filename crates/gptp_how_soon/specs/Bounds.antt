@@ -203,11 +203,11 @@ abbrev pub arrived_by : NetworkState → Option ℕ → ℕ
 arrived_by n None = 0
 arrived_by n (Some time) = time + largest_interval (pace_of n)
 
--- From when on offsets are exact: the roles stand, links are measured, and what was in flight as a link was last set
--- has arrived; then what each system uses comes down the tree.
+-- From when on offsets are exact: the choice stands, links are measured, and what was in flight as a link was last set
+-- has arrived; then what each system uses comes down the tree. Roles of ports beside a system that failed don't matter.
 abbrev pub exact_from : NetworkState → ℕ → Option ℕ → SyncPaths → Bool → ℕ → ℕ
-exact_from n at last_set paths sets roles =
-    max (at + max roles (set_span n.params paths sets)) (arrived_by n last_set) + exact_span n.params paths
+exact_from n at last_set paths sets choice =
+    max (at + max choice (set_span n.params paths sets)) (arrived_by n last_set) + exact_span n.params paths
 
 -- the bounds at a time
 abbrev pub settled : NetworkState → ℕ → Option ℕ → Loss → SyncPaths → Bool → Row → ℕ → Settling
@@ -217,7 +217,7 @@ settled n at last_set loss paths sets row gained = record {
   sound = sound_by n loss paths row gained;
   rest = rest_by n.params paths sets (roles_by n loss paths row gained) (retold_by n loss paths row gained)
       (sound_by n loss paths row gained);
-  exact_from = exact_from n at last_set paths sets (roles_by n loss paths row gained);
+  exact_from = exact_from n at last_set paths sets (choice_by n loss paths row gained);
 }
 
 -- A time is watched until the network rests and offsets are exact, and for eight Syncs more; where it isn't calm, for

@@ -485,15 +485,16 @@ fn settled(
     network.well_formed();
     let set = set_span(network, paths, sets);
     let arrived = arrived_by(network, at, last_set);
+    let choice = choice_by(network, loss, paths, row, gained);
     let roles = roles_by(network, loss, paths, row, gained);
     let sound = sound_by(network, loss, paths, row, gained);
     let retold = retold_by(network, loss, paths, row, gained);
     Settling {
-        choice: choice_by(network, loss, paths, row, gained),
+        choice,
         roles,
         sound,
         rest: roles.max(sound).max((retold + paths.delay).max(set)),
-        exact_from: (at + roles.max(set)).max(arrived) + exact_span(network, paths),
+        exact_from: (at + choice.max(set)).max(arrived) + exact_span(network, paths),
     }
 }
 

@@ -81,7 +81,7 @@ module _ (d : DocumentState) (playable : IsPlayable d) where
     pub sooner : s.choice ≤ s.roles
     pub sound : IsRestBoundAfter n all earlier at s.sound
     pub rest : s.sound ≤ s.rest
-    pub exact : max (at + s.roles) (arrived_by n (last_set (events_by at all))) + window_span n.params
+    pub exact : max (at + s.choice) (arrived_by n (last_set (events_by at all))) + window_span n.params
         + (sync_paths n (events_by at all)).systems * (n.params.threshold + n.params.residence)
         ≤ s.exact_from
 
@@ -114,7 +114,7 @@ module _ (d : DocumentState) (playable : IsPlayable d) where
         sooner = omega (arith, roles_same);
         sound = subst (IsChoiceBoundAfter n all [] 0) sound_same chosen;
         rest = it.rest;
-        exact = subst (λ es. max (0 + s.roles) (arrived_by n (last_set es)) + window_span n.params
+        exact = subst (λ es. max (0 + s.choice) (arrived_by n (last_set es)) + window_span n.params
             + (sync_paths n es).systems * (n.params.threshold + n.params.residence)
             ≤ s.exact_from) (sym (begin_at all)) it.exact;
       }
@@ -421,7 +421,7 @@ module _ (d : DocumentState) (playable : IsPlayable d) where
           sooner = x.sooner;
           sound = rest_so s it settles;
           rest = it.rest;
-          exact = subst (λ es. max (at + s.roles) (arrived_by n (last_set es)) + window_span n.params
+          exact = subst (λ es. max (at + s.choice) (arrived_by n (last_set es)) + window_span n.params
               + (sync_paths n es).systems * (n.params.threshold + n.params.residence)
               ≤ s.exact_from) (sym (parted all b.at at playable.events.in_order late between)) it.exact;
         }

@@ -30,13 +30,13 @@ use Rattle.gptp_how_soon.specs.Bounds.{arrived_by as arrived_here}
 use Rattle.gptp_how_soon.specs.Times.{last_of as last_here, last_set as set_here}
 use Rattle.gptp_how_soon.specs.declared.bounds.Settling.{Settling}
 use Rattle.gptp_scenario.specs.SettlingTime.{window_span}
-use Rattle.gptp_settling_time.specs.HowSoon.{IsChoiceBound, NoneBetween}
+use Rattle.gptp_settling_time.specs.HowSoon.{IsChoiceAloneBound, NoneBetween}
 use Rattle.gptp_settling_time.specs.ExactInTurn.{after_set, arrived_by, last_of, sets_link}
 use Rattle.gptp_settling_time.proofs.ChoiceBoundLemmas.{choice_bounds_are_exact, choice_bounds_carry}
 use Rattle.gptp_settling_time.proofs.ExactInTurnLemmas.{IsCarried}
 use Rattle.gptp_how_soon_laws.specs.Exact.{IsExact, IsExactSoon}
 use Rattle.gptp_how_soon_laws.proofs.ChoiceLemmas.{IsSo, time_so}
-use Rattle.gptp_how_soon_laws.proofs.StepLemmas.{IsKept, kept}
+use Rattle.gptp_how_soon_laws.proofs.StepLemmas.{IsKept, kept_alone}
 
 -- ---- lists
 
@@ -126,26 +126,26 @@ come_from d time choice =
 
 -- offsets are exact no sooner by what is told of a time
 pub told_later : (d : DocumentState) (playable : IsPlayable d) (earlier : List ℕ) (time : ℕ) (s : Settling)
-    → IsSo d playable earlier time s → come_from d time s.roles ≤ s.exact_from
+    → IsSo d playable earlier time s → come_from d time s.choice ≤ s.exact_from
 told_later d playable earlier time s so =
-    subst (λ arrived. max (time + s.roles) arrived + window_span d.network.params
+    subst (λ arrived. max (time + s.choice) arrived + window_span d.network.params
     + (sync_paths d.network (events_by time d.events)).systems
     * (d.network.params.threshold + d.network.params.residence)
     ≤ s.exact_from) (same_set d.network (events_by time d.events)) so.exact
 
--- ---- each act that is done from then on, by a choice bound of a time, and before the next event
+-- ---- each act that is done from then on, by a bound of the choice of a time, and before the next event
 
 module _ {F : Type 0} (answers : Bounds → ℕ → F → Option ℕ → F → Type 0) (d : DocumentState)
     (time choice exact next until : ℕ) (fate : F) (first w : WorldState) (ts : List ActTrace) (t : ActTrace)
     (playable : IsPlayable d) (k : Unfolds answers d until fate first ts w) (member : In t ts)
-    (bound : IsChoiceBound d time choice) (none : NoneBetween d.events time next)
+    (bound : IsChoiceAloneBound d time choice) (none : NoneBetween d.events time next)
     (told : come_from d time choice ≤ exact) (behind : time < t.told.timed.at) (on : exact ≤ t.told.timed.at)
     (early : t.told.timed.at < next) where
   least : 1 ≤ d.network.params.threshold + d.network.params.residence
   least = let one = playable.network.params.ranges.params.threshold-least in omega (arith, one)
 
   pub kept_then : IsKept d (events_by time d.events) t
-  kept_then = kept answers d time choice next until fate first w ts t playable k member bound none behind early
+  kept_then = kept_alone answers d time choice next until fate first w ts t playable k member bound none behind early
 
   module _ (steps number error : ℕ) (way : IsWayError d.network.params t.before number (suc steps) error) where
     few : suc steps < (sync_paths d.network (events_by time d.events)).systems
@@ -180,5 +180,5 @@ module _ {F : Type 0} (answers : Bounds → ℕ → F → Option ℕ → F → T
 pub exact_soon : {F : Type 0} (answers : Bounds → ℕ → F → Option ℕ → F → Type 0) → IsExactSoon answers
 exact_soon answers d time s next until fate first w ts t playable k member shown told is none behind on early =
     let (before, so) = time_so d playable time s told is in
-    exact_then answers d time.at s.roles s.exact_from next until fate first w ts t playable k member
-    (before, so.bounds) none (told_later d playable before time.at s so) behind on early shown
+    exact_then answers d time.at s.choice s.exact_from next until fate first w ts t playable k member
+    (before, so.choice) none (told_later d playable before time.at s so) behind on early shown

@@ -33,12 +33,12 @@ use Rattle.gptp_theorem.proofs.SettlingInvariantLemmas.{events_fit, events_made}
 use Rattle.gptp_theorem.proofs.CalmKeptLemmas.{no_change}
 use Rattle.gptp_settling_time.specs.ExactInTurn.{ActsAreExactInTurn, arrived_by}
 use Rattle.gptp_settling_time.specs.Exactly.{AreExactFrom}
-use Rattle.gptp_settling_time.specs.InTurn.{Aging, AnyPast, Cleared, Fallen, Gained, Heard, Left, Lost, Past, SettlesAfter, SettlesByEvents, Starting, Turned}
+use Rattle.gptp_settling_time.specs.InTurn.{Aging, AnyPast, ChoosesAfter, ChoosesByEvents, Cleared, Fallen, Gained, Heard, Left, Lost, Past, Starting, Turned}
 use Rattle.gptp_settling_time.proofs.AgingClaimedLemmas.{aging_measured}
 use Rattle.gptp_settling_time.proofs.LostClaimedLemmas.{lost_measured}
 use Rattle.gptp_settling_time.proofs.BegunLemmas.{begun_last}
 use Rattle.gptp_settling_time.proofs.DocumentLemmas.{run_to}
-use Rattle.gptp_settling_time.proofs.AfterLemmas.{IsAfter, after_act, after_keeps, after_later, after_settles, begins_after}
+use Rattle.gptp_settling_time.proofs.AfterLemmas.{IsAfter, after_act, after_chooses, after_keeps, after_later, begins_after}
 use Rattle.gptp_settling_time.proofs.InTurnLemmas.{in_turn}
 use Rattle.gptp_settling_time.proofs.LaterLemmas.{AreSteps}
 use Rattle.gptp_settling_time.proofs.LeftClaimedLemmas.{left_measured}
@@ -50,7 +50,7 @@ use Rattle.gptp_settling_time.proofs.SinceSetLemmas.{limited_arrive}
 use Rattle.gptp_settling_time.proofs.SoonOffsetLemmas.{CarriesRight, carried_exact}
 
 module _ (d : DocumentState) (playable : IsPlayable d) (all : List Timed) (calm : IsCalm d.network all) (last : Past)
-    (settled : ℕ) (settles : SettlesAfter d.network all last settled)
+    (settled : ℕ) (settles : ChoosesAfter d.network all last settled)
     (behind : last_change all < settled) (old : arrived_by (pace_of d.network) all ≤ settled) where
   abbrev p : SettlingParams
   p = pace_of d.network
@@ -67,13 +67,13 @@ module _ (d : DocumentState) (playable : IsPlayable d) (all : List Timed) (calm 
       (quiet_stands d.network all w playable.network keeps.stands keeps.claim.world.sound calm).links
 
   -- its ports have measured their links
-  have_measured : (past : Past) (w : WorldState) → IsAfter d all past w → SettlesAfter d.network all past settled
+  have_measured : (past : Past) (w : WorldState) → IsAfter d all past w → ChoosesAfter d.network all past settled
       → HaveQuietLinks p.params w → whole ≤ w.time → HaveMeasuredLinks w
   have_measured AnyPast w keeps so links on =
       let change = keeps.stands.last in
       used_measured p w keeps.claim.pace keeps.claim.world links keeps.claim.watched (by so change)
     where
-      by : SettlesAfter d.network all AnyPast settled → w.last_change ≡ last_change all
+      by : ChoosesAfter d.network all AnyPast settled → w.last_change ≡ last_change all
           → w.last_change + 5 * largest_interval p + window_span p.params ≤ w.time
       by (inl (off, passed)) change = omega (arith, passed, on, change)
       by (inr passed) change = omega (arith, passed, on, change)
@@ -82,7 +82,7 @@ module _ (d : DocumentState) (playable : IsPlayable d) (all : List Timed) (calm 
       let late = by settles in
       news_measured p start w (news_now p start w (omega (arith, late)) so.news) links late
     where
-      by : SettlesAfter d.network all (Gained start) settled → start + window_span p.params ≤ w.time
+      by : ChoosesAfter d.network all (Gained start) settled → start + window_span p.params ≤ w.time
       by (inl (off, late)) = omega (arith, late, on)
       by (inr (short, late)) = omega (arith, late, on)
   have_measured (Heard start) w so (off, late) links on =
@@ -120,7 +120,7 @@ module _ (d : DocumentState) (playable : IsPlayable d) (all : List Timed) (calm 
         world = keeps.claim.world;
         measured = keeps.claim.measured;
         links = links;
-        choice = (after_settles d playable all calm settled w (omega (arith, on)) last so settles).0;
+        choice = after_chooses d playable all calm settled w (omega (arith, on)) last so settles;
         arrive = arrive w so;
         late = on;
         shown = shown;
@@ -211,7 +211,7 @@ pub record IsCarried {F : Type 0} (answers : Bounds → ℕ → F → Option ℕ
 module _ {F : Type 0} (answers : Bounds → ℕ → F → Option ℕ → F → Type 0) (d : DocumentState) (settled : ℕ) (fate : F)
     (first w : WorldState) (ts : List ActTrace) (t : ActTrace) (playable : IsPlayable d)
     (k : Unfolds answers d t.told.timed.at fate first ts w) (member : In t ts) (shown : t.told.timed.at ≤ 10 ^ 18)
-    (is : SettlesByEvents d t.told.timed.at settled)
+    (is : ChoosesByEvents d t.told.timed.at settled)
     (behind : last_change (events_by t.told.timed.at d.events) < settled)
     (old : arrived_by (pace_of d.network) (events_by t.told.timed.at d.events) ≤ settled) where
   abbrev now : ℕ
@@ -266,7 +266,7 @@ acts_are_exact_in_turn answers d until settled fate first w ts t playable k memb
 pub acts_are_carried_in_turn : {F : Type 0} (answers : Bounds → ℕ → F → Option ℕ → F → Type 0) (d : DocumentState)
     (until settled : ℕ) (fate : F) (first w : WorldState) (ts : List ActTrace) (t : ActTrace) → IsPlayable d
     → Unfolds answers d until fate first ts w → In t ts → t.told.timed.at ≤ 10 ^ 18
-    → SettlesByEvents d t.told.timed.at settled
+    → ChoosesByEvents d t.told.timed.at settled
     → last_change (events_by t.told.timed.at d.events) < settled
     → arrived_by (pace_of d.network) (events_by t.told.timed.at d.events) ≤ settled
     → settled ≤ t.told.timed.at

@@ -41,13 +41,13 @@ ChoiceAloneBoundsHold {F} answers = (d : DocumentState) (time choice next until 
     × (AllAreNear (snapshot_of t.after) → LeavesChoiceShown t.before t.after)
 
 -- Each act of a run leaves offsets that are exact, once a Sync has had the time to come down a way since a time that is
--- later than another by more than its choice bound, and before the next event. An announce interval is over then since
--- a link was last set.
+-- later than another by more than a bound of its choice alone, and before the next event. An announce interval is over
+-- then since a link was last set.
 abbrev pub ChoiceBoundsAreExact : {F : Type 0} → (Bounds → ℕ → F → Option ℕ → F → Type 0) → Type 0
 ChoiceBoundsAreExact {F} answers = (d : DocumentState) (time choice next settled until : ℕ) (fate : F)
     (first w : WorldState) (ts : List ActTrace) (t : ActTrace)
     → IsPlayable d → Unfolds answers d until fate first ts w → In t ts → t.told.timed.at ≤ 10 ^ 18
-    → IsChoiceBound d time choice → NoneBetween d.events time next
+    → IsChoiceAloneBound d time choice → NoneBetween d.events time next
     → time + choice < settled
     → arrived_by (pace_of d.network) (events_by time d.events) ≤ settled
     → t.told.timed.at < next

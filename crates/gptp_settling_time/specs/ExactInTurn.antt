@@ -15,7 +15,7 @@ use Rattle.gptp_network.specs.Snapshot.{events_by}
 use Rattle.gptp_report.specs.Transitions.{ActTrace, Unfolds}
 use Rattle.gptp_theorem.specs.PlayedLaws.{IsPlayable}
 use Rattle.gptp_settling_time.specs.Exactly.{AreExactFrom}
-use Rattle.gptp_settling_time.specs.InTurn.{SettlesByEvents}
+use Rattle.gptp_settling_time.specs.InTurn.{ChoosesByEvents}
 
 -- the act sets the bounds of a link
 abbrev pub sets_link : Act → Bool
@@ -39,14 +39,14 @@ after_set interval (Some time) = time + interval
 abbrev pub arrived_by : SettlingParams → List Timed → ℕ
 arrived_by p events = after_set (largest_interval p) (last_set events)
 
--- Each act of a run leaves offsets that are exact, once a Sync has had the time to come down a way since the document
--- settled by the events up to the act, one after another. It settled later than the last of them, and no sooner than an
--- announce interval after a link was last set.
+-- Each act of a run leaves offsets that are exact, once a Sync has had the time to come down a way since the choice
+-- stands by the events up to the act, one after another: from later than the last of them, and no sooner than an announce
+-- interval after a link was last set.
 abbrev pub ActsAreExactInTurn : {F : Type 0} → (Bounds → ℕ → F → Option ℕ → F → Type 0) → Type 0
 ActsAreExactInTurn {F} answers = (d : DocumentState) (until settled : ℕ) (fate : F) (first w : WorldState)
     (ts : List ActTrace) (t : ActTrace)
     → IsPlayable d → Unfolds answers d until fate first ts w → In t ts → t.told.timed.at ≤ 10 ^ 18
-    → SettlesByEvents d t.told.timed.at settled
+    → ChoosesByEvents d t.told.timed.at settled
     → last_change (events_by t.told.timed.at d.events) < settled
     → arrived_by (pace_of d.network) (events_by t.told.timed.at d.events) ≤ settled
     → AreExactFrom (pace_of d.network) settled t.before t.told.timed.at t.after t.told.done

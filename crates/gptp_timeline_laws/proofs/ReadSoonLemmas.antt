@@ -4,7 +4,7 @@ use Rattle.gptp_accuracy.specs.TimeErrors.{AreTimeErrors}
 use Rattle.gptp_accuracy.specs.declared.errors.TimeErrors.{TimeErrors}
 use Rattle.gptp_error_laws.specs.TimeError.{reading_error_at}
 use Rattle.gptp_graph.specs.Snapshot.{Snapshot}
-use Rattle.gptp_invariants.specs.ChoiceSettled.{Settled}
+use Rattle.gptp_invariants.specs.ChoiceSettled.{ChoiceStands}
 use Rattle.gptp_links.specs.declared.bounds.Bounds.{Bounds}
 use Rattle.gptp_lists.specs.Members.{In}
 use Rattle.gptp_model.specs.Views.{rising_clocks, ShowsLive}
@@ -33,7 +33,7 @@ use Rattle.gptp_timeline_laws.specs.ExactSoon.{TimelinesBoundReceiptsSoon, Timel
 use Rattle.gptp_timeline_laws.specs.Moments.{BeginsWith}
 use Rattle.gptp_timeline_laws.proofs.ExactLemmas.{stretch_reads}
 use Rattle.gptp_how_soon_laws.proofs.ExactLemmas.{carried_from}
-use Rattle.gptp_timeline_laws.proofs.ExactSoonLemmas.{carried, far, is_told, IsTold, kept, later_told, leads_there, near, settled, settled_system, well}
+use Rattle.gptp_timeline_laws.proofs.ExactSoonLemmas.{carried, far, is_told, IsTold, kept, later_told, leads_there, near, own_choice, stands, well}
 use Rattle.gptp_timeline_laws.proofs.HeldLemmas.{AreRight, IsRight, right_for}
 use Rattle.gptp_timeline_laws.proofs.MomentLemmas.{Found, timeline_found}
 use Rattle.gptp_timeline_laws.proofs.ReceiptLemmas.{moment_reads}
@@ -43,11 +43,11 @@ use Rattle.gptp_world.specs.Transitions.{ActTrace}
 
 -- ---- an act
 
--- an act in which time is carried right, and that leaves a settled world, is right for a system
+-- an act in which time is carried right, and that leaves a world where the choice stands, is right for a system
 module _ {F : Type 0} (answers : Bounds → ℕ → F → Option ℕ → F → Type 0) (d : DocumentState) (playable : IsPlayable d)
     (names : List ℕ) (events es : List Timed) (g : Snapshot) (name from bound : ℕ)
     (has : HasBound answers d playable names events g name from bound) (t : ActTrace)
-    (kept_so : IsKept (record { network = d.network; events = es }) events t) (settled_so : Settled t.after)
+    (kept_so : IsKept (record { network = d.network; events = es }) events t) (stands_so : ChoiceStands t.after)
     (start : ℕ) (is : IsCarried answers (pace_of d.network) start t)
     (late : start + window_span d.network.params
     + suc has.steps * (d.network.params.threshold + d.network.params.residence) ≤ at_of t) where
@@ -62,7 +62,7 @@ module _ {F : Type 0} (answers : Bounds → ℕ → F → Option ℕ → F → T
         same = kept_so.same;
         own = kept_so.before.claim.world.sound.wired.clocks;
         own_after = kept_so.after.claim.world.sound.wired.clocks;
-        settled = settled_system answers d playable names events es g name from bound has t kept_so settled_so;
+        choice = own_choice answers d playable names events es g name from bound has t kept_so stands_so;
         draws = kept_so.draws;
         acts = kept_so.acts;
         used = λ uses.
@@ -180,7 +180,7 @@ module _ {F : Type 0} (answers : Bounds → ℕ → F → Option ℕ → F → T
           say.snapshot name span_from bound h a
           (kept answers d playable until p fate t.started t.start t.begun run begun goes_on last told.choice from past
           (last_by p.from d.events) told.bounds told.told later a member late)
-          (settled answers d playable until p fate t.started t.start t.begun run begun goes_on last told.choice from
+          (stands answers d playable until p fate t.started t.start t.begun run begun goes_on last told.choice from
           past (last_by p.from d.events) told.bounds told.told later a member late names say.snapshot name span_from
           bound h)
           (carried_from (shortened p.from d) last told.choice + 1) is_carried down
