@@ -22,16 +22,17 @@ use Rattle.gptp_how_soon.specs.Silent.{own_intervals}
 use Rattle.gptp_how_soon.specs.Times.{View, events_at, gained_at, last_set, loss_at, ready_at, row_at, settling_time, settling_times, settling_times_from, time_at, view_at}
 use Rattle.gptp_how_soon.specs.declared.bounds.Loss.{Loss}
 use Rattle.gptp_how_soon.specs.declared.bounds.Row.{Row}
-use Rattle.gptp_how_soon.specs.declared.bounds.Row.TheVariants.{AnyLosses, AnyPast, CutOff, FailedEnd, FailedHeard, FailureCutsOff, Gained, LostEnd, LostPower, Lowered, OneTurned, PowerCutsOff, TreeCutOff, Unchanged}
+use Rattle.gptp_how_soon.specs.declared.bounds.Row.TheVariants.{AnyLosses, AnyPast, CutOff, FailedEnd, FailedHeard, FailureCutsOff, Gained, LostEnd, LostPower, Lowered, OneTurned, PowerCutsOff, TreeCutOff, TreeTurned, Unchanged}
 use Rattle.gptp_how_soon.specs.declared.bounds.Settling.{Settling}
 use Rattle.gptp_how_soon.specs.declared.bounds.SettlingTime.{SettlingTime}
-use Rattle.gptp_settling_time.specs.HowSoon.{BoundsAging, BoundsAnyLoss, BoundsChoice, BoundsEvents, BoundsLoss, BoundsStart, BoundsTree, FailsHeardFirst, FallsNext, HeldFor, IsChoiceBoundAfter, IsLossBoundAfter, IsRestBoundAfter, NoneBetween, RestsAfterLoss, RestsTree}
+use Rattle.gptp_settling_time.specs.HowSoon.{BoundsAging, BoundsAnyLoss, BoundsChoice, BoundsEvents, BoundsLoss, BoundsStart, BoundsTree, FailsHeardFirst, HeldFor, IsChoiceBoundAfter, IsLossBoundAfter, IsRestBoundAfter, NoneBetween, RestsAfterLoss, RestsTree, TreeNext}
 use Rattle.gptp_settling_time.specs.InTurn.{FlightIsGone}
+use Rattle.gptp_settling_time.specs.TreeLosses.{LowersTree, TurnsTreeLink}
 use Rattle.gptp_settling_time.proofs.MomentLemmas.{all_at, last_by, parted}
 use Rattle.gptp_settling_time.proofs.WellFormedLemmas.{after_well}
 use Rattle.gptp_how_soon_laws.specs.Choice.{SettlingsAreChoiceBounds}
 use Rattle.gptp_how_soon_laws.proofs.RowBoundLemmas.{HasOwnBounds, IsSoundSooner, IsTelling, bounds_choice, choice_or_own, past_row, sound_or_sooner, tells}
-use Rattle.gptp_how_soon_laws.proofs.RowLemmas.{CutsLate, HasComeToRest, any_losses, cut_off, failed, gained, heard, lost_end, lost_power, lowered, tree_cut, turned, unchanged}
+use Rattle.gptp_how_soon_laws.proofs.RowLemmas.{ComesLate, CutsLate, HasComeToRest, any_losses, cut_off, failed, gained, heard, lost_end, lost_power, lowered, tree_cut, tree_turned, turned, unchanged}
 use Rattle.gptp_how_soon_laws.proofs.SilentLemmas.{held_for, last_now}
 use Rattle.gptp_how_soon_laws.proofs.StartRowLemmas.{first_past, first_roles, first_sound, never_unchanged, started}
 use Rattle.gptp_how_soon_laws.proofs.UnmovedLemmas.{AreWell}
@@ -197,11 +198,12 @@ module _ (d : DocumentState) (playable : IsPlayable d) where
             let passed = below (b.at + largest_interval (pace_of n) + longest_span (pace_of n)) at own in
             omega (arith, last, moment, passed)
 
-    -- a tree is cut off, an announce interval after the time before has come to rest, and all events ask for this
-    falls : (Asks : List Timed → Type 0) → IsCalm n (events_by at all) → NothingLapses n.params
-        → (rest : HasComeToRest b at) → CutsLate n playable.network all b at late rest → Asks (made ++ now)
-        → FallsNext n all (λ then. IsRestBoundAfter n all earlier b.at then) b.at at Asks
-    falls Asks calm off rest tree asks =
+    -- an event of this kind comes an announce interval after the time before has come to rest, and all ask for this
+    tree_next : (Is : List Timed → Timed → Type 0) (Asks : List Timed → Type 0) → IsCalm n (events_by at all)
+        → NothingLapses n.params → (rest : HasComeToRest b at) → ComesLate n playable.network all b at late Is rest
+        → Asks (made ++ now)
+        → TreeNext n Is all (λ then. IsRestBoundAfter n all earlier b.at then) b.at at Asks
+    tree_next Is Asks calm off rest tree asks =
         let bound = (sound_before rest).0 in
         let then = so rest.settling rest.is in
         let less = then.rest in
@@ -228,7 +230,8 @@ module _ (d : DocumentState) (playable : IsPlayable d) where
         let (bound, past) = sound_before rest in
         inr (inl (late, between, calm, off, (rest.settling.sound, bound, past), loses))
     rests sound calm off (inr (rest, tree, is)) =
-        inr (inr (falls (RestsTree n sound) calm off rest tree (gone_by n v.paths v.used_before, tree.flight, is)))
+        inr (inr (tree_next (LowersTree n) (RestsTree n sound) calm off rest tree.comes
+        (gone_by n v.paths v.used_before, tree.flight, is)))
 
     -- it has come to rest by what the row of this loss says
     rests_by : (sound : ℕ) → sound ≡ sound_by n loss v.paths (row_at v) (gained_at n v)
@@ -295,11 +298,13 @@ module _ (d : DocumentState) (playable : IsPlayable d) where
           ⊎ ((roles : ℕ) × IsLossBoundAfter n all (b.at ∷ earlier) at s.choice roles)
       sooner : s.choice ≤ s.roles
 
-    -- What a loss asks for from rest, or a tree that falls off an announce interval later.
+    -- What a loss asks for from rest, or a tree that falls off or turns an announce interval later.
     abbrev Asks : ℕ → ℕ → Type 0
     Asks choice roles =
         (HasComeToRest b at × BoundsLoss n made now choice roles)
-        ⊎ ((rest : HasComeToRest b at) × CutsLate n playable.network all b at late rest
+        ⊎ (((rest : HasComeToRest b at)
+        × (CutsLate n playable.network all b at late rest
+        ⊎ ComesLate n playable.network all b at late (TurnsTreeLink n) rest))
         × (choice ≡ 2 * way_span v.paths) × (roles ≡ choice))
 
     lost : (s : Settling) → IsChoiceBoundAfter n all (b.at ∷ earlier) at settled_by → NothingLapses n.params
@@ -308,8 +313,12 @@ module _ (d : DocumentState) (playable : IsPlayable d) where
     lost s settles off (inl (rest, loses)) =
         let (bound, past) = sound_before rest in
         inl (late, between, settles.2.0, off, (rest.settling.sound, bound, past), loses)
-    lost s settles off (inr (rest, tree, choice, roles)) =
-        inr (falls (BoundsTree n s.choice s.roles) settles.2.0 off rest tree (choice, roles))
+    lost s settles off (inr ((rest, inl tree), choice, roles)) =
+        inr (inl (tree_next (LowersTree n) (BoundsTree n s.choice s.roles) settles.2.0 off rest tree.comes
+        (choice, roles)))
+    lost s settles off (inr ((rest, inr tree), choice, roles)) =
+        inr (inr (tree_next (TurnsTreeLink n) (BoundsTree n s.choice s.roles) settles.2.0 off rest tree
+        (choice, roles)))
 
     -- what ages does no later than ports beside a failed system are off
     ages_first : (aged quiet : ℕ) → BoundsAging n made now aged quiet → aged ≤ quiet
@@ -331,7 +340,7 @@ module _ (d : DocumentState) (playable : IsPlayable d) where
 
     asked_later : (choice roles : ℕ) → Asks choice roles → choice ≤ roles
     asked_later choice roles (inl (rest, loses)) = no_later choice roles loses
-    asked_later choice roles (inr (rest, tree, is, same)) = omega (arith, same)
+    asked_later choice roles (inr (tree, is, same)) = omega (arith, same)
 
     -- what is lost at this time asks for what its row says
     asks_by : (r : Row) → row_at v ≡ r → HasOwnBounds r
@@ -363,7 +372,10 @@ module _ (d : DocumentState) (playable : IsPlayable d) where
         inl (rest, inr (inr (inl (turns, refl, refl))))
     asks_by TreeCutOff row own =
         let (rest, tree) = tree_cut n playable.network all b at late well row in
-        inr (rest, tree, refl, refl)
+        inr ((rest, inl tree), refl, refl)
+    asks_by TreeTurned row own =
+        let (rest, tree) = tree_turned n playable.network all b at late well row in
+        inr ((rest, inr tree), refl, refl)
     asks_by FailedHeard row own =
         let (rest, fails) = heard n playable.network all b at late well (inl row) in
         inl (

@@ -58,8 +58,7 @@ module _ (n : NetworkState) (network : IsNetwork n) (time : ℕ) (first events :
   each_idle turns made (event ∷ left) now among nothing =
       let (one, rest) =
       and_parts (makes_nothing (told_at n made event.act))
-      (list_all makes_nothing (told_of n (made ++ event ∷ []) left)) nothing in
-      (
+      (list_all makes_nothing (told_of n (made ++ event ∷ []) left)) nothing in (
         idles n network time first events turns made event now.0 among.0 one,
         each_idle turns (made ++ event ∷ []) left now.1 among.1 rest,
       )
@@ -168,11 +167,10 @@ module _ (n : NetworkState) (network : IsNetwork n) (time : ℕ) (first events :
               → EachEvent (IsHeardToo n next) (made ++ event ∷ []) left)
               → (is_heard_too true (told_at n made event.act) ≡ true → AddsHeard n made event next)
               → IsHeardToo n next made event × EachEvent (IsHeardToo n next) (made ++ event ∷ []) left
-          by true is heard rest one =
-              (
-                inr (idles_late n network time first events turns made event now.0 each.0.among off gained is),
-                rest heard,
-              )
+          by true is heard rest one = (
+            inr (idles_late n network time first events turns made event now.0 each.0.among off gained is),
+            rest heard,
+          )
           by false is heard rest one =
               let (too, more) =
               and_parts (is_heard_too true (told_at n made event.act))

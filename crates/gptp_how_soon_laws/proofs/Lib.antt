@@ -11,9 +11,12 @@ mod UnmovedLemmas
 mod LoweredLemmas
 mod FailedLemmas
 mod CutOffLemmas
+mod LivesOnLemmas
 mod LostLinkLemmas
+mod OneLostLemmas
 mod TreeTestLemmas
 mod TreeLemmas
+mod TurnedTreeLemmas
 mod TreeEventLemmas
 mod TurnedLemmas
 mod SilentLemmas

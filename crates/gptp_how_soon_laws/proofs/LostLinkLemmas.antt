@@ -1,10 +1,11 @@
--- Links of the network that a snapshot's links are: the places of their ends, and whether they are lost.
-use Rattle.std.proofs.Common.{◌≡◌, ◌⊎◌, inl, inr, ℕ, Bool, true, false, List, [], filter, ap, subst, ◌∙◌}
+-- Links of the network that a snapshot's links are: the places of their ends, whether they are lost, and which join two
+-- systems.
+use Rattle.std.proofs.Common.{◌≡◌, ◌⊎◌, inl, inr, ℕ, Bool, true, false, List, [], filter, refl, sym, ap, subst, ◌∙◌}
 use Rattle.std.specs.Prelude.{not}
 use Rattle.std.proofs.lemmas.Bool.{and_from}
 use Rattle.gptp_lists.specs.Members.{In}
 use Rattle.gptp_lists.proofs.SystemSpecLemmas.{In-map}
-use Rattle.gptp_graph.specs.Snapshot.{IsWellFormed, Link, Snapshot}
+use Rattle.gptp_graph.specs.Snapshot.{IsWellFormed, Joins, Link, PortIdentity, Snapshot, port_of}
 use Rattle.gptp_scenario.specs.Network.{IsNetwork, NetworkState}
 use Rattle.gptp_scenario.specs.declared.change.Timed.{Timed}
 use Rattle.gptp_scenario.specs.declared.network.LinkSpec.{LinkSpec}
@@ -15,6 +16,23 @@ use Rattle.gptp_topology.specs.After.{systems_after}
 use Rattle.gptp_how_soon.specs.Chosen.{ends_of, is_used_then, lost_ends, place_of}
 use Rattle.gptp_how_soon.specs.Links.{is_lost}
 use Rattle.gptp_how_soon.proofs.ChosenLemmas.{IsAt, link_stands, place_is, used_then}
+
+-- the links that are in use after these events
+abbrev pub used_links : NetworkState → List Timed → List LinkSpec
+used_links n events = filter (is_used_then n events) n.links
+
+-- A link leads from one of two ports of a system to another system, and is also the link from the other port to one: it
+-- is one port.
+pub same_port : (v p q : ℕ) (a b : PortIdentity) {k l : Link} → (a.clock ≡ v → ⊥) → (b.clock ≡ v → ⊥)
+    → (k ≡ record { a = port_of v p; b = a }) ⊎ (k ≡ record { a = a; b = port_of v p })
+    → (l ≡ record { a = port_of v q; b = b }) ⊎ (l ≡ record { a = b; b = port_of v q })
+    → k ≡ l → p ≡ q
+same_port v p q a b apart apart' (inl e) (inl f) same = ap (λ (m : Link). m.a.port) (sym e ∙ same ∙ f)
+same_port v p q a b apart apart' (inl e) (inr f) same =
+    absurd (apart' (sym (ap (λ (m : Link). m.a.clock) (sym e ∙ same ∙ f))))
+same_port v p q a b apart apart' (inr e) (inl f) same =
+    absurd (apart (ap (λ (m : Link). m.a.clock) (sym e ∙ same ∙ f)))
+same_port v p q a b apart apart' (inr e) (inr f) same = ap (λ (m : Link). m.b.port) (sym e ∙ same ∙ f)
 
 module _ (n : NetworkState) (network : IsNetwork n) (made : List Timed) (g : Snapshot) (stands : StandsAfter n made g)
     (well : IsWellFormed g) where
@@ -53,3 +71,31 @@ module _ (n : NetworkState) (network : IsNetwork n) (made : List Timed) (g : Sna
                   (kept (is_lost n made events) w n.links known
                   (and_from (is_used_then n made w) (not (is_used_then n events w)) used (ap not gone))),
             )
+
+    -- a link in use joins the systems at two places
+    pub record IsJoinedBy (i j : ℕ) (p q : PortIdentity) : Type 0 where
+      pub wire : LinkSpec
+      pub among : In wire (used_links n events)
+      pub by : ((ends_of n wire ≡ record { a = i; b = j }) × (link_of (wire.a, wire.b) ≡ record { a = p; b = q }))
+          ⊎ ((ends_of n wire ≡ record { a = j; b = i }) × (link_of (wire.a, wire.b) ≡ record { a = q; b = p }))
+
+    pub joined_by : (i j : ℕ) (p q : PortIdentity) → IsAt n i p.clock → IsAt n j q.clock → Joins h p q
+        → IsJoinedBy i j p q
+    joined_by i j p q at at' (inl member) =
+        let l : Link = record { a = p; b = q } in
+        let r = runs n network events h stands' l member in
+        record {
+          wire = r.wire;
+          among = kept (is_used_then n events) r.wire n.links r.member
+              (used_then n network events h stands' well' r.wire r.used);
+          by = inl (ends_are r.wire p.clock q.clock i j l r.is refl refl at at', r.is);
+        }
+    joined_by i j p q at at' (inr member) =
+        let l : Link = record { a = q; b = p } in
+        let r = runs n network events h stands' l member in
+        record {
+          wire = r.wire;
+          among = kept (is_used_then n events) r.wire n.links r.member
+              (used_then n network events h stands' well' r.wire r.used);
+          by = inr (ends_are r.wire q.clock p.clock j i l r.is refl refl at' at, r.is);
+        }

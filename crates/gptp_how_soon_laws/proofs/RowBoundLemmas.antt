@@ -17,7 +17,7 @@ use Rattle.gptp_how_soon.specs.Kinds.{sets_link}
 use Rattle.gptp_how_soon.specs.Times.{View, gained_at, loss_at, row_at, settling_time}
 use Rattle.gptp_how_soon.specs.declared.bounds.Loss.{Loss}
 use Rattle.gptp_how_soon.specs.declared.bounds.Row.{Row}
-use Rattle.gptp_how_soon.specs.declared.bounds.Row.TheVariants.{AnyLosses, AnyPast, CutOff, FailedEnd, FailedHeard, FailureCutsOff, Gained, LostEnd, LostPower, Lowered, OneTurned, PowerCutsOff, TreeCutOff, Unchanged}
+use Rattle.gptp_how_soon.specs.declared.bounds.Row.TheVariants.{AnyLosses, AnyPast, CutOff, FailedEnd, FailedHeard, FailureCutsOff, Gained, LostEnd, LostPower, Lowered, OneTurned, PowerCutsOff, TreeCutOff, TreeTurned, Unchanged}
 use Rattle.gptp_how_soon.specs.declared.bounds.Settling.{Settling}
 use Rattle.gptp_settling_time.specs.HowSoon.{BoundsChoice}
 use Rattle.gptp_topology.proofs.RestLemmas.{calm_from}
@@ -36,6 +36,7 @@ past_row PowerCutsOff = AnyPast
 past_row FailureCutsOff = AnyPast
 past_row OneTurned = AnyPast
 past_row TreeCutOff = AnyPast
+past_row TreeTurned = AnyPast
 past_row AnyLosses = AnyPast
 past_row Gained = Gained
 
@@ -68,6 +69,7 @@ bounds_choice n Sharp loss events row gained calm unchanged is_gained =
     by_row off FailureCutsOff is = inl refl
     by_row off OneTurned is = inl refl
     by_row off TreeCutOff is = inl refl
+    by_row off TreeTurned is = inl refl
     by_row off AnyLosses is = inl refl
     by_row off Unchanged is = inr (unchanged is)
     by_row off Gained is = inr (is_gained is off)
@@ -122,6 +124,7 @@ choice_or_own n loss paths row gained = by (n.params.sync_timeout == 0) refl row
     by true is FailureCutsOff = inr (eqb-true n.params.sync_timeout 0 is, tt, refl, refl)
     by true is OneTurned = inr (eqb-true n.params.sync_timeout 0 is, tt, refl, refl)
     by true is TreeCutOff = inr (eqb-true n.params.sync_timeout 0 is, tt, refl, refl)
+    by true is TreeTurned = inr (eqb-true n.params.sync_timeout 0 is, tt, refl, refl)
     by true is AnyLosses = inr (eqb-true n.params.sync_timeout 0 is, tt, refl, refl)
 
 -- All is sound by that bound. Or nothing lapses, and it is sooner after a loss.
@@ -157,6 +160,7 @@ sound_or_sooner n loss paths row gained = by (n.params.sync_timeout == 0) refl r
     by true is AnyPast = inl refl
     by true is Unchanged = inl refl
     by true is Gained = inl refl
+    by true is TreeTurned = inl refl
     by true is LostEnd = inr (eqb-true n.params.sync_timeout 0 is, inl (refl, refl))
     by true is FailedEnd = inr (eqb-true n.params.sync_timeout 0 is, inr (inl (refl, refl)))
     by true is Lowered = inr (eqb-true n.params.sync_timeout 0 is, inr (inr (inl (refl, refl))))

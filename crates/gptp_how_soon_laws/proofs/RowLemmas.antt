@@ -27,8 +27,9 @@ use Rattle.gptp_how_soon.specs.Links.{delay_set, longest_among, longest_delay, l
 use Rattle.gptp_how_soon.specs.Rest.{are_events_followed, are_losses_followed, are_recoveries_followed, are_turns_followed, has_rested_for, heard_at_once, is_failing_followed, is_from_rest, is_lowering_followed, keeps_paths, leaves_silent, rested, rested_by, rested_for_by, is_wider_followed, settles_wider_by}
 use Rattle.gptp_how_soon.specs.Times.{View, events_at, gained_at, ready_at, row_at, view_at}
 use Rattle.gptp_how_soon.specs.Tree.{cuts_tree_after}
+use Rattle.gptp_how_soon.specs.TurnedTree.{turns_tree_after}
 use Rattle.gptp_how_soon.specs.declared.bounds.Row.{Row}
-use Rattle.gptp_how_soon.specs.declared.bounds.Row.TheVariants.{AnyLosses, CutOff, FailedEnd, FailedHeard, FailureCutsOff, Gained, LostEnd, LostPower, Lowered, OneTurned, PowerCutsOff, TreeCutOff, Unchanged}
+use Rattle.gptp_how_soon.specs.declared.bounds.Row.TheVariants.{AnyLosses, CutOff, FailedEnd, FailedHeard, FailureCutsOff, Gained, LostEnd, LostPower, Lowered, OneTurned, PowerCutsOff, TreeCutOff, TreeTurned, Unchanged}
 use Rattle.gptp_how_soon.specs.declared.bounds.Settling.{Settling}
 use Rattle.gptp_how_soon.specs.declared.bounds.SettlingTime.{SettlingTime}
 use Rattle.gptp_how_soon.specs.declared.kinds.Kind.{Kind}
@@ -40,7 +41,7 @@ use Rattle.gptp_settling_time.specs.Gains.{HasDelaysWithin}
 use Rattle.gptp_settling_time.specs.HowSoon.{AreWiderEvents, BoundsGains, CutsOneEnd, EachEvent, FailsEndFirst, FailsHeardFirst, IsStillEvent, LosesEvents, LowersOneLink, OneEvent, RolesAfterLoss, TurnsOneLink}
 use Rattle.gptp_settling_time.specs.InTurn.{FlightIsGone}
 use Rattle.gptp_settling_time.specs.Losses.{LowersLink, UpIsUsed}
-use Rattle.gptp_settling_time.specs.TreeLosses.{LowersTree}
+use Rattle.gptp_settling_time.specs.TreeLosses.{LowersTree, TurnsTreeLink}
 use Rattle.gptp_settling_time.proofs.CutLemmas.{IsBy, all_by}
 use Rattle.gptp_settling_time.proofs.LeadOnLemmas.{all_still}
 use Rattle.gptp_settling_time.proofs.MomentLemmas.{all_at}
@@ -51,7 +52,7 @@ use Rattle.gptp_how_soon_laws.proofs.KindLemmas.{told}
 use Rattle.gptp_how_soon_laws.proofs.FailedLemmas.{fails_end_first, fails_heard_first, used_up}
 use Rattle.gptp_how_soon_laws.proofs.CutOffLemmas.{cuts_one_end}
 use Rattle.gptp_how_soon_laws.proofs.LoweredLemmas.{GoesDown, lowers_one_link, one_as, used_on}
-use Rattle.gptp_how_soon_laws.proofs.TreeEventLemmas.{lowers_tree}
+use Rattle.gptp_how_soon_laws.proofs.TreeEventLemmas.{lowers_tree, turns_tree_by}
 use Rattle.gptp_how_soon_laws.proofs.TurnedLemmas.{turns_one_link}
 use Rattle.gptp_how_soon_laws.proofs.UnmovedLemmas.{AreWell, all_still_unmoved}
 use Rattle.gptp_how_soon_laws.proofs.RowReasonLemmas.{ReasonOf, reason_of}
@@ -194,6 +195,7 @@ module _ (n : NetworkState) (network : IsNetwork n) (events : List Timed) (b : S
       (is_lowering_followed v.paths_before v.paths v.told && not v.moves.moved) v.moves.cut
       (is_lowering_followed v.paths_before v.paths v.told && v.moves.turned)
       (is_lowering_followed v.paths_before v.paths v.told && v.moves.falls)
+      (is_lowering_followed v.paths_before v.paths v.told && v.moves.tree_turns)
       (is_failing_followed v.paths_before v.paths v.told && not v.moves.moved) v.moves.far v.moves.any v.used
       (list_any is_loss v.told) (list_all brings_nothing v.told)
 
@@ -205,6 +207,7 @@ module _ (n : NetworkState) (network : IsNetwork n) (events : List Timed) (b : S
       (is_lowering_followed v.paths_before v.paths v.told && not v.moves.moved) v.moves.cut
       (is_lowering_followed v.paths_before v.paths v.told && v.moves.turned)
       (is_lowering_followed v.paths_before v.paths v.told && v.moves.falls)
+      (is_lowering_followed v.paths_before v.paths v.told && v.moves.tree_turns)
       (is_failing_followed v.paths_before v.paths v.told && not v.moves.moved) v.moves.far v.moves.any v.used
       (list_any is_loss v.told) (list_all brings_nothing v.told) row is
 
@@ -535,28 +538,56 @@ module _ (n : NetworkState) (network : IsNetwork n) (events : List Timed) (b : S
       let x = keeps_so keeps in
       ((from_rest from).rested, turns_one_link n network made now well one x.delay x.paths x.few lowers)
 
-  -- or a tree is cut off, an announce interval after all came to rest
-  pub record CutsLate (rest : HasComeToRest b at) : Type 0 where
-    pub lowers : OneEvent (LowersTree n) made now
+  -- an event of this kind comes an announce interval after all came to rest
+  pub record ComesLate (Is : List Timed → Timed → Type 0) (rest : HasComeToRest b at) : Type 0 where
+    pub lowers : OneEvent Is made now
     pub longer : b.at + (rest.settling.rest + largest_interval (pace_of n)) < at
+
+  -- by which a tree is cut off
+  pub record CutsLate (rest : HasComeToRest b at) : Type 0 where
+    pub comes : ComesLate (LowersTree n) rest
     pub flight : FlightIsGone n (made ++ now) (gone_by n v.paths v.used_before)
+
+  -- the event tests hold of what goes down by it
+  late_by : (test : Bool) → (is_lowering_followed v.paths_before v.paths v.told
+      && (has_rested_for (largest_interval (pace_of n)) (Some b) at && test)) ≡ true
+      → KeepsPaths × (lowers_one v.told ≡ true) × (test ≡ true)
+      × ((rest : HasComeToRest b at) → b.at + (rest.settling.rest + largest_interval (pace_of n)) < at)
+  late_by test is =
+      let late_test : Bool = has_rested_for (largest_interval (pace_of n)) (Some b) at in
+      let (followed, both) = and_parts (is_lowering_followed v.paths_before v.paths v.told) (late_test && test) is in
+      let (keeps, lowers) = and_parts (keeps_paths v.paths_before v.paths) (lowers_one v.told) followed in
+      let (late_is, so) = and_parts late_test test both in (
+        keeps_so keeps,
+        lowers,
+        so,
+        λ rest. rested_for_so (largest_interval (pace_of n)) b at rest.settling rest.is late_is,
+      )
 
   pub tree_cut : AreWell n (made ++ now) → row_at v ≡ TreeCutOff → (rest : HasComeToRest b at) × CutsLate rest
   tree_cut well row =
       let (from, falls) = why TreeCutOff row in
-      let (followed, both) = and_parts (is_lowering_followed v.paths_before v.paths v.told) v.moves.falls falls in
-      let (keeps, lowers) = and_parts (keeps_paths v.paths_before v.paths) (lowers_one v.told) followed in
-      let (late, tree) =
-      and_parts (has_rested_for (largest_interval (pace_of n)) (Some b) at) (cuts_tree_after n made (made ++ now))
-      both in
-      let x = keeps_so keeps in
+      let (x, lowers, tree, longer) = late_by (cuts_tree_after n made (made ++ now)) falls in
       let rest = (from_rest from).rested in
-      let one = lowers_tree n network made now well tree x.delay x.paths x.few lowers in (
+      let one = lowers_tree n network made now well x.delay x.paths x.few lowers tree in (
         rest,
         record {
-          lowers = one;
-          longer = rested_for_so (largest_interval (pace_of n)) b at rest.settling rest.is late;
+          comes = record { lowers = one; longer = longer rest };
           flight = flight_on (one_as (LowersTree n) GoesDown made now (λ event l. (l.clock, l.port, l.act)) one);
+        },
+      )
+
+  -- or a tree turns
+  pub tree_turned : AreWell n (made ++ now) → row_at v ≡ TreeTurned
+      → (rest : HasComeToRest b at) × ComesLate (TurnsTreeLink n) rest
+  tree_turned well row =
+      let (from, turns) = why TreeTurned row in
+      let (x, lowers, tree, longer) = late_by (turns_tree_after n made (made ++ now)) turns in
+      let rest = (from_rest from).rested in (
+        rest,
+        record {
+          lowers = turns_tree_by n network made now well x.delay x.paths x.few lowers tree;
+          longer = longer rest;
         },
       )
 

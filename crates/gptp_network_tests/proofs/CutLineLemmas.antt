@@ -356,7 +356,7 @@ rested =
 
 lost : IsLossBoundAfter ring_network cut_document.events (30000000000 ∷ 0 ∷ []) 60000000000 1640 1640
 lost =
-    inr (
+    inr (inl (
       omega arith,
       none_between cut_document.events 30000000000 60000000000
           ((λ later. absurd (omega (arith, later))), ((λ later. omega arith), tt)),
@@ -365,7 +365,7 @@ lost =
       (3000003690, rested, later),
       lowers,
       (ways, refl),
-    )
+    ))
   where
     later : 30000000000 + 3000003690 + largest_interval (pace_of ring_network) < 60000000000
     later =

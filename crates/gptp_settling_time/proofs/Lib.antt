@@ -114,6 +114,7 @@ pub mod TreeSoundLemmas
 pub mod TreeSoundBeginLemmas
 pub mod FallenClaimedLemmas
 pub mod FallenToLemmas
+pub mod TreeMadeLemmas
 pub mod FallMadeLemmas
 pub mod NamedAfterLemmas
 pub mod TurnsDownLemmas
@@ -172,3 +173,7 @@ pub mod ToldAnewLemmas
 pub mod NamesItselfLemmas
 pub mod TreeTurnsLemmas
 pub mod TurnedTreeLemmas
+pub mod TreeEndLemmas
+pub mod TurnedTreeActLemmas
+pub mod TurnedTreeToLemmas
+pub mod TurnedTreeMadeLemmas

@@ -12,8 +12,8 @@ use Rattle.gptp_network.proofs.SnapshotLemmas.{from_filter}
 use Rattle.gptp_scenario.specs.Calm.{IsCalm}
 use Rattle.gptp_scenario.specs.Network.{NetworkState}
 use Rattle.gptp_scenario.specs.declared.change.Timed.{Timed}
-use Rattle.gptp_settling_time.specs.TreeLosses.{LowersTree}
-use Rattle.gptp_settling_time.specs.HowSoon.{BoundsChoice, BoundsEvents, BoundsFirst, BoundsLoss, BoundsNext, BoundsStart, BoundsTree, FallsNext, IsChoiceAloneBound, IsChoiceBound, IsChoiceBoundAfter, IsLossBoundAfter, IsRestBoundAfter, LosesNext, OneEvent, RestsAfterLoss, RestsTree, events_at}
+use Rattle.gptp_settling_time.specs.TreeLosses.{LowersTree, TurnsTreeLink}
+use Rattle.gptp_settling_time.specs.HowSoon.{BoundsChoice, BoundsEvents, BoundsFirst, BoundsLoss, BoundsNext, BoundsStart, BoundsTree, IsChoiceAloneBound, IsChoiceBound, IsChoiceBoundAfter, IsLossBoundAfter, IsRestBoundAfter, LosesNext, OneEvent, RestsAfterLoss, RestsTree, TreeNext, events_at}
 use Rattle.gptp_theorem.specs.PlayedLaws.{IsPlayable}
 use Rattle.gptp_timeline.proofs.EventLemmas.{filter_each, filter_in_order}
 use Rattle.gptp_timeline.proofs.PastLemmas.{by_sooner}
@@ -108,15 +108,15 @@ module _ (n : NetworkState) (all : List Timed) (until : ℕ) where
       events_so Asks last time (omega (arith, late, le)) le loses,
     )
 
-    falls_by : (Asks : List Timed → Type 0) → FallsNext n all Then last time Asks
-        → FallsNext n (events_by until all) More last time Asks
-    falls_by Asks (late, between, calm, off, (before, bound, soon), lowers, asks) = (
+    tree_by : (Is : List Timed → Timed → Type 0) (Asks : List Timed → Type 0) → TreeNext n Is all Then last time Asks
+        → TreeNext n Is (events_by until all) More last time Asks
+    tree_by Is Asks (late, between, calm, off, (before, bound, soon), lowers, asks) = (
       late,
       λ event member. between event (from_filter (λ (t : Timed). nat_le t.at until) event all member).0,
       subst (IsCalm n) (sym (by_sooner time until all le)) calm,
       off,
       (before, more (omega (arith, late, le)) before bound, soon),
-      events_so (OneEvent (LowersTree n)) last time (omega (arith, late, le)) le lowers,
+      events_so (OneEvent Is) last time (omega (arith, late, le)) le lowers,
       subst Asks (sym (by_sooner time until all le)) asks,
     )
 
@@ -132,9 +132,10 @@ module _ (n : NetworkState) (all : List Timed) (until : ℕ) where
       (λ before. IsRestBoundAfter n (events_by until all) earlier last before) last time le
       (λ soon before. rest_by earlier last before soon) (λ made now. RestsAfterLoss n made now rest) loses))
   rest_by (last ∷ earlier) time rest le (inr (inr falls)) =
-      inr (inr (falls_by (λ before. IsRestBoundAfter n all earlier last before)
+      inr (inr (tree_by (λ before. IsRestBoundAfter n all earlier last before)
       (λ before. IsRestBoundAfter n (events_by until all) earlier last before) last time le
-      (λ soon before. rest_by earlier last before soon) (RestsTree n rest) falls))
+      (λ soon before. rest_by earlier last before soon) (LowersTree n) (RestsTree n rest)
+      falls))
 
   bound_by : (earlier : List ℕ) (time choice : ℕ) → time ≤ until → IsChoiceBoundAfter n all earlier time choice
       → IsChoiceBoundAfter n (events_by until all) earlier time choice
@@ -152,10 +153,14 @@ module _ (n : NetworkState) (all : List Timed) (until : ℕ) where
       inl (loses_by (λ before. IsRestBoundAfter n all earlier last before)
       (λ before. IsRestBoundAfter n (events_by until all) earlier last before) last time le
       (λ soon before. rest_by earlier last before soon) (λ made now. BoundsLoss n made now choice roles) loses)
-  loss_by (last ∷ earlier) time choice roles le (inr tree) =
-      inr (falls_by (λ before. IsRestBoundAfter n all earlier last before)
+  loss_by (last ∷ earlier) time choice roles le (inr (inl falls)) =
+      inr (inl (tree_by (λ before. IsRestBoundAfter n all earlier last before)
       (λ before. IsRestBoundAfter n (events_by until all) earlier last before) last time le
-      (λ soon before. rest_by earlier last before soon) (BoundsTree n choice roles) tree)
+      (λ soon before. rest_by earlier last before soon) (LowersTree n) (BoundsTree n choice roles) falls))
+  loss_by (last ∷ earlier) time choice roles le (inr (inr turns)) =
+      inr (inr (tree_by (λ before. IsRestBoundAfter n all earlier last before)
+      (λ before. IsRestBoundAfter n (events_by until all) earlier last before) last time le
+      (λ soon before. rest_by earlier last before soon) (TurnsTreeLink n) (BoundsTree n choice roles) turns))
 
 pub short_bound : (d : DocumentState) (until time choice : ℕ) → time ≤ until → IsChoiceBound d time choice
     → IsChoiceBound (shortened until d) time choice
