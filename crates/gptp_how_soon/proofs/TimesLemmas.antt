@@ -23,6 +23,7 @@ use Rattle.gptp_how_soon.specs.declared.bounds.SettlingTime.{SettlingTime}
 use Rattle.gptp_how_soon.specs.declared.walk.Walk.{Walk}
 use Rattle.gptp_how_soon.proofs.RisingLemmas.{all_earlier, earlier_more, rising_more}
 use Rattle.gptp_how_soon.proofs.WalkLemmas.{WalkStands, stands_first, stands_more, stands_on, view_is}
+use Rattle.gptp_how_soon.proofs.LinksLemmas.{longest_short}
 
 -- ---- the events of a time
 
@@ -222,6 +223,14 @@ module _ (d : DocumentState) (network : IsNetwork d.network) where
       sym (append_assoc so.made so.now left) ∙ so.told.split in
       subst (λ (ps : SyncPaths). ps.delay ≤ 16000000000) (sym so.stands.paths)
       (short_delay d.network so.made network (allowed_before so.made (so.now ++ left) d.events split allowed))
+
+  -- none that a link has had is above sixteen seconds
+  pub longest_walked : (left : List Timed) (w : Walk) (at : ℕ) (times : List SettlingTime) → AreAllowed d.events
+      → Walked d left w at times → w.longest ≤ 16000000000
+  longest_walked left w at times allowed so =
+      subst (λ delay. delay ≤ 16000000000) (sym so.stands.longest)
+      (longest_short d.network (so.made ++ so.now) network
+      (allowed_before (so.made ++ so.now) left d.events so.told.split allowed))
 
   -- an event is passed, once what is before it is told
   pub walked_more : (t : Timed) (left : List Timed) (old told new : Walk) (at : ℕ) (times after : List SettlingTime)

@@ -22,7 +22,7 @@ use Rattle.gptp_topology.specs.Tables.{has_clock}
 use Rattle.gptp_topology.specs.Times.{times_of}
 use Rattle.gptp_topology.specs.declared.course.Cable.{Cable}
 use Rattle.gptp_topology.specs.declared.course.Standing.{Standing}
-use Rattle.gptp_how_soon.specs.Bounds.{heard_by, ready, times_by}
+use Rattle.gptp_how_soon.specs.Bounds.{arrived_by, heard_by, ready, times_by}
 use Rattle.gptp_how_soon.specs.Chosen.{moves_counted, moves_some}
 use Rattle.gptp_how_soon.specs.Far.{are_far_after, cut_far_ends_after, up_is_used}
 use Rattle.gptp_how_soon.specs.Kinds.{sets_bounds, sets_link, takes_one, told_by}
@@ -92,7 +92,8 @@ loss_at v = record {
 
 abbrev pub settling_time : NetworkState → View → SettlingTime
 settling_time n v =
-    times_by n v.at v.last_set (loss_at v) v.paths v.calm (sets_link v.told) (row_at v) (gained_at n v)
+    times_by n v.at (arrived_by v.longest v.last_set) (loss_at v) v.paths v.calm (sets_link v.told) (row_at v)
+    (gained_at n v)
 
 -- ---- what is seen
 

@@ -26,6 +26,7 @@ fn tell(
     requires short { greatest_used walk.old.tables.marks.items ≤ 16000000000 }
     requires short_before { walk.old.paths_before.delay ≤ 16000000000 }
     requires early { at ≤ LATEST_EVENT }
+    requires longest { walk.old.longest ≤ 16000000000 }
     requires set { IfSome walk.old.last_set (λ last. last ≤ at) }
     ensures { OnOk result (WalkTells network.now at next walk.old walk.new times.old.items times.new.items) }
 {

@@ -7,7 +7,7 @@ ghost use Rattle.gptp_how_soon.specs.Times.{settling_time};
 ghost use Rattle.gptp_how_soon.specs.Rest.{no_moves};
 ghost use Rattle.gptp_how_soon.specs.Walk.{IsFirstWalk, WalkGoesOn, WalkPasses, moves_seen, view_seen};
 
-use crate::bounds::{Loss, SettlingTime, announce_interval, heard, ready, times_by, way_span};
+use crate::bounds::{Loss, SettlingTime, announce_interval, arrived_by, heard, ready, times_by, way_span};
 use crate::chosen::{
     Chosen, Ends, any_counted, any_moved, choose, copy_systems, ends_in_use, ends_of,
 };
@@ -172,6 +172,7 @@ impl Walk {
         requires short { paths.delay ≤ 16000000000 }
         requires short_before { self.now.paths_before.delay ≤ 16000000000 }
         requires early { at ≤ LATEST_EVENT }
+        requires longest { self.now.longest ≤ 16000000000 }
         requires set { IfSome self.now.last_set (λ last. last ≤ at) }
         ensures is { IfOk result (λ time. time ≡ settling_time network.now (view_seen network.now self.now at)) }
         ensures bound { IfOk result (λ time. time.watch ≤ 200000000000000) }
@@ -200,7 +201,7 @@ impl Walk {
         Ok(times_by(
             network,
             at,
-            self.last_set,
+            arrived_by(at, self.longest, self.last_set),
             loss,
             paths,
             self.tables.is_calm(network, paths),

@@ -2,11 +2,11 @@
 use Rattle.std.proofs.Common.{◌≡◌, ◌<◌, ◌≤◌, ◌+◌, ◌*◌, ◌^◌, ℕ, Bool, true, false, cond, suc, max, List, [], ◌∷◌, Option, Some, None, filter, refl, ap, ap₂, subst, arith}
 use Rattle.std.specs.List.{AllByRecursion}
 use Rattle.std.proofs.Math.Nat.{mul-le-mul}
+use Rattle.std.proofs.lemmas.List.{append-nil}
 use Rattle.gptp_lists.specs.Members.{In}
 use Rattle.gptp_graph.specs.PathBound.{path_bound}
 use Rattle.gptp_graph.proofs.PathBoundLemmas.{IsDistance-within, paths_within}
 use Rattle.gptp_links.specs.declared.bounds.Bounds.{Bounds}
-use Rattle.gptp_setup.specs.SettlingParams.{largest_interval}
 use Rattle.gptp_scenario.specs.Network.{NetworkState, pace_of}
 use Rattle.gptp_scenario.specs.SyncWait.{sync_paths}
 use Rattle.gptp_scenario.specs.declared.change.Act.{Act}
@@ -26,16 +26,19 @@ use Rattle.gptp_invariants.proofs.WorldStandsLemmas.{stands_well}
 use Rattle.gptp_theorem.specs.PlayedLaws.{IsPlayable}
 use Rattle.gptp_theorem.proofs.SyncPathLemmas.{paths_stand}
 use Rattle.gptp_how_soon.specs.Kinds.{sets_bounds}
+use Rattle.gptp_how_soon.specs.Links.{longest_delay}
 use Rattle.gptp_how_soon.specs.Bounds.{arrived_by as arrived_here}
 use Rattle.gptp_how_soon.specs.Times.{last_of as last_here, last_set as set_here}
 use Rattle.gptp_how_soon.specs.declared.bounds.Settling.{Settling}
 use Rattle.gptp_scenario.specs.SettlingTime.{window_span}
+use Rattle.gptp_settling_time.specs.Gains.{HasDelaysWithin}
 use Rattle.gptp_settling_time.specs.HowSoon.{IsChoiceAloneBound, NoneBetween}
 use Rattle.gptp_settling_time.specs.ExactInTurn.{after_set, arrived_by, last_of, sets_link}
 use Rattle.gptp_settling_time.proofs.ChoiceBoundLemmas.{choice_bounds_are_exact, choice_bounds_carry}
 use Rattle.gptp_settling_time.proofs.ExactInTurnLemmas.{IsCarried}
 use Rattle.gptp_how_soon_laws.specs.Exact.{IsExact, IsExactSoon}
 use Rattle.gptp_how_soon_laws.proofs.ChoiceLemmas.{IsSo, time_so}
+use Rattle.gptp_how_soon_laws.proofs.RowLemmas.{longest_within}
 use Rattle.gptp_how_soon_laws.proofs.StepLemmas.{IsKept, kept_alone}
 
 -- ---- lists
@@ -74,15 +77,19 @@ same_last : (events : List Timed) → last_here events ≡ last_of events
 same_last [] = refl
 same_last (t ∷ ts) = refl
 
-same_arrived : (n : NetworkState) (last : Option ℕ) → arrived_here n last ≡ after_set (largest_interval (pace_of n)) last
-same_arrived n None = refl
-same_arrived n (Some time) = refl
+same_arrived : (longest : ℕ) (last : Option ℕ) → arrived_here longest last ≡ after_set longest last
+same_arrived longest None = refl
+same_arrived longest (Some time) = refl
 
-same_set : (n : NetworkState) (events : List Timed) → arrived_here n (set_here events) ≡ arrived_by (pace_of n) events
-same_set n events =
-    same_arrived n (set_here events)
-    ∙ ap (after_set (largest_interval (pace_of n))) (ap last_here (same_kept events)
+same_set : (longest : ℕ) (events : List Timed) → arrived_here longest (set_here events) ≡ arrived_by longest events
+same_set longest events =
+    same_arrived longest (set_here events)
+    ∙ ap (after_set longest) (ap last_here (same_kept events)
     ∙ same_last (filter (λ (t : Timed). sets_link t.act) events))
+
+all_within : (n : NetworkState) (events : List Timed) → HasDelaysWithin n events (longest_delay n events)
+all_within n events =
+    subst (λ es. HasDelaysWithin n events (longest_delay n es)) (append-nil events) (longest_within n events [])
 
 -- ---- a way has fewer links than a path has systems
 
@@ -113,9 +120,11 @@ come_down steps systems hop most window settled exact at few some is told on =
 
 -- ---- from when on
 
--- the choice of a time stands, and an announce interval has passed since a link was last set
+-- the choice of a time stands, and what was in flight as a link was last set has arrived
 abbrev pub carried_from : DocumentState → ℕ → ℕ → ℕ
-carried_from d time choice = max (time + choice) (arrived_by (pace_of d.network) (events_by time d.events))
+carried_from d time choice =
+    max (time + choice)
+    (arrived_by (longest_delay d.network (events_by time d.events)) (events_by time d.events))
 
 -- and then rates are measured over whole windows, and what each system uses has come down the tree
 abbrev pub come_from : DocumentState → ℕ → ℕ → ℕ
@@ -131,7 +140,7 @@ told_later d playable earlier time s so =
     subst (λ arrived. max (time + s.choice) arrived + window_span d.network.params
     + (sync_paths d.network (events_by time d.events)).systems
     * (d.network.params.threshold + d.network.params.residence)
-    ≤ s.exact_from) (same_set d.network (events_by time d.events)) so.exact
+    ≤ s.exact_from) (same_set (longest_delay d.network (events_by time d.events)) (events_by time d.events)) so.exact
 
 -- ---- each act that is done from then on, by a bound of the choice of a time, and before the next event
 
@@ -167,14 +176,16 @@ module _ {F : Type 0} (answers : Bounds → ℕ → F → Option ℕ → F → T
   pub carried_then : t.told.timed.at ≤ 10 ^ 18 → carried_from d time choice + 1 ≤ t.told.timed.at
       → IsCarried answers (pace_of d.network) (carried_from d time choice + 1) t
   carried_then shown late =
-      choice_bounds_carry answers d time choice next (carried_from d time choice + 1) until fate first w ts t playable k
-      member shown bound none (omega arith) (omega arith) late early
+      choice_bounds_carry answers d time choice next (carried_from d time choice + 1)
+      (longest_delay d.network (events_by time d.events)) until fate first w ts t playable k member shown bound none
+      (omega arith) (all_within d.network (events_by time d.events)) (omega arith) late early
 
   pub exact_then : t.told.timed.at ≤ 10 ^ 18
       → IsExact d.network.params t.before t.told.timed.at t.after t.told.done
   exact_then shown steps number error offset ahead leaves near way is_ahead =
-      choice_bounds_are_exact answers d time choice next (carried_from d time choice + 1) until fate first w ts t
-      playable k member shown bound none (omega arith) (omega arith) early steps number error offset ahead
+      choice_bounds_are_exact answers d time choice next (carried_from d time choice + 1)
+      (longest_delay d.network (events_by time d.events)) until fate first w ts t playable k member shown bound none
+      (omega arith) (all_within d.network (events_by time d.events)) (omega arith) early steps number error offset ahead
       (come steps number error way) leaves near way is_ahead
 
 pub exact_soon : {F : Type 0} (answers : Bounds → ℕ → F → Option ℕ → F → Type 0) → IsExactSoon answers

@@ -186,7 +186,7 @@ pub record IsTelling (n : NetworkState) (v : View) (s : Settling) : Type 0 where
   pub sound : s.sound ≡ sound_by n (loss_at v) v.paths (row_at v) (gained_at n v)
   pub roles : s.roles ≡ roles_by n (loss_at v) v.paths (row_at v) (gained_at n v)
   pub rest : s.sound ≤ s.rest
-  pub exact : max (v.at + s.choice) (arrived_by n v.last_set) + window_span n.params
+  pub exact : max (v.at + s.choice) (arrived_by v.longest v.last_set) + window_span n.params
       + v.paths.systems * (n.params.threshold + n.params.residence)
       ≤ s.exact_from
 
@@ -194,7 +194,7 @@ pub tells : (n : NetworkState) (v : View) (s : Settling) → (settling_time n v)
 tells n v s is = by v.calm refl is
   where
     it : Settling
-    it = settled n v.at v.last_set (loss_at v) v.paths (sets_link v.told) (row_at v) (gained_at n v)
+    it = settled n v.at (arrived_by v.longest v.last_set) (loss_at v) v.paths (sets_link v.told) (row_at v) (gained_at n v)
 
     by : (calm : Bool) → v.calm ≡ calm → (if calm then Some it else None) ≡ Some s → IsTelling n v s
     by true calm told =
@@ -205,7 +205,7 @@ tells n v s is = by v.calm refl is
           sound = ap (λ (x : Settling). x.sound) (sym same);
           roles = ap (λ (x : Settling). x.roles) (sym same);
           rest = subst (λ (x : Settling). x.sound ≤ x.rest) same (omega arith);
-          exact = subst (λ (x : Settling). max (v.at + x.choice) (arrived_by n v.last_set)
+          exact = subst (λ (x : Settling). max (v.at + x.choice) (arrived_by v.longest v.last_set)
               + window_span n.params + v.paths.systems * (n.params.threshold + n.params.residence)
               ≤ x.exact_from) same (omega arith);
         }

@@ -71,7 +71,7 @@ module _ {F : Type 0} (answers : Bounds → ℕ → F → Option ℕ → F → T
     begun_keeps = record {
       claim = claim;
       stands = stands;
-      limited = limited_begins answers n fate fate_after w k;
+      limited = λ most within. limited_begins answers n fate fate_after w k;
       named = named_begins p w claim.world claim.pace.largest
           (starts_are_last _ (initial n) k.draws w refl k.starts);
       slow = begun_none_faster answers n fate fate_after w sound.wired.setups k;

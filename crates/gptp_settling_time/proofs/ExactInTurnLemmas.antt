@@ -33,6 +33,7 @@ use Rattle.gptp_theorem.proofs.SettlingInvariantLemmas.{events_fit, events_made}
 use Rattle.gptp_theorem.proofs.CalmKeptLemmas.{no_change}
 use Rattle.gptp_settling_time.specs.ExactInTurn.{ActsAreExactInTurn, arrived_by}
 use Rattle.gptp_settling_time.specs.Exactly.{AreExactFrom}
+use Rattle.gptp_settling_time.specs.Gains.{HasDelaysWithin}
 use Rattle.gptp_settling_time.specs.InTurn.{Aging, AnyPast, ChoosesAfter, ChoosesByEvents, Cleared, Fallen, Gained, Heard, Left, Lost, Past, Starting, Turned, TurnedTree}
 use Rattle.gptp_settling_time.proofs.AgingClaimedLemmas.{aging_measured}
 use Rattle.gptp_settling_time.proofs.LostClaimedLemmas.{lost_measured}
@@ -52,7 +53,8 @@ use Rattle.gptp_settling_time.proofs.SoonOffsetLemmas.{CarriesRight, carried_exa
 
 module _ (d : DocumentState) (playable : IsPlayable d) (all : List Timed) (calm : IsCalm d.network all) (last : Past)
     (settled : ℕ) (settles : ChoosesAfter d.network all last settled)
-    (behind : last_change all < settled) (old : arrived_by (pace_of d.network) all ≤ settled) where
+    (behind : last_change all < settled) (most : ℕ) (within : HasDelaysWithin d.network all most)
+    (old : arrived_by most all ≤ settled) where
   abbrev p : SettlingParams
   p = pace_of d.network
 
@@ -112,7 +114,9 @@ module _ (d : DocumentState) (playable : IsPlayable d) (all : List Timed) (calm 
 
   -- what was in flight before has arrived
   arrive : (w : WorldState) → IsAfter d all last w → ArriveBy whole w
-  arrive w so = limited_arrive (arrived_by p all) whole w (omega (arith, old)) (after_keeps d all last w so).limited
+  arrive w so =
+      limited_arrive (arrived_by most all) whole w (omega (arith, old))
+      ((after_keeps d all last w so).limited most within)
 
   settled_from : (w : WorldState) → IsAfter d all last w → whole ≤ w.time → w.time ≤ 10 ^ 18
       → IsSettledFrom p whole p.params.threshold w
@@ -212,12 +216,13 @@ pub record IsCarried {F : Type 0} (answers : Bounds → ℕ → F → Option ℕ
 
 -- ---- the law
 
-module _ {F : Type 0} (answers : Bounds → ℕ → F → Option ℕ → F → Type 0) (d : DocumentState) (settled : ℕ) (fate : F)
-    (first w : WorldState) (ts : List ActTrace) (t : ActTrace) (playable : IsPlayable d)
+module _ {F : Type 0} (answers : Bounds → ℕ → F → Option ℕ → F → Type 0) (d : DocumentState) (settled most : ℕ)
+    (fate : F) (first w : WorldState) (ts : List ActTrace) (t : ActTrace) (playable : IsPlayable d)
     (k : Unfolds answers d t.told.timed.at fate first ts w) (member : In t ts) (shown : t.told.timed.at ≤ 10 ^ 18)
     (is : ChoosesByEvents d t.told.timed.at settled)
     (behind : last_change (events_by t.told.timed.at d.events) < settled)
-    (old : arrived_by (pace_of d.network) (events_by t.told.timed.at d.events) ≤ settled) where
+    (within : HasDelaysWithin d.network (events_by t.told.timed.at d.events) most)
+    (old : arrived_by most (events_by t.told.timed.at d.events) ≤ settled) where
   abbrev now : ℕ
   now = t.told.timed.at
 
@@ -228,15 +233,16 @@ module _ {F : Type 0} (answers : Bounds → ℕ → F → Option ℕ → F → T
   begun = begins_after answers d playable fate now first w ts k is.first is.begins
 
   abbrev Exact : WorldState → Type 0
-  Exact = IsExactTo d playable events is.calm is.last settled is.settles behind old
+  Exact = IsExactTo d playable events is.calm is.last settled is.settles behind most within old
 
   steps : AreSteps answers Exact events ts first
   steps =
       in_turn answers d playable events is.last now Exact
-      (exact_begins d playable events is.calm is.last settled is.settles behind old)
-      (exact_later d playable events is.calm is.last settled is.settles behind old)
+      (exact_begins d playable events is.calm is.last settled is.settles behind most within old)
+      (exact_later d playable events is.calm is.last settled is.settles behind most within old)
       (λ u one drawn v next was v_is.
-      exact_act d playable events is.calm is.last settled is.settles behind old answers u one drawn v next was v_is)
+      exact_act d playable events is.calm is.last settled is.settles behind most within old answers u one drawn v next
+      was v_is)
       [] is.first events ts k.started k.drawn first w refl (events_made d now playable.network playable.events)
       (events_fit d now playable) is.lead k.courses begun (begun_last answers d playable fate k.started first k.begun)
 
@@ -248,8 +254,8 @@ module _ {F : Type 0} (answers : Bounds → ℕ → F → Option ℕ → F → T
         drawn = step.drawn;
         was = step.was;
         right = λ on.
-            carries_right d playable events is.calm is.last settled is.settles behind old (at now t.before)
-            (exact_later d playable events is.calm is.last settled is.settles behind old t.before now
+            carries_right d playable events is.calm is.last settled is.settles behind most within old (at now t.before)
+            (exact_later d playable events is.calm is.last settled is.settles behind most within old t.before now
             step.was.ready.timely.now step.was.ready.timely.first step.before)
             on shown;
       }
@@ -262,19 +268,21 @@ module _ {F : Type 0} (answers : Bounds → ℕ → F → Option ℕ → F → T
 
 pub acts_are_exact_in_turn : {F : Type 0} (answers : Bounds → ℕ → F → Option ℕ → F → Type 0)
     → ActsAreExactInTurn answers
-acts_are_exact_in_turn answers d until settled fate first w ts t playable k member shown is behind old =
+acts_are_exact_in_turn answers d until settled most fate first w ts t playable k member shown is behind within old =
     let run = run_to answers d until fate first w ts t playable k member in
-    exact_then answers d settled fate first run.w run.ts t playable run.unfolds run.member shown is behind old
+    exact_then answers d settled most fate first run.w run.ts t playable run.unfolds run.member shown is behind within
+    old
 
 -- so it is of each act of a run from then on
 pub acts_are_carried_in_turn : {F : Type 0} (answers : Bounds → ℕ → F → Option ℕ → F → Type 0) (d : DocumentState)
-    (until settled : ℕ) (fate : F) (first w : WorldState) (ts : List ActTrace) (t : ActTrace) → IsPlayable d
+    (until settled most : ℕ) (fate : F) (first w : WorldState) (ts : List ActTrace) (t : ActTrace) → IsPlayable d
     → Unfolds answers d until fate first ts w → In t ts → t.told.timed.at ≤ 10 ^ 18
     → ChoosesByEvents d t.told.timed.at settled
     → last_change (events_by t.told.timed.at d.events) < settled
-    → arrived_by (pace_of d.network) (events_by t.told.timed.at d.events) ≤ settled
+    → HasDelaysWithin d.network (events_by t.told.timed.at d.events) most
+    → arrived_by most (events_by t.told.timed.at d.events) ≤ settled
     → settled ≤ t.told.timed.at
     → IsCarried answers (pace_of d.network) settled t
-acts_are_carried_in_turn answers d until settled fate first w ts t playable k member shown is behind old =
+acts_are_carried_in_turn answers d until settled most fate first w ts t playable k member shown is behind within old =
     let run = run_to answers d until fate first w ts t playable k member in
-    carried answers d settled fate first run.w run.ts t playable run.unfolds run.member shown is behind old
+    carried answers d settled most fate first run.w run.ts t playable run.unfolds run.member shown is behind within old

@@ -309,8 +309,10 @@ module _ {F : Type 0} (answers : Bounds → ℕ → F → Option ℕ → F → T
           (done_stays answers event fate fate_after w w' done keeps.claim.world.sound.wired.setups k) keeps.slow;
       short = short_after;
       asked = asked_after;
-      limited = limited_made p made event is.change then k.draws w' is.act acts.1 made_time made_last
-          claim_after.world (limited_later (arrived_by p made) w event.at k.ready.timely.now keeps.limited);
+      limited = λ most within.
+          limited_made most made event is.change then k.draws w' is.act acts.1 made_time (short_after most within)
+          (limited_later (arrived_by most made) w event.at k.ready.timely.now
+          (keeps.limited most (within_before n made (event ∷ []) most within)));
       named = named_begins p w' claim_after.world claim_after.pace.largest made_last;
     }
 

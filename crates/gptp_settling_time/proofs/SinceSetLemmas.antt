@@ -1,10 +1,10 @@
--- Frames in flight arrive within the greatest delay of their link, but where a link was set an announce interval ago.
+-- Frames in flight arrive within the greatest delay of their link, once those have that were as a link was last set.
 use Rattle.std.proofs.Common.{◌≡◌, ◌≤◌, ◌+◌, max, ℕ, Bool, true, false, cond, List, [], ◌∷◌, ◌++◌, append-nil, length, Option, Some, refl, sym, ap, subst, ◌∙◌, arith}
 use Rattle.std.specs.List.{range_with_len}
 use Rattle.std.specs.Prelude.{⊤, filter}
 use Rattle.gptp_links.specs.declared.bounds.Bounds.{Bounds}
+use Rattle.gptp_links.specs.declared.link.Direction.TheVariants.{FromA, FromB}
 use Rattle.gptp_links.specs.Fate.{Draw}
-use Rattle.gptp_setup.specs.SettlingParams.{SettlingParams, largest_interval}
 use Rattle.gptp_scenario.specs.Calm.{last_change}
 use Rattle.gptp_scenario.specs.Network.{NetworkState}
 use Rattle.gptp_scenario.specs.declared.change.Act.{Act}
@@ -17,11 +17,10 @@ use Rattle.gptp_model.specs.declared.done.Done.{Done}
 use Rattle.gptp_model.specs.Initial.{initial}
 use Rattle.gptp_model.specs.World.{WorldState}
 use Rattle.gptp_invariants.specs.ChoiceSeenLaws.{IsNoChange}
-use Rattle.gptp_invariants.specs.ChoiceSettlesAsMachine.{IsWorld}
 use Rattle.gptp_invariants.specs.SyncTimed.{ArriveBy}
+use Rattle.gptp_invariants.specs.WorldShort.{IsShort}
 use Rattle.gptp_invariants.proofs.DelayLimitLemmas.{AreLimited, WorldIsLimited, in_queue, keeps_limit}
 use Rattle.gptp_model.proofs.ActsByLemmas.{Elementary, acts_by, changes_by, starts_by}
-use Rattle.gptp_invariants.proofs.WorldKnownKeptLemmas.{known_kept}
 use Rattle.gptp_invariants.proofs.WorldKnownLemmas.{initial_limited}
 use Rattle.gptp_theorem.proofs.EventLemmas.{last_behind}
 use Rattle.gptp_settling_time.specs.ExactInTurn.{after_set, arrived_by, last_of, last_set, sets_link}
@@ -35,10 +34,15 @@ arrive_limit gone now bounds = max (now + bounds.max) gone
 abbrev pub AreLimitedBy : ℕ → WorldState → Type 0
 AreLimitedBy gone w = AreLimited (arrive_limit gone w.time) w.time w.net.channels
 
--- an announce interval after the last change is such a time
-limited_known : (p : SettlingParams) (w : WorldState) → IsWorld p w
-    → AreLimitedBy (w.last_change + largest_interval p) w
-limited_known p w is = (known_kept p w is.sound.on_time is.known).fresh
+-- so they do by what no frame in flight takes longer than
+limited_short : (most : ℕ) (w : WorldState) → IsShort most w → AreLimitedBy (w.time + most) w
+limited_short most w short link channel here =
+    let one = short link channel here in
+    record {
+      room = omega arith;
+      from_a = λ f among. let soon = one.dues FromA f among in omega (arith, soon);
+      from_b = λ f among. let soon = one.dues FromB f among in omega (arith, soon);
+    }
 
 -- nothing is in flight in a network that hasn't begun
 pub limited_first : (n : NetworkState) → AreLimitedBy 0 (initial n)
@@ -122,20 +126,19 @@ set_still made event none =
     ∙ ap (λ b. last_of (filter (λ (t : Timed). sets_link t.act) made ++ cond b (event ∷ []) [])) none
     ∙ ap last_of (append-nil (filter (λ (t : Timed). sets_link t.act) made))
 
--- so what is in flight has arrived an announce interval after the last of the events that sets a link
-pub limited_made : (p : SettlingParams) (made : List Timed) (event : Timed) (change : Change) (w : WorldState)
+-- so what was in flight as the last of the events set a link has arrived by then
+pub limited_made : (most : ℕ) (made : List Timed) (event : Timed) (change : Change) (w : WorldState)
     (draws : List Draw) (w' : WorldState) → event.act ≡ Changing change
-    → Changes change (record w { last_change = w.time }) draws w' → w'.time ≡ event.at → w'.last_change ≡ w'.time
-    → IsWorld p w' → AreLimitedBy (arrived_by p made) w → AreLimitedBy (arrived_by p (made ++ event ∷ [])) w'
-limited_made p made event change w draws w' act k then last is' is = by (sets_link event.act) refl
+    → Changes change (record w { last_change = w.time }) draws w' → w'.time ≡ event.at → IsShort most w'
+    → AreLimitedBy (arrived_by most made) w → AreLimitedBy (arrived_by most (made ++ event ∷ [])) w'
+limited_made most made event change w draws w' act k then short is = by (sets_link event.act) refl
   where
-    by : (sets : Bool) → sets_link event.act ≡ sets → AreLimitedBy (arrived_by p (made ++ event ∷ [])) w'
+    by : (sets : Bool) → sets_link event.act ≡ sets → AreLimitedBy (arrived_by most (made ++ event ∷ [])) w'
     by true sets =
         subst (λ time. AreLimitedBy time w')
-        (ap (λ t. t + largest_interval p) (last ∙ then)
-        ∙ sym (ap (after_set (largest_interval p)) (set_last made event sets)))
-        (limited_known p w' is')
+        (ap (λ t. t + most) then ∙ sym (ap (after_set most) (set_last made event sets)))
+        (limited_short most w' short)
     by false none =
-        subst (λ time. AreLimitedBy time w') (sym (ap (after_set (largest_interval p)) (set_still made event none)))
-        (changes_by (keeps (arrived_by p made)) change (record w { last_change = w.time }) draws w'
+        subst (λ time. AreLimitedBy time w') (sym (ap (after_set most) (set_still made event none)))
+        (changes_by (keeps (arrived_by most made)) change (record w { last_change = w.time }) draws w'
         (λ nothing. absurd nothing) refl (ap sets_link (sym act) ∙ none) k is)

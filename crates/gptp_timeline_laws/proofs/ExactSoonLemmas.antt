@@ -15,6 +15,7 @@ use Rattle.gptp_how_soon_laws.specs.Exact.{IsExact}
 use Rattle.gptp_how_soon_laws.proofs.ChoiceLemmas.{IsSo, time_so}
 use Rattle.gptp_how_soon_laws.proofs.ExactLemmas.{carried_from, carried_then, come, come_from, exact_then, kept_then, stands_then, told_later}
 use Rattle.gptp_how_soon_laws.proofs.StepLemmas.{IsKept}
+use Rattle.gptp_how_soon.specs.Links.{longest_delay}
 use Rattle.gptp_invariants.specs.ChoiceSettled.{ChoiceStands, HasSettledChoice}
 use Rattle.gptp_invariants.specs.SyncExact.{IsWayError}
 use Rattle.gptp_invariants.specs.SyncFollowers.{follower_parts}
@@ -209,7 +210,7 @@ module _ {F : Type 0} (answers : Bounds → ℕ → F → Option ℕ → F → T
 
   pub told_short : come_from short time choice ≤ exact
   told_short =
-      subst (λ es. max (time + choice) (arrived_by (pace_of d.network) es)
+      subst (λ es. max (time + choice) (arrived_by (longest_delay d.network es) es)
       + window_span d.network.params
       + (sync_paths d.network es).systems * (d.network.params.threshold + d.network.params.residence)
       ≤ exact) (sym (by_sooner time p.from d.events le)) told
