@@ -69,8 +69,8 @@ watched_longer_then : (d : DocumentState) → IsNetwork d.network → (before : 
 watched_longer_then d network before at s is =
     let n = d.network in
     let v : View = view_at n (events_before before d.events) (events_at at d.events) before at in
-    watched_longer n network at (arrived_by v.longest v.last_set) (loss_at v) v.paths v.calm (sets_link v.told) (row_at v)
-    (gained_at n v) s
+    watched_longer n network at (arrived_by v.longest v.last_set) (loss_at v) v.paths v.calm (sets_link v.told)
+    (row_at v) (gained_at n v) s
     (held_within n (own_intervals n before at) _ _) is
 
 watched_longer_from : (d : DocumentState) → IsNetwork d.network → (before : Option SettlingTime) (ats : List ℕ)

@@ -984,8 +984,8 @@ fn a_system_recovers_once_no_frame_of_before_is_in_flight(rt: HostRuntime) -> Re
 }
 
 #[test]
-fn offsets_are_exact_an_announce_interval_after_a_link_is_set(rt: HostRuntime) -> Result<(), Fail> {
-    // Eight exchanges each second: they are sooner where none is.
+fn offsets_are_exact_soon_after_exchanges(rt: HostRuntime) -> Result<(), Fail> {
+    // Eight of them each second, since the start and since a link was set.
     assert_eq!(rt;
         pair(
             rt.alloc(),
@@ -998,6 +998,6 @@ fn offsets_are_exact_an_announce_interval_after_a_link_is_set(rt: HostRuntime) -
         rt.alloc(),
         "[[event]]\nat = 30000000000\nkind = \"link_set\"\nclock = \"000000000000000a\"\nport = 1\nmin = 380\nmax = 500\nloss = 0\n[network]\npdelay = -3\n",
     )?;
-    assert_eq!(rt; soon(&times, 30_000_000_000), Some((0, 31_000_007_200)));
+    assert_eq!(rt; soon(&times, 30_000_000_000), Some((0, 30_250_009_200)));
     Ok(())
 }

@@ -83,8 +83,8 @@ module _ (d : DocumentState) (playable : IsPlayable d) where
     pub sooner : s.choice ≤ s.roles
     pub sound : IsRestBoundAfter n all earlier at s.sound
     pub rest : s.sound ≤ s.rest
-    pub exact : max (at + s.choice) (arrived_by (longest_delay n (events_by at all)) (last_set (events_by at all))) + window_span n.params
-        + (sync_paths n (events_by at all)).systems * (n.params.threshold + n.params.residence)
+    pub exact : max (at + s.choice) (arrived_by (longest_delay n (events_by at all)) (last_set (events_by at all)))
+        + window_span n.params + (sync_paths n (events_by at all)).systems * (n.params.threshold + n.params.residence)
         ≤ s.exact_from
 
   abbrev pub TellsSo : List ℕ → SettlingTime → Type 0
@@ -434,8 +434,8 @@ module _ (d : DocumentState) (playable : IsPlayable d) where
           sooner = x.sooner;
           sound = rest_so s it settles;
           rest = it.rest;
-          exact = subst (λ es. max (at + s.choice) (arrived_by (longest_delay n es) (last_set es)) + window_span n.params
-              + (sync_paths n es).systems * (n.params.threshold + n.params.residence)
+          exact = subst (λ es. max (at + s.choice) (arrived_by (longest_delay n es) (last_set es))
+              + window_span n.params + (sync_paths n es).systems * (n.params.threshold + n.params.residence)
               ≤ s.exact_from) (sym (parted all b.at at playable.events.in_order late between)) it.exact;
         }
 

@@ -194,7 +194,9 @@ pub tells : (n : NetworkState) (v : View) (s : Settling) → (settling_time n v)
 tells n v s is = by v.calm refl is
   where
     it : Settling
-    it = settled n v.at (arrived_by v.longest v.last_set) (loss_at v) v.paths (sets_link v.told) (row_at v) (gained_at n v)
+    it =
+        settled n v.at (arrived_by v.longest v.last_set) (loss_at v) v.paths (sets_link v.told) (row_at v)
+        (gained_at n v)
 
     by : (calm : Bool) → v.calm ≡ calm → (if calm then Some it else None) ≡ Some s → IsTelling n v s
     by true calm told =

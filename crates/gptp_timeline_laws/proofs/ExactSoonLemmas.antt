@@ -125,7 +125,8 @@ module _ {F : Type 0} (answers : Bounds → ℕ → F → Option ℕ → F → T
       (subst (IsNear (snapshot_of t.after)) (sym live.is_named)
       (subst (λ h. IsNear h name) (sym kept.same) near)))
 
-  -- where its choice stands in the world that it leaves, and offsets are exact, the error of its receipt is within the bound
+  -- where the choice stands in the world that it leaves, and offsets are exact, the error of its receipt is within the
+  -- bound
   act_within : ChoiceStands t.after → IsExact d.network.params t.before (at_of t) t.after t.told.done → (error : ℤ)
       → receives name t ≡ true → error_at name t ≡ Some error → unsigned_abs error ≤ bound
   act_within stands exact error own is =
