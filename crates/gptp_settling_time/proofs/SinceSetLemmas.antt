@@ -27,7 +27,7 @@ use Rattle.gptp_settling_time.specs.ExactInTurn.{after_set, arrived_by, last_of,
 
 -- ---- since a link was set
 
-abbrev arrive_limit : ℕ → ℕ → Bounds → ℕ
+abbrev pub arrive_limit : ℕ → ℕ → Bounds → ℕ
 arrive_limit gone now bounds = max (now + bounds.max) gone
 
 -- Each frame in flight arrives within the greatest delay of its link, or by this time.
