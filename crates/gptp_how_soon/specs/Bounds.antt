@@ -188,22 +188,27 @@ rest_by p paths sets roles retold sound =
 abbrev pub exact_span : Params → SyncPaths → ℕ
 exact_span p paths = (p.window - 1) * interval_of p.pdelay + paths.systems * (p.threshold + p.residence)
 
--- From when on offsets are exact: the roles stand, links are measured, and an announce interval has passed since the
--- network began and since a link was last set; then what each system uses comes down the tree.
+-- By when what was in flight as a link was last set has arrived: later by the greatest delay that a link has had. Where
+-- none was set nothing is in flight for longer than the greatest delay of its link.
+abbrev pub arrived_by : ℕ → Option ℕ → ℕ
+arrived_by longest None = 0
+arrived_by longest (Some time) = time + longest
+
+-- From when on offsets are exact: the choice stands, links are measured, and what was in flight as a link was last set
+-- has arrived; then what each system uses comes down the tree. Roles of ports beside a system that failed don't matter.
 abbrev pub exact_from : NetworkState → ℕ → ℕ → SyncPaths → Bool → ℕ → ℕ
-exact_from n at last_set paths sets roles =
-    max (at + max roles (set_span n.params paths sets)) (last_set + largest_interval (pace_of n))
-    + exact_span n.params paths
+exact_from n at arrived paths sets choice =
+    max (at + max choice (set_span n.params paths sets)) arrived + exact_span n.params paths
 
 -- the bounds at a time
 abbrev pub settled : NetworkState → ℕ → ℕ → Loss → SyncPaths → Bool → Row → ℕ → Settling
-settled n at last_set loss paths sets row gained = record {
+settled n at arrived loss paths sets row gained = record {
   choice = choice_by n loss paths row gained;
   roles = roles_by n loss paths row gained;
   sound = sound_by n loss paths row gained;
   rest = rest_by n.params paths sets (roles_by n loss paths row gained) (retold_by n loss paths row gained)
       (sound_by n loss paths row gained);
-  exact_from = exact_from n at last_set paths sets (roles_by n loss paths row gained);
+  exact_from = exact_from n at arrived paths sets (choice_by n loss paths row gained);
 }
 
 -- A time is watched until the network rests and offsets are exact, and for eight Syncs more; where it isn't calm, for
@@ -217,12 +222,12 @@ watch n at paths settling = needed_watch n at paths settling + 8 * interval_of n
 
 -- what is told of a time
 abbrev pub settling_by : NetworkState → ℕ → ℕ → Loss → SyncPaths → Bool → Bool → Row → ℕ → Option Settling
-settling_by n at last_set loss paths calm sets row gained =
-    if calm then Some (settled n at last_set loss paths sets row gained) else None
+settling_by n at arrived loss paths calm sets row gained =
+    if calm then Some (settled n at arrived loss paths sets row gained) else None
 
 abbrev pub times_by : NetworkState → ℕ → ℕ → Loss → SyncPaths → Bool → Bool → Row → ℕ → SettlingTime
-times_by n at last_set loss paths calm sets row gained = record {
+times_by n at arrived loss paths calm sets row gained = record {
   at = at;
-  settling = settling_by n at last_set loss paths calm sets row gained;
-  watch = watch n at paths (settling_by n at last_set loss paths calm sets row gained);
+  settling = settling_by n at arrived loss paths calm sets row gained;
+  watch = watch n at paths (settling_by n at arrived loss paths calm sets row gained);
 }

@@ -27,7 +27,7 @@ use Rattle.gptp_how_soon.specs.declared.walk.Walk.{Walk}
 
 -- before all events
 pub record IsFirstWalk (n : NetworkState) (w : Walk) : Type 0 where
-  pub set : w.last_set ≡ 0
+  pub set : w.last_set ≡ None
   pub longest : w.longest ≡ longest_among (cables_of n)
   pub tables : Stand n [] w.tables
   pub ends : w.ends.items ≡ map (ends_among w.systems_before.items) (cables_of n)
@@ -40,7 +40,7 @@ pub record IsFirstWalk (n : NetworkState) (w : Walk) : Type 0 where
 
 -- an event of this time is passed
 pub record WalkPasses (at : ℕ) (act : Act) (old new : Walk) : Type 0 where
-  pub set : new.last_set ≡ (if sets_bounds act then at else old.last_set)
+  pub set : new.last_set ≡ (if sets_bounds act then Some at else old.last_set)
   pub longest : new.longest ≡ max (delay_set act) old.longest
   pub tables : TablesActed act old.tables new.tables
   pub told : new.told.items

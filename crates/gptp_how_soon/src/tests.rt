@@ -131,7 +131,7 @@ fn two_end_stations_settle(rt: HostRuntime) -> Result<(), Fail> {
             "min = 500\nmax = 500\n",
             "[[event]]\nat = 0\nkind = \"link_down\"\nclock = \"000000000000000a\"\nport = 1\n"
         )?,
-        start(0, 0, 1_000_003_600, 2_000_003_600)
+        start(0, 0, 3_600, 1_000_003_600)
     );
     // Too long a link.
     assert_eq!(rt;
@@ -570,9 +570,9 @@ fn a_far_end_that_fails_costs_the_choice_nothing(rt: HostRuntime) -> Result<(), 
                 roles: 11_000_000_000,
                 sound: 11_000_000_000,
                 rest: 11_000_000_000,
-                exact_from: 41_000_005_400,
+                exact_from: 30_000_005_400,
             }),
-            watch: 12_000_005_400,
+            watch: 12_000_000_001,
         })
     );
     Ok(())
@@ -589,7 +589,7 @@ fn a_system_that_others_hear_costs_the_choice_what_they_hold_it_for(
     const DOWN: &str =
         "[[event]]\nat = 30000000000\nkind = \"link_down\"\nclock = \"000000000000000d\"\nport = ";
     for (case, network, power, bound) in [
-        ("it hangs", "", false, (3_000_000_410, 41_000_005_400)),
+        ("it hangs", "", false, (3_000_000_410, 33_000_005_810)),
         (
             "it hangs, and that is noticed soon",
             "[network]\npdelay = -3\nlost = 1\n",
@@ -823,14 +823,14 @@ fn a_far_end_that_loses_its_power_costs_nothing(rt: HostRuntime) -> Result<(), F
         rt.alloc(),
         "[[event]]\nat = 30000000000\nkind = \"fail\"\nclock = \"000000000000000c\"\n[[event]]\nat = 30000000000\nkind = \"link_down\"\nclock = \"000000000000000c\"\nport = 1\n",
     )?;
-    assert_eq!(rt; soon(&hangs, 30_000_000_000), Some((0, 41_000_005_400)));
+    assert_eq!(rt; soon(&hangs, 30_000_000_000), Some((0, 30_000_005_400)));
     let before = ring(
         rt.alloc(),
         "[[event]]\nat = 30000000000\nkind = \"link_down\"\nclock = \"000000000000000c\"\nport = 1\n[[event]]\nat = 30000000000\nkind = \"fail\"\nclock = \"000000000000000c\"\n",
     )?;
     assert_eq!(rt;
         soon(&before, 30_000_000_000),
-        Some((10_000_002_050, 41_000_005_400))
+        Some((10_000_002_050, 40_000_007_450))
     );
     Ok(())
 }
@@ -984,15 +984,20 @@ fn a_system_recovers_once_no_frame_of_before_is_in_flight(rt: HostRuntime) -> Re
 }
 
 #[test]
-fn offsets_are_exact_an_announce_interval_after_the_start(rt: HostRuntime) -> Result<(), Fail> {
-    // Eight exchanges each second.
+fn offsets_are_exact_soon_after_exchanges(rt: HostRuntime) -> Result<(), Fail> {
+    // Eight of them each second, since the start and since a link was set.
     assert_eq!(rt;
         pair(
             rt.alloc(),
             "min = 500\nmax = 500\n",
             "[network]\npdelay = -3\n"
         )?,
-        start(125_002_500, 125_003_000, 1_000_003_600, 2_000_003_600)
+        start(125_002_500, 125_003_000, 125_006_100, 1_125_006_100)
     );
+    let times = ring(
+        rt.alloc(),
+        "[[event]]\nat = 30000000000\nkind = \"link_set\"\nclock = \"000000000000000a\"\nport = 1\nmin = 380\nmax = 500\nloss = 0\n[network]\npdelay = -3\n",
+    )?;
+    assert_eq!(rt; soon(&times, 30_000_000_000), Some((0, 30_250_009_200)));
     Ok(())
 }

@@ -17,7 +17,8 @@ use Rattle.gptp_network.specs.Document.{DocumentState}
 use Rattle.gptp_network.specs.Snapshot.{events_by}
 use Rattle.gptp_network.proofs.SnapshotLemmas.{from_filter}
 use Rattle.gptp_theorem.specs.PlayedLaws.{IsPlayable}
-use Rattle.gptp_how_soon.specs.Bounds.{aged_echo_span, any_loss_span, choice_by, choice_of_row, gone_by, roles_of_row, sound_by}
+use Rattle.gptp_how_soon.specs.Bounds.{aged_echo_span, any_loss_span, arrived_by, choice_by, choice_of_row, gone_by, roles_of_row, sound_by}
+use Rattle.gptp_how_soon.specs.Links.{longest_delay}
 use Rattle.gptp_how_soon.specs.Silent.{own_intervals}
 use Rattle.gptp_how_soon.specs.Times.{View, events_at, gained_at, last_set, loss_at, ready_at, row_at, settling_time, settling_times, settling_times_from, time_at, view_at}
 use Rattle.gptp_how_soon.specs.declared.bounds.Loss.{Loss}
@@ -82,8 +83,8 @@ module _ (d : DocumentState) (playable : IsPlayable d) where
     pub sooner : s.choice ≤ s.roles
     pub sound : IsRestBoundAfter n all earlier at s.sound
     pub rest : s.sound ≤ s.rest
-    pub exact : max (at + s.roles) (last_set (events_by at all) + largest_interval (pace_of n)) + window_span n.params
-        + (sync_paths n (events_by at all)).systems * (n.params.threshold + n.params.residence)
+    pub exact : max (at + s.choice) (arrived_by (longest_delay n (events_by at all)) (last_set (events_by at all)))
+        + window_span n.params + (sync_paths n (events_by at all)).systems * (n.params.threshold + n.params.residence)
         ≤ s.exact_from
 
   abbrev pub TellsSo : List ℕ → SettlingTime → Type 0
@@ -115,7 +116,7 @@ module _ (d : DocumentState) (playable : IsPlayable d) where
         sooner = omega (arith, roles_same);
         sound = subst (IsChoiceBoundAfter n all [] 0) sound_same chosen;
         rest = it.rest;
-        exact = subst (λ es. max (0 + s.roles) (last_set es + largest_interval (pace_of n)) + window_span n.params
+        exact = subst (λ es. max (0 + s.choice) (arrived_by (longest_delay n es) (last_set es)) + window_span n.params
             + (sync_paths n es).systems * (n.params.threshold + n.params.residence)
             ≤ s.exact_from) (sym (begin_at all)) it.exact;
       }
@@ -433,8 +434,8 @@ module _ (d : DocumentState) (playable : IsPlayable d) where
           sooner = x.sooner;
           sound = rest_so s it settles;
           rest = it.rest;
-          exact = subst (λ es. max (at + s.roles) (last_set es + largest_interval (pace_of n)) + window_span n.params
-              + (sync_paths n es).systems * (n.params.threshold + n.params.residence)
+          exact = subst (λ es. max (at + s.choice) (arrived_by (longest_delay n es) (last_set es))
+              + window_span n.params + (sync_paths n es).systems * (n.params.threshold + n.params.residence)
               ≤ s.exact_from) (sym (parted all b.at at playable.events.in_order late between)) it.exact;
         }
 

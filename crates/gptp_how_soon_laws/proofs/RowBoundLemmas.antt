@@ -4,7 +4,6 @@ use Rattle.std.proofs.Common.{◌≡◌, ◌≤◌, ◌⊎◌, inl, inr, ◌+◌
 use Rattle.std.specs.Prelude.{⊤, ◌==◌, not, max, if◌then◌else◌}
 use Rattle.std.proofs.lemmas.Bool.{eqb-false, eqb-true}
 use Rattle.gptp_lists.proofs.MappedLemmas.{some_same}
-use Rattle.gptp_setup.specs.SettlingParams.{largest_interval}
 use Rattle.gptp_scenario.specs.Calm.{NothingLapses}
 use Rattle.gptp_scenario.specs.Network.{NetworkState, pace_of}
 use Rattle.gptp_scenario.specs.SettlingAtOnce.{settling_span_at_once}
@@ -13,7 +12,7 @@ use Rattle.gptp_scenario.specs.SyncWait.{sync_paths}
 use Rattle.gptp_scenario.specs.declared.change.Timed.{Timed}
 use Rattle.gptp_scenario.specs.declared.sync_wait.SyncPaths.{SyncPaths}
 use Rattle.gptp_topology.specs.After.{is_calm}
-use Rattle.gptp_how_soon.specs.Bounds.{aged_echo_span, choice_by, choice_of_row, gone_by, roles_after_losses, roles_by, roles_of_row, settled, sound_by, sound_of_row}
+use Rattle.gptp_how_soon.specs.Bounds.{aged_echo_span, arrived_by, choice_by, choice_of_row, gone_by, roles_after_losses, roles_by, roles_of_row, settled, sound_by, sound_of_row}
 use Rattle.gptp_how_soon.specs.Kinds.{sets_link}
 use Rattle.gptp_how_soon.specs.Times.{View, gained_at, loss_at, row_at, settling_time}
 use Rattle.gptp_how_soon.specs.declared.bounds.Loss.{Loss}
@@ -187,7 +186,7 @@ pub record IsTelling (n : NetworkState) (v : View) (s : Settling) : Type 0 where
   pub sound : s.sound ≡ sound_by n (loss_at v) v.paths (row_at v) (gained_at n v)
   pub roles : s.roles ≡ roles_by n (loss_at v) v.paths (row_at v) (gained_at n v)
   pub rest : s.sound ≤ s.rest
-  pub exact : max (v.at + s.roles) (v.last_set + largest_interval (pace_of n)) + window_span n.params
+  pub exact : max (v.at + s.choice) (arrived_by v.longest v.last_set) + window_span n.params
       + v.paths.systems * (n.params.threshold + n.params.residence)
       ≤ s.exact_from
 
@@ -195,7 +194,9 @@ pub tells : (n : NetworkState) (v : View) (s : Settling) → (settling_time n v)
 tells n v s is = by v.calm refl is
   where
     it : Settling
-    it = settled n v.at v.last_set (loss_at v) v.paths (sets_link v.told) (row_at v) (gained_at n v)
+    it =
+        settled n v.at (arrived_by v.longest v.last_set) (loss_at v) v.paths (sets_link v.told) (row_at v)
+        (gained_at n v)
 
     by : (calm : Bool) → v.calm ≡ calm → (if calm then Some it else None) ≡ Some s → IsTelling n v s
     by true calm told =
@@ -206,7 +207,7 @@ tells n v s is = by v.calm refl is
           sound = ap (λ (x : Settling). x.sound) (sym same);
           roles = ap (λ (x : Settling). x.roles) (sym same);
           rest = subst (λ (x : Settling). x.sound ≤ x.rest) same (omega arith);
-          exact = subst (λ (x : Settling). max (v.at + x.roles) (v.last_set + largest_interval (pace_of n))
+          exact = subst (λ (x : Settling). max (v.at + x.choice) (arrived_by v.longest v.last_set)
               + window_span n.params + v.paths.systems * (n.params.threshold + n.params.residence)
               ≤ x.exact_from) same (omega arith);
         }

@@ -167,7 +167,7 @@ set_within most (event ∷ events) others less = (
   set_within most events others (omega (arith, less)),
 )
 
-longest_within : (n : NetworkState) (events others : List Timed)
+pub longest_within : (n : NetworkState) (events others : List Timed)
     → HasDelaysWithin n events (longest_delay n (events ++ others))
 longest_within n events others = record {
   links = λ place v there.

@@ -20,7 +20,7 @@ use Rattle.gptp_world.specs.Transitions.{ActTrace}
 use Rattle.gptp_network.specs.Document.{DocumentState}
 use Rattle.gptp_report.specs.Transitions.{Unfolds}
 use Rattle.gptp_invariants.specs.ChoiceCalm.{sync_paths_of}
-use Rattle.gptp_invariants.specs.ChoiceSettled.{Settled}
+use Rattle.gptp_invariants.specs.ChoiceSettled.{ChoiceStands, Settled}
 use Rattle.gptp_invariants.specs.WorldBounded.{IsBoundedWorld}
 use Rattle.gptp_invariants.specs.WorldCalmFor.{IsCalmFor, at_once_span, span_over}
 use Rattle.gptp_invariants.specs.WorldStanding.{snapshot_of}
@@ -30,7 +30,6 @@ use Rattle.gptp_invariants.proofs.WorldStandsLemmas.{stands_well}
 use Rattle.gptp_theorem.specs.PlayedLaws.{IsPlayable}
 use Rattle.gptp_theorem.proofs.CalmLemmas.{pace_stands, quiet_stands}
 use Rattle.gptp_theorem.proofs.SyncPathLemmas.{paths_stand}
-use Rattle.gptp_settling_time.specs.ChoiceAlone.{ChoiceStands}
 use Rattle.gptp_settling_time.specs.Exactly.{SettlesBy}
 use Rattle.gptp_settling_time.specs.InTurn.{Aging, AnyPast, BeginsBy, ChoosesAfter, Cleared, Fallen, Gained, Heard, IsTakenAs, Left, Lost, Past, RestsFrom, SettlesAfter, Starting, Turned, TurnedTree}
 use Rattle.gptp_settling_time.proofs.AgingToLemmas.{IsAgingTo, aging_to_act, aging_to_chooses, aging_to_claimed, aging_to_later, aging_to_settled}
@@ -45,6 +44,7 @@ use Rattle.gptp_settling_time.proofs.TurnedTreeToLemmas.{IsTurnedTreeTo, turned_
 use Rattle.gptp_settling_time.proofs.TurnedToLemmas.{IsTurnedTo, turned_to_act, turned_to_claimed, turned_to_later, turned_to_settled}
 use Rattle.gptp_settling_time.proofs.StartEventLemmas.{IsStartingTo, begun_soon_claimed, begun_soon_news, starting_act, starting_begins, starting_later}
 use Rattle.gptp_settling_time.proofs.TimedNewsLemmas.{CanSettle, has_settled}
+use Rattle.gptp_invariants.proofs.ChoiceSettledLemmas.{choice_stands}
 
 -- what is so of a world after these events, by what its network came from
 abbrev pub IsAfter : DocumentState → List Timed → Past → WorldState → Type 0
@@ -275,22 +275,16 @@ module _ (d : DocumentState) (playable : IsPlayable d) (all : List Timed) (calm 
   after_settles (Lost since most silent) so (off, passed, inr used) =
       lost_to_settled d all since most silent w so playable (omega (arith, passed, on)) (inr used)
 
-  -- a settled system has its settled choice
-  chooses_so : Settled w → ChoiceStands w
-  chooses_so so place station here live near =
-      let x = so place station here live near in
-      record { root = x.root; steps = x.steps; slave = x.slave; parent = x.parent }
-
   pub after_chooses : (past : Past) → IsAfter d all past w → ChoosesAfter d.network all past settled → ChoiceStands w
-  after_chooses AnyPast so settles = chooses_so (after_settles AnyPast so settles).0
+  after_chooses AnyPast so settles = choice_stands w (after_settles AnyPast so settles).0
   after_chooses Starting so none = absurd none
-  after_chooses (Gained start) so settles = chooses_so (after_settles (Gained start) so settles).0
-  after_chooses (Heard start) so settles = chooses_so (after_settles (Heard start) so settles).0
+  after_chooses (Gained start) so settles = choice_stands w (after_settles (Gained start) so settles).0
+  after_chooses (Heard start) so settles = choice_stands w (after_settles (Heard start) so settles).0
   after_chooses (Left silent) so off = left_to_chooses d all silent w so playable calm off
-  after_chooses (Turned silent now) so settles = chooses_so (after_settles (Turned silent now) so settles).0
-  after_chooses (Fallen silent now) so settles = chooses_so (after_settles (Fallen silent now) so settles).0
+  after_chooses (Turned silent now) so settles = choice_stands w (after_settles (Turned silent now) so settles).0
+  after_chooses (Fallen silent now) so settles = choice_stands w (after_settles (Fallen silent now) so settles).0
   after_chooses (TurnedTree silent now) so settles =
-      chooses_so (after_settles (TurnedTree silent now) so settles).0
+      choice_stands w (after_settles (TurnedTree silent now) so settles).0
   after_chooses (Cleared since silent right old) so off =
       left_to_chooses d all silent w (cleared_left d all since silent right old w so) playable calm off
   after_chooses (Aging ago aged silent) so (off, inl gone) =

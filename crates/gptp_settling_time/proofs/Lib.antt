@@ -64,7 +64,6 @@ pub mod AfterLemmas
 pub mod LeadsLemmas
 pub mod InTurnLemmas
 pub mod UnchangedLemmas
-pub mod AsIfChangedLemmas
 pub mod ExactInTurnLemmas
 pub mod SamePathsLemmas
 pub mod MomentLemmas
