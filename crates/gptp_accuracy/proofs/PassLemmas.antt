@@ -34,13 +34,6 @@ use Rattle.gptp_accuracy.specs.Ways.{HasDelays, HasDrift, IsLinkTo, IsWay, root_
 use Rattle.gptp_accuracy.specs.declared.sums.Sums.{Sums}
 use Rattle.gptp_accuracy.proofs.StandingLemmas.{member_stands, wire_stands}
 
--- no lines have no places
-pub no_places : (lines : List SystemLine) → ArePlaces lines 0 []
-no_places lines = record {
-  all = λ place line below there. absurd (omega (arith, below));
-  only = λ steps place member. absurd member;
-}
-
 -- one line more
 pub place_added : (lines : List SystemLine) (count : ℕ) (places : List (ℕ × ℕ)) (line : SystemLine)
     → ArePlaces lines count places → slice_get lines count ≡ Some line
@@ -72,21 +65,6 @@ place_added lines count places line before there = record { all = all; only = on
         | inr none ↦ absurd none
       ]
     ]
-
--- past the end there is none
-pub place_past : (lines : List SystemLine) (count : ℕ) (places : List (ℕ × ℕ)) → ArePlaces lines count places
-    → None ≡ slice_get lines count → ArePlaces lines (count + 1) places
-place_past lines count places before none = record {
-  all = λ place line below there. elim (cases_lt place count) [
-    | inl less ↦ before.all place line less there
-    | inr more ↦ (
-        let same : place ≡ count = omega (arith, below, more) in
-        let clash : None ≡ Some line = none ∙ ap (slice_get lines) (sym same) ∙ there in
-        absurd cc
-        )
-  ];
-  only = before.only;
-}
 
 -- all of them, sorted by steps
 pub places_sorted : (lines : List SystemLine) (before after : List (ℕ × ℕ)) → ArePlaces lines (length lines) before

@@ -3,7 +3,6 @@ pub mod KeptLemmas
 pub mod RootLemmas
 pub mod CaseLemmas
 pub mod StayLemmas
-pub mod TimesLemmas
 pub mod RunLemmas
 pub mod OutcomeLemmas
 pub mod ProgressLemmas

@@ -40,11 +40,6 @@ module _ (test : ℕ → Bool) where
       → list_any test (range_with_len number (count - number)) ≡ true
   passes_here number count below passes = ap (list_any test) (range_first number count below) ∙ rw passes refl
 
-  -- none is left
-  pub passes_none : (number count : ℕ) → count ≤ number
-      → list_any test (range_with_len number (count - number)) ≡ false
-  passes_none number count past = let none : count - number ≡ 0 = omega (arith, past) in rw none refl
-
   -- where none passes, this one doesn't
   fails_at : (count start number : ℕ) → list_any test (range_with_len start count) ≡ false → start ≤ number
       → number < start + count → test number ≡ false
@@ -106,10 +101,6 @@ module _ (refuses : ℕ → Option DocumentFault) where
   number_later number count below is =
       ap (λ ns. first_some (map refuses ns)) (range_first (λ n. true) number count below)
       ∙ first_later refuses number (range_with_len (number + 1) (count - (number + 1))) is
-
-  pub number_none : (number count : ℕ) → count ≤ number
-      → first_some (map refuses (range_with_len number (count - number))) ≡ None
-  number_none number count past = let none : count - number ≡ 0 = omega (arith, past) in rw none refl
 
   -- where none does, this one doesn't
   pub none_at : (count start number : ℕ) → first_some (map refuses (range_with_len start count)) ≡ None → start ≤ number

@@ -27,9 +27,10 @@ use Rattle.gptp_timeline.specs.Timeline.{AllPass, later_than, now_of, StretchTra
 use Rattle.gptp_timeline.specs.declared.ends.LastStretches.{LastStretches}
 use Rattle.gptp_timeline.specs.declared.stretch.Stretch.{Stretch}
 use Rattle.gptp_timeline.proofs.SettlingLemmas.{alike_after, begins, events_then, keeps_first, keeps_one, left_first}
+use Rattle.gptp_timeline.specs.StretchText.{behind}
 use Rattle.gptp_timeline_laws.proofs.SoonLemmas.{stretch_settles}
 use Rattle.gptp_faults.specs.CaseEvents.{EventsState}
-use Rattle.gptp_faults.specs.Extremes.{behind, bounds_of, counted_before, greater_if, greatest_behind, greatest_of_two, later_bounds}
+use Rattle.gptp_faults.specs.Extremes.{bounds_of, counted_before, greater_if, greatest_behind, greatest_of_two, later_bounds}
 use Rattle.gptp_faults.specs.Faults.{FaultsOf}
 use Rattle.gptp_faults.specs.Laws.{IsWithinBounds, roles_back, roles_down, StaysNear}
 use Rattle.gptp_faults.specs.Options.{tracks}

@@ -9,6 +9,7 @@ use Rattle.gptp_timeline.specs.declared.counts.Counts.{Counts}
 use Rattle.gptp_timeline.specs.declared.looks.TimeMeasures.{TimeMeasures}
 use Rattle.gptp_timeline.specs.declared.measures.Greatest.{Greatest}
 use Rattle.gptp_timeline.specs.declared.stretch.Stretch.{Stretch}
+use Rattle.gptp_timeline.specs.StretchText.{behind}
 use Rattle.gptp_faults.specs.declared.extremes.Apart.{Apart}
 use Rattle.gptp_faults.specs.declared.extremes.Extremes.{Extremes}
 use Rattle.gptp_faults.specs.declared.extremes.HowSoon.{HowSoon}
@@ -97,9 +98,6 @@ of_one s = record {
 }
 
 -- ---- two stretches that follow each other, taken as one
-
-abbrev pub behind : ℕ → Option ℕ → Option ℕ
-behind from = option_map (λ time. time - from)
 
 -- bounds that count from so much earlier on
 abbrev pub counted_before : ℕ → Option HowSoon → Option HowSoon

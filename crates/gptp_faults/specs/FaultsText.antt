@@ -6,8 +6,7 @@ use Rattle.std.specs.Option.{option_map}
 use Rattle.gptp_words.specs.Digits.{clock_text, identity_text, or_none}
 use Rattle.gptp_timeline.specs.Amounts.{near_text}
 use Rattle.gptp_timeline.specs.Limits.{all_limits, amount_of, exceeds, first_exceeded, verdict_line}
-use Rattle.gptp_timeline.specs.StretchText.{longest_text, worst_text}
-use Rattle.gptp_timeline.specs.declared.counts.Counts.{Counts}
+use Rattle.gptp_timeline.specs.StretchText.{counted_words, longest_text, worst_text}
 use Rattle.gptp_timeline.specs.declared.limits.Limit.{Limit}
 use Rattle.gptp_timeline.specs.declared.limits.Limit.TheVariants.{Alone, Apart, Astray, Bound, Choice, Cut, Error, First, Holdover, Roots, Step, Time, Without}
 use Rattle.gptp_timeline.specs.declared.limits.Limits.{Limits}
@@ -45,12 +44,6 @@ case_text (cases.Power clock) = codes "power " ++ clock_text clock
 abbrev pub case_line : ℕ → Case → List ℕ
 case_line number c = codes "case " ++ decimal number ++ codes " " ++ case_text c
 
-abbrev pub counts_text : Counts → List ℕ
-counts_text c =
-    codes " without " ++ decimal c.without
-    ++ codes " roots " ++ decimal c.roots
-    ++ codes " alone " ++ decimal c.alone
-
 -- how soon the choice and the roles stand at most
 abbrev pub bounds_text : Option HowSoon → List ℕ
 bounds_text None = codes " bound none none"
@@ -59,7 +52,7 @@ bounds_text (Some b) = codes " bound " ++ decimal b.choice ++ codes " " ++ decim
 -- who is cut off, and who of the others is astray, behind that
 abbrev pub counts_words : Extremes → List ℕ
 counts_words e =
-    counts_text e.counts
+    counted_words e.counts
     ++ codes " cut " ++ decimal e.cut
     ++ codes " astray " ++ decimal e.astray
     ++ bounds_text e.bounds

@@ -19,8 +19,8 @@ use Rattle.gptp_timeline.specs.declared.ends.LastStretches.{LastStretches}
 use Rattle.gptp_theorem.specs.PlayedLaws.{IsPlayable}
 use Rattle.gptp_timeline.specs.Laws.{AllNear, AreRoots}
 use Rattle.gptp_timeline.specs.declared.stretch.Stretch.{Stretch}
+use Rattle.gptp_timeline.specs.StretchText.{behind}
 use Rattle.gptp_faults.specs.CaseEvents.{EventsState}
-use Rattle.gptp_faults.specs.Extremes.{behind}
 use Rattle.gptp_faults.specs.Faults.{FaultsOf}
 use Rattle.gptp_faults.specs.Follows.{AreFollows}
 use Rattle.gptp_faults.specs.Outcomes.{IsOutcome, OutcomeState}

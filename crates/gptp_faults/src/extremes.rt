@@ -2,7 +2,8 @@
 
 ghost use Rattle.std.specs.Prelude.{◌≡◌, ◌<◌, ◌^◌, IfSome, None, Some};
 ghost use Rattle.std.specs.Option.{option_or};
-ghost use Rattle.gptp_faults.specs.Extremes.{behind, bounds_of, changed_in, changed_since, counted_before, first_asked, further, greater_counts, greater_if, greatest_of_two, later_bounds, of_back, of_down, of_one, taken_as_one, times_by, times_measured, times_of_two, times_taken, with_parts};
+ghost use Rattle.gptp_timeline.specs.StretchText.{behind};
+ghost use Rattle.gptp_faults.specs.Extremes.{bounds_of, changed_in, changed_since, counted_before, first_asked, further, greater_counts, greater_if, greatest_of_two, later_bounds, of_back, of_down, of_one, taken_as_one, times_by, times_measured, times_of_two, times_taken, with_parts};
 
 use gptp_how_soon::Settling;
 use gptp_timeline::{Counts, Difference, Greatest, Stretch, TimeMeasures, amount_of, better_if};

@@ -25,7 +25,7 @@ use gptp_network::{Document, DocumentFault};
 use gptp_report::sink::Sink;
 use gptp_report::{Cut, write_whole};
 use gptp_timeline::RunSoFar;
-use std::alloc::{AllocError, Global};
+use std::alloc::Global;
 
 /// What is answered of a document.
 #[derive(Debug, Drop)]

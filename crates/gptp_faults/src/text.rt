@@ -79,9 +79,9 @@ struct CountsText(Counts);
 
 impl fmt::Display for CountsText {
     ghost use Rattle.std.specs.Prelude.{Some};
-    ghost use Rattle.gptp_faults.specs.FaultsText.{counts_text};
+    ghost use Rattle.gptp_timeline.specs.StretchText.{counted_words};
 
-    ghost output = { λ counts. Some (counts_text counts.0) };
+    ghost output = { λ counts. Some (counted_words counts.0) };
 
     fn fmt<W: fmt::Write>(&self, f: &mut fmt::Formatter<W>) -> fmt::Result {
         let counts = self.0;

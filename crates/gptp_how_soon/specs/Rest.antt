@@ -4,8 +4,8 @@
 -- past.
 use Rattle.std.specs.Prelude.{ℕ, ◌+◌, ◌*◌, ◌&&◌, ◌||◌, nat_le, nat_lt, not, Bool, false, if◌then◌else◌, List, Option, Some, None}
 use Rattle.std.specs.List.{list_all, list_any}
+use Rattle.gptp_scenario.specs.SettlingTime.{way_span}
 use Rattle.gptp_scenario.specs.declared.sync_wait.SyncPaths.{SyncPaths}
-use Rattle.gptp_how_soon.specs.Bounds.{way_span}
 use Rattle.gptp_how_soon.specs.Kinds.{are_heard, begins_wider, brings_nothing, fails_and_recovers, fails_first, first_wider_by, is_better, is_gain, is_failing, is_loss, is_other, is_recovery, is_wider, leaves_links, lowers_one, lowers_unused, makes_nothing, tells_nothing}
 use Rattle.gptp_how_soon.specs.declared.bounds.Row.{Row}
 use Rattle.gptp_how_soon.specs.declared.bounds.Row.TheVariants.{AnyLosses, AnyPast, CutOff, FailedEnd, FailedHeard, FailureCutsOff, Gained, LostEnd, LostPower, Lowered, OneTurned, PowerCutsOff, TreeCutOff, Unchanged}

@@ -14,6 +14,7 @@ use Rattle.gptp_how_soon.specs.Far.{all_cut_far_ends, are_far, up_is_used}
 use Rattle.gptp_how_soon.specs.Kinds.{sets_bounds, takes_one, told_by}
 use Rattle.gptp_how_soon.specs.Links.{delay_set, longest_among, lost_among, new_among}
 use Rattle.gptp_how_soon.specs.Rest.{has_rested_for}
+use Rattle.gptp_how_soon.specs.Silent.{held_among, own_intervals}
 use Rattle.gptp_how_soon.specs.Times.{View, settling_time}
 use Rattle.gptp_how_soon.specs.Tree.{cuts_tree}
 use Rattle.gptp_how_soon.specs.Turned.{turns_one}
@@ -109,6 +110,7 @@ view_seen n w at = record {
   before = w.before;
   paths_before = w.paths_before;
   used_before = w.all_used_before;
+  held = held_among n (own_intervals n w.before at) w.used_before.items w.tables.standings.items;
   new = new_among (not (is_some w.before)) w.tables.standings.items w.used_before.items;
   told = w.told.items;
   moves = moves_seen n w at;

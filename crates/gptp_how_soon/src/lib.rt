@@ -10,6 +10,7 @@ mod far;
 mod kinds;
 mod links;
 mod rest;
+mod silent;
 #[cfg(test)]
 mod tests;
 mod times;
@@ -17,7 +18,8 @@ mod tree;
 mod turned;
 mod walk;
 
-pub use bounds::{Row, Settling, SettlingTime};
+pub use bounds::{Loss, Row, Settling, SettlingTime};
 pub use chosen::{Chosen, Ends};
 pub use kinds::{Kind, Told, What};
+pub use rest::Moves;
 pub use times::{settling_at, settling_times};

@@ -1,7 +1,7 @@
 //! Whether a time is from rest, so that what its events do says how soon the choice stands.
 
 ghost use Rattle.std.specs.Prelude.{◌≡◌, ◌≤◌, ◌+◌, ◌*◌, nat_lt};
-ghost use Rattle.gptp_how_soon.specs.Bounds.{way_span};
+ghost use Rattle.gptp_scenario.specs.SettlingTime.{way_span};
 ghost use Rattle.gptp_how_soon.specs.Rest.{are_events_followed, are_losses_followed, are_recoveries_followed, are_turns_followed, asks_who_is_moved, heard_at_once, is_failing_followed, failed_row, has_rested_for, is_from_rest, is_lowering_followed, is_wider_followed, keeps_paths, leaves_silent, rested, row_of, settles_wider_by};
 
 use crate::bounds::{Row, SettlingTime, way_span};
@@ -14,7 +14,7 @@ use gptp_scenario::SyncPaths;
 
 /// Whom the events of a time move.
 #[derive(Clone, Copy)]
-pub(crate) struct Moves {
+pub struct Moves {
     /// Whether they move a system that counts: one that is cut off doesn't where one link or one system is taken away.
     pub moved: bool,
     /// Whether they move any, also one that is cut off.

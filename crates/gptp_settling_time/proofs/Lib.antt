@@ -111,6 +111,10 @@ pub mod FallAlwaysLemmas
 pub mod FallDownLemmas
 pub mod FallActLemmas
 pub mod NamedLemmas
+pub mod TreeTracesLemmas
+pub mod TreeSoundLemmas
+pub mod TreeSoundBeginLemmas
+pub mod FallenClaimedLemmas
 pub mod FallenToLemmas
 pub mod FallMadeLemmas
 pub mod NamedAfterLemmas

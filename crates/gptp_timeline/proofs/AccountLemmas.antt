@@ -14,7 +14,7 @@ use Rattle.gptp_timeline.specs.Jumps.{error_before}
 use Rattle.gptp_timeline.specs.Looks.{events_left, left_after, looked_all, looked_in, looked_over, measured_times, measured_with, nothing_looked, nothing_read}
 use Rattle.std.specs.Option.{option_map_or}
 use Rattle.gptp_timeline.specs.LastStretches.{aside_if}
-use Rattle.gptp_timeline.specs.Passing.{aside_kept, times_before, watch_at_start, watch_before}
+use Rattle.gptp_timeline.specs.Passing.{account_before, aside_kept, times_before, watch_at_start, watch_before}
 use Rattle.gptp_timeline.specs.Readings.{new_in, reading_error, no_reading, read_after, readings_after}
 use Rattle.gptp_timeline.specs.Compared.{compared_by_expiry, compared_by_frame}
 use Rattle.gptp_timeline.specs.Receipts.{offset_error, received_by}
@@ -95,26 +95,8 @@ act_times at (Changing change) done w o = each_times (event_look at) w (places_o
 
 -- ---- the account after acts
 
--- where these were set aside as the stretch began
-abbrev pub account : TimelineOptions → Option ℕ → List ℕ → ℕ → AsideState → List ActTrace → List SystemReading
-    → TimeState
-account options from names events a ts rs = record {
-  lines = options.times;
-  told = options.times && options.offsets;
-  exact_from = from;
-  events_left = events_left (looked_acts a ts) events;
-  systems = readings_after (looked_acts a ts) rs;
-  reads = reads_over from rs (map unread names) (looked_acts a ts);
-  measures = measured_with (looked_over rs events (looked_acts a ts)) nothing_read;
-  aside = aside_over ts a;
-}
-
-abbrev pub account_if : TimelineOptions → Option ℕ → List ℕ → ℕ → AsideState → List ActTrace
-    → Option (List SystemReading) → Option TimeState
-account_if options from names events a ts readings = option_map (account options from names events a ts) readings
-
 -- where these acts were looked at
-abbrev account_of : TimelineOptions → Option ℕ → List ℕ → ℕ → AsideState → List ActTrace → List SystemReading
+abbrev pub account_of : TimelineOptions → Option ℕ → List ℕ → ℕ → AsideState → List ActTrace → List SystemReading
     → TimeState
 account_of options from names events a ts rs = record {
   lines = options.times;
@@ -126,6 +108,16 @@ account_of options from names events a ts rs = record {
   measures = measured_with (looked_over rs events ts) nothing_read;
   aside = a;
 }
+
+-- where these were set aside as the stretch began
+abbrev pub account : TimelineOptions → Option ℕ → List ℕ → ℕ → AsideState → List ActTrace → List SystemReading
+    → TimeState
+account options from names events a ts rs =
+    account_of options from names events (aside_over ts a) (looked_acts a ts) rs
+
+abbrev pub account_if : TimelineOptions → Option ℕ → List ℕ → ℕ → AsideState → List ActTrace
+    → Option (List SystemReading) → Option TimeState
+account_if options from names events a ts readings = option_map (account options from names events a ts) readings
 
 -- ---- one act more
 
@@ -280,22 +272,10 @@ rest_first options a w = by (tracks options)
     names : List ℕ
     names = rising_clocks w
 
-    kept : TimeState
-    kept = record {
-      lines = options.times;
-      told = options.times && options.offsets;
-      exact_from = None;
-      events_left = 0;
-      systems = map no_reading (rising_clocks w);
-      reads = map unread (rising_clocks w);
-      measures = nothing_read;
-      aside = a;
-    }
-
     by : (asked : Bool) → RestTimes options names a (if asked then Some (map no_reading names) else None)
-        (if asked then Some kept else None)
+        (if asked then Some (account_before options a w) else None)
     by true = (
-      kept,
+      account_before options a w,
       refl,
       record {
         lines_is = refl;
@@ -316,19 +296,8 @@ module _ (options : TimelineOptions) (a : AsideState) (w : WorldState) where
       ≡ aside_if (tracks options) a
   kept_before = by (tracks options)
     where
-      kept : TimeState
-      kept = record {
-        lines = options.times;
-        told = options.times && options.offsets;
-        exact_from = None;
-        events_left = 0;
-        systems = map no_reading (rising_clocks w);
-        reads = map unread (rising_clocks w);
-        measures = nothing_read;
-        aside = a;
-      }
-
-      by : (asked : Bool) → option_map_or (λ (o : TimeState). o.aside) (if asked then Some kept else None) nobody_aside
+      by : (asked : Bool) → option_map_or (λ (o : TimeState). o.aside)
+          (if asked then Some (account_before options a w) else None) nobody_aside
           ≡ aside_if asked a
       by true = refl
       by false = refl
@@ -340,20 +309,8 @@ module _ (options : TimelineOptions) (a : AsideState) (w : WorldState) where
   same_before : times_before options (aside_if (tracks options) a) w ≡ times_before options a w
   same_before = by (tracks options)
     where
-      kept : AsideState → TimeState
-      kept b = record {
-        lines = options.times;
-        told = options.times && options.offsets;
-        exact_from = None;
-        events_left = 0;
-        systems = map no_reading (rising_clocks w);
-        reads = map unread (rising_clocks w);
-        measures = nothing_read;
-        aside = b;
-      }
-
-      by : (asked : Bool) → (if asked then Some (kept (aside_if asked a)) else None)
-          ≡ (if asked then Some (kept a) else None)
+      by : (asked : Bool) → (if asked then Some (account_before options (aside_if asked a) w) else None)
+          ≡ (if asked then Some (account_before options a w) else None)
       by true = refl
       by false = refl
 

@@ -60,11 +60,6 @@ pub given_none : {X : Type 0} (f : ℕ → Option X) (names : List ℕ)
 given_none f [] none = refl
 given_none f (n ∷ ns) none = rw (none 0 n refl) (given_none f ns (λ i m at. none (suc i) m at))
 
-better_given : (f : ℕ → Option Greatest) (n : ℕ) (o : Option Greatest) (best : Option Greatest) → f n ≡ o
-    → greatest_from best (filter_map f (n ∷ [])) ≡ better_if best o
-better_given f n None best is = rw is refl
-better_given f n (Some x) best is = rw is refl
-
 -- where no name gives anything but one, the greatest is the better of it
 pub better_one : (f : ℕ → Option Greatest) (names : List ℕ) (place name : ℕ) (best : Option Greatest)
     → slice_get names place ≡ Some name

@@ -137,11 +137,3 @@ rising_changed {X} clock_of name f xs same rising =
     by : (x : X) (t : Bool) → clock_of (if t then f x else x) ≡ clock_of x
     by x true = same x
     by x false = refl
-
--- past the end there is no more
-pub none_more : (xs : List ℕ) (i : ℕ) → slice_get xs i ≡ None → take i xs ≡ take (i + 1) xs
-none_more [] zero none = refl
-none_more [] (suc i) none = let e : suc i + 1 ≡ suc (i + 1) = omega arith in rw e refl
-none_more (x ∷ xs) zero none = absurd cc
-none_more (x ∷ xs) (suc i) none =
-    let e : suc i + 1 ≡ suc (i + 1) = omega arith in rw e (ap (λ rest. x ∷ rest) (none_more xs i none))

@@ -7,7 +7,7 @@ use Rattle.gptp_model.specs.Advancing.{Happens}
 use Rattle.gptp_model.specs.Course.{Begun}
 use Rattle.gptp_model.specs.Prompt.{NoneFaster}
 use Rattle.gptp_model.specs.Sound.{IsSound}
-use Rattle.gptp_model.specs.Views.{IsActOf, rising_clocks}
+use Rattle.gptp_model.specs.Views.{rising_clocks}
 use Rattle.gptp_graph.specs.Distance.{IsNear}
 use Rattle.gptp_theorem.proofs.AlikeLemmas.{path, turned}
 use Rattle.gptp_system.specs.State.{SystemState}
@@ -15,8 +15,6 @@ use Rattle.gptp_timeline.proofs.BehindLemmas.{all_both, IsStill, last_choice, la
 use Rattle.gptp_timeline.proofs.NameLemmas.{acts_named, AreNamed, first_names, same_named}
 use Rattle.gptp_timeline.proofs.PastLemmas.{by_past, by_sooner, last_past, past_both, past_later, PastBy}
 use Rattle.gptp_model.specs.World.{WorldState}
-use Rattle.gptp_model.specs.declared.item.Item.{Item}
-use Rattle.gptp_model.specs.declared.item.Item.TheVariants.{Arrival, Expiry}
 use Rattle.gptp_model.specs.Pending.{NothingBefore}
 use Rattle.gptp_model.proofs.AdvanceLemmas.{leaves_less, next_fits, nothing_sooner}
 use Rattle.gptp_model.proofs.PromptLemmas.{begun_none_faster, next_prompt, prompt_within, stays_none_faster}
@@ -28,7 +26,6 @@ use Rattle.gptp_graph.proofs.PathBoundLemmas.{paths_within}
 use Rattle.gptp_invariants.specs.WorldCalmFor.{IsCalmFor, span_over}
 use Rattle.gptp_invariants.specs.WorldSettlingInvariant.{KeepsAll}
 use Rattle.gptp_invariants.specs.WorldEncodableLaws.{SetsAnOctet}
-use Rattle.gptp_invariants.specs.ChoiceSeenLaws.{IsNoChange}
 use Rattle.gptp_invariants.specs.WorldStanding.{snapshot_of}
 use Rattle.gptp_invariants.specs.SyncOwnClock.{TellAsSetUp}
 use Rattle.gptp_invariants.specs.SyncTimedClaim.{CarriesWhereCalm}
@@ -53,7 +50,6 @@ use Rattle.gptp_scenario.specs.Network.{pace_of, smallest_of}
 use Rattle.gptp_scenario.specs.Prompt.{DelayFitsInterval}
 use Rattle.gptp_scenario.specs.SettlingTime.{settling_span_with}
 use Rattle.gptp_scenario.specs.SyncWait.{sync_paths}
-use Rattle.gptp_scenario.specs.declared.change.Act.{Act}
 use Rattle.gptp_scenario.specs.declared.change.Act.TheVariants.{Change as Changing}
 use Rattle.gptp_scenario.specs.declared.change.Change.{Change}
 use Rattle.gptp_scenario.specs.declared.change.Timed.{Timed}
@@ -69,6 +65,7 @@ use Rattle.gptp_theorem.proofs.SettlingInvariantLemmas.{each_there}
 use Rattle.gptp_theorem.proofs.KeptLemmas.{acts_stand, time_stands}
 use Rattle.gptp_theorem.proofs.SnapshotLemmas.{snapshots_stand}
 use Rattle.gptp_theorem.proofs.SyncPathLemmas.{paths_stand}
+use Rattle.gptp_theorem.proofs.CalmKeptLemmas.{no_change}
 use Rattle.gptp_world.specs.Transitions.{Passes, PassesTo, ActTrace, transition}
 use Rattle.gptp_report.specs.Transitions.{Courses, Makes}
 use Rattle.gptp_setup.specs.Intervals.{interval_of}
@@ -87,11 +84,6 @@ use Rattle.gptp_timeline.proofs.RestLemmas.{IsAtRest, shown_same, stands_there, 
 
 -- ---- worlds of a document
 
--- what is pending is no change
-pub no_change : (item : Item) (act : Act) (w : WorldState) → IsActOf item w act → IsNoChange act
-no_change (Arrival link direction) act w is = subst IsNoChange (sym is) tt
-no_change (Expiry place timer) act w (station, here, is) = subst IsNoChange (sym is) tt
-
 -- a live system of a world is one of its snapshot
 pub is_there : (w : WorldState) (name : ℕ) (s : SystemState) → live_system name w ≡ Some s
     → In name (clocks (snapshot_of w))
@@ -99,6 +91,17 @@ is_there w name s is =
     let (x, member, clock_is, ports, named) = stands_there w name s is in
     subst (λ v. In v (clocks (snapshot_of w))) (clock_is ∙ named)
     (In-map (λ (y : System). y.clock) x (snapshot_of w).systems member)
+
+-- what passes leaves the snapshot
+module _ {F : Type 0} (answers : Bounds → ℕ → F → Option ℕ → F → Type 0) where
+  pub passes_snapshot : (until : ℕ) (ts : List ActTrace) (fate fate_after : F) (w w' : WorldState)
+      → Passes answers until ts fate fate_after w w' → snapshot_of w' ≡ snapshot_of w
+  passes_snapshot until [] fate fate_after w w' (same, is) = ap snapshot_of is
+  passes_snapshot until (t ∷ ts) fate fate_after w w' (drawn, before, happens, rest) =
+      passes_snapshot until ts drawn fate_after t.after w' rest
+      ∙ same_snapshot (at (at_of t) w) t.after
+      (acts_keep t.told.timed.act (at (at_of t) w) happens.was_done.draws t.told.done t.after
+      (no_change happens.next.item t.told.timed.act w happens.next.act) happens.was_done.acts)
 
 module _ {F : Type 0} (answers : Bounds → ℕ → F → Option ℕ → F → Type 0) (d : DocumentState)
     (playable : IsPlayable d) (names : List ℕ) where
@@ -363,15 +366,6 @@ module _ {F : Type 0} (answers : Bounds → ℕ → F → Option ℕ → F → T
             let late : from + span ≤ at_of t = grind (arith, nat_tests) in
             inr (still_act until t fate drawn w before happens keeps near late)
 
-  passes_snapshot : (until : ℕ) (ts : List ActTrace) (fate fate_after : F) (w w' : WorldState)
-      → Passes answers until ts fate fate_after w w' → snapshot_of w' ≡ snapshot_of w
-  passes_snapshot until [] fate fate_after w w' (same, is) = ap snapshot_of is
-  passes_snapshot until (t ∷ ts) fate fate_after w w' (drawn, before, happens, rest) =
-      passes_snapshot until ts drawn fate_after t.after w' rest
-      ∙ same_snapshot (at (at_of t) w) t.after
-      (acts_keep t.told.timed.act (at (at_of t) w) happens.was_done.draws t.told.done t.after
-      (no_change happens.next.item t.told.timed.act w happens.next.act) happens.was_done.acts)
-
   -- what is so of each act up to a time is so of those that pass by then
   pub early_passes : (P : ActTrace → Type 0) (until : ℕ) (ts : List ActTrace) (fate fate_after : F)
       (w w' : WorldState) → ((t : ActTrace) → at_of t ≤ until → P t)
@@ -399,7 +393,7 @@ module _ {F : Type 0} (answers : Bounds → ℕ → F → Option ℕ → F → T
       → StillBehind (from + span) ts
   still_courses before [] from span until g ts fate fate_after w w' fit early calm stands last span_is k keeps near =
       let same : snapshot_of w' ≡ snapshot_of w =
-      ap snapshot_of k.is ∙ passes_snapshot until ts fate fate_after w k.between k.passes in
+      ap snapshot_of k.is ∙ passes_snapshot answers until ts fate fate_after w k.between k.passes in
       still_passes (before ++ []) from span g calm stands last span_is until ts fate fate_after w k.between k.passes
       (subst (λ es. Keeps es w) (sym (append-nil before)) keeps) (subst AllNear same near)
   still_courses before (event ∷ events) from span until g ts fate fate_after w w' fit early calm stands last span_is

@@ -42,6 +42,7 @@ use Rattle.gptp_theorem.specs.AlikeLaws.{AreAlike}
 use Rattle.gptp_theorem.specs.PlayedLaws.{IsPlayable}
 use Rattle.gptp_theorem.proofs.AlikeLemmas.{distance, turned}
 use Rattle.gptp_theorem.proofs.SettlingInvariantLemmas.{each_there}
+use Rattle.gptp_theorem.proofs.CalmKeptLemmas.{no_change}
 use Rattle.gptp_report.specs.Transitions.{Courses, Unfolds}
 use Rattle.gptp_roles.specs.Selection.{clock_of}
 use Rattle.gptp_scaled.specs.Counts.{AreWithin}
@@ -66,7 +67,7 @@ use Rattle.gptp_timeline.proofs.EventLemmas.{Each, filter_each, filter_in_order}
 use Rattle.gptp_timeline.proofs.HeardLemmas.{receiver_alone, received_exactly}
 use Rattle.gptp_timeline.proofs.PastLemmas.{all_past, PastBy}
 use Rattle.gptp_timeline.proofs.RestLemmas.{found_live, IsAtRest, lives_there, shows_live, stands_there}
-use Rattle.gptp_timeline.proofs.SettlingLemmas.{act_time, alike_after, begins, bounded, calm_since, early_makes, ends_by, events_fit, events_then, IsFitEvent, Keeps, keeps_act, keeps_first, keeps_later, keeps_made, left_first, no_change, rests, span_after}
+use Rattle.gptp_timeline.proofs.SettlingLemmas.{act_time, alike_after, begins, bounded, calm_since, early_makes, ends_by, events_fit, events_then, IsFitEvent, Keeps, keeps_act, keeps_first, keeps_later, keeps_made, left_first, rests, span_after}
 use Rattle.gptp_timeline.proofs.WayLemmas.{way_there}
 use Rattle.gptp_world.specs.Transitions.{Passes, ActTrace}
 

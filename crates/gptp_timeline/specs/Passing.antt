@@ -30,9 +30,9 @@ abbrev pub first_time : List Timed → Option ℕ
 first_time [] = None
 first_time (e ∷ es) = Some e.at
 
--- what is kept of what systems read before a world starts, where that is asked, of which some are set aside
-abbrev pub times_before : TimelineOptions → AsideState → WorldState → Option TimeState
-times_before options aside w = if tracks options then Some (record {
+-- what is kept of what systems read before a world starts, of which some are set aside
+abbrev pub account_before : TimelineOptions → AsideState → WorldState → TimeState
+account_before options aside w = record {
   lines = options.times;
   told = options.times && options.offsets;
   exact_from = None;
@@ -41,7 +41,11 @@ times_before options aside w = if tracks options then Some (record {
   reads = map unread (rising_clocks w);
   measures = nothing_read;
   aside = aside;
-}) else None
+}
+
+-- where that is asked
+abbrev pub times_before : TimelineOptions → AsideState → WorldState → Option TimeState
+times_before options aside w = if tracks options then Some (account_before options aside w) else None
 
 -- an observer before the systems of a world start, of which some are set aside, and after that
 abbrev pub watch_before : TimelineOptions → AsideState → WorldState → WatchState

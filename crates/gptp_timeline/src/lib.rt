@@ -30,6 +30,7 @@ mod null_sink;
 mod ports;
 mod readings;
 mod receipts;
+mod rising;
 mod run_so_far;
 mod seeing;
 mod shown;

@@ -1,8 +1,7 @@
 //! An observer's account of what systems read of time.
 
-ghost use Rattle.std.specs.Prelude.{◌≡◌, ◌+◌, ◌==◌, ◌&&◌, IfOk, OnOk, map, take};
+ghost use Rattle.std.specs.Prelude.{◌≡◌, ◌==◌, ◌&&◌, IfOk, map};
 ghost use Rattle.gptp_setup.specs.Intervals.{IsMoment};
-ghost use Rattle.gptp_model.specs.Views.{rising_clocks};
 ghost use Rattle.gptp_timeline.specs.ExactReads.{unread};
 ghost use Rattle.gptp_timeline.specs.Readings.{no_reading};
 ghost use Rattle.gptp_timeline.specs.Aside.{readings_begun, without_readings};
@@ -18,6 +17,7 @@ use crate::readings::{
     Jump, NewReading, SystemReading, can_give_reading, changes_source, failed_by, jump_of,
     new_reading, reading_error,
 };
+use crate::rising::rising_clocks;
 use crate::time_lines::write_reading;
 use gptp_links::Fate;
 use gptp_vector::ClockId;
@@ -65,65 +65,30 @@ impl Model for TimeWatch {
     ghost invariant = { λ w. ReadsRise w.reads.items };
 }
 
-/// Puts the system at a place by rising clock after others: it has no time.
-fn push_no_reading<F: Fate + Drop>(
-    systems: &mut Vec<SystemReading>,
-    world: &World<F>,
-    place: usize,
-) -> Result<(), AllocError>
-    requires { systems.old.items ≡ map no_reading (take place (rising_clocks world.now.world_core)) }
-    ensures { OnOk result (systems.new.items ≡ map no_reading (take (place + 1) (rising_clocks world.now.world_core))) }
+/// None of the systems with these clocks has time.
+fn no_readings(alloc: Global, clocks: &[ClockId]) -> Result<Vec<SystemReading>, AllocError>
+    ensures { IfOk result (λ v. v.items ≡ map no_reading clocks.now) }
 {
-    if let Some(clock) = world.clock_at(place) {
-        systems.push(SystemReading {
-            clock,
+    clocks
+        .iter()
+        .map(|clock| SystemReading {
+            clock: *clock,
             reading: None,
-        })?;
-    }
-    Ok(())
+        })
+        .collect(alloc)
 }
 
-/// No system has time.
-fn no_readings<F: Fate + Drop>(
-    alloc: Global,
-    world: &World<F>,
-) -> Result<Vec<SystemReading>, AllocError>
-    ensures { IfOk result (λ v. v.items ≡ map no_reading (rising_clocks world.now.world_core)) }
+/// Nothing is kept of the systems with these clocks.
+fn all_unread(alloc: Global, clocks: &[ClockId]) -> Result<Vec<SystemReads>, AllocError>
+    ensures { IfOk result (λ v. v.items ≡ map unread clocks.now) }
 {
-    let mut systems = Vec::new(alloc);
-    for place in 0..world.count() {
-        push_no_reading(&mut systems, world, place)?;
-    }
-    Ok(systems)
-}
-
-/// Puts the system at a place by rising clock after others: nothing is kept of it.
-fn push_unread<F: Fate + Drop>(
-    systems: &mut Vec<SystemReads>,
-    world: &World<F>,
-    place: usize,
-) -> Result<(), AllocError>
-    requires { systems.old.items ≡ map unread (take place (rising_clocks world.now.world_core)) }
-    ensures { OnOk result (systems.new.items ≡ map unread (take (place + 1) (rising_clocks world.now.world_core))) }
-{
-    if let Some(clock) = world.clock_at(place) {
-        systems.push(SystemReads { clock, reads: None })?;
-    }
-    Ok(())
-}
-
-/// Nothing is kept of any system.
-fn all_unread<F: Fate + Drop>(
-    alloc: Global,
-    world: &World<F>,
-) -> Result<Vec<SystemReads>, AllocError>
-    ensures { IfOk result (λ v. v.items ≡ map unread (rising_clocks world.now.world_core)) }
-{
-    let mut systems = Vec::new(alloc);
-    for place in 0..world.count() {
-        push_unread(&mut systems, world, place)?;
-    }
-    Ok(systems)
+    clocks
+        .iter()
+        .map(|clock| SystemReads {
+            clock: *clock,
+            reads: None,
+        })
+        .collect(alloc)
 }
 
 /// These systems have no time from now on.
@@ -174,8 +139,9 @@ impl TimeWatch {
         }) }
     {
         world.well_formed();
-        let systems = no_readings(alloc, world)?;
-        let reads = all_unread(alloc, world)?;
+        let clocks = rising_clocks(alloc, world)?;
+        let systems = no_readings(alloc, &clocks)?;
+        let reads = all_unread(alloc, &clocks)?;
         Ok(TimeWatch {
             lines,
             told,

@@ -1,8 +1,7 @@
 //! An observer that tells what changes at which system when.
 
-ghost use Rattle.std.specs.Prelude.{◌≡◌, ◌<◌, ◌+◌, ◌++◌, true, IfOk, OnOk, length, map, option_map, string_bytes, take};
+ghost use Rattle.std.specs.Prelude.{◌≡◌, ◌++◌, true, IfOk, OnOk, map, option_map, string_bytes};
 ghost use Rattle.gptp_setup.specs.Intervals.{IsMoment};
-ghost use Rattle.gptp_model.specs.Views.{rising_clocks};
 ghost use Rattle.gptp_words.specs.Lines.{text_of};
 ghost use Rattle.gptp_timeline.specs.Leaving.{LeavesAll};
 ghost use Rattle.gptp_timeline.specs.TimeWatch.{times_after, times_begun};
@@ -11,6 +10,7 @@ ghost use Rattle.gptp_timeline.specs.Watch.{GetsNone, times_aside, times_lines_i
 use crate::aside::SetAside;
 use crate::leaving::{can_take_over, leaves_all};
 use crate::measures::{Measures, NOTHING};
+use crate::rising::rising_clocks;
 use crate::time_watch::TimeWatch;
 use crate::watched::{Watched, copy_systems};
 use gptp_hints::ClockHints;
@@ -74,30 +74,11 @@ fn unseen(clock: ClockId) -> Watched
     }
 }
 
-/// Puts the system at a place by rising clock after others.
-fn push_unseen<F: Fate + Drop>(
-    systems: &mut Vec<Watched>,
-    world: &World<F>,
-    place: usize,
-) -> Result<(), AllocError>
-    requires { systems.old.items ≡ map unseen (take place (rising_clocks world.now.world_core)) }
-    ensures { OnOk result (systems.new.items ≡ map unseen (take (place + 1) (rising_clocks world.now.world_core))) }
+/// What is kept of the systems with these clocks, before they start.
+fn all_unseen(alloc: Global, clocks: &[ClockId]) -> Result<Vec<Watched>, AllocError>
+    ensures { IfOk result (λ v. v.items ≡ map unseen clocks.now) }
 {
-    if let Some(clock) = world.clock_at(place) {
-        systems.push(unseen(clock))?;
-    }
-    Ok(())
-}
-
-/// What is kept of all systems, by rising clock, before they start.
-fn all_unseen<F: Fate + Drop>(alloc: Global, world: &World<F>) -> Result<Vec<Watched>, AllocError>
-    ensures { IfOk result (λ v. v.items ≡ map unseen (rising_clocks world.now.world_core)) }
-{
-    let mut systems = Vec::new(alloc);
-    for place in 0..world.count() {
-        push_unseen(&mut systems, world, place)?;
-    }
-    Ok(systems)
+    clocks.iter().map(|clock| unseen(*clock)).collect(alloc)
 }
 
 /// The place of each of these systems, as a hint.
@@ -205,7 +186,8 @@ impl Watch {
         }) }
     {
         world.well_formed();
-        let systems = all_unseen(alloc, world)?;
+        let clocks = rising_clocks(alloc, world)?;
+        let systems = all_unseen(alloc, &clocks)?;
         let hints = list_hints(alloc, &systems)?;
         Ok(Watch {
             summary,

@@ -25,6 +25,7 @@ use Rattle.gptp_report.specs.Transitions.{Courses, Passes}
 use Rattle.gptp_scenario.specs.Calm.{last_change}
 use Rattle.gptp_scenario.specs.declared.change.Timed.{Timed}
 use Rattle.gptp_theorem.specs.PlayedLaws.{IsPlayable}
+use Rattle.gptp_theorem.proofs.CalmKeptLemmas.{no_change}
 use Rattle.gptp_reading.proofs.LastingLemmas.{error_grows}
 use Rattle.gptp_timeline.specs.ExactReads.{counts_new, ended_reads, greater_of, later_of, reads_among, reads_by, reads_ended, reads_next, reads_over, reads_with, unread}
 use Rattle.gptp_timeline.specs.Laws.{IsExactBySpan, SayBound}
@@ -39,7 +40,7 @@ use Rattle.gptp_timeline.specs.declared.readings.NewReading.{NewReading}
 use Rattle.gptp_timeline.specs.declared.readings.SystemReading.{SystemReading}
 use Rattle.gptp_timeline.proofs.EventLemmas.{Each, filter_each, filter_in_order}
 use Rattle.gptp_timeline.proofs.PastLemmas.{all_past, PastBy}
-use Rattle.gptp_timeline.proofs.SettlingLemmas.{act_time, ends_by, events_then, IsFitEvent, Keeps, keeps_act, no_change}
+use Rattle.gptp_timeline.proofs.SettlingLemmas.{act_time, ends_by, events_then, IsFitEvent, Keeps, keeps_act}
 use Rattle.gptp_timeline.proofs.WithinLemmas.{has_bound, holds_later, past_behind}
 use Rattle.gptp_timeline_laws.specs.Exact.{reads_from, TimelinesReadExactly}
 use Rattle.gptp_timeline_laws.proofs.HeldLemmas.{AreRight, calm_is_right, IsBounded, IsRight}

@@ -45,6 +45,7 @@ use Rattle.gptp_theorem.proofs.CalmLemmas.{quiet_stands}
 use Rattle.gptp_theorem.proofs.KeptLemmas.{acts_stand, time_stands}
 use Rattle.gptp_theorem.proofs.SnapshotLemmas.{snapshots_stand}
 use Rattle.gptp_theorem.proofs.SyncPathLemmas.{paths_stand}
+use Rattle.gptp_theorem.proofs.CalmKeptLemmas.{no_change}
 use Rattle.gptp_reading.proofs.HeardLemmas.{AreTimed, timed_act, timed_begins, timed_later}
 use Rattle.gptp_timeline.specs.Looks.{events_left}
 use Rattle.gptp_timeline.specs.Shown.{live_system}
@@ -53,7 +54,7 @@ use Rattle.gptp_timeline.specs.Timeline.{Carried, none_carried, now_of, StretchT
 use Rattle.gptp_timeline.specs.declared.timeline.TimelineOptions.{TimelineOptions}
 use Rattle.gptp_timeline.proofs.EventLemmas.{Each, filter_each}
 use Rattle.gptp_timeline.proofs.RestLemmas.{found_live, lives_there}
-use Rattle.gptp_timeline.proofs.SettlingLemmas.{events_then, IsFitEvent, Keeps, no_change}
+use Rattle.gptp_timeline.proofs.SettlingLemmas.{events_then, IsFitEvent, Keeps}
 use Rattle.gptp_timeline_laws.specs.Moments.{BeginsWith, Moment, world_after}
 use Rattle.gptp_timeline_laws.proofs.CourseLemmas.{parted, parts, world_on}
 use Rattle.gptp_timeline_laws.proofs.MomentLemmas.{timeline_found}

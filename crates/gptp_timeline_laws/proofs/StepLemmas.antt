@@ -17,10 +17,11 @@ use Rattle.gptp_scenario.specs.declared.change.Timed.{Timed}
 use Rattle.gptp_setup.specs.declared.setup.Setup.{Setup}
 use Rattle.gptp_system.specs.State.{clock, local_time}
 use Rattle.gptp_theorem.specs.PlayedLaws.{IsPlayable}
+use Rattle.gptp_theorem.proofs.CalmKeptLemmas.{no_change}
 use Rattle.gptp_timeline.specs.Readings.{clock_among, clock_time, source_time}
 use Rattle.gptp_timeline.specs.Stretch.{at_of, is_change}
 use Rattle.gptp_timeline.specs.declared.readings.TimeSource.{TimeSource}
-use Rattle.gptp_timeline.proofs.SettlingLemmas.{act_time, Keeps, keeps_act, no_change}
+use Rattle.gptp_timeline.proofs.SettlingLemmas.{act_time, Keeps, keeps_act}
 use Rattle.gptp_timeline_laws.specs.Moments.{last_time, next_time, world_after}
 use Rattle.gptp_world.specs.Transitions.{ActTrace, Passes}
 

@@ -6,7 +6,6 @@ use Rattle.std.proofs.lemmas.List.Elements.{filter-append}
 use Rattle.gptp_lists.specs.Members.{In}
 use Rattle.gptp_lists.proofs.SystemSpecLemmas.{In-parts, In-right}
 use Rattle.gptp_invariants.specs.WorldStanding.{snapshot_of}
-use Rattle.gptp_invariants.proofs.ChoiceCalmKeptLemmas.{acts_keep, same_snapshot}
 use Rattle.gptp_links.specs.declared.bounds.Bounds.{Bounds}
 use Rattle.gptp_model.specs.Acts.{at}
 use Rattle.gptp_model.specs.World.{WorldState}
@@ -19,7 +18,7 @@ use Rattle.gptp_settling_time.proofs.CutLemmas.{all_by}
 use Rattle.gptp_timeline.specs.Stretch.{at_of}
 use Rattle.gptp_timeline.specs.Timeline.{AllPass, IsPassage, StretchTrace, end_before, later_than, now_of}
 use Rattle.gptp_timeline.proofs.EventLemmas.{filter_in_order, filter_passes, now_by}
-use Rattle.gptp_timeline.proofs.SettlingLemmas.{no_change}
+use Rattle.gptp_timeline.proofs.SettlingLemmas.{passes_snapshot}
 use Rattle.gptp_timeline.proofs.UnfoldLemmas.{courses_on, now_and_later}
 use Rattle.gptp_world.specs.Transitions.{ActTrace, Passes, transition}
 
@@ -130,20 +129,11 @@ module _ {F : Type 0} (answers : Bounds → ℕ → F → Option ℕ → F → T
 
   -- ---- a network stays as it is after its events
 
-  passes_same : (until : ℕ) (ts : List ActTrace) (fate fate_after : F) (w w' : WorldState)
-      → Passes answers until ts fate fate_after w w' → snapshot_of w' ≡ snapshot_of w
-  passes_same until [] fate fate_after w w' (same, is) = ap snapshot_of is
-  passes_same until (t ∷ ts) fate fate_after w w' (drawn, before, happens, rest) =
-      passes_same until ts drawn fate_after t.after w' rest
-      ∙ same_snapshot (at (at_of t) w) t.after
-      (acts_keep t.told.timed.act (at (at_of t) w) happens.was_done.draws t.told.done t.after
-      (no_change happens.next.item t.told.timed.act w happens.next.act) happens.was_done.acts)
-
   passes_after : (until : ℕ) (ts : List ActTrace) (fate fate_after : F) (w w' : WorldState)
       → Passes answers until ts fate fate_after w w' → (a : ActTrace) → In a ts → snapshot_of w' ≡ snapshot_of a.after
   passes_after until [] fate fate_after w w' k a member = absurd member
   passes_after until (t ∷ ts) fate fate_after w w' (drawn, before, happens, rest) a (inl same) =
-      passes_same until ts drawn fate_after t.after w' rest
+      passes_snapshot answers until ts drawn fate_after t.after w' rest
       ∙ ap (λ (x : ActTrace). snapshot_of x.after) (sym same)
   passes_after until (t ∷ ts) fate fate_after w w' (drawn, before, happens, rest) a (inr member) =
       passes_after until ts drawn fate_after t.after w' rest a member

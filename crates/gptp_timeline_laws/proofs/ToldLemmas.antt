@@ -9,7 +9,7 @@ use Rattle.gptp_lists.proofs.SystemSpecLemmas.{In-left, In-right}
 use Rattle.gptp_model.specs.World.{WorldState}
 use Rattle.gptp_scenario.specs.declared.change.Act.{Act}
 use Rattle.gptp_system.specs.State.{local_time, SystemState}
-use Rattle.gptp_timeline.specs.Looks.{events_left, listed, looked_all, looked_by, looked_in, looked_over, LookedAt, told_if}
+use Rattle.gptp_timeline.specs.Looks.{apart_sources, events_left, listed, looked_all, looked_by, looked_in, looked_over, LookedAt, told_if}
 use Rattle.gptp_timeline.specs.Readings.{changes_source, clock_time, new_in, put_reading, read_after, reading_among, readings_after, readings_by, same_source, source_time}
 use Rattle.gptp_timeline.specs.Sources.{difference_if, difference_of, DifferenceState, ends_from, ends_with, further_ahead, further_behind, source_at, time_of, told_difference, told_time}
 use Rattle.gptp_timeline.specs.Stretch.{at_of}
@@ -136,14 +136,11 @@ covers_told time w ends (r ∷ rs) name kept x has shows =
 
 -- ---- how far they differ
 
-abbrev amount_of : Option DifferenceState → ℕ
-amount_of d = option_map_or (λ (x : DifferenceState). x.amount) d 0
-
-amount_is : (amount : ℕ) (ends : Ends) → amount_of (difference_if amount ends) ≡ amount
+amount_is : (amount : ℕ) (ends : Ends) → apart_sources (difference_if amount ends) ≡ amount
 amount_is amount ends = by (amount == 0) refl
   where
     by : (none : Bool) → amount == 0 ≡ none
-        → amount_of (if none then None
+        → apart_sources (if none then None
         else Some (record {
           amount = amount;
           ahead = ends.ahead.source.clock;
@@ -153,7 +150,7 @@ amount_is amount ends = by (amount == 0) refl
     by false is = refl
 
 covered_apart : (ends : Option Ends) (x y : ℤ) → Covers ends x → Covers ends y
-    → unsigned_abs (x -ℤ y) ≤ amount_of (difference_of ends)
+    → unsigned_abs (x -ℤ y) ≤ apart_sources (difference_of ends)
 covered_apart None x y first second = absurd first
 covered_apart (Some ends) x y first second =
     subst (λ (n : ℕ). unsigned_abs (x -ℤ y) ≤ n)
@@ -167,7 +164,7 @@ covered_apart (Some ends) x y first second =
 told_apart : (time : ℕ) (w : WorldState) (rs : List SystemReading) (name other : ℕ) (kept kept' : KeptReading)
     (x y : ℤ) → reading_among rs name ≡ Some kept → reading_among rs other ≡ Some kept'
     → source_time kept.source time w ≡ Some x → source_time kept'.source time w ≡ Some y
-    → unsigned_abs (x -ℤ y) ≤ amount_of (told_difference time w rs)
+    → unsigned_abs (x -ℤ y) ≤ apart_sources (told_difference time w rs)
 told_apart time w rs name other kept kept' x y has has' shows shows' =
     covered_apart (ends_from time w None rs) x y (covers_told time w None rs name kept x has shows)
     (covers_told time w None rs other kept' y has' shows')
@@ -266,7 +263,7 @@ module _ (low high : ℤ) (most : ℕ) (w : WorldState) where
       → NearBefore source source' since
 
   amount_within : (d : Option DifferenceState) → ((x : DifferenceState) → In x (listed d) → x.amount ≤ most)
-      → amount_of d ≤ most
+      → apart_sources d ≤ most
   amount_within None good = omega arith
   amount_within (Some d) good = good d (inl refl)
 
