@@ -1,13 +1,14 @@
 -- What is told of each time of a document is so: its choice and roles are choice bounds or loss bounds. The network has
 -- come to rest by a rest bound.
 use Rattle.std.proofs.Common.{◌≡◌, ◌<◌, ◌≤◌, ◌⊎◌, inl, inr, ◌+◌, ◌*◌, max, ℕ, Bool, true, false, cond, List, [], ◌∷◌, ◌++◌, Some, None, refl, sym, ap, subst, ◌∙◌, arith}
-use Rattle.std.specs.Prelude.{◌==◌, min, nat_le}
+use Rattle.std.specs.Prelude.{◌==◌, min, nat_le, nat_lt}
+use Rattle.std.specs.List.{AllByRecursion}
 use Rattle.std.proofs.lemmas.Bool.{eqb-false, eqb-true}
 use Rattle.std.proofs.lemmas.Bool.Decides.{nat_tests}
 use Rattle.gptp_lists.specs.Members.{In}
 use Rattle.gptp_lists.proofs.SystemSpecLemmas.{In-left, In-parts}
-use Rattle.gptp_setup.specs.SettlingParams.{largest_interval}
-use Rattle.gptp_scenario.specs.Calm.{IsCalm, NothingLapses}
+use Rattle.gptp_setup.specs.SettlingParams.{largest_interval, longest_span}
+use Rattle.gptp_scenario.specs.Calm.{IsCalm, NothingLapses, last_change}
 use Rattle.gptp_scenario.specs.Network.{NetworkState, pace_of}
 use Rattle.gptp_scenario.specs.SettlingTime.{echo_span, silence_span, way_span, window_span}
 use Rattle.gptp_scenario.specs.SyncWait.{sync_paths}
@@ -17,20 +18,21 @@ use Rattle.gptp_network.specs.Snapshot.{events_by}
 use Rattle.gptp_network.proofs.SnapshotLemmas.{from_filter}
 use Rattle.gptp_theorem.specs.PlayedLaws.{IsPlayable}
 use Rattle.gptp_how_soon.specs.Bounds.{aged_echo_span, any_loss_span, choice_by, choice_of_row, gone_by, roles_of_row, sound_by}
+use Rattle.gptp_how_soon.specs.Silent.{own_intervals}
 use Rattle.gptp_how_soon.specs.Times.{View, events_at, gained_at, last_set, loss_at, ready_at, row_at, settling_time, settling_times, settling_times_from, time_at, view_at}
 use Rattle.gptp_how_soon.specs.declared.bounds.Loss.{Loss}
 use Rattle.gptp_how_soon.specs.declared.bounds.Row.{Row}
 use Rattle.gptp_how_soon.specs.declared.bounds.Row.TheVariants.{AnyLosses, AnyPast, CutOff, FailedEnd, FailedHeard, FailureCutsOff, Gained, LostEnd, LostPower, Lowered, OneTurned, PowerCutsOff, TreeCutOff, Unchanged}
 use Rattle.gptp_how_soon.specs.declared.bounds.Settling.{Settling}
 use Rattle.gptp_how_soon.specs.declared.bounds.SettlingTime.{SettlingTime}
-use Rattle.gptp_settling_time.specs.HowSoon.{BoundsAging, BoundsAnyLoss, BoundsChoice, BoundsEvents, BoundsLoss, BoundsStart, FallsNext, IsChoiceBoundAfter, IsLossBoundAfter, IsRestBoundAfter, NoneBetween, RestsAfterLoss}
+use Rattle.gptp_settling_time.specs.HowSoon.{BoundsAging, BoundsAnyLoss, BoundsChoice, BoundsEvents, BoundsLoss, BoundsStart, BoundsTree, FailsHeardFirst, FallsNext, HeldFor, IsChoiceBoundAfter, IsLossBoundAfter, IsRestBoundAfter, NoneBetween, RestsAfterLoss, RestsTree}
 use Rattle.gptp_settling_time.specs.InTurn.{FlightIsGone}
-use Rattle.gptp_settling_time.proofs.MomentLemmas.{parted}
+use Rattle.gptp_settling_time.proofs.MomentLemmas.{all_at, last_by, parted}
 use Rattle.gptp_settling_time.proofs.WellFormedLemmas.{after_well}
 use Rattle.gptp_how_soon_laws.specs.Choice.{SettlingsAreChoiceBounds}
 use Rattle.gptp_how_soon_laws.proofs.RowBoundLemmas.{HasOwnBounds, IsSoundSooner, IsTelling, bounds_choice, choice_or_own, past_row, sound_or_sooner, tells}
 use Rattle.gptp_how_soon_laws.proofs.RowLemmas.{CutsLate, HasComeToRest, any_losses, cut_off, failed, gained, heard, lost_end, lost_power, lowered, tree_cut, turned, unchanged}
-use Rattle.gptp_how_soon_laws.proofs.SilentLemmas.{held_for}
+use Rattle.gptp_how_soon_laws.proofs.SilentLemmas.{held_for, last_now}
 use Rattle.gptp_how_soon_laws.proofs.StartRowLemmas.{first_past, first_roles, first_sound, never_unchanged, started}
 use Rattle.gptp_how_soon_laws.proofs.UnmovedLemmas.{AreWell}
 use Rattle.gptp_how_soon_laws.proofs.TimesLemmas.{AreTimes, later_times, times_after, times_parts}
@@ -56,6 +58,9 @@ begin_at (event ∷ events) = by (nat_le event.at 0) (event.at == 0) refl refl (
 
 lesser : (choice roles a b : ℕ) → choice ≡ min a b → roles ≡ b → choice ≤ roles
 lesser choice roles a b is same = omega (arith, is, same)
+
+below : (a b : ℕ) → nat_lt a b ≡ true → a < b
+below a b is = grind (arith, nat_tests)
 
 greater : (choice roles a : ℕ) → roles ≡ max choice a → choice ≤ roles
 greater choice roles a same = omega (arith, same)
@@ -177,6 +182,21 @@ module _ (d : DocumentState) (playable : IsPlayable d) where
               (sym (parted all b.at at playable.events.in_order late between)) bound,
         )
 
+    -- what others hold of a system that fails has aged so much later
+    held : FailsHeardFirst n made now → HeldFor n made now v.held
+    held fails = held_for n playable.network made now (own_intervals n (Some b) at) (late_so now fails (all_at at all))
+      where
+        late_so : (events : List Timed) → FailsHeardFirst n made events
+            → AllByRecursion (λ (t : Timed). t.at ≡ at) events → own_intervals n (Some b) at ≡ true
+            → last_change made + largest_interval (pace_of n) + longest_span (pace_of n)
+            < last_change (made ++ events)
+        late_so [] none at_all own = absurd none
+        late_so (event ∷ events) fails at_all own =
+            let last = last_by b.at all in
+            let moment = last_now at made event events at_all in
+            let passed = below (b.at + largest_interval (pace_of n) + longest_span (pace_of n)) at own in
+            omega (arith, last, moment, passed)
+
     -- a tree is cut off, an announce interval after the time before has come to rest, and all events ask for this
     falls : (Asks : List Timed → Type 0) → IsCalm n (events_by at all) → NothingLapses n.params
         → (rest : HasComeToRest b at) → CutsLate n playable.network all b at late rest → Asks (made ++ now)
@@ -208,9 +228,7 @@ module _ (d : DocumentState) (playable : IsPlayable d) where
         let (bound, past) = sound_before rest in
         inr (inl (late, between, calm, off, (rest.settling.sound, bound, past), loses))
     rests sound calm off (inr (rest, tree, is)) =
-        inr (inr (falls (λ es. (gone : ℕ) × FlightIsGone n es gone
-        × (sound ≡ max (2 * way_span (sync_paths n es)) gone)) calm off rest tree
-        (gone_by n v.paths v.used_before, tree.flight, is)))
+        inr (inr (falls (RestsTree n sound) calm off rest tree (gone_by n v.paths v.used_before, tree.flight, is)))
 
     -- it has come to rest by what the row of this loss says
     rests_by : (sound : ℕ) → sound ≡ sound_by n loss v.paths (row_at v) (gained_at n v)
@@ -244,7 +262,7 @@ module _ (d : DocumentState) (playable : IsPlayable d) where
           rest,
           inl (inr (inr (inr (inr (
             fails,
-            inr (largest_interval (pace_of n), inr refl, (v.held, held_for n made now, late)),
+            inr (largest_interval (pace_of n), inr refl, (v.held, held fails, late)),
           ))))),
         )
     rests_by sound told (inr (inr (inr (inr (inr (inr (inr (inl (row, is))))))))) =
@@ -291,8 +309,7 @@ module _ (d : DocumentState) (playable : IsPlayable d) where
         let (bound, past) = sound_before rest in
         inl (late, between, settles.2.0, off, (rest.settling.sound, bound, past), loses)
     lost s settles off (inr (rest, tree, choice, roles)) =
-        inr (falls (λ es. (s.choice ≡ 2 * way_span (sync_paths n es)) × (s.roles ≡ s.choice)) settles.2.0 off rest tree
-        (choice, roles))
+        inr (falls (BoundsTree n s.choice s.roles) settles.2.0 off rest tree (choice, roles))
 
     -- what ages does no later than ports beside a failed system are off
     ages_first : (aged quiet : ℕ) → BoundsAging n made now aged quiet → aged ≤ quiet
@@ -353,7 +370,7 @@ module _ (d : DocumentState) (playable : IsPlayable d) where
           rest,
           inr (inr (inr (inl (
             fails,
-            (v.held, silence_span (pace_of n), inr (held_for n made now, refl), inl (refl, refl)),
+            (v.held, silence_span (pace_of n), inr (held fails, refl), inl (refl, refl)),
           )))),
         )
     asks_by FailureCutsOff row own =
@@ -362,7 +379,7 @@ module _ (d : DocumentState) (playable : IsPlayable d) where
           rest,
           inr (inr (inr (inl (
             fails,
-            (v.held, silence_span (pace_of n), inr (held_for n made now, refl), inr (refl, refl)),
+            (v.held, silence_span (pace_of n), inr (held fails, refl), inr (refl, refl)),
           )))),
         )
     asks_by AnyLosses row own =

@@ -337,14 +337,14 @@ lowers = record {
 -- by then what turned first has come to rest
 rested : IsRestBoundAfter ring_network cut_document.events (0 ∷ []) 30000000000 3000003690
 rested =
-    inr (
+    inr (inl (
       omega arith,
       none_between cut_document.events 0 30000000000 ((λ later. omega arith), ((λ later. omega arith), tt)),
       record { links = turned.links_rest; lapses = inl refl },
       refl,
       (1000003050, (refl, ring_begun), omega arith),
       inl (inr (inr (inr (inl (turns, told))))),
-    )
+    ))
   where
     told : 3000003690
         ≡ 2 * way_span (sync_paths ring_network before)

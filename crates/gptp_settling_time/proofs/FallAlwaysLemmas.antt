@@ -43,16 +43,13 @@ use Rattle.gptp_invariants.proofs.ChoicePlaceLemmas.{station_there}
 use Rattle.gptp_invariants.proofs.ChoiceSeenActLemmas.{acts_seen}
 use Rattle.gptp_invariants.proofs.ChoiceSendLemmas.{world_apart}
 use Rattle.gptp_invariants.proofs.ChoiceSettlesAsMachineLemmas.{kept_back, paths_bound}
-use Rattle.gptp_invariants.proofs.DelayCapableKeptLemmas.{stood}
 use Rattle.gptp_invariants.proofs.WorldBoundedLemmas.{bounded_by}
 use Rattle.gptp_invariants.proofs.WorldNewsCourseLemmas.{later_keeps}
 use Rattle.gptp_invariants.proofs.WorldOutlineLemmas.{acts_time}
 use Rattle.gptp_invariants.proofs.WorldStandsLemmas.{stands_well}
 use Rattle.gptp_settling_time.proofs.AlwaysClaimedLemmas.{IsStanding, calm_timed}
 use Rattle.gptp_settling_time.proofs.DueLemmas.{UpIsInUse, use_kept}
-use Rattle.gptp_settling_time.proofs.HeardLemmas.{first_acted, first_later}
-use Rattle.gptp_settling_time.proofs.LeftClaimedLemmas.{HaveAskedLong, asked_ready, left_network, same_left, standing_acts, standing_later}
-use Rattle.gptp_settling_time.proofs.LinkStoodLemmas.{stood_in}
+use Rattle.gptp_settling_time.proofs.LeftClaimedLemmas.{HaveAskedBy, HaveAskedLong, asked_acts, asked_later, asked_ready, left_network, same_left, standing_acts, standing_later}
 use Rattle.gptp_settling_time.proofs.MovedAlwaysLemmas.{after_loss, calm_now, dark_now}
 use Rattle.gptp_settling_time.proofs.NewsMeasuredLemmas.{ready_measures}
 use Rattle.gptp_settling_time.proofs.SeenSettledLemmas.{seen_settles}
@@ -281,8 +278,7 @@ pub fallen_later : (p : SettlingParams) (g : Snapshot) (silent start time : ℕ)
     → IsFallenAlways p g silent start (at_time time w)
 fallen_later p g silent start time w later first is =
     fallen_step p g silent start w (at_time time w) is (standing_later p silent time w later first is.standing)
-    (λ at stands. let (one, by, before, x) = is.asked at (stood_in at (at_time time w) w stands refl stands.here) in
-    (one, by, before, first_later p one by at time w is.standing.world later first x)) (later_keeps time w)
+    (asked_later p w.last_change time w is.standing.world later first is.asked) (later_keeps time w)
     (inl (record { time = time; later = later; is = refl })) later
 
 pub fallen_acts : (p : SettlingParams) (g : Snapshot) (silent start : ℕ) (act : Act) (w : WorldState)
@@ -294,13 +290,8 @@ fallen_acts p g silent start act w draws done w' none octet acts is =
     let keeps = acts_keep act w draws done w' none acts in
     let time = acts_time act w draws done w' acts in
     fallen_step p g silent start w w' is standing'
-    (λ at stands. let (one, by, before, x) = is.asked at (stood p w w' world standing'.world keeps at stands) in
-    let change = keeps.change in (
-      one,
-      by,
-      omega (arith, before, change),
-      first_acted p silent act w draws done w' none acts world standing'.world is.standing.measured at one by x,
-    )) keeps
+    (subst (λ t. HaveAskedBy t w') (sym keeps.change)
+    (asked_acts p w.last_change silent act w draws done w' none acts is.standing standing'.world is.asked)) keeps
     (inr (acts_seen act w draws done w' none world.sound world.encodable acts)) (omega (arith, time))
 
 -- ---- it settles

@@ -22,7 +22,8 @@ use Rattle.gptp_settling_time.proofs.CutLemmas.{IsBy, all_by}
 use Rattle.gptp_settling_time.proofs.MomentLemmas.{all_at, last_by, parted}
 use Rattle.gptp_settling_time.proofs.LeadOnLemmas.{HasRested, HasSettled, IsLed, after_idle, any_leads, gains_led, heard_led, idle_led, lead_as, leads_on, led_as, next, rested_so, settled_later, taken_later, wider_led}
 use Rattle.gptp_settling_time.proofs.LosesLeadLemmas.{LosesBy, any_rests, loses_by}
-use Rattle.gptp_settling_time.proofs.LossLeadLemmas.{IsLeftBy, cleared_led, dead_lead, fall_leads, heard_lead, last_at, loss_leads, settles_chooses, turn_leads}
+use Rattle.gptp_settling_time.proofs.LossLeadLemmas.{IsLeftBy, dead_lead, fall_leads, heard_lead, loss_leads, settles_chooses, turn_leads}
+use Rattle.gptp_settling_time.proofs.LossRestLemmas.{cleared_led, last_at}
 use Rattle.gptp_settling_time.proofs.SilentSpanLemmas.{none_silent}
 
 -- ---- a document

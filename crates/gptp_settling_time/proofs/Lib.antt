@@ -132,6 +132,7 @@ pub mod LostEndLemmas
 pub mod SoundButOldLemmas
 pub mod LeadOnLemmas
 pub mod LossLeadLemmas
+pub mod LossRestLemmas
 pub mod RightStageLemmas
 pub mod DueLemmas
 pub mod TellsRightLemmas
