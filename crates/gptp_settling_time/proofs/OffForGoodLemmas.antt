@@ -53,6 +53,7 @@ use Rattle.gptp_invariants.proofs.PortInputLemmas.{of_down}
 use Rattle.gptp_invariants.proofs.WorldBeforeLemmas.{none_anew, stood_earlier}
 use Rattle.gptp_invariants.proofs.WorldWayLemmas.{used_joins}
 use Rattle.gptp_settling_time.proofs.FailedAloneLemmas as alone
+use Rattle.gptp_settling_time.proofs.LinkBetweenLemmas.{SameSenders}
 use Rattle.gptp_settling_time.proofs.OnceOffLemmas.{GoesOnOff, IsOnceOff, once_acts, once_beside, once_found}
 use Rattle.gptp_settling_time.proofs.TakenDownLemmas.{before, joins, link_taken, no_end, ports}
 use Rattle.gptp_settling_time.proofs.WidenedLemmas.{ready_first}
@@ -299,12 +300,6 @@ module _ (p : SettlingParams) (w : WorldState) (is : IsWorld p w) (place : ℕ) 
       in
       some_same l.asking.state q
       (sym l.asking.there ∙ (λ j. number (one j).system.ports (port j)) ∙ there)
-
--- who sends over a link stays
-abbrev pub SameSenders : WorldState → WorldState → Type 0
-SameSenders w w' = (link : ℕ) (direction : Direction) (c c' : Channel) → slice_get w.net.channels link ≡ Some c
-    → slice_get w'.net.channels link ≡ Some c'
-    → sender direction c ≡ sender direction c'
 
 -- so a port that shows as Disabled does so then, where no link is at it
 module _ (p : SettlingParams) (w w' : WorldState) (is : IsWorld p w) (is' : IsWorld p w') (goes : GoOnOff w w')
