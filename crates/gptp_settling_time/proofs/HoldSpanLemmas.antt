@@ -26,7 +26,7 @@ use Rattle.gptp_settling_time.specs.Losses.{AnnouncesAt, IsHoldSpan}
 use Rattle.gptp_settling_time.proofs.AgesByLemmas.{ByLink, by_map}
 use Rattle.gptp_settling_time.proofs.AgesByWorldLemmas.{OverWay, StaysLongest, StaysNamed, WorldAgesBy, by_live}
 use Rattle.gptp_settling_time.proofs.AgingClaimedLemmas.{stay_of}
-use Rattle.gptp_settling_time.proofs.FailedHeardLemmas.{AgesByLink}
+use Rattle.gptp_settling_time.proofs.FailedAgesLemmas.{AgesByLink}
 use Rattle.gptp_settling_time.proofs.GainLemmas.{named_as}
 use Rattle.gptp_settling_time.proofs.NamedWorldLemmas.{old_by}
 use Rattle.gptp_settling_time.proofs.SilentLinksLemmas.{AgesOver, over_begins}

@@ -147,6 +147,7 @@ pub mod AgesByWorldLemmas
 pub mod NamedWorldLemmas
 pub mod AgingDownLemmas
 pub mod AgingToLemmas
+pub mod FailedAgesLemmas
 pub mod FailedHeardLemmas
 pub mod HoldSpanLemmas
 pub mod SilentLinksLemmas
@@ -172,3 +173,6 @@ pub mod MovedFlightLemmas
 pub mod RightBeginLemmas
 pub mod ToldAnewLemmas
 pub mod NamesItselfLemmas
+pub mod LinkBetweenLemmas
+pub mod SplitAlwaysLemmas
+pub mod SplitSettlesLemmas
