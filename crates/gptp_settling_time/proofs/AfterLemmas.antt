@@ -158,6 +158,7 @@ begins_after answers d playable fate until first w ts k (Turned silent now) none
 begins_after answers d playable fate until first w ts k (Fallen silent now) none = absurd none
 begins_after answers d playable fate until first w ts k (Cleared since silent right old) none = absurd none
 begins_after answers d playable fate until first w ts k (Aging ago aged silent) none = absurd none
+begins_after answers d playable fate until first w ts k (Split ago gone silent) none = absurd none
 begins_after answers d playable fate until first w ts k (Lost since most silent) none = absurd none
 
 -- ---- it settles

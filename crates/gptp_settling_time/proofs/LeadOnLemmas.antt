@@ -53,6 +53,7 @@ HasSettled n events (Turned silent now) time = ⊥
 HasSettled n events (Fallen silent now) time = ⊥
 HasSettled n events (Cleared begun silent right old) time = ⊥
 HasSettled n events (Aging ago aged silent) time = ⊥
+HasSettled n events (Split ago gone silent) time = ⊥
 HasSettled n events (Lost since most silent) time = ⊥
 
 pub settled_later : (n : NetworkState) (events : List Timed) (past : Past) (time later : ℕ) → time ≤ later
@@ -67,6 +68,7 @@ settled_later n events (Turned silent now) time later less is = absurd is
 settled_later n events (Fallen silent now) time later less is = absurd is
 settled_later n events (Cleared begun silent right old) time later less is = absurd is
 settled_later n events (Aging ago aged silent) time later less is = absurd is
+settled_later n events (Split ago gone silent) time later less is = absurd is
 settled_later n events (Lost since most silent) time later less is = absurd is
 
 -- or it has so as it may be taken
@@ -162,6 +164,7 @@ settled_so n events (Turned silent now) time off is = absurd is
 settled_so n events (Fallen silent now) time off is = absurd is
 settled_so n events (Cleared begun silent right old) time off is = absurd is
 settled_so n events (Aging ago aged silent) time off is = absurd is
+settled_so n events (Split ago gone silent) time off is = absurd is
 settled_so n events (Lost since most silent) time off is = absurd is
 
 -- what has come to rest has settled
@@ -244,6 +247,7 @@ module _ (n : NetworkState) (made : List Timed) (event : Timed) where
   gain_leads (Fallen silent now) next settled less gain = absurd settled
   gain_leads (Cleared begun silent right old) next settled less gain = absurd settled
   gain_leads (Aging ago aged silent) next settled less gain = absurd settled
+  gain_leads (Split ago gone silent) next settled less gain = absurd settled
   gain_leads (Lost since most silent) next settled less gain = absurd settled
 
   heard_leads : (past : Past) (next : ℕ) → HasSettled n made past event.at → IsHeardEvent n next made event
@@ -261,6 +265,7 @@ module _ (n : NetworkState) (made : List Timed) (event : Timed) where
   heard_leads (Fallen silent now) next settled heard = absurd settled
   heard_leads (Cleared begun silent right old) next settled heard = absurd settled
   heard_leads (Aging ago aged silent) next settled heard = absurd settled
+  heard_leads (Split ago gone silent) next settled heard = absurd settled
   heard_leads (Lost since most silent) next settled heard = absurd settled
 
   -- what makes nothing of what stands leads from a network that has settled to one that has settled by then, as if its
@@ -285,6 +290,7 @@ module _ (n : NetworkState) (made : List Timed) (event : Timed) where
     way_over (Fallen silent now) settled = absurd settled
     way_over (Cleared begun silent right old) settled = absurd settled
     way_over (Aging ago aged silent) settled = absurd settled
+    way_over (Split ago gone silent) settled = absurd settled
     way_over (Lost begun most silent) settled = absurd settled
 
     pub same_paths : IsStillEvent n made event → sync_paths n more ≡ sync_paths n made
@@ -310,6 +316,7 @@ module _ (n : NetworkState) (made : List Timed) (event : Timed) where
       idle_leads (Fallen silent now) settled = absurd settled
       idle_leads (Cleared begun silent right old) settled = absurd settled
       idle_leads (Aging ago aged silent) settled = absurd settled
+      idle_leads (Split ago gone silent) settled = absurd settled
       idle_leads (Lost begun most silent) settled = absurd settled
 
       pub idle_settled : (past : Past) → HasSettled n made past event.at → HasSettled n more (Heard since) event.at
@@ -479,6 +486,7 @@ module _ (n : NetworkState) (network : IsNetwork n) where
     widens_leads made event (Fallen silent now) settled by here calm is late widens soon = absurd is
     widens_leads made event (Cleared begun silent right old) settled by here calm is late widens soon = absurd is
     widens_leads made event (Aging ago aged silent) settled by here calm is late widens soon = absurd is
+    widens_leads made event (Split ago gone silent) settled by here calm is late widens soon = absurd is
     widens_leads made event (Lost begun most silent) settled by here calm is late widens soon = absurd is
 
     pub wider_led : (made now : List Timed) (past : Past) (settled : ℕ) → AllNow now → IsCalm n made

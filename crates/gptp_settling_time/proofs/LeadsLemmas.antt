@@ -414,6 +414,7 @@ module _ {F : Type 0} (answers : Bounds → ℕ → F → Option ℕ → F → T
     leads_to_heard (Fallen silent now) next none so = absurd none
     leads_to_heard (Cleared since silent right old) next none so = absurd none
     leads_to_heard (Aging ago aged silent) next none so = absurd none
+    leads_to_heard (Split ago gone silent) next none so = absurd none
     leads_to_heard (Lost since most silent) next none so = absurd none
 
     -- in each case it has rested
@@ -540,6 +541,7 @@ module _ {F : Type 0} (answers : Bounds → ℕ → F → Option ℕ → F → T
     leads_to_left (Fallen silent now) next none so = absurd none
     leads_to_left (Cleared since silent right old) next none so = absurd none
     leads_to_left (Aging ago aged silent) next none so = absurd none
+    leads_to_left (Split ago gone silent) next none so = absurd none
     leads_to_left (Lost since most silent) next none so = absurd none
 
     leads_to_turned : (past : Past) (silent now : ℕ) → EventLeads n made past event (Turned silent now)
@@ -556,6 +558,7 @@ module _ {F : Type 0} (answers : Bounds → ℕ → F → Option ℕ → F → T
     leads_to_turned (Fallen start was) silent now none so = absurd none
     leads_to_turned (Cleared since start right old) silent now none so = absurd none
     leads_to_turned (Aging ago aged start) silent now none so = absurd none
+    leads_to_turned (Split ago gone start) silent now none so = absurd none
     leads_to_turned (Lost since most start) silent now none so = absurd none
 
     clears : (start since silent right old : ℕ) → HasRestedSo p start event.at then
@@ -700,6 +703,7 @@ module _ {F : Type 0} (answers : Bounds → ℕ → F → Option ℕ → F → T
     leads_to_lost (Fallen start was) since most silent none so = absurd none
     leads_to_lost (Cleared begun start right old) since most silent none so = absurd none
     leads_to_lost (Aging ago aged start) since most silent none so = absurd none
+    leads_to_lost (Split ago gone start) since most silent none so = absurd none
     leads_to_lost (Lost begun delay start) since most silent (more_now, same_since, same_most, same_silent) so =
         loses_more d playable made event then k.draws done w' is k.acts fit.octet refl time_now last_now keeps_then
         after since most silent
@@ -724,6 +728,7 @@ module _ {F : Type 0} (answers : Bounds → ℕ → F → Option ℕ → F → T
     leads_to_gain (Fallen silent now) next (inl (nothing, none)) so = absurd none
     leads_to_gain (Cleared since silent right old) next (inl (nothing, none)) so = absurd none
     leads_to_gain (Aging ago aged silent) next (inl (nothing, none)) so = absurd none
+    leads_to_gain (Split ago gone silent) next (inl (nothing, none)) so = absurd none
     leads_to_gain (Lost since most silent) next (inl (nothing, none)) so = absurd none
     leads_to_gain Starting next (inl (nothing, none)) so = absurd none
     leads_to_gain AnyPast next (inr (inl (nothing, stays))) so = absurd stays
@@ -733,6 +738,7 @@ module _ {F : Type 0} (answers : Bounds → ℕ → F → Option ℕ → F → T
     leads_to_gain (Fallen silent now) next (inr (inl (nothing, stays))) so = absurd stays
     leads_to_gain (Cleared since silent right old) next (inr (inl (nothing, stays))) so = absurd stays
     leads_to_gain (Aging ago aged silent) next (inr (inl (nothing, stays))) so = absurd stays
+    leads_to_gain (Split ago gone silent) next (inr (inl (nothing, stays))) so = absurd stays
     leads_to_gain (Lost since most silent) next (inr (inl (nothing, stays))) so = absurd stays
     leads_to_gain (Gained start) next (inr (inl (nothing, same))) so = left_news start next nothing same so.news
     leads_to_gain (Heard start) next (inr (inl (nothing, same))) so =
@@ -748,6 +754,7 @@ module _ {F : Type 0} (answers : Bounds → ℕ → F → Option ℕ → F → T
     leads_to_gain (Fallen silent now) next (inr (inr none)) so = absurd none
     leads_to_gain (Cleared since silent right old) next (inr (inr none)) so = absurd none
     leads_to_gain (Aging ago aged silent) next (inr (inr none)) so = absurd none
+    leads_to_gain (Split ago gone silent) next (inr (inr none)) so = absurd none
     leads_to_gain (Lost since most silent) next (inr (inr none)) so = absurd none
 
     leads_to_start : (past : Past) → EventLeads n made past event Starting → IsAfter d made past w
@@ -763,6 +770,7 @@ module _ {F : Type 0} (answers : Bounds → ℕ → F → Option ℕ → F → T
     leads_to_start (Fallen silent now) none so = absurd none
     leads_to_start (Cleared since silent right old) none so = absurd none
     leads_to_start (Aging ago aged silent) none so = absurd none
+    leads_to_start (Split ago gone silent) none so = absurd none
     leads_to_start (Lost since most silent) none so = absurd none
 
     -- a tree is cut off
@@ -793,6 +801,7 @@ module _ {F : Type 0} (answers : Bounds → ℕ → F → Option ℕ → F → T
     leads_to_fallen (Fallen start was) silent now none named so = absurd none
     leads_to_fallen (Cleared since start right old) silent now none named so = absurd none
     leads_to_fallen (Aging ago aged start) silent now none named so = absurd none
+    leads_to_fallen (Split ago gone start) silent now none named so = absurd none
     leads_to_fallen (Lost since most start) silent now none named so = absurd none
 
     pub leads_to : (past next : Past) → EventLeads n made past event next → NamesAfter d made past w

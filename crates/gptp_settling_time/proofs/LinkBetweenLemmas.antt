@@ -94,6 +94,12 @@ between_kept w w' from to keeps x =
     moved_on w w' from to x new there
     (record { one = ap (λ (c : Channel). c.a) same; other = ap (λ (c : Channel). c.b) same })
 
+pub between_alike : (w w' : WorldState) → w'.net.channels ≡ w.net.channels → (from to : PortIdentity)
+    → IsLinkBetween w from to → IsLinkBetween w' from to
+between_alike w w' same from to x =
+    moved_on w w' from to x x.channel (ap (λ cs. slice_get cs x.link) same ∙ x.here)
+    (record { one = refl; other = refl })
+
 -- a link goes down
 pub between_down : (w : WorldState) (place change : ℕ) (channel : Channel) → slice_get w.net.channels place ≡ Some channel
     → (from to : PortIdentity) → IsLinkBetween w from to

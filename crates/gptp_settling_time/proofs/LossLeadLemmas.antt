@@ -61,6 +61,7 @@ module _ (n : NetworkState) (made : List Timed) (event : Timed) (roles : ℕ) wh
   loss_leads (Fallen silent now) settled loses = absurd settled
   loss_leads (Cleared begun silent right old) settled loses = absurd settled
   loss_leads (Aging ago aged silent) settled loses = absurd settled
+  loss_leads (Split ago gone silent) settled loses = absurd settled
   loss_leads (Lost since most silent) settled loses = absurd settled
 
 -- after one by which a tree is cut off it falls back, where the choice had stood for an announce interval
@@ -78,6 +79,7 @@ module _ (n : NetworkState) (made : List Timed) (event : Timed) (stood : ℕ) (l
   fall_leads (Fallen silent now) settled falls = absurd settled
   fall_leads (Cleared begun silent right old) settled falls = absurd settled
   fall_leads (Aging ago aged silent) settled falls = absurd settled
+  fall_leads (Split ago gone silent) settled falls = absurd settled
   fall_leads (Lost since most silent) settled falls = absurd settled
 
 -- after one by which a system turns it has turned
@@ -107,6 +109,7 @@ module _ (n : NetworkState) (made : List Timed) (event : Timed) where
   turn_leads (Fallen silent now) settled turns = absurd settled
   turn_leads (Cleared begun silent right old) settled turns = absurd settled
   turn_leads (Aging ago aged silent) settled turns = absurd settled
+  turn_leads (Split ago gone silent) settled turns = absurd settled
   turn_leads (Lost since most silent) settled turns = absurd settled
 
   -- after one of a system that others hear what they hold of it ages
@@ -121,6 +124,7 @@ module _ (n : NetworkState) (made : List Timed) (event : Timed) where
   ages_leads (Fallen start was) aged silent settled now = absurd settled
   ages_leads (Cleared begun start right old) aged silent settled now = absurd settled
   ages_leads (Aging ago gone start) aged silent settled now = absurd settled
+  ages_leads (Split ago gone start) aged silent settled now = absurd settled
   ages_leads (Lost since most start) aged silent settled now = absurd settled
 
   -- after any other it has lost
@@ -135,6 +139,7 @@ module _ (n : NetworkState) (made : List Timed) (event : Timed) where
   loses_leads (Fallen start was) since most silent settled now = absurd settled
   loses_leads (Cleared begun start right old) since most silent settled now = absurd settled
   loses_leads (Aging ago aged start) since most silent settled now = absurd settled
+  loses_leads (Split ago gone start) since most silent settled now = absurd settled
   loses_leads (Lost begun delay start) since most silent settled now = absurd settled
 
 -- what settles has its choice

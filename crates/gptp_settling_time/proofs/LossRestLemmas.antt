@@ -63,6 +63,7 @@ module _ (n : NetworkState) (made : List Timed) (event : Timed) (gone : ℕ) whe
   cut_leads flight (Fallen silent now) settled cuts = absurd settled
   cut_leads flight (Cleared begun silent right last) settled cuts = absurd settled
   cut_leads flight (Aging ago aged silent) settled cuts = absurd settled
+  cut_leads flight (Split ago gone silent) settled cuts = absurd settled
   cut_leads flight (Lost since most silent) settled cuts = absurd settled
 
   -- or as it fails, once the ports beside it have been unanswered for long enough
@@ -99,6 +100,7 @@ module _ (n : NetworkState) (made : List Timed) (event : Timed) (gone : ℕ) whe
   fail_leads flight (Fallen silent now) settled fails = absurd settled
   fail_leads flight (Cleared begun silent right last) settled fails = absurd settled
   fail_leads flight (Aging ago aged silent) settled fails = absurd settled
+  fail_leads flight (Split ago gone silent) settled fails = absurd settled
   fail_leads flight (Lost since most silent) settled fails = absurd settled
 
 -- after another such link goes down it is, once right traces are told
@@ -138,6 +140,7 @@ module _ (n : NetworkState) (made : List Timed) (event : Timed) (gone : ℕ)
   right_leads (Fallen silent now) settled lowers = absurd settled
   right_leads (Cleared begun silent right last) settled lowers = absurd settled
   right_leads (Aging ago aged silent) settled lowers = absurd settled
+  right_leads (Split ago gone silent) settled lowers = absurd settled
   right_leads (Lost since most silent) settled lowers = absurd settled
 
 -- as a system fails that others hear it is, where each link that is up then is in use
@@ -158,6 +161,7 @@ module _ (n : NetworkState) (made : List Timed) (event : Timed) (aged silent : �
   power_leads (Fallen start was) settled = absurd settled
   power_leads (Cleared begun start right last) settled = absurd settled
   power_leads (Aging ago gone start) settled = absurd settled
+  power_leads (Split ago gone start) settled = absurd settled
   power_leads (Lost since most start) settled = absurd settled
 
 -- Else it goes on to age until the last link goes down of which an end has failed, at this time.
