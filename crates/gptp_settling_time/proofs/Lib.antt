@@ -144,6 +144,7 @@ pub mod NamesIntervalLemmas
 pub mod AgingClaimedLemmas
 pub mod AgesByWorldLemmas
 pub mod NamedWorldLemmas
+pub mod UnusedDownLemmas
 pub mod AgingDownLemmas
 pub mod AgingToLemmas
 pub mod FailedHeardLemmas
@@ -173,3 +174,9 @@ pub mod ToldAnewLemmas
 pub mod NamesItselfLemmas
 pub mod TreeTurnsLemmas
 pub mod TurnedTreeLemmas
+pub mod LinkBetweenLemmas
+pub mod OnceOffLemmas
+pub mod OffForGoodLemmas
+pub mod SplitLemmas
+pub mod SplitAlwaysLemmas
+pub mod SplitSettlesLemmas
