@@ -70,7 +70,6 @@ pub mod SamePathsLemmas
 pub mod MomentLemmas
 pub mod FollowedLemmas
 pub mod ChoiceBoundLemmas
-pub mod ReactionStageLemmas
 pub mod ReactsLemmas
 pub mod SettledSeenLemmas
 pub mod PriorityNewsLemmas
@@ -145,6 +144,7 @@ pub mod NamesIntervalLemmas
 pub mod AgingClaimedLemmas
 pub mod AgesByWorldLemmas
 pub mod NamedWorldLemmas
+pub mod UnusedDownLemmas
 pub mod AgingDownLemmas
 pub mod AgingToLemmas
 pub mod FailedAgesLemmas
@@ -174,5 +174,11 @@ pub mod RightBeginLemmas
 pub mod ToldAnewLemmas
 pub mod NamesItselfLemmas
 pub mod LinkBetweenLemmas
+pub mod TreeTurnsLemmas
+pub mod TurnedTreeLemmas
+pub mod OnceOffLemmas
+pub mod OffForGoodLemmas
+pub mod SplitLemmas
 pub mod SplitAlwaysLemmas
 pub mod SplitSettlesLemmas
+pub mod SplitFailLemmas

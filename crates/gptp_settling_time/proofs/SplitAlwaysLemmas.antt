@@ -19,6 +19,7 @@ use Rattle.gptp_model.specs.declared.done.Done.{Done}
 use Rattle.gptp_bmca_machine.specs.Acts.{MachineSteps}
 use Rattle.gptp_bmca_machine.specs.Calm.{Calm}
 use Rattle.gptp_bmca_machine.specs.CutTree.{CutsTrees, LosesSystem, Tree}
+use Rattle.gptp_bmca_machine.specs.Frame.{Lane}
 use Rattle.gptp_bmca_machine.specs.EarlyPorts.{ClaimsWhenReady}
 use Rattle.gptp_bmca_machine.specs.Facts.{StationFacts}
 use Rattle.gptp_bmca_machine.specs.Levels.{Invariant}
@@ -58,72 +59,28 @@ use Rattle.gptp_settling_time.proofs.AgesByWorldLemmas.{WorldAgesBy}
 use Rattle.gptp_settling_time.proofs.AgingLemmas.{aged_gone}
 use Rattle.gptp_settling_time.proofs.AgingClaimedLemmas.{aging_facts, aging_network, named_in, same_aging, stay_of}
 use Rattle.gptp_settling_time.proofs.AlwaysClaimedLemmas.{IsStanding, calm_timed, start_calm, start_network}
+use Rattle.gptp_settling_time.proofs.EmptiedLemmas.{older_after, older_calm}
 use Rattle.gptp_settling_time.proofs.FallAlwaysLemmas.{fallen_by, falls_within, settles_by, settles_later}
 use Rattle.gptp_settling_time.proofs.FitsLemmas.{UnlinkedHoldNothing}
 use Rattle.gptp_settling_time.proofs.LeftClaimedLemmas.{HaveAskedBy, HaveAskedLong, asked_acts, asked_heard, asked_later, asked_ready, bare_calm, left_calm, left_network, standing_acts, standing_later}
-use Rattle.gptp_settling_time.proofs.LinkBetweenLemmas.{IsLinkBetween, between_kept, lane_between, senders_kept}
+use Rattle.gptp_settling_time.proofs.LinkBetweenLemmas.{IsLinkBetween, SameSenders, between_kept, lane_between, senders_kept}
 use Rattle.gptp_settling_time.proofs.NewsMeasuredLemmas.{ready_measures}
 use Rattle.gptp_settling_time.proofs.OffForGoodLemmas.{AreOffForGood, GoOnOff, good_acts, good_later, stays_disabled}
 use Rattle.gptp_settling_time.proofs.SeenSettledLemmas.{seen_chooses, seen_settles}
+use Rattle.gptp_settling_time.proofs.SplitLemmas.{IsCut, IsSplit, SplitSettles, SplitState, SplitStaysOff, SplitsBack, split_settles_on, splits_on, timed_split}
 
 -- a request is answered before the next one, so that an interval between them is some time
 pub some_pdelay : (p : SettlingParams) → KeepPace p → 0 < interval_of p.params.pdelay
 some_pdelay p pace = let answered = pace.params.answered in omega (arith, answered)
 
--- ---- the failure
-
--- Such a failure: the network that is left, the failed system, the best of before, when it failed, and the greatest
--- delay of before. What it told is held for longer than an interval and that delay.
-pub record IsSplit (p : SettlingParams) (g : Snapshot) : Type 0 where
-  pub n : Network
-  pub lost : ℕ
-  pub best : System
-  pub cuts : CutsTrees g n best (IsTreeCutOff g n.graph best)
-  pub loses : LosesSystem g n lost
-  pub since : ℕ
-  pub delay : ℕ
-  pub shorter : n.most ≤ delay
-  pub long : StayLong says_announce g n lost best (IsTreeCutOff g n.graph best) cuts loses 0 (stay_of p) since delay
-      shorter
-
-module _ (p : SettlingParams) (g : Snapshot) (s : IsSplit p g) (start : ℕ) where
-  abbrev pub IsCut : Tree → Type 0
-  IsCut = IsTreeCutOff g s.n.graph s.best
-
-  -- as the machine knows it
-  abbrev pub SplitsBack : MachineState → Type 0
-  SplitsBack =
-      FailsBack says_announce g s.n s.lost s.best (IsTreeCutOff g s.n.graph s.best) s.cuts s.loses start (stay_of p)
-      s.since s.delay s.shorter s.long
-
-  abbrev pub SplitState : MachineState → Type 0
-  SplitState =
-      IsFailedState says_announce g s.n s.lost s.best (IsTreeCutOff g s.n.graph s.best) s.cuts s.loses start (stay_of p)
-      s.since s.delay s.shorter s.long
-
-  abbrev pub SplitStaysOff : MachineState → MachineState → Type 0
-  SplitStaysOff =
-      LostStayOff says_announce g s.n s.lost s.best (IsTreeCutOff g s.n.graph s.best) s.cuts s.loses start (stay_of p)
-      s.since s.delay s.shorter s.long
-
-  -- each link of a tree is at its stage as soon as the system that tells has settled
-  abbrev pub TreesSettle : MachineState → Type 0
-  TreesSettle w = (t : Tree) → (cut : IsCut t)
-      → TreeSettles says_announce g s.n (IsCutOff s.n t.next) LeadsNowhere t.top s.best t.next t.base t.depth
-      (moves_off g s.n t.top s.best t.next t.base t.depth (s.cuts.each t cut)) start (settles_by s.n start) w
-
-  abbrev pub timed_split : Network
-  timed_split = record s.n { bare = 0; slack = suc (fallen_by s.n start) }
-
-  -- what is kept until each system of the trees has left the root of before, and from then on
-  abbrev pub SplitSettles : MachineState → Type 0
-  SplitSettles w =
-      ((w.time ≤ fallen_by s.n start) × TreesSettle w)
-      ⊎ ((fallen_by s.n start < w.time) × Invariant says_announce timed_split w)
-
 -- trees may be taken to fall back from this time on: then what was held is gone, or no time has passed yet
 abbrev pub MayStart : ℕ → ℕ → ℕ → WorldState → Type 0
 MayStart gone since start w = (gone ≤ suc start) ⊎ ((since ≤ start) × (w.time ≤ since))
+
+-- Claims are made of all links always, and it doesn't matter what is older. So the network stays as links go down that
+-- aren't used.
+abbrev pub split_network : SettlingParams → ℕ → ℕ → WorldState → Network
+split_network p bare silent w = record (aging_network p bare silent w) { gone = 0 }
 
 -- What is claimed of a world since such a failure: what is received at ports without a link goes until a time, since it
 -- ages by then, or those ports aren't capable from then on.
@@ -134,7 +91,7 @@ pub record IsSplitAlways (p : SettlingParams) (g : Snapshot) (By : PortIdentity 
   pub good : AreOffForGood w
   pub split : IsSplit p g
   pub bare : ℕ
-  pub same : aging_network p bare silent w ≡ split.n
+  pub same : split_network p bare silent w ≡ split.n
   pub less : gone ≤ bare
   pub by : WorldAgesBy p By w
   pub is_gone : ((port : PortIdentity) (until : ℕ) → By port until → until ≤ gone) ⊎ (silent ≤ gone)
@@ -171,13 +128,13 @@ module _ (p : SettlingParams) (By : PortIdentity → ℕ → Type 0) (bare gone 
           let both : Received r ≡ Disabled = sym held ∙ disabled in
           cc
 
-  pub split_calm : Calm (aging_network p bare silent w) (view w)
+  split_calm : Calm (aging_network p bare silent w) (view w)
   split_calm =
       bare_calm p bare silent w standing asked quiet
       (λ now. none_held (omega (arith, less, now)))
 
-  pub split_after : NothingLapses p.params → delay_in w ≤ w.time → IsAfterLoss (aging_network p bare silent w) (view w)
-  split_after off late = record {
+  pub split_after : NothingLapses p.params → delay_in w ≤ w.time → IsAfterLoss (split_network p bare silent w) (view w)
+  split_after off late = older_after (aging_network p bare silent w) 0 (view w) (record {
     calm = split_calm;
     capable = λ port linked. omega arith;
     lapses = λ i due s at lapse.
@@ -187,11 +144,12 @@ module _ (p : SettlingParams) (By : PortIdentity → ℕ → Type 0) (bare gone 
         absurd (let both : None ≡ Some due = sym none ∙ lapse in cc);
     begun = omega arith;
     late = late;
-  }
+  })
 
   -- the network with the times of what falls back, once nothing is received at ports without a link
   abbrev pub timed_world : ℕ → Network
-  timed_world start = record (left_network p silent w) { slack = suc (fallen_by (left_network p silent w) start) }
+  timed_world start =
+      record (left_network p silent w) { gone = 0; slack = suc (fallen_by (left_network p silent w) start) }
 
   pub timed_net : (start : ℕ) → IsSettlingNetwork (timed_world start)
   timed_net start =
@@ -208,71 +166,65 @@ module _ (p : SettlingParams) (By : PortIdentity → ℕ → Type 0) (bare gone 
 
   pub timed_calm : (start : ℕ) → gone ≤ w.time → Calm (timed_world start) (view w)
   timed_calm start now =
-      let n = left_network p silent w in
-      let c : Calm n (view w) = left_calm p silent w standing asked quiet (none_held now) in
+      let n = record (left_network p silent w) { gone = 0 } in
+      let c : Calm n (view w) =
+      older_calm (left_network p silent w) 0 (view w) (left_calm p silent w standing asked quiet (none_held now)) in
       calm_timed n n.start n.sound (suc (fallen_by n start)) n.claimed n.until (view w) c.facts c
 
--- ---- every step keeps it
+-- ---- what comes of it
 
 module _ (p : SettlingParams) (g : Snapshot) (By : PortIdentity → ℕ → Type 0) (gone silent : ℕ) (w w' : WorldState)
     (is : IsSplitAlways p g By gone silent w) (standing' : IsStanding p silent w') (asked' : HaveAskedLong w')
-    (goes : GoOnOff w w') (keeps : KeepsNetwork w w') (step : MachineSteps says_announce (view w) (view w'))
-    (on : w.time ≤ w'.time) where
+    (goes : GoOnOff w w') (same_sends : SameSenders w w') (same' : split_network p is.bare silent w' ≡ is.split.n)
+    (links' : (a b : PortIdentity) → Joins g a b → IsLinkBetween w' a b) (by' : WorldAgesBy p By w')
+    (late' : delay_in w' ≤ w'.time) (on : w.time ≤ w'.time) where
   abbrev s : IsSplit p g
   s = is.split
 
   abbrev n : Network
   n = s.n
 
-  same' : aging_network p is.bare silent w' ≡ n
-  same' = same_aging p is.bare silent w w' keeps ∙ is.same
-
   graph' : snapshot_of w' ≡ n.graph
   graph' = ap (λ (z : Network). z.graph) same'
 
-  late' : delay_in w' ≤ w'.time
-  late' =
-      let late = is.late in
-      subst (λ delay. delay ≤ w'.time) (sym (delay_kept w w' keeps)) (omega (arith, late, on))
+  pub may_before : (start : ℕ) → MayStart gone s.since start w' → MayStart gone s.since start w
+  may_before start may = elim may [
+    | inl soon ↦ inl soon
+    | inr (later, now) ↦ inr (later, omega (arith, now, on))
+  ]
 
-  links' : (a b : PortIdentity) → Joins g a b → IsLinkBetween w' a b
-  links' a b joins = between_kept w w' a b keeps (is.links a b joins)
+  -- once all have left the root of before what was held is gone
+  pub over_gone : (start : ℕ) (x : WorldState) → MayStart gone s.since start x → fallen_by n start < x.time → gone ≤ x.time
+  over_gone start x (inl soon) over = omega (arith, soon, over)
+  over_gone start x (inr (later, now)) over = absurd (omega (arith, later, now, over))
 
-  module _ (quiet' : HaveQuietLinks p.params w') where
-    quiet : HaveQuietLinks p.params w
-    quiet = links_quiet w' w (kept_back w w' keeps) p.params quiet'
+  pub split_then : (HaveQuietLinks p.params w' → NothingLapses p.params → (start : ℕ) → MayStart gone s.since start w'
+      → SplitsBack p g s start (view w') × SplitSettles p g s start (view w')) → IsSplitAlways p g By gone silent w'
+  split_then seen = record {
+    standing = standing';
+    asked = asked';
+    good = λ at stands. (goes at stands).0;
+    split = s;
+    bare = is.bare;
+    same = same';
+    less = is.less;
+    by = by';
+    is_gone = is.is_gone;
+    begun = let begun = is.begun in omega (arith, begun, on);
+    late = late';
+    links = links';
+    seen = seen;
+  }
 
-    by_then : UnlinkedAgeBy says_announce (snapshot_of w') (stay_of p) By (view w')
-    by_then =
-        let facts = aging_facts p is.bare silent w is.standing is.asked quiet in
-        let facts' : StationFacts (network_setting (aging_network p is.bare silent w)) (view w') =
-        subst (λ (z : Network). StationFacts (network_setting z) (view w')) (same_aging p is.bare silent w w' keeps)
-        (aging_facts p is.bare silent w' standing' asked' quiet') in
-        subst (λ h. UnlinkedAgeBy says_announce h (stay_of p) By (view w')) (sym (same_snapshot w w' keeps))
-        (by_kept says_announce (network_setting (aging_network p is.bare silent w)) (stay_of p) By (view w) (view w')
-        facts
-        facts' (named_in p w' standing'.world) step (is.by quiet))
-
-  by' : WorldAgesBy p By w'
-  by' quiet' = by_then quiet'
-
-  module _ (quiet' : HaveQuietLinks p.params w') (off : NothingLapses p.params) (start : ℕ)
-      (may : MayStart gone s.since start w') where
-    may_before : MayStart gone s.since start w
-    may_before = elim may [
-      | inl soon ↦ inl soon
-      | inr (later, now) ↦ inr (later, omega (arith, now, on))
-    ]
-
-    quiet_then : HaveQuietLinks p.params w
-    quiet_then = quiet quiet'
-
-    was : SplitsBack p g s start (view w) × SplitSettles p g s start (view w)
-    was = is.seen quiet_then off start may_before
-
-    kept : IsAfterLoss n (view w)
-    kept = subst (λ z. IsAfterLoss z (view w)) is.same
-        (split_after p By is.bare gone silent w is.standing is.asked quiet_then is.by is.is_gone is.less off is.late)
+  -- a step leads to it from the machine of the world before, whose lanes may be emptied
+  module _ (quiet : HaveQuietLinks p.params w) (quiet' : HaveQuietLinks p.params w') (off : NothingLapses p.params)
+      (start : ℕ) (may : MayStart gone s.since start w') (lanes : List Lane)
+      (was : SplitsBack p g s start (record (view w) { lanes = lanes })
+      × SplitSettles p g s start (record (view w) { lanes = lanes }))
+      (calm_n : fallen_by n start < w.time → Calm (timed_split p g s start) (record (view w) { lanes = lanes }))
+      (step : MachineSteps says_announce (record (view w) { lanes = lanes }) (view w')) where
+    abbrev x : MachineState
+    x = record (view w) { lanes = lanes }
 
     kept' : IsAfterLoss n (view w')
     kept' = subst (λ z. IsAfterLoss z (view w')) same'
@@ -282,26 +234,26 @@ module _ (p : SettlingParams) (g : Snapshot) (By : PortIdentity → ℕ → Type
     state' : SplitState p g s start (view w')
     state' = record {
       lanes = λ t cut q i joins.
-          let x = lane_between p w' (port_of s.lost (suc q)) (port_of t.top (suc i)) standing'.world
+          let l = lane_between p w' (port_of s.lost (suc q)) (port_of t.top (suc i)) standing'.world
           (links' (port_of s.lost (suc q)) (port_of t.top (suc i)) joins) in
           record {
-            lane = x.lane;
-            there = subst (λ (z : Network). slice_get (view w').lanes (z.lane (port_of s.lost (suc q))) ≡ Some x.lane)
-                same' x.there;
-            from = x.from_is;
-            to = x.to_is;
+            lane = l.lane;
+            there = subst (λ (z : Network). slice_get (view w').lanes (z.lane (port_of s.lost (suc q))) ≡ Some l.lane)
+                same' l.there;
+            from = l.from_is;
+            to = l.to_is;
           };
       named = named_in p w' standing'.world;
       later = let begun = is.begun in omega (arith, begun, on);
     }
 
     -- ports that aren't capable stay so
-    stays_off : SplitStaysOff p g s start (view w) (view w')
+    stays_off : SplitStaysOff p g s start x (view w')
     stays_off t cut q i joins bare u u' pu pu' at there at' there' held =
         let known = cut.in_top.reached.1.begins in
-        let (live, clock) = lives_at n (view w) kept.calm t.top known u at in
+        let (live, clock) = lives_at n x was.0.back.after.kept.calm t.top known u at in
         let (live', clock') = lives_at n (view w') kept'.calm t.top known u' at' in
-        stays_disabled p w w' is.standing.world standing'.world goes (senders_kept w w' keeps) (n.place t.top) i u u' pu
+        stays_disabled p w w' is.standing.world standing'.world goes same_sends (n.place t.top) i u u' pu
         pu' at there at' there' live live'
         (λ linked. bare (subst (λ c. IsLinked n.graph (port_of c (suc i))) clock'
         (subst (λ h. IsLinked h (port_of u'.clock (suc i))) graph' linked))) held
@@ -318,18 +270,7 @@ module _ (p : SettlingParams) (g : Snapshot) (By : PortIdentity → ℕ → Type
     ]
 
     back' : SplitsBack p g s start (view w')
-    back' =
-        fails_on says_announce g n s.lost s.best (IsCut p g s start) s.cuts s.loses start (stay_of p) s.since s.delay
-        s.shorter s.long (view w) (view w') was.0 kept' state' stays_off step none'
-
-    drops' : UnlinkedDrop g n (view w) (view w')
-    drops' =
-        drops says_announce g n s.lost s.best (IsCut p g s start) s.cuts s.loses start (stay_of p) s.since s.delay
-        s.shorter s.long (view w) (view w') was.0 kept' state' stays_off step
-
-    reached : (t : Tree) → IsCut p g s start t → (v : ℕ) → IsBest n.graph v t.next
-        → falls_by n start (t.depth v) ≤ fallen_by n start
-    reached t cut v in_v = falls_within n start (t.depth v) ((s.cuts.each t cut).deep v in_v)
+    back' = splits_on p g s start x (view w') was.0 kept' state' stays_off none' step
 
     abbrev timed_n : Network
     timed_n = timed_split p g s start
@@ -351,64 +292,66 @@ module _ (p : SettlingParams) (g : Snapshot) (By : PortIdentity → ℕ → Type
         subst (λ (z : Network). (d : ℕ) (from to : PortIdentity) → z.ready to ≤ z.claimed d from) same'
         (λ d from to. omega arith) d from to
 
-    -- once all have left it that time is over
-    over_gone : (x : WorldState) → MayStart gone s.since start x → fallen_by n start < x.time → gone ≤ x.time
-    over_gone x (inl soon) over = omega (arith, soon, over)
-    over_gone x (inr (later, now)) over = absurd (omega (arith, later, now, over))
+    pub seen_then : SplitsBack p g s start (view w') × SplitSettles p g s start (view w')
+    seen_then = (
+      back',
+      split_settles_on p g s start x (view w') was.0 kept' state' stays_off none' step on in_time net_n claims_n calm_n
+          (λ over.
+          subst (λ (z : Network). Calm (record z { bare = 0; slack = suc (fallen_by z start) }) (view w')) same'
+          (timed_calm p By is.bare gone silent w' standing' asked' quiet' by' is.is_gone is.less start
+          (over_gone start w' may over))) was.1,
+    )
 
-    settled_on : SplitSettles p g s start (view w) → SplitSettles p g s start (view w')
-    settled_on (inr (over, invariant)) =
-        let over' : fallen_by n start < w'.time = omega (arith, over, on) in
-        inr (
-          over',
-          invariant_kept says_announce timed_n net_n (view w) (view w')
-              (subst (λ (z : Network). Calm (record z { bare = 0; slack = suc (fallen_by z start) }) (view w)) is.same
-              (timed_calm p By is.bare gone silent w is.standing is.asked quiet_then is.by is.is_gone is.less start
-              (over_gone w may_before over)))
-              (subst (λ (z : Network). Calm (record z { bare = 0; slack = suc (fallen_by z start) }) (view w')) same'
-              (timed_calm p By is.bare gone silent w' standing' asked' quiet' by' is.is_gone is.less start
-              (over_gone w' may over')))
-              (λ i x d due at live near follows late lapse. kept.lapses i due x at lapse)
-              (no_early_ports says_announce timed_n (view w) (view w') claims_n) step
-              (λ now. trees_received says_announce g n s.best (IsCut p g s start) s.cuts start (fallen_by n start)
-              (view w')
-              back'.back reached over') invariant,
-        )
-    settled_on (inl (early, settles)) = by (dec_le w'.time (fallen_by n start))
-      where
-        settles' : TreesSettle p g s start (view w')
-        settles' t cut =
-            tree_settles_on says_announce g n (IsCutOff n t.next) LeadsNowhere t.top s.best t.next t.base t.depth
-            (moves_off g n t.top s.best t.next t.base t.depth (s.cuts.each t cut)) start (settles_by n start)
-            (fallen_by n start) (settles_later n start) (view w) (view w') was.0.back.after back'.back.after step drops'
-            (was.0.back.falling t cut) (back'.back.falling t cut) early (settles t cut)
+-- ---- every step keeps it
 
-        by : Dec (w'.time ≤ fallen_by n start) → SplitSettles p g s start (view w')
-        by (yes early') = inl (early', settles')
-        by (no not) =
-            let over : fallen_by n start < w'.time = omega (arith, not) in
-            let x = trees_fallen says_announce g n s.best (IsCut p g s start) s.cuts start (fallen_by n start) (view w')
-            back'.back reached over (settles_by n start) settles' (suc (fallen_by n start)) in_time
-            (λ f. let by_f = in_time f in omega (arith, by_f)) in
-            inr (over, record { sound = x.sound; levels = x.levels })
+module _ (p : SettlingParams) (g : Snapshot) (By : PortIdentity → ℕ → Type 0) (gone silent : ℕ) (w w' : WorldState)
+    (is : IsSplitAlways p g By gone silent w) (standing' : IsStanding p silent w') (asked' : HaveAskedLong w')
+    (goes : GoOnOff w w') (keeps : KeepsNetwork w w') (step : MachineSteps says_announce (view w) (view w'))
+    (on : w.time ≤ w'.time) where
+  same_then : split_network p is.bare silent w' ≡ is.split.n
+  same_then = ap (λ (z : Network). record z { gone = 0 }) (same_aging p is.bare silent w w' keeps) ∙ is.same
+
+  late_then : delay_in w' ≤ w'.time
+  late_then =
+      let late = is.late in
+      subst (λ delay. delay ≤ w'.time) (sym (delay_kept w w' keeps)) (omega (arith, late, on))
+
+  links_then : (a b : PortIdentity) → Joins g a b → IsLinkBetween w' a b
+  links_then a b joins = between_kept w w' a b keeps (is.links a b joins)
+
+  quiet_before : HaveQuietLinks p.params w' → HaveQuietLinks p.params w
+  quiet_before quiet' = links_quiet w' w (kept_back w w' keeps) p.params quiet'
+
+  by_then : WorldAgesBy p By w'
+  by_then quiet' =
+      let quiet = quiet_before quiet' in
+      let facts = aging_facts p is.bare silent w is.standing is.asked quiet in
+      let facts' : StationFacts (network_setting (aging_network p is.bare silent w)) (view w') =
+      subst (λ (z : Network). StationFacts (network_setting z) (view w')) (same_aging p is.bare silent w w' keeps)
+      (aging_facts p is.bare silent w' standing' asked' quiet') in
+      subst (λ h. UnlinkedAgeBy says_announce h (stay_of p) By (view w')) (sym (same_snapshot w w' keeps))
+      (by_kept says_announce (network_setting (aging_network p is.bare silent w)) (stay_of p) By (view w) (view w')
+      facts
+      facts' (named_in p w' standing'.world) step (is.by quiet))
+
+  seen' : HaveQuietLinks p.params w' → NothingLapses p.params → (start : ℕ) → MayStart gone is.split.since start w'
+      → SplitsBack p g is.split start (view w') × SplitSettles p g is.split start (view w')
+  seen' quiet' off start may =
+      let quiet = quiet_before quiet' in
+      let before = may_before p g By gone silent w w' is standing' asked' goes (senders_kept w w' keeps) same_then
+      links_then by_then late_then on start may in
+      seen_then p g By gone silent w w' is standing' asked' goes (senders_kept w w' keeps) same_then links_then by_then
+      late_then on quiet quiet' off start may (view w).lanes (is.seen quiet off start before)
+      (λ over.
+      subst (λ (z : Network). Calm (record z { bare = 0; slack = suc (fallen_by z start) }) (view w)) is.same
+      (timed_calm p By is.bare gone silent w is.standing is.asked quiet is.by is.is_gone is.less start
+      (over_gone p g By gone silent w w' is standing' asked' goes (senders_kept w w' keeps) same_then links_then by_then
+      late_then on start w before over))) step
 
   split_step : IsSplitAlways p g By gone silent w'
-  split_step = record {
-    standing = standing';
-    asked = asked';
-    good = λ at stands. (goes at stands).0;
-    split = s;
-    bare = is.bare;
-    same = same';
-    less = is.less;
-    by = by';
-    is_gone = is.is_gone;
-    begun = let begun = is.begun in omega (arith, begun, on);
-    late = late';
-    links = links';
-    seen = λ quiet' off start may.
-        (back' quiet' off start may, settled_on quiet' off start may (was quiet' off start may).1);
-  }
+  split_step =
+      split_then p g By gone silent w w' is standing' asked' goes (senders_kept w w' keeps) same_then links_then by_then
+      late_then on seen'
 
 pub split_later : (p : SettlingParams) (g : Snapshot) (By : PortIdentity → ℕ → Type 0) (gone silent time : ℕ)
     (w : WorldState) → w.time ≤ time → NothingBefore time w.net.pending → IsSplitAlways p g By gone silent w

@@ -24,11 +24,12 @@ use Rattle.gptp_invariants.proofs.WorldBoundedLemmas.{bounded_by}
 use Rattle.gptp_settling_time.specs.ChoiceAlone.{ChoiceStands}
 use Rattle.gptp_settling_time.proofs.AgingClaimedLemmas.{aging_network}
 use Rattle.gptp_settling_time.proofs.AlwaysClaimedLemmas.{IsStanding, calm_timed}
+use Rattle.gptp_settling_time.proofs.EmptiedLemmas.{older_calm}
 use Rattle.gptp_settling_time.proofs.FallAlwaysLemmas.{fallen_by}
 use Rattle.gptp_settling_time.proofs.LeftClaimedLemmas.{asked_ready, left_calm, left_network}
 use Rattle.gptp_settling_time.proofs.NewsMeasuredLemmas.{ready_measures}
 use Rattle.gptp_settling_time.proofs.SeenSettledLemmas.{seen_chooses, seen_settles}
-use Rattle.gptp_settling_time.proofs.SplitAlwaysLemmas.{IsSplitAlways, SplitSettles, none_held, timed_calm, timed_net, timed_world}
+use Rattle.gptp_settling_time.proofs.SplitAlwaysLemmas.{IsSplitAlways, none_held, timed_calm, timed_net, timed_world}
 
 module _ (p : SettlingParams) (g : Snapshot) (By : PortIdentity → ℕ → Type 0) (gone silent : ℕ) (w : WorldState)
     (is : IsSplitAlways p g By gone silent w) (quiet : HaveQuietLinks p.params w) (off : NothingLapses p.params)
@@ -84,10 +85,11 @@ module _ (p : SettlingParams) (g : Snapshot) (By : PortIdentity → ℕ → Type
 
     dark_calm : Calm dark (view w)
     dark_calm =
-        let n = left_network p from w in
+        let n = record (left_network p from w) { gone = 0 } in
         let c : Calm n (view w) =
-        left_calm p from w standing_now is.asked quiet
-        (none_held p By is.bare gone silent w is.standing is.asked quiet is.by is.is_gone is.less gone_now) in
+        older_calm (left_network p from w) 0 (view w)
+        (left_calm p from w standing_now is.asked quiet
+        (none_held p By is.bare gone silent w is.standing is.asked quiet is.by is.is_gone is.less gone_now)) in
         calm_timed n n.start n.sound (suc (fallen_by n start)) n.claimed n.until (view w) c.facts c
 
     dark_net : IsSettlingNetwork dark

@@ -12,21 +12,12 @@ use Rattle.gptp_invariants.specs.ChoiceSettled.{Settled}
 use Rattle.gptp_invariants.specs.ChoiceSettlesAsMachine.{IsWorld}
 use Rattle.gptp_invariants.specs.WorldStanding.{snapshot_of}
 use Rattle.gptp_invariants.proofs.ChoiceCalmKeptLemmas.{acts_keep, same_snapshot}
+use Rattle.gptp_invariants.proofs.SyncExactLemmas.{shows_then as shows_at}
 use Rattle.gptp_bmca_machine.specs.SoundLaws.{AllAreNear}
 use Rattle.gptp_settling_time.specs.ChoiceAlone.{ChoiceStands}
 use Rattle.gptp_settling_time.specs.Unchanged.{LeavesChoiceShown, LeavesShown}
 use Rattle.gptp_settling_time.proofs.PassLemmas.{IsStep}
 use Rattle.gptp_settling_time.proofs.SameShownLemmas.{leaves_choice, leaves_shown}
-
--- a system shows the same at another time
-shows_at : (w : WorldState) (time number : ℕ) (s : SystemState) → ShowsLive number w s → ShowsLive number (at time w) s
-shows_at w time number s shows = record {
-  place = shows.place;
-  station = shows.station;
-  is = record { here = shows.is.here; named = shows.is.named };
-  live = shows.live;
-  state = shows.state;
-}
 
 shows_then : (w : WorldState) (time number : ℕ) (s : SystemState) → ShowsLive number (at time w) s
     → ShowsLive number w s
