@@ -62,7 +62,8 @@ use Rattle.gptp_settling_time.proofs.LeftClaimedLemmas.{HaveAskedLong}
 use Rattle.gptp_settling_time.proofs.LinkBetweenLemmas.{IsLinkBetween, between_alike, lane_between, way_between}
 use Rattle.gptp_settling_time.proofs.OffForGoodLemmas.{AreOffForGood, good_fails}
 use Rattle.gptp_settling_time.proofs.SettledSeenLemmas.{IsSettledSeen, always_seen, sound_fits}
-use Rattle.gptp_settling_time.proofs.SplitAlwaysLemmas.{IsSplit, IsSplitAlways, MayStart, SplitSettles, SplitState, SplitsBack, split_after, split_network}
+use Rattle.gptp_settling_time.proofs.SplitAlwaysLemmas.{IsSplitAlways, MayStart, split_after, split_network}
+use Rattle.gptp_settling_time.proofs.SplitLemmas.{IsSplit, SplitSettles, SplitState, SplitsBack}
 
 module _ (p : SettlingParams) (number : ℕ) (w : WorldState) (draws : List Draw) (done : Done) (w' : WorldState)
     (is : IsWorld p w) (is' : IsWorld p w') (acts : Acts (Changing (Fail number)) w draws done w')
