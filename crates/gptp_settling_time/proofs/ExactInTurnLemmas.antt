@@ -33,8 +33,10 @@ use Rattle.gptp_theorem.proofs.SettlingInvariantLemmas.{events_fit, events_made}
 use Rattle.gptp_theorem.proofs.CalmKeptLemmas.{no_change}
 use Rattle.gptp_settling_time.specs.ExactInTurn.{ActsAreExactInTurn, last_set}
 use Rattle.gptp_settling_time.specs.Exactly.{AreExactFrom}
-use Rattle.gptp_settling_time.specs.InTurn.{Aging, AnyPast, Cleared, Fallen, Gained, Heard, Left, Lost, Past, SettlesAfter, SettlesByEvents, Starting, Turned}
+use Rattle.gptp_settling_time.specs.InTurn.{Aging, AnyPast, Cleared, Fallen, Gained, Heard, Left, Lost, Past, SettlesAfter, SettlesByEvents, Split, Starting, Turned}
 use Rattle.gptp_settling_time.proofs.AgingClaimedLemmas.{aging_measured}
+use Rattle.gptp_settling_time.proofs.SplitSettlesLemmas.{split_measured}
+use Rattle.gptp_settling_time.proofs.SplitToLemmas.{GoesOver}
 use Rattle.gptp_settling_time.proofs.LostClaimedLemmas.{lost_measured}
 use Rattle.gptp_settling_time.proofs.AsIfChangedLemmas.{changed_at, exact_so, known_so, measured_links_so, measured_so, was_done_so, world_so}
 use Rattle.gptp_settling_time.proofs.BegunLemmas.{begun_last}
@@ -106,6 +108,10 @@ module _ (d : DocumentState) (playable : IsPlayable d) (all : List Timed) (calm 
   have_measured (Aging ago aged silent) w so settles links on =
       let change = (after_keeps d all (Aging ago aged silent) w so).stands.last in
       aging_measured p so.before aged silent w so.since links (omega (arith, behind, on, change))
+  have_measured (Split ago gone silent) w so settles links on =
+      let change = (after_keeps d all (Split ago gone silent) w so).stands.last in
+      split_measured p so.before (GoesOver d.network ago all so.failed gone silent) so.failed gone silent w so.since links
+      (omega (arith, behind, on, change))
   have_measured (Lost since most silent) w so settles links on =
       let change = (after_keeps d all (Lost since most silent) w so).stands.last in
       lost_measured p since most silent w so.is (omega (arith, behind, on, change))
