@@ -79,20 +79,20 @@ MayStart gone since start w = (gone ≤ suc start) ⊎ ((since ≤ start) × (w.
 
 -- Claims are made of all links always, and it doesn't matter what is older. So the network stays as links go down that
 -- aren't used.
-abbrev pub split_network : SettlingParams → ℕ → ℕ → WorldState → Network
-split_network p bare silent w = record (aging_network p bare silent w) { gone = 0 }
+abbrev pub split_network : SettlingParams → ℕ → WorldState → Network
+split_network p silent w = record (aging_network p silent silent w) { gone = 0 }
 
 -- What is claimed of a world since such a failure: what is received at ports without a link goes until a time, since it
 -- ages by then, or those ports aren't capable from then on.
-pub record IsSplitAlways (p : SettlingParams) (g : Snapshot) (By : PortIdentity → ℕ → Type 0) (gone silent : ℕ)
+pub record IsSplitAlways (p : SettlingParams) (g : Snapshot) (By : PortIdentity → ℕ → Type 0) (failed gone silent : ℕ)
     (w : WorldState) : Type 0 where
   pub standing : IsStanding p silent w
   pub asked : HaveAskedLong w
   pub good : AreOffForGood w
   pub split : IsSplit p g
-  pub bare : ℕ
-  pub same : split_network p bare silent w ≡ split.n
-  pub less : gone ≤ bare
+  pub at : split.since ≡ failed
+  pub same : split_network p silent w ≡ split.n
+  pub less : gone ≤ silent
   pub by : WorldAgesBy p By w
   pub is_gone : ((port : PortIdentity) (until : ℕ) → By port until → until ≤ gone) ⊎ (silent ≤ gone)
   pub begun : split.since ≤ w.time
@@ -103,17 +103,17 @@ pub record IsSplitAlways (p : SettlingParams) (g : Snapshot) (By : PortIdentity 
 
 -- ---- what is known of the world's machine
 
-module _ (p : SettlingParams) (By : PortIdentity → ℕ → Type 0) (bare gone silent : ℕ) (w : WorldState)
+module _ (p : SettlingParams) (By : PortIdentity → ℕ → Type 0) (gone silent : ℕ) (w : WorldState)
     (standing : IsStanding p silent w) (asked : HaveAskedLong w) (quiet : HaveQuietLinks p.params w)
     (by : WorldAgesBy p By w)
     (is_gone : ((port : PortIdentity) (until : ℕ) → By port until → until ≤ gone) ⊎ (silent ≤ gone))
-    (less : gone ≤ bare) where
+    (less : gone ≤ silent) where
   -- from that time on nothing is received at ports without a link
   pub none_held : gone ≤ w.time → UnlinkedHoldNothing (snapshot_of w) (view w)
   none_held now i s place r there live unlinked holds = elim is_gone [
     | inl most ↦
-        aged_gone says_announce (network_setting (aging_network p bare silent w)) (stay_of p) gone (view w)
-        (aging_facts p bare silent w standing asked quiet)
+        aged_gone says_announce (network_setting (aging_network p silent silent w)) (stay_of p) gone (view w)
+        (aging_facts p silent silent w standing asked quiet)
         (by_all says_announce (snapshot_of w) (stay_of p) By gone (view w) most (by quiet)) now i s place r there live
         unlinked holds
     | inr soon ↦ off (omega (arith, soon, now)) holds
@@ -128,13 +128,13 @@ module _ (p : SettlingParams) (By : PortIdentity → ℕ → Type 0) (bare gone 
           let both : Received r ≡ Disabled = sym held ∙ disabled in
           cc
 
-  split_calm : Calm (aging_network p bare silent w) (view w)
+  split_calm : Calm (aging_network p silent silent w) (view w)
   split_calm =
-      bare_calm p bare silent w standing asked quiet
+      bare_calm p silent silent w standing asked quiet
       (λ now. none_held (omega (arith, less, now)))
 
-  pub split_after : NothingLapses p.params → delay_in w ≤ w.time → IsAfterLoss (split_network p bare silent w) (view w)
-  split_after off late = older_after (aging_network p bare silent w) 0 (view w) (record {
+  pub split_after : NothingLapses p.params → delay_in w ≤ w.time → IsAfterLoss (split_network p silent w) (view w)
+  split_after off late = older_after (aging_network p silent silent w) 0 (view w) (record {
     calm = split_calm;
     capable = λ port linked. omega arith;
     lapses = λ i due s at lapse.
@@ -173,9 +173,9 @@ module _ (p : SettlingParams) (By : PortIdentity → ℕ → Type 0) (bare gone 
 
 -- ---- what comes of it
 
-module _ (p : SettlingParams) (g : Snapshot) (By : PortIdentity → ℕ → Type 0) (gone silent : ℕ) (w w' : WorldState)
-    (is : IsSplitAlways p g By gone silent w) (standing' : IsStanding p silent w') (asked' : HaveAskedLong w')
-    (goes : GoOnOff w w') (same_sends : SameSenders w w') (same' : split_network p is.bare silent w' ≡ is.split.n)
+module _ (p : SettlingParams) (g : Snapshot) (By : PortIdentity → ℕ → Type 0) (failed gone silent : ℕ) (w w' : WorldState)
+    (is : IsSplitAlways p g By failed gone silent w) (standing' : IsStanding p silent w') (asked' : HaveAskedLong w')
+    (goes : GoOnOff w w') (same_sends : SameSenders w w') (same' : split_network p silent w' ≡ is.split.n)
     (links' : (a b : PortIdentity) → Joins g a b → IsLinkBetween w' a b) (by' : WorldAgesBy p By w')
     (late' : delay_in w' ≤ w'.time) (on : w.time ≤ w'.time) where
   abbrev s : IsSplit p g
@@ -199,13 +199,13 @@ module _ (p : SettlingParams) (g : Snapshot) (By : PortIdentity → ℕ → Type
   over_gone start x (inr (later, now)) over = absurd (omega (arith, later, now, over))
 
   pub split_then : (HaveQuietLinks p.params w' → NothingLapses p.params → (start : ℕ) → MayStart gone s.since start w'
-      → SplitsBack p g s start (view w') × SplitSettles p g s start (view w')) → IsSplitAlways p g By gone silent w'
+      → SplitsBack p g s start (view w') × SplitSettles p g s start (view w')) → IsSplitAlways p g By failed gone silent w'
   split_then seen = record {
     standing = standing';
     asked = asked';
     good = λ at stands. (goes at stands).0;
     split = s;
-    bare = is.bare;
+    at = is.at;
     same = same';
     less = is.less;
     by = by';
@@ -228,7 +228,7 @@ module _ (p : SettlingParams) (g : Snapshot) (By : PortIdentity → ℕ → Type
 
     kept' : IsAfterLoss n (view w')
     kept' = subst (λ z. IsAfterLoss z (view w')) same'
-        (split_after p By is.bare gone silent w' standing' asked' quiet' by' is.is_gone is.less off late')
+        (split_after p By gone silent w' standing' asked' quiet' by' is.is_gone is.less off late')
 
     -- the lanes of lost links stand
     state' : SplitState p g s start (view w')
@@ -262,7 +262,7 @@ module _ (p : SettlingParams) (g : Snapshot) (By : PortIdentity → ℕ → Type
     none' : UnlinkedHoldNone g n start (view w')
     none' over v u place r moved at live clock bare holds = elim may [
       | inl soon ↦
-          none_held p By is.bare gone silent w' standing' asked' quiet' by' is.is_gone is.less
+          none_held p By gone silent w' standing' asked' quiet' by' is.is_gone is.less
           (omega (arith, soon, over)) (n.place v) u place r at live
           (λ linked. bare (subst (λ c. IsLinked n.graph (port_of c (suc place))) clock
           (subst (λ h. IsLinked h (port_of u.clock (suc place))) graph' linked))) holds
@@ -285,7 +285,7 @@ module _ (p : SettlingParams) (g : Snapshot) (By : PortIdentity → ℕ → Type
     net_n : IsSettlingNetwork timed_n
     net_n =
         subst (λ (z : Network). IsSettlingNetwork (record z { bare = 0; slack = suc (fallen_by z start) })) same'
-        (timed_net p By is.bare gone silent w' standing' asked' quiet' by' is.is_gone is.less start)
+        (timed_net p By gone silent w' standing' asked' quiet' by' is.is_gone is.less start)
 
     claims_n : ClaimsWhenReady timed_n
     claims_n d from to joins =
@@ -298,18 +298,18 @@ module _ (p : SettlingParams) (g : Snapshot) (By : PortIdentity → ℕ → Type
       split_settles_on p g s start x (view w') was.0 kept' state' stays_off none' step on in_time net_n claims_n calm_n
           (λ over.
           subst (λ (z : Network). Calm (record z { bare = 0; slack = suc (fallen_by z start) }) (view w')) same'
-          (timed_calm p By is.bare gone silent w' standing' asked' quiet' by' is.is_gone is.less start
+          (timed_calm p By gone silent w' standing' asked' quiet' by' is.is_gone is.less start
           (over_gone start w' may over))) was.1,
     )
 
 -- ---- every step keeps it
 
-module _ (p : SettlingParams) (g : Snapshot) (By : PortIdentity → ℕ → Type 0) (gone silent : ℕ) (w w' : WorldState)
-    (is : IsSplitAlways p g By gone silent w) (standing' : IsStanding p silent w') (asked' : HaveAskedLong w')
+module _ (p : SettlingParams) (g : Snapshot) (By : PortIdentity → ℕ → Type 0) (failed gone silent : ℕ) (w w' : WorldState)
+    (is : IsSplitAlways p g By failed gone silent w) (standing' : IsStanding p silent w') (asked' : HaveAskedLong w')
     (goes : GoOnOff w w') (keeps : KeepsNetwork w w') (step : MachineSteps says_announce (view w) (view w'))
     (on : w.time ≤ w'.time) where
-  same_then : split_network p is.bare silent w' ≡ is.split.n
-  same_then = ap (λ (z : Network). record z { gone = 0 }) (same_aging p is.bare silent w w' keeps) ∙ is.same
+  same_then : split_network p silent w' ≡ is.split.n
+  same_then = ap (λ (z : Network). record z { gone = 0 }) (same_aging p silent silent w w' keeps) ∙ is.same
 
   late_then : delay_in w' ≤ w'.time
   late_then =
@@ -325,12 +325,12 @@ module _ (p : SettlingParams) (g : Snapshot) (By : PortIdentity → ℕ → Type
   by_then : WorldAgesBy p By w'
   by_then quiet' =
       let quiet = quiet_before quiet' in
-      let facts = aging_facts p is.bare silent w is.standing is.asked quiet in
-      let facts' : StationFacts (network_setting (aging_network p is.bare silent w)) (view w') =
-      subst (λ (z : Network). StationFacts (network_setting z) (view w')) (same_aging p is.bare silent w w' keeps)
-      (aging_facts p is.bare silent w' standing' asked' quiet') in
+      let facts = aging_facts p silent silent w is.standing is.asked quiet in
+      let facts' : StationFacts (network_setting (aging_network p silent silent w)) (view w') =
+      subst (λ (z : Network). StationFacts (network_setting z) (view w')) (same_aging p silent silent w w' keeps)
+      (aging_facts p silent silent w' standing' asked' quiet') in
       subst (λ h. UnlinkedAgeBy says_announce h (stay_of p) By (view w')) (sym (same_snapshot w w' keeps))
-      (by_kept says_announce (network_setting (aging_network p is.bare silent w)) (stay_of p) By (view w) (view w')
+      (by_kept says_announce (network_setting (aging_network p silent silent w)) (stay_of p) By (view w) (view w')
       facts
       facts' (named_in p w' standing'.world) step (is.by quiet))
 
@@ -338,39 +338,39 @@ module _ (p : SettlingParams) (g : Snapshot) (By : PortIdentity → ℕ → Type
       → SplitsBack p g is.split start (view w') × SplitSettles p g is.split start (view w')
   seen' quiet' off start may =
       let quiet = quiet_before quiet' in
-      let before = may_before p g By gone silent w w' is standing' asked' goes (senders_kept w w' keeps) same_then
+      let before = may_before p g By failed gone silent w w' is standing' asked' goes (senders_kept w w' keeps) same_then
       links_then by_then late_then on start may in
-      seen_then p g By gone silent w w' is standing' asked' goes (senders_kept w w' keeps) same_then links_then by_then
+      seen_then p g By failed gone silent w w' is standing' asked' goes (senders_kept w w' keeps) same_then links_then by_then
       late_then on quiet quiet' off start may (view w).lanes (is.seen quiet off start before)
       (λ over.
       subst (λ (z : Network). Calm (record z { bare = 0; slack = suc (fallen_by z start) }) (view w)) is.same
-      (timed_calm p By is.bare gone silent w is.standing is.asked quiet is.by is.is_gone is.less start
-      (over_gone p g By gone silent w w' is standing' asked' goes (senders_kept w w' keeps) same_then links_then by_then
+      (timed_calm p By gone silent w is.standing is.asked quiet is.by is.is_gone is.less start
+      (over_gone p g By failed gone silent w w' is standing' asked' goes (senders_kept w w' keeps) same_then links_then by_then
       late_then on start w before over))) step
 
-  split_step : IsSplitAlways p g By gone silent w'
+  split_step : IsSplitAlways p g By failed gone silent w'
   split_step =
-      split_then p g By gone silent w w' is standing' asked' goes (senders_kept w w' keeps) same_then links_then by_then
+      split_then p g By failed gone silent w w' is standing' asked' goes (senders_kept w w' keeps) same_then links_then by_then
       late_then on seen'
 
-pub split_later : (p : SettlingParams) (g : Snapshot) (By : PortIdentity → ℕ → Type 0) (gone silent time : ℕ)
-    (w : WorldState) → w.time ≤ time → NothingBefore time w.net.pending → IsSplitAlways p g By gone silent w
-    → IsSplitAlways p g By gone silent (at_time time w)
-split_later p g By gone silent time w later first is =
-    split_step p g By gone silent w (at_time time w) is (standing_later p silent time w later first is.standing)
+pub split_later : (p : SettlingParams) (g : Snapshot) (By : PortIdentity → ℕ → Type 0) (failed gone silent time : ℕ)
+    (w : WorldState) → w.time ≤ time → NothingBefore time w.net.pending → IsSplitAlways p g By failed gone silent w
+    → IsSplitAlways p g By failed gone silent (at_time time w)
+split_later p g By failed gone silent time w later first is =
+    split_step p g By failed gone silent w (at_time time w) is (standing_later p silent time w later first is.standing)
     (asked_later p w.last_change time w is.standing.world later first is.asked) (good_later time w is.good)
     (later_keeps time w) (inl (record { time = time; later = later; is = refl })) later
 
-pub split_acts : (p : SettlingParams) (g : Snapshot) (By : PortIdentity → ℕ → Type 0) (gone silent : ℕ) (act : Act)
+pub split_acts : (p : SettlingParams) (g : Snapshot) (By : PortIdentity → ℕ → Type 0) (failed gone silent : ℕ) (act : Act)
     (w : WorldState) (draws : List Draw) (done : Done) (w' : WorldState) → IsNoChange act → SetsAnOctet act
-    → Acts act w draws done w' → IsSplitAlways p g By gone silent w
-    → IsSplitAlways p g By gone silent w'
-split_acts p g By gone silent act w draws done w' none octet acts is =
+    → Acts act w draws done w' → IsSplitAlways p g By failed gone silent w
+    → IsSplitAlways p g By failed gone silent w'
+split_acts p g By failed gone silent act w draws done w' none octet acts is =
     let world = is.standing.world in
     let standing' = standing_acts p silent act w draws done w' none octet acts is.standing in
     let keeps = acts_keep act w draws done w' none acts in
     let time = acts_time act w draws done w' acts in
-    split_step p g By gone silent w w' is standing'
+    split_step p g By failed gone silent w w' is standing'
     (subst (λ t. HaveAskedBy t w') (sym keeps.change)
     (asked_acts p w.last_change silent act w draws done w' none acts is.standing standing'.world is.asked))
     (good_acts p act w draws done w' (some_pdelay p is.standing.pace) none acts world is.standing.measured is.good)

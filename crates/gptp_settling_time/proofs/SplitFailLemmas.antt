@@ -177,9 +177,9 @@ module _ (p : SettlingParams) (number : ℕ) (w : WorldState) (draws : List Draw
       between_alike w w' (alone.channels_now p number w draws done w' is is' acts lives) a b
       (way_between w a b (way_of w a b joins))
 
-  module _ (bare silent : ℕ) where
+  module _ (silent : ℕ) where
     abbrev n' : Network
-    n' = split_network p bare silent w'
+    n' = split_network p silent w'
 
     left' : IsWhatIsLeft g n'
     left' = record {
@@ -278,7 +278,7 @@ module _ (p : SettlingParams) (number : ℕ) (w : WorldState) (draws : List Draw
       module _ (By : PortIdentity → ℕ → Type 0) (gone : ℕ) (measured' : LinkIsMeasured w')
           (long : w.time + silence_span p < silent) (by : WorldAgesBy p By w')
           (is_gone : ((port : PortIdentity) (until : ℕ) → By port until → until ≤ gone) ⊎ (silent ≤ gone))
-          (less : gone ≤ bare) (later : w.time < gone) (late' : delay_in w' ≤ w'.time) where
+          (less : gone ≤ silent) (later : w.time < gone) (late' : delay_in w' ≤ w'.time) where
         standing' : IsStanding p silent w'
         standing' =
             alone.standing_then p number w draws done w' is is' acts lives next silent pace measured measured' past
@@ -292,7 +292,7 @@ module _ (p : SettlingParams) (number : ℕ) (w : WorldState) (draws : List Draw
         module _ (quiet' : HaveQuietLinks p.params w') (off : NothingLapses p.params) (start : ℕ)
             (now : w'.time ≤ start) where
           kept' : IsAfterLoss n' (view w')
-          kept' = split_after p By bare gone silent w' standing' asked' quiet' by is_gone less off late'
+          kept' = split_after p By gone silent w' standing' asked' quiet' by is_gone less off late'
 
           state' : SplitState p g split start (view w')
           state' = record {
@@ -345,13 +345,13 @@ module _ (p : SettlingParams) (number : ℕ) (w : WorldState) (draws : List Draw
         started start (inl soon) = let time = time_now in omega (arith, soon, later, time)
         started start (inr (since, now)) = let time = time_now in omega (arith, since, time)
 
-        pub split_begins : IsSplitAlways p g By gone silent w'
+        pub split_begins : IsSplitAlways p g By w.time gone silent w'
         split_begins = record {
           standing = standing';
           asked = asked';
           good = good_fails p number w draws done w' is is' acts lives next past ready quiet silent_before;
           split = split;
-          bare = bare;
+          at = refl;
           same = refl;
           less = less;
           by = by;

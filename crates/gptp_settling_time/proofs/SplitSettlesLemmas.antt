@@ -31,24 +31,24 @@ use Rattle.gptp_settling_time.proofs.NewsMeasuredLemmas.{ready_measures}
 use Rattle.gptp_settling_time.proofs.SeenSettledLemmas.{seen_chooses, seen_settles}
 use Rattle.gptp_settling_time.proofs.SplitAlwaysLemmas.{IsSplitAlways, none_held, timed_calm, timed_net, timed_world}
 
-module _ (p : SettlingParams) (g : Snapshot) (By : PortIdentity → ℕ → Type 0) (gone silent : ℕ) (w : WorldState)
-    (is : IsSplitAlways p g By gone silent w) (quiet : HaveQuietLinks p.params w) (off : NothingLapses p.params)
+module _ (p : SettlingParams) (g : Snapshot) (By : PortIdentity → ℕ → Type 0) (failed gone silent : ℕ) (w : WorldState)
+    (is : IsSplitAlways p g By failed gone silent w) (quiet : HaveQuietLinks p.params w) (off : NothingLapses p.params)
     (start : ℕ) (may : gone ≤ suc start)
     (late : start + 1 + 2 * (pred (path_bound (snapshot_of w)) * delay_in w) ≤ w.time) where
   world : IsWorld p w
   world = is.standing.world
 
   abbrev timed : Network
-  timed = timed_world p By is.bare gone silent w is.standing is.asked quiet is.by is.is_gone is.less start
+  timed = timed_world p By gone silent w is.standing is.asked quiet is.by is.is_gone is.less start
 
   net : IsSettlingNetwork timed
-  net = timed_net p By is.bare gone silent w is.standing is.asked quiet is.by is.is_gone is.less start
+  net = timed_net p By gone silent w is.standing is.asked quiet is.by is.is_gone is.less start
 
   gone_now : gone ≤ w.time
   gone_now = omega (arith, may, late)
 
   calm : Calm timed (view w)
-  calm = timed_calm p By is.bare gone silent w is.standing is.asked quiet is.by is.is_gone is.less start gone_now
+  calm = timed_calm p By gone silent w is.standing is.asked quiet is.by is.is_gone is.less start gone_now
 
   -- the time in which the trees fall back is over
   over : fallen_by is.split.n start < w.time
@@ -89,7 +89,7 @@ module _ (p : SettlingParams) (g : Snapshot) (By : PortIdentity → ℕ → Type
         let c : Calm n (view w) =
         older_calm (left_network p from w) 0 (view w)
         (left_calm p from w standing_now is.asked quiet
-        (none_held p By is.bare gone silent w is.standing is.asked quiet is.by is.is_gone is.less gone_now)) in
+        (none_held p By gone silent w is.standing is.asked quiet is.by is.is_gone is.less gone_now)) in
         calm_timed n n.start n.sound (suc (fallen_by n start)) n.claimed n.until (view w) c.facts c
 
     dark_net : IsSettlingNetwork dark
@@ -127,9 +127,9 @@ module _ (p : SettlingParams) (g : Snapshot) (By : PortIdentity → ℕ → Type
         )
 
 -- its ports have measured their links
-pub split_measured : (p : SettlingParams) (g : Snapshot) (By : PortIdentity → ℕ → Type 0) (gone silent : ℕ)
-    (w : WorldState) → IsSplitAlways p g By gone silent w → HaveQuietLinks p.params w
+pub split_measured : (p : SettlingParams) (g : Snapshot) (By : PortIdentity → ℕ → Type 0) (failed gone silent : ℕ)
+    (w : WorldState) → IsSplitAlways p g By failed gone silent w → HaveQuietLinks p.params w
     → w.last_change + window_span p.params ≤ w.time
     → HaveMeasuredLinks w
-split_measured p g By gone silent w is quiet =
+split_measured p g By failed gone silent w is quiet =
     ready_measures p w.last_change w is.standing.world (asked_ready p w is.asked) quiet
