@@ -33,7 +33,7 @@ use Rattle.gptp_theorem.proofs.CalmLemmas.{quiet_stands}
 use Rattle.gptp_theorem.proofs.SettlingInvariantLemmas.{IsFitEvent, least_of}
 use Rattle.gptp_theorem.proofs.SyncPathLemmas.{paths_stand}
 use Rattle.gptp_settling_time.specs.Gains.{ChangesNothing, LeavesCapable, TakesNothing}
-use Rattle.gptp_settling_time.specs.InTurn.{AddsHeard, AgesSooner, Aging, AnyPast, BettersClock, BringsUp, Cleared, ClearsBy, EventLeads, FailsNow, Fallen, FallsNow, Gained, HasSettledAnyhow, HasSettledHeard, HasSettledSince, Heard, LeavesSettled, LeavesStanding, Left, LosesNow, Lost, LowersUnusedCalm, MakesNothing, Past, RecoversAlone, Starting, Turned, TurnsInVain, TurnsNow, WidensFrom}
+use Rattle.gptp_settling_time.specs.InTurn.{AddsHeard, AgesSooner, Aging, AnyPast, BettersClock, BringsUp, Cleared, ClearsBy, EventLeads, FailsNow, Fallen, FallsNow, Gained, HasSettledAnyhow, HasSettledHeard, HasSettledSince, Heard, LeavesSettled, LeavesStanding, Left, LosesNow, Lost, LowersUnusedCalm, MakesNothing, Past, RecoversAlone, Split, SplitsNow, Starting, Turned, TurnsInVain, TurnsNow, WidensFrom}
 use Rattle.gptp_settling_time.proofs.AgingDownLemmas.{down_ages}
 use Rattle.gptp_settling_time.proofs.AgesByLemmas.{by_map}
 use Rattle.gptp_settling_time.proofs.AgesByWorldLemmas.{WorldAgesBy, aging_by}
@@ -65,6 +65,8 @@ use Rattle.gptp_settling_time.proofs.RestClaimedLemmas.{AreOn, rest_claimed, res
 use Rattle.gptp_settling_time.proofs.SettledClaimedLemmas.{settled_claimed}
 use Rattle.gptp_settling_time.proofs.SettledSeenLemmas.{HasSettledSeen, always_settled}
 use Rattle.gptp_settling_time.proofs.BetterClockLemmas.{better_claimed}
+use Rattle.gptp_settling_time.proofs.SplitMadeLemmas.{split_on, split_sooner, split_to}
+use Rattle.gptp_settling_time.proofs.SplitToLemmas.{IsSplitTo, split_to_later}
 use Rattle.gptp_settling_time.proofs.TurnedToLemmas.{IsTurnedTo}
 use Rattle.gptp_settling_time.proofs.UnmovedLemmas.{unmoved_claimed}
 use Rattle.gptp_settling_time.proofs.WidenedLemmas.{widened_claimed}
@@ -651,6 +653,7 @@ module _ {F : Type 0} (answers : Bounds → ℕ → F → Option ℕ → F → T
         subst (λ t. IsClearedTo d more since t right old w') (sym same)
         (told_anew d playable ago more event.at aged dark since right old w' after time_now last_now
         (ages_on ago aged dark falls so) anew)
+    leads_to_cleared (Split ago gone dark) since silent right old none so = absurd none
     leads_to_cleared (Lost begun most start) since silent right old none so = absurd none
 
     ages : (ago : List Timed) (start aged silent : ℕ) → HasRestedSo p start event.at then → ago ≡ made
@@ -681,6 +684,7 @@ module _ {F : Type 0} (answers : Bounds → ℕ → F → Option ℕ → F → T
           | inl same ↦ subst (λ time. IsAgingTo d old more time start w') (sym same) (ages_on old gone start falls so)
           | inr is ↦ ages_sooner old gone aged start is (ages_on old gone start falls so)
         ]))
+    leads_to_aging (Split old gone start) ago aged silent none so = absurd none
     leads_to_aging (Lost since most start) ago aged silent none so = absurd none
 
     loses_now : (start since most silent : ℕ) → HasRestedSo p start event.at then
@@ -804,6 +808,53 @@ module _ {F : Type 0} (answers : Bounds → ℕ → F → Option ℕ → F → T
     leads_to_fallen (Split ago gone start) silent now none named so = absurd none
     leads_to_fallen (Lost since most start) silent now none named so = absurd none
 
+    -- trees are, as a system fails
+    splits : (start stood : ℕ) (ago : List Timed) (gone silent : ℕ) → HasRestedSo p start event.at then
+        → IsNamedFrom p stood w → ago ≡ made → SplitsNow n made event stood gone silent
+        → IsSplitTo d ago more gone silent w'
+    splits start stood ago gone silent rest named same now =
+        subst (λ es. IsSplitTo d es more gone silent w') (sym same)
+        (split_to d playable made event then k.draws done w' k.acts refl time_now keeps_then after start rest stood
+        named gone silent now)
+
+    leads_to_split : (past : Past) (ago : List Timed) (gone silent : ℕ)
+        → EventLeads n made past event (Split ago gone silent) → NamesAfter d made past w → IsAfter d made past w
+        → IsSplitTo d ago more gone silent w'
+    leads_to_split AnyPast ago gone silent (stood, settled, same, now) named so =
+        let passed = settled.passed in
+        let since = now.quiet in
+        splits (last_change made + capability_span p) stood ago gone silent
+        (rested_any (record { calm = settled.calm; passed = omega (arith, passed, since) }))
+        (named stood now.calm now.fails.few (inl (now.off, passed)) now.later) same now
+    leads_to_split Starting ago gone silent none named so = absurd none
+    leads_to_split (Gained start) ago gone silent (stood, settled, same, now) named so =
+        let since = now.quiet in
+        splits start stood ago gone silent (rested_gained start (omega (arith, settled, since)) so.news)
+        (named stood now.calm now.fails.few (inl (now.off, settled)) now.later) same now
+    leads_to_split (Heard start) ago gone silent (stood, settled, same, now) named so =
+        let since = now.quiet in
+        splits start stood ago gone silent (rested_heard start (omega (arith, settled, since)) so.since)
+        (named stood now.calm now.fails.few (now.off, settled) now.later) same now
+    leads_to_split (Left start) ago gone silent none named so = absurd none
+    leads_to_split (Turned start was) ago gone silent none named so = absurd none
+    leads_to_split (Fallen start was) ago gone silent none named so = absurd none
+    leads_to_split (Cleared since start right old) ago gone silent none named so = absurd none
+    leads_to_split (Aging old aged start) ago gone silent none named so = absurd none
+    leads_to_split (Split old was start) ago gone silent (falls, same_ago, same_silent, sooner) named so =
+        let x = split_to_later d old made was start w event.at k.ready.timely.now k.ready.timely.first so in
+        subst (λ es. IsSplitTo d es more gone silent w') (sym same_ago)
+        (subst (λ time. IsSplitTo d old more gone time w') (sym same_silent)
+        (elim sooner [
+          | inl same ↦
+              subst (λ time. IsSplitTo d old more time start w') (sym same)
+              (split_on d playable made event then k.draws done w' k.acts refl time_now keeps_then after old was start
+              falls x)
+          | inr (now, is_gone) ↦
+              split_sooner d playable made event then k.draws done w' k.acts refl time_now keeps_then after old was
+              start falls x gone now is_gone
+        ]))
+    leads_to_split (Lost since most start) ago gone silent none named so = absurd none
+
     pub leads_to : (past next : Past) → EventLeads n made past event next → NamesAfter d made past w
         → IsAfter d made past w → IsAfter d more next w'
     leads_to past AnyPast leads named so = after
@@ -816,4 +867,5 @@ module _ {F : Type 0} (answers : Bounds → ℕ → F → Option ℕ → F → T
     leads_to past (Cleared since silent right old) leads named so = leads_to_cleared past since silent right old
         leads so
     leads_to past (Aging ago aged silent) leads named so = leads_to_aging past ago aged silent leads so
+    leads_to past (Split ago gone silent) leads named so = leads_to_split past ago gone silent leads named so
     leads_to past (Lost since most silent) leads named so = leads_to_lost past since most silent leads so

@@ -48,7 +48,7 @@ use Rattle.gptp_settling_time.proofs.SettledSeenLemmas.{IsSettledSeen}
 use Rattle.gptp_settling_time.proofs.SilentDownLemmas.{over_down}
 use Rattle.gptp_settling_time.proofs.SilentLinksLemmas.{AgesOver, over_within}
 use Rattle.gptp_settling_time.proofs.SplitAlwaysLemmas.{IsSplitAlways}
-use Rattle.gptp_settling_time.proofs.SplitDownLemmas.{down_split}
+use Rattle.gptp_settling_time.proofs.SplitDownLemmas.{down_splits}
 use Rattle.gptp_settling_time.proofs.SplitFailLemmas.{split_begins}
 use Rattle.gptp_settling_time.proofs.SplitToLemmas.{GoesOver, IsSplitTo, over_gone, split_by}
 use Rattle.gptp_settling_time.proofs.UpPortsLemmas.{IsUpAt, by_up}
@@ -237,7 +237,7 @@ module _ (d : DocumentState) (playable : IsPlayable d) (made : List Timed) (even
     down : IsSplitAlways p so.before (GoesOver n ago made so.failed gone silent) so.failed gone silent w'
     unfolding end
     down =
-        down_split p so.before (GoesOver n ago made so.failed gone silent) so.failed gone silent y.clock y.port then
+        down_splits p so.before (GoesOver n ago made so.failed gone silent) so.failed gone silent y.clock y.port then
         draws done w' after.claim.world after.claim.measured lowered so.since quiet_then
         (up_so n made then keeps.stands end y.up lowered.1.place lowered.1.channel lowered.1.is)
         (unused_so n made then keeps.stands world_then.sound end y.failed) falls.off
