@@ -179,4 +179,5 @@ pub mod OnceOffLemmas
 pub mod OffForGoodLemmas
 pub mod SplitLemmas
 pub mod SplitAlwaysLemmas
+pub mod SplitDownLemmas
 pub mod SplitSettlesLemmas
