@@ -1,75 +1,40 @@
 -- Where what is held of a failed system ages a link goes down that is up, and of which an end has failed: it ages on.
-use Rattle.std.proofs.Common.{◌≡◌, ◌⊎◌, ◌≤◌, ◌*◌, ℕ, pred, Bool, true, false, List, [], Some, slice_get, refl, sym, ap, subst, ◌∙◌, inl, inr, arith}
-use Rattle.std.proofs.lemmas.Option.{same_Some}
+use Rattle.std.proofs.Common.{◌≡◌, ◌≤◌, ◌*◌, ℕ, pred, true, false, List, sym, subst, inl, inr, arith}
 use Rattle.gptp_lists.specs.Members.{In}
-use Rattle.gptp_lists.proofs.MappedLemmas.{alike as alike_there}
-use Rattle.gptp_lists.proofs.PlaceLemmas.{get-set_other, get-set_same, same_place}
 use Rattle.gptp_graph.specs.Best.{IsBest}
 use Rattle.gptp_graph.specs.Distance.{IsDistance}
 use Rattle.gptp_graph.specs.PathBound.{path_bound}
 use Rattle.gptp_graph.specs.Snapshot.{IsWellFormed, Joins, PortIdentity, Snapshot, clocks}
-use Rattle.gptp_graph.proofs.SystemLemmas.{In-clocks}
-use Rattle.gptp_links.specs.declared.link.Direction.{Direction}
-use Rattle.gptp_links.specs.declared.link.Direction.TheVariants.{FromA, FromB}
 use Rattle.gptp_links.specs.Fate.{Draw}
 use Rattle.gptp_scenario.specs.Calm.{NothingLapses}
 use Rattle.gptp_scenario.specs.declared.change.Act.TheVariants.{Change as Changing}
 use Rattle.gptp_scenario.specs.declared.change.Change.TheVariants.{LinkDown}
 use Rattle.gptp_setup.specs.SettlingParams.{SettlingParams}
-use Rattle.gptp_system.specs.declared.answer.Answer.{Answer}
-use Rattle.gptp_system.specs.Input.{PortDown}
 use Rattle.gptp_system.specs.State.{clock}
-use Rattle.gptp_model.specs.Act.{Calls}
 use Rattle.gptp_model.specs.Acts.{Acts, AtLink}
-use Rattle.gptp_model.specs.Ahead.{IsPortAmong}
-use Rattle.gptp_model.specs.Changing.{CallsIfLive, GoesDownIf, IsChannel, TellsEnds, lost, taken_down}
+use Rattle.gptp_model.specs.Changing.{GoesDownIf, IsChannel, taken_down}
 use Rattle.gptp_model.specs.declared.done.Done.{Done}
-use Rattle.gptp_model.specs.declared.station.Station.{Station}
-use Rattle.gptp_model.specs.World.{Channel, WorldState, port_id, sender}
-use Rattle.gptp_model.proofs.ActsByLemmas.{join_among}
-use Rattle.gptp_model.proofs.EndLemmas.{HasPort, among_has}
-use Rattle.gptp_model.proofs.StayLemmas.{stays_apart, taken_down_stays}
+use Rattle.gptp_model.specs.World.{Channel, WorldState, port_id}
 use Rattle.gptp_bmca_machine.specs.Acts.{MachineSteps}
-use Rattle.gptp_bmca_machine.specs.Frame.{Announce, Lane}
 use Rattle.gptp_bmca_machine.specs.LossLaws.{EverythingFits, IsAfterLoss, IsWhatIsLeft, Unmoved}
 use Rattle.gptp_bmca_machine.specs.Network.{Network, network_setting}
 use Rattle.gptp_bmca_machine.specs.SoundLaws.{AllAreNear}
-use Rattle.gptp_bmca_machine.specs.Touch.{StationTouch, Disable, Grow, Hear}
 use Rattle.gptp_invariants.specs.ChoiceCalm.{HaveQuietLinks, delay_in}
 use Rattle.gptp_invariants.specs.ChoiceSettlesAsMachine.{IsWorld}
-use Rattle.gptp_invariants.specs.ChoiceView.{lane_place, lane_view, lanes_view, port_identity_number, says_announce, touch_view, view}
+use Rattle.gptp_invariants.specs.ChoiceView.{says_announce, view}
 use Rattle.gptp_invariants.specs.DelayMeasured.{LinkIsMeasured}
-use Rattle.gptp_invariants.specs.WorldStanding.{channel_is_used, live_stations, snapshot_of, standing_system, stations_have_clock}
-use Rattle.gptp_invariants.proofs.ChoiceCalmKeptLemmas.{KeepsNetwork, delay_kept, same_snapshot}
-use Rattle.gptp_invariants.proofs.ChoiceSeenCallLemmas.{IsCallSeen, calls_seen}
-use Rattle.gptp_invariants.proofs.ChoiceSeenLaneLemmas.{lane_from, lane_there}
-use Rattle.gptp_invariants.proofs.ChoiceSendLemmas.{lanes_apart}
-use Rattle.gptp_invariants.proofs.ChoiceTakeUpLemmas.{BeginApart}
-use Rattle.gptp_invariants.proofs.WorldActEncodableLemmas.{answering_kept}
-use Rattle.gptp_invariants.proofs.WorldAnsweringLemmas.{IsAnswering, sound_answers}
-use Rattle.gptp_invariants.proofs.WorldNewsLemmas.{ready_goes_through}
-use Rattle.gptp_invariants.proofs.WorldOutlineLemmas.{acts_time}
+use Rattle.gptp_invariants.specs.WorldStanding.{channel_is_used, live_stations, snapshot_of}
 use Rattle.gptp_invariants.proofs.WorldStandsLemmas.{stands_well}
-use Rattle.gptp_invariants.proofs.WorldSystemLemmas.{clock_there, live_there}
-use Rattle.gptp_invariants.proofs.WorldWayLemmas.{one_way, way_of}
-use Rattle.gptp_invariants.proofs.ChoiceCalmFactLemmas.{used_is}
 use Rattle.gptp_settling_time.proofs.AgesByLemmas.{UnlinkedAgeBy, by_kept, by_reduced}
 use Rattle.gptp_settling_time.proofs.AgesByWorldLemmas.{WorldAgesBy}
 use Rattle.gptp_settling_time.proofs.AgingLemmas.{UnlinkedAge, ages_kept, ages_reduced}
-use Rattle.gptp_settling_time.proofs.AgingClaimedLemmas.{IsAgingAlways, aging_after, aging_facts, aging_network, named_in, same_aging, stay_of}
+use Rattle.gptp_settling_time.proofs.AgingClaimedLemmas.{IsAgingAlways, aging_after, aging_facts, aging_network, named_in, stay_of}
 use Rattle.gptp_settling_time.proofs.AgingStillLemmas.{IsAgingSeen, IsEmptied, aging_kept, emptied_reduced, still_emptied}
 use Rattle.gptp_settling_time.proofs.AlwaysClaimedLemmas.{IsStanding}
 use Rattle.gptp_settling_time.proofs.EmptiedLemmas.{AreEmptied, IsAlike, emptied_after, lanes_emptied}
-use Rattle.gptp_settling_time.proofs.FailedUpLemmas.{delay_set, used_set}
 use Rattle.gptp_settling_time.proofs.FitsLemmas.{IsLeftUnmoved}
 use Rattle.gptp_settling_time.proofs.LeftClaimedLemmas.{HaveAskedLong}
-use Rattle.gptp_settling_time.proofs.LinkUpLemmas.{lane_set}
-use Rattle.gptp_settling_time.proofs.LoweredLemmas.{other}
-use Rattle.gptp_settling_time.proofs.ReactsLemmas.{lives_as}
-use Rattle.gptp_settling_time.proofs.TakenDownLemmas.{if_live_stand, silent_down, stood_down, told_keeps}
 use Rattle.gptp_settling_time.proofs.UnusedDownLemmas.{alike_then, asked', delay_now, either, emptied, late_then, snapshot_now, standing', time}
-use Rattle.gptp_settling_time.proofs.WidenedLemmas.{ready_first}
-
 
 module _ (p : SettlingParams) (before : Snapshot) (aged silent owner port : ℕ) (w : WorldState) (draws : List Draw)
     (done : Done) (w' : WorldState) (is' : IsWorld p w') (measured' : LinkIsMeasured w')

@@ -180,5 +180,6 @@ pub mod OnceOffLemmas
 pub mod OffForGoodLemmas
 pub mod SplitLemmas
 pub mod SplitAlwaysLemmas
+pub mod SplitDownLemmas
 pub mod SplitSettlesLemmas
 pub mod SplitFailLemmas

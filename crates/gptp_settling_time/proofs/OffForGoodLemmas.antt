@@ -125,53 +125,53 @@ good_acts p act w draws done w' some none k is measured good at s =
 module _ (p : SettlingParams) (w : WorldState) (is : IsWorld p w) (place : ℕ) (channel : Channel)
     (here : slice_get w.net.channels place ≡ Some channel) (draws : List Draw) (w' : WorldState) (is' : IsWorld p w')
     (k : TellsEnds PortDown channel (record w { net = taken_down place channel w.net; last_change = w.time }) draws w')
-    where
-  abbrev taken : WorldState
-  taken = record w { net = taken_down place channel w.net; last_change = w.time }
+  where
+    abbrev taken : WorldState
+    taken = record w { net = taken_down place channel w.net; last_change = w.time }
 
-  module _ (at : LinkPlace) (s : StandsUnanswered at w') where
-    abbrev So : WorldState → Type 0
-    So v = IsOffForGood at v × (IsOffAt at w → IsOffAt at v)
+    module _ (at : LinkPlace) (s : StandsUnanswered at w') where
+      abbrev So : WorldState → Type 0
+      So v = IsOffForGood at v × (IsOffAt at w → IsOffAt at v)
 
-    abbrev taken_link : IsUnansweredAt at w → IsUnansweredAt at taken
-    taken_link = link_taken p w is place channel here draws w' is' k at s
+      abbrev taken_link : IsUnansweredAt at w → IsUnansweredAt at taken
+      taken_link = link_taken p w is place channel here draws w' is' k at s
 
-    at_taken : IsOffForGood at w → So taken
-    at_taken (inl off) =
-        let off' : IsOff at taken =
-        record { link = taken_link off.link; mute = off.mute; off = off.off } in
-        (inl off', (λ was. off_at at taken off'))
-    at_taken (inr (sent, last, once)) = (
-      inr (
-        sent,
-        record { link = taken_link last.link; replies = last.replies; inv = last.inv },
-        record { since = once.since; done = once.done },
-      ),
-      (λ off. found_at at taken (taken_link last.link) (off last.link)),
-    )
+      at_taken : IsOffForGood at w → So taken
+      at_taken (inl off) =
+          let off' : IsOff at taken =
+          record { link = taken_link off.link; mute = off.mute; off = off.off } in
+          (inl off', (λ was. off_at at taken off'))
+      at_taken (inr (sent, last, once)) = (
+        inr (
+          sent,
+          record { link = taken_link last.link; replies = last.replies; inv = last.inv },
+          record { since = once.since; done = once.done },
+        ),
+        (λ off. found_at at taken (taken_link last.link) (off last.link)),
+      )
 
-    pub good_down : IsOffForGood at w → So w'
-    good_down good =
-        each_end_told PortDown channel taken So
-        (λ direction q v ds answer v' c stays named number so. elim so.0 [
-          | inl off ↦
-              let off' = off_called at q (PortDown (sender direction channel).port) v ds answer v' c
-              (stays_clocks taken v stays is.sound.wired.clocks) off (λ same. tt) (λ same. tt) in
-              (inl off', (λ was. off_at at v' off'))
-          | inr (sent, last, once) ↦
-              let clocks = stays_clocks taken v stays is.sound.wired.clocks in
-              let apart = no_end p w is place channel here draws w' is' k at s v
-              (join_on w.net.channels taken.net.channels v.net.channels
-              (joins p w is place channel here draws w' is' k at s) stays.links) last.link direction in
-              let (good', off') = goes_off sent at v v' last
-              (last_beside of_down sent at q (sender direction channel) v ds answer v' c named clocks last apart)
-              (once_beside of_down sent at q (sender direction channel) v ds answer v' c named clocks last once apart)
-              in
-              (good', (λ was. off' (so.1 was)))
-        ]) is.sound.wired.setups (ports p w is place channel here draws w' is' k at s) draws w' k (at_taken good)
+      pub good_down : IsOffForGood at w → So w'
+      good_down good =
+          each_end_told PortDown channel taken So
+          (λ direction q v ds answer v' c stays named number so. elim so.0 [
+            | inl off ↦
+                let off' = off_called at q (PortDown (sender direction channel).port) v ds answer v' c
+                (stays_clocks taken v stays is.sound.wired.clocks) off (λ same. tt) (λ same. tt) in
+                (inl off', (λ was. off_at at v' off'))
+            | inr (sent, last, once) ↦
+                let clocks = stays_clocks taken v stays is.sound.wired.clocks in
+                let apart = no_end p w is place channel here draws w' is' k at s v
+                (join_on w.net.channels taken.net.channels v.net.channels
+                (joins p w is place channel here draws w' is' k at s) stays.links) last.link direction in
+                let (good', off') = goes_off sent at v v' last
+                (last_beside of_down sent at q (sender direction channel) v ds answer v' c named clocks last apart)
+                (once_beside of_down sent at q (sender direction channel) v ds answer v' c named clocks last once apart)
+                in
+                (good', (λ was. off' (so.1 was)))
+          ]) is.sound.wired.setups (ports p w is place channel here draws w' is' k at s) draws w' k (at_taken good)
 
-  pub all_down : AreOffForGood w → GoOnOff w w'
-  all_down good at s = good_down at s (good at (before p w is place channel here draws w' is' k at s))
+    pub all_down : AreOffForGood w → GoOnOff w w'
+    all_down good at s = good_down at s (good at (before p w is place channel here draws w' is' k at s))
 
 -- ---- a system fails
 

@@ -1,14 +1,10 @@
 -- A world since a system failed that others hear, and so cut trees off. What they hold of it goes until a time, and then
 -- each tree has left the root of before within a way. They settle once each distance has had its time.
-use Rattle.std.proofs.Common.{◌≡◌, ◌⊎◌, ◌<◌, ◌≤◌, ◌+◌, ◌*◌, ℕ, suc, pred, List, Some, None, slice_get, refl, sym, ap, subst, ◌∙◌, inl, inr, arith}
-use native.Mathlib.Decide.{dec_le}
-use Rattle.gptp_graph.specs.Best.{IsBest}
-use Rattle.gptp_graph.specs.PathBound.{path_bound}
-use Rattle.gptp_graph.specs.Snapshot.{IsLinked, Joins, PortIdentity, Snapshot, System, port_of}
+use Rattle.std.proofs.Common.{◌≡◌, ◌⊎◌, ◌<◌, ◌≤◌, ℕ, suc, List, Some, None, slice_get, refl, sym, ap, subst, ◌∙◌, inl, inr, arith}
+use Rattle.gptp_graph.specs.Snapshot.{IsLinked, Joins, PortIdentity, Snapshot, port_of}
 use Rattle.gptp_links.specs.Fate.{Draw}
 use Rattle.gptp_scenario.specs.Calm.{NothingLapses}
 use Rattle.gptp_scenario.specs.Params.{KeepPace}
-use Rattle.gptp_scenario.specs.SettlingTime.{window_span}
 use Rattle.gptp_scenario.specs.declared.change.Act.{Act}
 use Rattle.gptp_setup.specs.Intervals.{interval_of}
 use Rattle.gptp_setup.specs.SettlingParams.{SettlingParams}
@@ -18,56 +14,39 @@ use Rattle.gptp_model.specs.World.{WorldState}
 use Rattle.gptp_model.specs.declared.done.Done.{Done}
 use Rattle.gptp_bmca_machine.specs.Acts.{MachineSteps}
 use Rattle.gptp_bmca_machine.specs.Calm.{Calm}
-use Rattle.gptp_bmca_machine.specs.CutTree.{CutsTrees, LosesSystem, Tree}
 use Rattle.gptp_bmca_machine.specs.Frame.{Lane}
 use Rattle.gptp_bmca_machine.specs.EarlyPorts.{ClaimsWhenReady}
 use Rattle.gptp_bmca_machine.specs.Facts.{StationFacts}
-use Rattle.gptp_bmca_machine.specs.Levels.{Invariant}
 use Rattle.gptp_bmca_machine.specs.LossLaws.{IsAfterLoss}
-use Rattle.gptp_bmca_machine.specs.Network.{IsSettlingNetwork, Network, network_setting, settled_from, since}
+use Rattle.gptp_bmca_machine.specs.Network.{IsSettlingNetwork, Network, network_setting, since}
 use Rattle.gptp_bmca_machine.specs.Station.{Disabled, HoldsAt, MachineState, Received, Station as SeenStation}
-use Rattle.gptp_bmca_machine.proofs.CutTreeLemmas.{IsCutOff, LeadsNowhere, moves_off}
-use Rattle.gptp_bmca_machine.proofs.FailsBackLemmas.{FailsBack, IsFailedState, LostStayOff, StayLong, drops, fails_on}
-use Rattle.gptp_bmca_machine.proofs.FallLemmas.{UnlinkedDrop, UnlinkedHoldNone, falls_by}
-use Rattle.gptp_bmca_machine.proofs.FallLevelLemmas.{TreeSettles, tree_settles_on}
-use Rattle.gptp_bmca_machine.proofs.LevelLemmas.{invariant_kept, no_early_ports}
+use Rattle.gptp_bmca_machine.proofs.FallLemmas.{UnlinkedHoldNone}
 use Rattle.gptp_bmca_machine.proofs.LinkStepLemmas.{lives_at}
-use Rattle.gptp_bmca_machine.proofs.SettledLemmas.{systems_bounded}
 use Rattle.gptp_bmca_machine.proofs.TimesLemmas.{times_fit}
-use Rattle.gptp_bmca_machine.proofs.TreesFallLemmas.{trees_fallen, trees_received}
 use Rattle.gptp_invariants.specs.ChoiceCalm.{HaveQuietLinks, delay_in}
 use Rattle.gptp_invariants.specs.ChoiceSeenLaws.{IsNoChange}
-use Rattle.gptp_invariants.specs.ChoiceSettled.{Settled}
-use Rattle.gptp_invariants.specs.ChoiceSettlesAsMachine.{IsWorld}
-use Rattle.gptp_invariants.specs.ChoiceView.{says_announce, station_view, view}
-use Rattle.gptp_invariants.specs.DelayMeasuredLinks.{HaveMeasuredLinks}
-use Rattle.gptp_invariants.specs.WorldBounded.{IsBoundedWorld}
+use Rattle.gptp_invariants.specs.ChoiceView.{says_announce, view}
 use Rattle.gptp_invariants.specs.WorldEncodableLaws.{SetsAnOctet}
 use Rattle.gptp_invariants.specs.WorldStanding.{snapshot_of}
 use Rattle.gptp_invariants.proofs.ChoiceCalmKeptLemmas.{KeepsNetwork, acts_keep, delay_kept, links_quiet, same_snapshot}
-use Rattle.gptp_invariants.proofs.ChoicePlaceLemmas.{station_from, station_there}
+use Rattle.gptp_invariants.proofs.ChoicePlaceLemmas.{station_from}
 use Rattle.gptp_invariants.proofs.ChoiceSeenActLemmas.{acts_seen}
 use Rattle.gptp_invariants.proofs.ChoiceSettlesAsMachineLemmas.{kept_back, paths_bound}
-use Rattle.gptp_invariants.proofs.WorldBoundedLemmas.{bounded_by}
 use Rattle.gptp_invariants.proofs.WorldNewsCourseLemmas.{later_keeps}
 use Rattle.gptp_invariants.proofs.WorldOutlineLemmas.{acts_time}
 use Rattle.gptp_invariants.proofs.WorldStandsLemmas.{stands_well}
-use Rattle.gptp_settling_time.specs.ChoiceAlone.{ChoiceStands}
-use Rattle.gptp_settling_time.specs.TreeLosses.{IsTreeCutOff}
 use Rattle.gptp_settling_time.proofs.AgesByLemmas.{UnlinkedAgeBy, by_all, by_kept}
 use Rattle.gptp_settling_time.proofs.AgesByWorldLemmas.{WorldAgesBy}
 use Rattle.gptp_settling_time.proofs.AgingLemmas.{aged_gone}
 use Rattle.gptp_settling_time.proofs.AgingClaimedLemmas.{aging_facts, aging_network, named_in, same_aging, stay_of}
 use Rattle.gptp_settling_time.proofs.AlwaysClaimedLemmas.{IsStanding, calm_timed, start_calm, start_network}
 use Rattle.gptp_settling_time.proofs.EmptiedLemmas.{older_after, older_calm}
-use Rattle.gptp_settling_time.proofs.FallAlwaysLemmas.{fallen_by, falls_within, settles_by, settles_later}
+use Rattle.gptp_settling_time.proofs.FallAlwaysLemmas.{fallen_by, settles_by}
 use Rattle.gptp_settling_time.proofs.FitsLemmas.{UnlinkedHoldNothing}
-use Rattle.gptp_settling_time.proofs.LeftClaimedLemmas.{HaveAskedBy, HaveAskedLong, asked_acts, asked_heard, asked_later, asked_ready, bare_calm, left_calm, left_network, standing_acts, standing_later}
+use Rattle.gptp_settling_time.proofs.LeftClaimedLemmas.{HaveAskedBy, HaveAskedLong, asked_acts, asked_heard, asked_later, bare_calm, left_calm, left_network, standing_acts, standing_later}
 use Rattle.gptp_settling_time.proofs.LinkBetweenLemmas.{IsLinkBetween, SameSenders, between_kept, lane_between, senders_kept}
-use Rattle.gptp_settling_time.proofs.NewsMeasuredLemmas.{ready_measures}
 use Rattle.gptp_settling_time.proofs.OffForGoodLemmas.{AreOffForGood, GoOnOff, good_acts, good_later, stays_disabled}
-use Rattle.gptp_settling_time.proofs.SeenSettledLemmas.{seen_chooses, seen_settles}
-use Rattle.gptp_settling_time.proofs.SplitLemmas.{IsCut, IsSplit, SplitSettles, SplitState, SplitStaysOff, SplitsBack, split_settles_on, splits_on, timed_split}
+use Rattle.gptp_settling_time.proofs.SplitLemmas.{IsSplit, SplitSettles, SplitState, SplitStaysOff, SplitsBack, split_settles_on, splits_on, timed_split}
 
 -- a request is answered before the next one, so that an interval between them is some time
 pub some_pdelay : (p : SettlingParams) → KeepPace p → 0 < interval_of p.params.pdelay
@@ -194,7 +173,8 @@ module _ (p : SettlingParams) (g : Snapshot) (By : PortIdentity → ℕ → Type
   ]
 
   -- once all have left the root of before what was held is gone
-  pub over_gone : (start : ℕ) (x : WorldState) → MayStart gone s.since start x → fallen_by n start < x.time → gone ≤ x.time
+  pub over_gone : (start : ℕ) (x : WorldState) → MayStart gone s.since start x → fallen_by n start < x.time → gone ≤
+      x.time
   over_gone start x (inl soon) over = omega (arith, soon, over)
   over_gone start x (inr (later, now)) over = absurd (omega (arith, later, now, over))
 

@@ -1,6 +1,6 @@
 -- A world since a failure that cut trees off settles, once what was held of the failed system is gone, and each distance
 -- has had its time.
-use Rattle.std.proofs.Common.{◌≡◌, ◌⊎◌, ◌<◌, ◌≤◌, ◌+◌, ◌*◌, ℕ, suc, pred, refl, sym, subst, inl, inr, arith}
+use Rattle.std.proofs.Common.{◌<◌, ◌≤◌, ◌+◌, ◌*◌, ℕ, suc, pred, refl, sym, subst, inl, inr, arith}
 use Rattle.gptp_graph.specs.PathBound.{path_bound}
 use Rattle.gptp_graph.specs.Snapshot.{PortIdentity, Snapshot}
 use Rattle.gptp_scenario.specs.Calm.{NothingLapses}
@@ -22,7 +22,6 @@ use Rattle.gptp_invariants.specs.WorldStanding.{snapshot_of}
 use Rattle.gptp_invariants.proofs.ChoicePlaceLemmas.{station_there}
 use Rattle.gptp_invariants.proofs.WorldBoundedLemmas.{bounded_by}
 use Rattle.gptp_settling_time.specs.ChoiceAlone.{ChoiceStands}
-use Rattle.gptp_settling_time.proofs.AgingClaimedLemmas.{aging_network}
 use Rattle.gptp_settling_time.proofs.AlwaysClaimedLemmas.{IsStanding, calm_timed}
 use Rattle.gptp_settling_time.proofs.EmptiedLemmas.{older_calm}
 use Rattle.gptp_settling_time.proofs.FallAlwaysLemmas.{fallen_by}
@@ -118,7 +117,8 @@ module _ (p : SettlingParams) (g : Snapshot) (By : PortIdentity → ℕ → Type
     pub split_settles : Settled w × IsBoundedWorld w
     split_settles =
         let settled : Settled w =
-        seen_settles p dark w world refl dark_net dark_calm dark_invariant settled_by_now (omega arith) (omega arith) now
+        seen_settles p dark w world refl dark_net dark_calm dark_invariant settled_by_now (omega arith) (omega arith)
+        now
         in (
           settled,
           bounded_by p w world settled (λ place station here live best is_best.

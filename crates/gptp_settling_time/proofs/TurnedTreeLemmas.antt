@@ -248,8 +248,15 @@ module _ (p : SettlingParams) (g : Snapshot) (silent start : ℕ) (w : WorldStat
       let within = IsDistance-within is.n.graph is.n.reach (clock station.system) d t.paths there in
       let few = t.few in
       let s = station_view station in
-      let is_clear = clear place s (station_there w.stations place station here) live (d, there, omega (arith, within,
-      few)) in (
+      let is_clear = clear place s (station_there w.stations place station here) live (
+        d,
+        there,
+        omega (
+          arith,
+          within,
+          few,
+        ),
+      ) in (
         root_above is.n.graph t.well s is_clear best is_best,
         steps_above is.n.graph t.well s is_clear best is_best,
       ))

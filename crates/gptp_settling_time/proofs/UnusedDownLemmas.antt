@@ -1,19 +1,15 @@
 -- A link goes down that is up, and of which an end has failed: what is in use stays. The lanes of the link are emptied
 -- first, and then the end that lives answers.
-use Rattle.std.proofs.Common.{◌≡◌, ◌⊎◌, ◌≤◌, ◌*◌, ℕ, pred, Bool, true, false, List, [], Some, slice_get, refl, sym, ap, subst, ◌∙◌, inl, inr, arith}
+use Rattle.std.proofs.Common.{◌≡◌, ◌⊎◌, ◌≤◌, ℕ, Bool, true, false, List, [], Some, slice_get, refl, sym, ap, subst, ◌∙◌, inl, inr, arith}
 use Rattle.std.proofs.lemmas.Option.{same_Some}
 use Rattle.gptp_lists.specs.Members.{In}
 use Rattle.gptp_lists.proofs.MappedLemmas.{alike as alike_there}
 use Rattle.gptp_lists.proofs.PlaceLemmas.{get-set_other, get-set_same, same_place}
-use Rattle.gptp_graph.specs.Best.{IsBest}
-use Rattle.gptp_graph.specs.Distance.{IsDistance}
-use Rattle.gptp_graph.specs.PathBound.{path_bound}
-use Rattle.gptp_graph.specs.Snapshot.{IsWellFormed, Joins, PortIdentity, Snapshot, clocks}
+use Rattle.gptp_graph.specs.Snapshot.{Joins, PortIdentity, Snapshot, clocks}
 use Rattle.gptp_graph.proofs.SystemLemmas.{In-clocks}
 use Rattle.gptp_links.specs.declared.link.Direction.{Direction}
 use Rattle.gptp_links.specs.declared.link.Direction.TheVariants.{FromA, FromB}
 use Rattle.gptp_links.specs.Fate.{Draw}
-use Rattle.gptp_scenario.specs.Calm.{NothingLapses}
 use Rattle.gptp_scenario.specs.declared.change.Act.TheVariants.{Change as Changing}
 use Rattle.gptp_scenario.specs.declared.change.Change.TheVariants.{LinkDown}
 use Rattle.gptp_setup.specs.SettlingParams.{SettlingParams}
@@ -32,11 +28,9 @@ use Rattle.gptp_model.proofs.EndLemmas.{HasPort, among_has}
 use Rattle.gptp_model.proofs.StayLemmas.{stays_apart, taken_down_stays}
 use Rattle.gptp_bmca_machine.specs.Acts.{MachineSteps}
 use Rattle.gptp_bmca_machine.specs.Frame.{Announce, Lane}
-use Rattle.gptp_bmca_machine.specs.LossLaws.{EverythingFits, IsAfterLoss, IsWhatIsLeft, Unmoved}
-use Rattle.gptp_bmca_machine.specs.Network.{Network, network_setting}
-use Rattle.gptp_bmca_machine.specs.SoundLaws.{AllAreNear}
+use Rattle.gptp_bmca_machine.specs.Network.{Network}
 use Rattle.gptp_bmca_machine.specs.Touch.{StationTouch, Disable, Grow, Hear}
-use Rattle.gptp_invariants.specs.ChoiceCalm.{HaveQuietLinks, delay_in}
+use Rattle.gptp_invariants.specs.ChoiceCalm.{delay_in}
 use Rattle.gptp_invariants.specs.ChoiceSettlesAsMachine.{IsWorld}
 use Rattle.gptp_invariants.specs.ChoiceView.{lane_place, lane_view, lanes_view, port_identity_number, says_announce, touch_view, view}
 use Rattle.gptp_invariants.specs.DelayMeasured.{LinkIsMeasured}
@@ -50,19 +44,13 @@ use Rattle.gptp_invariants.proofs.WorldActEncodableLemmas.{answering_kept}
 use Rattle.gptp_invariants.proofs.WorldAnsweringLemmas.{IsAnswering, sound_answers}
 use Rattle.gptp_invariants.proofs.WorldNewsLemmas.{ready_goes_through}
 use Rattle.gptp_invariants.proofs.WorldOutlineLemmas.{acts_time}
-use Rattle.gptp_invariants.proofs.WorldStandsLemmas.{stands_well}
 use Rattle.gptp_invariants.proofs.WorldSystemLemmas.{clock_there, live_there}
 use Rattle.gptp_invariants.proofs.WorldWayLemmas.{one_way, way_of}
 use Rattle.gptp_invariants.proofs.ChoiceCalmFactLemmas.{used_is}
-use Rattle.gptp_settling_time.proofs.AgesByLemmas.{UnlinkedAgeBy, by_kept, by_reduced}
-use Rattle.gptp_settling_time.proofs.AgesByWorldLemmas.{WorldAgesBy}
-use Rattle.gptp_settling_time.proofs.AgingLemmas.{UnlinkedAge, ages_kept, ages_reduced}
-use Rattle.gptp_settling_time.proofs.AgingClaimedLemmas.{IsAgingAlways, aging_after, aging_facts, aging_network, named_in, same_aging, stay_of}
-use Rattle.gptp_settling_time.proofs.AgingStillLemmas.{IsAgingSeen, IsEmptied, aging_kept, emptied_reduced, still_emptied}
+use Rattle.gptp_settling_time.proofs.AgingClaimedLemmas.{aging_network, same_aging}
 use Rattle.gptp_settling_time.proofs.AlwaysClaimedLemmas.{IsStanding}
-use Rattle.gptp_settling_time.proofs.EmptiedLemmas.{AreEmptied, IsAlike, emptied_after, lanes_emptied}
+use Rattle.gptp_settling_time.proofs.EmptiedLemmas.{AreEmptied, IsAlike}
 use Rattle.gptp_settling_time.proofs.FailedUpLemmas.{delay_set, used_set}
-use Rattle.gptp_settling_time.proofs.FitsLemmas.{IsLeftUnmoved}
 use Rattle.gptp_settling_time.proofs.LeftClaimedLemmas.{HaveAskedLong}
 use Rattle.gptp_settling_time.proofs.LinkUpLemmas.{lane_set}
 use Rattle.gptp_settling_time.proofs.LoweredLemmas.{other}
@@ -111,7 +99,8 @@ module _ (p : SettlingParams) (silent owner port : ℕ) (w : WorldState) (draws 
     pub snapshot_taken : snapshot_of taken ≡ g
     snapshot_taken = λ i. record {
       systems = live_stations w.stations;
-      links = used_set (live_stations w.stations) w.net.channels k.place k.channel (lost k.channel) k.is.here unused refl
+      links = used_set (live_stations w.stations) w.net.channels k.place k.channel (lost k.channel) k.is.here unused
+          refl
           i;
     }
 
@@ -119,7 +108,8 @@ module _ (p : SettlingParams) (silent owner port : ℕ) (w : WorldState) (draws 
     snapshot_now = same_snapshot taken w' keeps ∙ snapshot_taken
 
     pub delay_taken : delay_in taken ≡ delay_in w
-    delay_taken = delay_set (live_stations w.stations) w.net.channels k.place k.channel (lost k.channel) k.is.here unused
+    delay_taken = delay_set (live_stations w.stations) w.net.channels k.place k.channel (lost k.channel) k.is.here
+        unused
         refl
 
     pub delay_now : delay_in w' ≡ delay_in w
