@@ -183,3 +183,5 @@ pub mod SplitAlwaysLemmas
 pub mod SplitDownLemmas
 pub mod SplitSettlesLemmas
 pub mod SplitFailLemmas
+pub mod SplitToLemmas
+pub mod SplitMadeLemmas

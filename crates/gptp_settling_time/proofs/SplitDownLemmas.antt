@@ -45,10 +45,10 @@ use Rattle.gptp_settling_time.proofs.SplitAlwaysLemmas.{IsSplitAlways, MayStart,
 use Rattle.gptp_settling_time.proofs.SplitLemmas.{IsCut, IsSplit, SplitSettles, SplitState, SplitsBack, timed_split}
 use Rattle.gptp_settling_time.proofs.UnusedDownLemmas.{asked', delay_taken, either, emptied, keeps, late_then, snapshot_taken, standing', tells, time}
 
-module _ (p : SettlingParams) (g : Snapshot) (By : PortIdentity → ℕ → Type 0) (gone silent owner port : ℕ)
+module _ (p : SettlingParams) (g : Snapshot) (By : PortIdentity → ℕ → Type 0) (failed gone silent owner port : ℕ)
     (w : WorldState) (draws : List Draw) (done : Done) (w' : WorldState) (is' : IsWorld p w')
     (measured' : LinkIsMeasured w') (acts : Acts (Changing (LinkDown owner port)) w draws done w')
-    (split : IsSplitAlways p g By gone silent w) (quiet : HaveQuietLinks p.params w) (up : acts.1.channel.up ≡ true)
+    (split : IsSplitAlways p g By failed gone silent w) (quiet : HaveQuietLinks p.params w) (up : acts.1.channel.up ≡ true)
     (dead : (place : ℕ) (channel : Channel) → IsChannel (port_id owner port) place w.net channel
     → channel_is_used (live_stations w.stations) (record channel { up = true }) ≡ false) where
   abbrev s : IsSplit p g
@@ -89,8 +89,8 @@ module _ (p : SettlingParams) (g : Snapshot) (By : PortIdentity → ℕ → Type
 
   -- ---- the network stays
 
-  same_taken : split_network p split.bare silent taken ≡ split_network p split.bare silent w
-  same_taken = λ i. record (split_network p split.bare silent w) {
+  same_taken : split_network p silent taken ≡ split_network p silent w
+  same_taken = λ i. record (split_network p silent w) {
     graph = graph_taken i;
     reach = path_bound (graph_taken i);
     lane = λ q. lane_set w.net.channels link channel (lost channel) q here refl refl i;
@@ -98,9 +98,9 @@ module _ (p : SettlingParams) (g : Snapshot) (By : PortIdentity → ℕ → Type
     step = delay_then i;
   }
 
-  same' : split_network p split.bare silent w' ≡ n
+  same' : split_network p silent w' ≡ n
   same' =
-      ap (λ (z : Network). record z { gone = 0 }) (same_aging p split.bare silent taken w' keeps') ∙ same_taken
+      ap (λ (z : Network). record z { gone = 0 }) (same_aging p silent silent taken w' keeps') ∙ same_taken
       ∙ split.same
 
   graph' : snapshot_of w' ≡ n.graph
@@ -230,7 +230,7 @@ module _ (p : SettlingParams) (g : Snapshot) (By : PortIdentity → ℕ → Type
     kept : IsAfterLoss n (view w)
     kept =
         subst (λ z. IsAfterLoss z (view w)) split.same
-        (split_after p By split.bare gone silent w split.standing split.asked quiet split.by split.is_gone split.less
+        (split_after p By gone silent w split.standing split.asked quiet split.by split.is_gone split.less
         off
         split.late)
 
@@ -255,13 +255,13 @@ module _ (p : SettlingParams) (g : Snapshot) (By : PortIdentity → ℕ → Type
         facts' : StationFacts (network_setting n) (view w')
         facts' =
             subst (λ (z : Network). StationFacts (network_setting z) (view w')) same'
-            (older_facts (aging_network p split.bare silent w') 0 (view w')
-            (aging_facts p split.bare silent w' standing_then asked_then quiet'))
+            (older_facts (aging_network p silent silent w') 0 (view w')
+            (aging_facts p silent silent w' standing_then asked_then quiet'))
 
     module _ (start : ℕ) (may : MayStart gone s.since start w') where
       may_then : MayStart gone s.since start w
       may_then =
-          may_before p g By gone silent w w' split standing_then asked_then goes sends same' links' by' late' on start
+          may_before p g By failed gone silent w w' split standing_then asked_then goes sends same' links' by' late' on start
           may
 
       was : SplitsBack p g s start (view w) × SplitSettles p g s start (view w)
@@ -326,9 +326,9 @@ module _ (p : SettlingParams) (g : Snapshot) (By : PortIdentity → ℕ → Type
       calm_taken over =
           emptied_calm timed_n timed_n (itself timed_n) (view w) (view taken).lanes lanes_then
           (subst (λ (z : Network). Calm (record z { bare = 0; slack = suc (fallen_by z start) }) (view w)) split.same
-          (timed_calm p By split.bare gone silent w split.standing split.asked quiet split.by split.is_gone split.less
+          (timed_calm p By gone silent w split.standing split.asked quiet split.by split.is_gone split.less
           start
-          (over_gone p g By gone silent w w' split standing_then asked_then goes sends same' links' by' late' on start w
+          (over_gone p g By failed gone silent w w' split standing_then asked_then goes sends same' links' by' late' on start w
           may_then over)))
 
     seen' : HaveQuietLinks p.params w' → NothingLapses p.params → (start : ℕ) → MayStart gone s.since start w'
@@ -336,10 +336,10 @@ module _ (p : SettlingParams) (g : Snapshot) (By : PortIdentity → ℕ → Type
     seen' quiet' lapses start may =
         either p silent owner port w draws done w' is' measured' acts split.standing split.asked up dead
         (λ v. SplitsBack p g s start (view v) × SplitSettles p g s start (view v)) (seen_taken start may)
-        (λ step. seen_then p g By gone silent w w' split standing_then asked_then goes sends same' links' by' late' on
+        (λ step. seen_then p g By failed gone silent w w' split standing_then asked_then goes sends same' links' by' late' on
         quiet quiet' off start may (view taken).lanes (seen_taken start may) (calm_taken start may) step)
 
     -- so it is claimed of the world since
-    pub down_splits : IsSplitAlways p g By gone silent w'
+    pub down_splits : IsSplitAlways p g By failed gone silent w'
     down_splits =
-        split_then p g By gone silent w w' split standing_then asked_then goes sends same' links' by' late' on seen'
+        split_then p g By failed gone silent w w' split standing_then asked_then goes sends same' links' by' late' on seen'
