@@ -101,7 +101,8 @@ between_alike w w' same from to x =
     (record { one = refl; other = refl })
 
 -- a link goes down
-pub between_down : (w : WorldState) (place change : ℕ) (channel : Channel) → slice_get w.net.channels place ≡ Some channel
+pub between_down : (w : WorldState) (place change : ℕ) (channel : Channel)
+    → slice_get w.net.channels place ≡ Some channel
     → (from to : PortIdentity) → IsLinkBetween w from to
     → IsLinkBetween (record w { net = taken_down place channel w.net; last_change = change }) from to
 between_down w place change channel here from to x = elim (same_place x.link place) [

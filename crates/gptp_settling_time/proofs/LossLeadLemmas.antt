@@ -283,8 +283,8 @@ heard_lead n made event (other ∷ now) past span off calm settled fails lowers 
           ),
     )
 
--- And what is held of the system goes on to go as trees fall back. All of it is gone as soon as what came over the links
--- that are silent after all of the events.
+-- And what is held of the system goes on to go as trees fall back. All of it is gone as soon as what came over the
+-- links that are silent after all of the events.
 split_on_lead : (n : NetworkState) (ago made now : List Timed) (other : Timed) (time was gone : ℕ)
     → NothingLapses n.params → IsCalm n made → EachEvent (LowersUnused n) made (other ∷ now)
     → AllByRecursion (λ (t : Timed). t.at ≡ time) (other ∷ now) → IsGoneBy n ago (made ++ other ∷ now) time gone

@@ -1,5 +1,5 @@
--- A world since a system failed that others hear, and so cut trees off. What they hold of it goes until a time, and then
--- each tree has left the root of before within a way. They settle once each distance has had its time.
+-- A world since a system failed that others hear, and so cut trees off. What they hold of it goes until a time, and
+-- then each tree has left the root of before within a way. They settle once each distance has had its time.
 use Rattle.std.proofs.Common.{◌≡◌, ◌⊎◌, ◌<◌, ◌≤◌, ℕ, suc, List, Some, None, slice_get, refl, sym, ap, subst, ◌∙◌, inl, inr, arith}
 use Rattle.gptp_graph.specs.Snapshot.{IsLinked, Joins, PortIdentity, Snapshot, port_of}
 use Rattle.gptp_links.specs.Fate.{Draw}
@@ -152,7 +152,8 @@ module _ (p : SettlingParams) (By : PortIdentity → ℕ → Type 0) (gone silen
 
 -- ---- what comes of it
 
-module _ (p : SettlingParams) (g : Snapshot) (By : PortIdentity → ℕ → Type 0) (failed gone silent : ℕ) (w w' : WorldState)
+module _ (p : SettlingParams) (g : Snapshot) (By : PortIdentity → ℕ → Type 0) (failed gone silent : ℕ)
+    (w w' : WorldState)
     (is : IsSplitAlways p g By failed gone silent w) (standing' : IsStanding p silent w') (asked' : HaveAskedLong w')
     (goes : GoOnOff w w') (same_sends : SameSenders w w') (same' : split_network p silent w' ≡ is.split.n)
     (links' : (a b : PortIdentity) → Joins g a b → IsLinkBetween w' a b) (by' : WorldAgesBy p By w')
@@ -179,7 +180,8 @@ module _ (p : SettlingParams) (g : Snapshot) (By : PortIdentity → ℕ → Type
   over_gone start x (inr (later, now)) over = absurd (omega (arith, later, now, over))
 
   pub split_then : (HaveQuietLinks p.params w' → NothingLapses p.params → (start : ℕ) → MayStart gone s.since start w'
-      → SplitsBack p g s start (view w') × SplitSettles p g s start (view w')) → IsSplitAlways p g By failed gone silent w'
+      → SplitsBack p g s start (view w') × SplitSettles p g s start (view w'))
+      → IsSplitAlways p g By failed gone silent w'
   split_then seen = record {
     standing = standing';
     asked = asked';
@@ -284,7 +286,8 @@ module _ (p : SettlingParams) (g : Snapshot) (By : PortIdentity → ℕ → Type
 
 -- ---- every step keeps it
 
-module _ (p : SettlingParams) (g : Snapshot) (By : PortIdentity → ℕ → Type 0) (failed gone silent : ℕ) (w w' : WorldState)
+module _ (p : SettlingParams) (g : Snapshot) (By : PortIdentity → ℕ → Type 0) (failed gone silent : ℕ)
+    (w w' : WorldState)
     (is : IsSplitAlways p g By failed gone silent w) (standing' : IsStanding p silent w') (asked' : HaveAskedLong w')
     (goes : GoOnOff w w') (keeps : KeepsNetwork w w') (step : MachineSteps says_announce (view w) (view w'))
     (on : w.time ≤ w'.time) where
@@ -318,20 +321,20 @@ module _ (p : SettlingParams) (g : Snapshot) (By : PortIdentity → ℕ → Type
       → SplitsBack p g is.split start (view w') × SplitSettles p g is.split start (view w')
   seen' quiet' off start may =
       let quiet = quiet_before quiet' in
-      let before = may_before p g By failed gone silent w w' is standing' asked' goes (senders_kept w w' keeps) same_then
-      links_then by_then late_then on start may in
-      seen_then p g By failed gone silent w w' is standing' asked' goes (senders_kept w w' keeps) same_then links_then by_then
-      late_then on quiet quiet' off start may (view w).lanes (is.seen quiet off start before)
+      let before = may_before p g By failed gone silent w w' is standing' asked' goes (senders_kept w w' keeps)
+      same_then links_then by_then late_then on start may in
+      seen_then p g By failed gone silent w w' is standing' asked' goes (senders_kept w w' keeps) same_then links_then
+      by_then late_then on quiet quiet' off start may (view w).lanes (is.seen quiet off start before)
       (λ over.
       subst (λ (z : Network). Calm (record z { bare = 0; slack = suc (fallen_by z start) }) (view w)) is.same
       (timed_calm p By gone silent w is.standing is.asked quiet is.by is.is_gone is.less start
-      (over_gone p g By failed gone silent w w' is standing' asked' goes (senders_kept w w' keeps) same_then links_then by_then
-      late_then on start w before over))) step
+      (over_gone p g By failed gone silent w w' is standing' asked' goes (senders_kept w w' keeps) same_then links_then
+      by_then late_then on start w before over))) step
 
   split_step : IsSplitAlways p g By failed gone silent w'
   split_step =
-      split_then p g By failed gone silent w w' is standing' asked' goes (senders_kept w w' keeps) same_then links_then by_then
-      late_then on seen'
+      split_then p g By failed gone silent w w' is standing' asked' goes (senders_kept w w' keeps) same_then links_then
+      by_then late_then on seen'
 
 pub split_later : (p : SettlingParams) (g : Snapshot) (By : PortIdentity → ℕ → Type 0) (failed gone silent time : ℕ)
     (w : WorldState) → w.time ≤ time → NothingBefore time w.net.pending → IsSplitAlways p g By failed gone silent w
@@ -341,8 +344,8 @@ split_later p g By failed gone silent time w later first is =
     (asked_later p w.last_change time w is.standing.world later first is.asked) (good_later time w is.good)
     (later_keeps time w) (inl (record { time = time; later = later; is = refl })) later
 
-pub split_acts : (p : SettlingParams) (g : Snapshot) (By : PortIdentity → ℕ → Type 0) (failed gone silent : ℕ) (act : Act)
-    (w : WorldState) (draws : List Draw) (done : Done) (w' : WorldState) → IsNoChange act → SetsAnOctet act
+pub split_acts : (p : SettlingParams) (g : Snapshot) (By : PortIdentity → ℕ → Type 0) (failed gone silent : ℕ)
+    (act : Act) (w : WorldState) (draws : List Draw) (done : Done) (w' : WorldState) → IsNoChange act → SetsAnOctet act
     → Acts act w draws done w' → IsSplitAlways p g By failed gone silent w
     → IsSplitAlways p g By failed gone silent w'
 split_acts p g By failed gone silent act w draws done w' none octet acts is =

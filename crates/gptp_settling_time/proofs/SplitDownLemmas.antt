@@ -1,4 +1,5 @@
--- Where a failure has cut trees off a link goes down that is up, and of which an end has failed: they fall back as they did.
+-- Where a failure has cut trees off a link goes down that is up, and of which an end has failed: they fall back as they
+-- did.
 use Rattle.std.proofs.Common.{◌≡◌, ◌<◌, ◌≤◌, ℕ, suc, true, false, List, Some, slice_get, refl, sym, ap, subst, ◌∙◌, inl, inr, arith}
 use Rattle.std.proofs.lemmas.Option.{same_Some}
 use Rattle.gptp_lists.proofs.PlaceLemmas.{get-set_other, get-set_same, same_place}
@@ -48,7 +49,8 @@ use Rattle.gptp_settling_time.proofs.UnusedDownLemmas.{asked', delay_taken, eith
 module _ (p : SettlingParams) (g : Snapshot) (By : PortIdentity → ℕ → Type 0) (failed gone silent owner port : ℕ)
     (w : WorldState) (draws : List Draw) (done : Done) (w' : WorldState) (is' : IsWorld p w')
     (measured' : LinkIsMeasured w') (acts : Acts (Changing (LinkDown owner port)) w draws done w')
-    (split : IsSplitAlways p g By failed gone silent w) (quiet : HaveQuietLinks p.params w) (up : acts.1.channel.up ≡ true)
+    (split : IsSplitAlways p g By failed gone silent w) (quiet : HaveQuietLinks p.params w)
+    (up : acts.1.channel.up ≡ true)
     (dead : (place : ℕ) (channel : Channel) → IsChannel (port_id owner port) place w.net channel
     → channel_is_used (live_stations w.stations) (record channel { up = true }) ≡ false) where
   abbrev s : IsSplit p g
@@ -231,8 +233,7 @@ module _ (p : SettlingParams) (g : Snapshot) (By : PortIdentity → ℕ → Type
     kept =
         subst (λ z. IsAfterLoss z (view w)) split.same
         (split_after p By gone silent w split.standing split.asked quiet split.by split.is_gone split.less
-        off
-        split.late)
+        off split.late)
 
     kept_taken : IsAfterLoss n (view taken)
     kept_taken = emptied_after n n (itself n) (view w) (view taken).lanes lanes_then kept
@@ -261,8 +262,8 @@ module _ (p : SettlingParams) (g : Snapshot) (By : PortIdentity → ℕ → Type
     module _ (start : ℕ) (may : MayStart gone s.since start w') where
       may_then : MayStart gone s.since start w
       may_then =
-          may_before p g By failed gone silent w w' split standing_then asked_then goes sends same' links' by' late' on start
-          may
+          may_before p g By failed gone silent w w' split standing_then asked_then goes sends same' links' by' late' on
+          start may
 
       was : SplitsBack p g s start (view w) × SplitSettles p g s start (view w)
       was = split.seen quiet off start may_then
@@ -326,20 +327,20 @@ module _ (p : SettlingParams) (g : Snapshot) (By : PortIdentity → ℕ → Type
       calm_taken over =
           emptied_calm timed_n timed_n (itself timed_n) (view w) (view taken).lanes lanes_then
           (subst (λ (z : Network). Calm (record z { bare = 0; slack = suc (fallen_by z start) }) (view w)) split.same
-          (timed_calm p By gone silent w split.standing split.asked quiet split.by split.is_gone split.less
-          start
-          (over_gone p g By failed gone silent w w' split standing_then asked_then goes sends same' links' by' late' on start w
-          may_then over)))
+          (timed_calm p By gone silent w split.standing split.asked quiet split.by split.is_gone split.less start
+          (over_gone p g By failed gone silent w w' split standing_then asked_then goes sends same' links' by' late'
+          on start w may_then over)))
 
     seen' : HaveQuietLinks p.params w' → NothingLapses p.params → (start : ℕ) → MayStart gone s.since start w'
         → SplitsBack p g s start (view w') × SplitSettles p g s start (view w')
     seen' quiet' lapses start may =
         either p silent owner port w draws done w' is' measured' acts split.standing split.asked up dead
         (λ v. SplitsBack p g s start (view v) × SplitSettles p g s start (view v)) (seen_taken start may)
-        (λ step. seen_then p g By failed gone silent w w' split standing_then asked_then goes sends same' links' by' late' on
-        quiet quiet' off start may (view taken).lanes (seen_taken start may) (calm_taken start may) step)
+        (λ step. seen_then p g By failed gone silent w w' split standing_then asked_then goes sends same' links' by'
+        late' on quiet quiet' off start may (view taken).lanes (seen_taken start may) (calm_taken start may) step)
 
     -- so it is claimed of the world since
     pub down_splits : IsSplitAlways p g By failed gone silent w'
     down_splits =
-        split_then p g By failed gone silent w w' split standing_then asked_then goes sends same' links' by' late' on seen'
+        split_then p g By failed gone silent w w' split standing_then asked_then goes sends same' links' by' late' on
+        seen'

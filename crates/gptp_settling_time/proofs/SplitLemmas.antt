@@ -1,5 +1,5 @@
--- A system failed and so cut trees off, as the machine knows it: each tree leaves the root of before once its top has let
--- go what the failed system told, and all settle once each distance has had its time.
+-- A system failed and so cut trees off, as the machine knows it: each tree leaves the root of before once its top has
+-- let go what the failed system told, and all settle once each distance has had its time.
 use Rattle.std.proofs.Common.{◌⊎◌, ◌<◌, ◌≤◌, ℕ, suc, inl, inr, arith}
 use native.Mathlib.Decide.{dec_le}
 use Rattle.gptp_graph.specs.Best.{IsBest}

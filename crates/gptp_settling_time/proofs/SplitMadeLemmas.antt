@@ -1,5 +1,5 @@
--- A system fails that others hear, in a world of a document whose choice had stood, and so cuts trees off: they fall back.
--- Behind that links go down of which an end has failed.
+-- A system fails that others hear, in a world of a document whose choice had stood, and so cuts trees off: they fall
+-- back. Behind that links go down of which an end has failed.
 use Rattle.std.proofs.Common.{◌≡◌, ◌⊎◌, ◌<◌, ◌≤◌, ◌+◌, ◌∷◌, ◌++◌, ℕ, suc, List, [], refl, sym, ap, subst, inl, inr, arith}
 use native.Mathlib.Decide.{dec_le}
 use Rattle.gptp_lists.specs.Members.{In}
@@ -250,8 +250,8 @@ module _ (d : DocumentState) (playable : IsPlayable d) (made : List Timed) (even
         (λ port until. GoesOver n ago made so.failed gone silent port until × IsUpAt w' port)
         (GoesOver n ago more so.failed gone silent) (view w')
         (λ port until unlinked (is_over, is_up). (
-          over_down n ago made event y w' after.stands after.claim.world.sound after.claim.world.encodable so.failed port
-              until is_over.0 is_up,
+          over_down n ago made event y w' after.stands after.claim.world.sound after.claim.world.encodable so.failed
+              port until is_over.0 is_up,
           is_over.1,
         ))
         (by_up p w' after.claim.world (GoesOver n ago made so.failed gone silent) down.by links)

@@ -1,5 +1,5 @@
--- A world since a failure that cut trees off settles, once what was held of the failed system is gone, and each distance
--- has had its time.
+-- A world since a failure that cut trees off settles, once what was held of the failed system is gone, and each
+-- distance has had its time.
 use Rattle.std.proofs.Common.{◌<◌, ◌≤◌, ◌+◌, ◌*◌, ℕ, suc, pred, refl, sym, subst, inl, inr, arith}
 use Rattle.gptp_graph.specs.PathBound.{path_bound}
 use Rattle.gptp_graph.specs.Snapshot.{PortIdentity, Snapshot}

@@ -48,8 +48,8 @@ over_gone n ago events failed gone silent = elim (dec_le silent gone) [
   | no later ↦ inl (λ port until is. elim is.1 [ inl less ↦ less | inr soon ↦ absurd (later soon) ])
 ]
 
--- A world may be taken as one in which what is held goes by other times of ports: if it isn't gone sooner, or if no time
--- has passed since the system failed.
+-- A world may be taken as one in which what is held goes by other times of ports: if it isn't gone sooner, or if no
+-- time has passed since the system failed.
 pub split_by : (p : SettlingParams) (g : Snapshot) (By : PortIdentity → ℕ → Type 0) (failed gone silent : ℕ)
     (w : WorldState) → IsSplitAlways p g By failed gone silent w → (By' : PortIdentity → ℕ → Type 0) (gone' : ℕ)
     → WorldAgesBy p By' w
@@ -98,8 +98,8 @@ module _ (d : DocumentState) (ago events : List Timed) (gone silent : ℕ) where
     keeps = keeps_later d events w time later first so.keeps;
     before = so.before;
     failed = so.failed;
-    since = split_later (pace_of d.network) so.before (GoesOver d.network ago events so.failed gone silent) so.failed gone
-        silent time w later first so.since;
+    since = split_later (pace_of d.network) so.before (GoesOver d.network ago events so.failed gone silent) so.failed
+        gone silent time w later first so.since;
     some = so.some;
     unanswered = so.unanswered;
   }
