@@ -235,7 +235,6 @@ module _ (d : DocumentState) (playable : IsPlayable d) (made : List Timed) (even
     quiet_then = (quiet_stands n made then playable.network keeps.stands world_then.sound falls.calm).links
 
     down : IsSplitAlways p so.before (GoesOver n ago made so.failed gone silent) so.failed gone silent w'
-    unfolding end
     down =
         down_splits p so.before (GoesOver n ago made so.failed gone silent) so.failed gone silent y.clock y.port then
         draws done w' after.claim.world after.claim.measured lowered so.since quiet_then
