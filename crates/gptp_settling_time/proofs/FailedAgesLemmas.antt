@@ -34,7 +34,6 @@ use Rattle.gptp_settling_time.proofs.AgesByWorldLemmas.{OverWay, StaysLongest, S
 use Rattle.gptp_settling_time.proofs.AlwaysClaimedLemmas.{AreHeard, IsStanding, due_by_link}
 use Rattle.gptp_settling_time.proofs.ClearsLemmas.{ready_asked}
 use Rattle.gptp_settling_time.proofs.FailedAloneLemmas as alone
-use Rattle.gptp_settling_time.proofs.FitsLemmas.{lived}
 use Rattle.gptp_settling_time.proofs.NamedWorldLemmas.{IsNamedWorld, old_by, set_facts, set_network}
 use Rattle.gptp_settling_time.proofs.NamesIntervalLemmas.{flight_named, held_named}
 use Rattle.gptp_settling_time.proofs.SettledSeenLemmas.{IsSettledSeen, sound_fits}

@@ -1,10 +1,9 @@
 -- A link between two ports stays there, whether it is up or not.
-use Rattle.std.proofs.Common.{◌≡◌, ℕ, List, Some, slice_get, slice_set, refl, sym, ap, subst, ◌∙◌, inl, inr}
+use Rattle.std.proofs.Common.{◌≡◌, ℕ, Some, slice_get, slice_set, refl, sym, ap, subst, ◌∙◌, inl, inr}
 use Rattle.std.proofs.lemmas.Option.{same_Some}
 use Rattle.gptp_lists.proofs.MappedLemmas.{alike}
 use Rattle.gptp_lists.proofs.PlaceLemmas.{get-set_other, get-set_same, same_place}
 use Rattle.gptp_graph.specs.Snapshot.{PortIdentity}
-use Rattle.gptp_vector.specs.declared.port.PortId.{PortId}
 use Rattle.gptp_links.specs.declared.link.Direction.{Direction}
 use Rattle.gptp_links.specs.declared.link.Direction.TheVariants.{FromA, FromB}
 use Rattle.gptp_setup.specs.SettlingParams.{SettlingParams}
@@ -14,8 +13,7 @@ use Rattle.gptp_model.proofs.BareLemmas.{bare}
 use Rattle.gptp_bmca_machine.specs.Frame.{Lane}
 use Rattle.gptp_invariants.specs.ChoiceCalm.{lane_of}
 use Rattle.gptp_invariants.specs.ChoiceSettlesAsMachine.{IsWorld}
-use Rattle.gptp_invariants.specs.ChoiceView.{lane_place, lane_view, lanes_view, port_identity_number}
-use Rattle.gptp_invariants.specs.WorldStanding.{snapshot_of}
+use Rattle.gptp_invariants.specs.ChoiceView.{lane_view, lanes_view, port_identity_number}
 use Rattle.gptp_invariants.proofs.ChoiceCalmKeptLemmas.{KeepsNetwork}
 use Rattle.gptp_invariants.proofs.ChoiceFoundLemmas.{lane_is}
 use Rattle.gptp_invariants.proofs.ChoiceSeenLaneLemmas.{lane_there}

@@ -29,7 +29,7 @@ use Rattle.gptp_system.specs.Input.{Expires as TimerExpires, Frame as FrameHeard
 use Rattle.gptp_system.specs.Measures.{HearsPart, IsPartAfter, Part, measure_at, part_heard}
 use Rattle.gptp_system.specs.State.{SystemState, clock, stamp_time}
 use Rattle.gptp_model.specs.Act.{Calls, Delivers, Hears, TimerRunsOut}
-use Rattle.gptp_model.specs.Acts.{Acts, at as at_time}
+use Rattle.gptp_model.specs.Acts.{Acts}
 use Rattle.gptp_model.specs.Agrees.{stopped}
 use Rattle.gptp_model.specs.Sound.{HaveOwnClocks}
 use Rattle.gptp_model.specs.declared.done.Done.{Done}
@@ -37,8 +37,7 @@ use Rattle.gptp_model.specs.declared.station.Station.{Station}
 use Rattle.gptp_model.specs.World.{Channel, WorldState, receiver, sender, world_queue}
 use Rattle.gptp_pdelay_machine.specs.Asker.{Answered, Asked, Asker, Closed as NoneOpen, Progress as SeenProgress, asker_after_interval, asker_given_up}
 use Rattle.gptp_pdelay_machine.specs.Messages.{Reply}
-use Rattle.gptp_pdelay_machine.specs.Setting.{Setting}
-use Rattle.gptp_pdelay_machine.specs.Silence.{AsksInVain, TimerFacts, Unanswered}
+use Rattle.gptp_pdelay_machine.specs.Silence.{AsksInVain, Unanswered}
 use Rattle.gptp_invariants.specs.ChoiceSeenLaws.{IsNoChange}
 use Rattle.gptp_invariants.specs.ChoiceSettlesAsMachine.{IsWorld}
 use Rattle.gptp_invariants.specs.DelayLinkView.{LinkPlace, asker_view, follow_up_view, other_direction, progress_view, reads_as_reply, response_view}
@@ -51,7 +50,6 @@ use Rattle.gptp_invariants.proofs.FailedOffLemmas.{gone_by}
 use Rattle.gptp_invariants.proofs.FailedUnansweredCallLemmas.{CallStep, LaneShrinks, asker_is, call_seen, relinked, view_stays}
 use Rattle.gptp_invariants.proofs.FailedUnansweredDeliveryLemmas.{arrives, asker_hears_seen, flies_there, lane, number_same, step as heard_by}
 use Rattle.gptp_invariants.proofs.FailedUnansweredExpiryLemmas.{request_timer_seen}
-use Rattle.gptp_invariants.proofs.FailedUnansweredStandLemmas.{timers_known}
 use Rattle.gptp_invariants.proofs.PortInputLemmas.{IsOfPort}
 use Rattle.gptp_invariants.proofs.WorldDueLemmas.{frames_not_late}
 

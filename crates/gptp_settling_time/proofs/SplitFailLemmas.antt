@@ -1,12 +1,11 @@
 -- A system fails that others hear, and so cuts trees off: they begin to fall back, though nobody answers yet.
 use Rattle.std.proofs.Common.{◌≡◌, ◌⊎◌, ◌<◌, ◌≤◌, ◌+◌, ◌*◌, ℕ, suc, pred, true, List, Some, slice_get, refl, sym, ap, subst, ◌∙◌, inl, inr, arith}
 use Rattle.gptp_lists.specs.Members.{In}
-use Rattle.gptp_graph.specs.Best.{IsBest}
 use Rattle.gptp_graph.specs.PathBound.{path_bound}
 use Rattle.gptp_graph.specs.Snapshot.{IsWellFormed, Joins, PortIdentity, Snapshot, System, clocks, port_of}
 use Rattle.gptp_graph.proofs.DistanceLemmas.{IsDistance-clock, IsDistance-unique}
 use Rattle.gptp_graph.proofs.ExistenceLemmas.{best_exists}
-use Rattle.gptp_graph.proofs.LinkLemmas.{Joins-clock, Joins-sym}
+use Rattle.gptp_graph.proofs.LinkLemmas.{Joins-clock}
 use Rattle.gptp_graph.proofs.SystemLemmas.{In-clocks, system_of}
 use Rattle.gptp_links.specs.Fate.{Draw}
 use Rattle.gptp_scenario.specs.Calm.{NothingLapses}
@@ -29,8 +28,7 @@ use Rattle.gptp_bmca_machine.specs.LossLaws.{EverythingFits, IsAfterLoss, IsLoss
 use Rattle.gptp_bmca_machine.specs.Network.{IsSettlingNetwork, Network, settled_from}
 use Rattle.gptp_bmca_machine.specs.RestLaws.{IsResting, SameWiring}
 use Rattle.gptp_bmca_machine.specs.SoundLaws.{AllAreNear}
-use Rattle.gptp_bmca_machine.proofs.CutTreeLemmas.{IsCutOff, LeadsNowhere, moves_off}
-use Rattle.gptp_bmca_machine.proofs.FailsBackLemmas.{HoldsAtTop, StayLong, dark_by}
+use Rattle.gptp_bmca_machine.proofs.FailsBackLemmas.{HoldsAtTop, dark_by}
 use Rattle.gptp_bmca_machine.proofs.FallFailLemmas.{failing_settles, fails_back}
 use Rattle.gptp_bmca_machine.proofs.FallLemmas.{IsAftermath}
 use Rattle.gptp_bmca_machine.proofs.LossLemmas.{loss_fits}
@@ -56,11 +54,11 @@ use Rattle.gptp_settling_time.proofs.AlwaysClaimedLemmas.{IsStanding, start_calm
 use Rattle.gptp_settling_time.proofs.CutDeepLemmas.{deep_by}
 use Rattle.gptp_settling_time.proofs.FailedAgesLemmas.{heard, lived_before}
 use Rattle.gptp_settling_time.proofs.FailedAloneLemmas as alone
-use Rattle.gptp_settling_time.proofs.FallAlwaysLemmas.{fallen_by, settles_by}
+use Rattle.gptp_settling_time.proofs.FallAlwaysLemmas.{settles_by}
 use Rattle.gptp_settling_time.proofs.FallDownLemmas.{FlightNames}
 use Rattle.gptp_settling_time.proofs.LeftClaimedLemmas.{HaveAskedLong}
 use Rattle.gptp_settling_time.proofs.LinkBetweenLemmas.{IsLinkBetween, between_alike, lane_between, way_between}
-use Rattle.gptp_settling_time.proofs.OffForGoodLemmas.{AreOffForGood, good_fails}
+use Rattle.gptp_settling_time.proofs.OffForGoodLemmas.{good_fails}
 use Rattle.gptp_settling_time.proofs.SettledSeenLemmas.{IsSettledSeen, always_seen, sound_fits}
 use Rattle.gptp_settling_time.proofs.SplitAlwaysLemmas.{IsSplitAlways, MayStart, split_after, split_network}
 use Rattle.gptp_settling_time.proofs.SplitLemmas.{IsSplit, SplitSettles, SplitState, SplitsBack}

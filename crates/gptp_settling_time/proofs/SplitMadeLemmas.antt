@@ -1,6 +1,6 @@
 -- A system fails that others hear, in a world of a document whose choice had stood, and so cuts trees off: they fall
 -- back. Behind that links go down of which an end has failed.
-use Rattle.std.proofs.Common.{◌≡◌, ◌⊎◌, ◌<◌, ◌≤◌, ◌+◌, ◌∷◌, ◌++◌, ℕ, suc, List, [], refl, sym, ap, subst, inl, inr, arith}
+use Rattle.std.proofs.Common.{◌≡◌, ◌⊎◌, ◌<◌, ◌≤◌, ◌+◌, ◌∷◌, ◌++◌, ℕ, suc, List, [], sym, subst, inl, inr, arith}
 use native.Mathlib.Decide.{dec_le}
 use Rattle.gptp_lists.specs.Members.{In}
 use Rattle.gptp_graph.specs.PathBound.{path_bound}
@@ -32,7 +32,7 @@ use Rattle.gptp_theorem.proofs.AlikeLemmas.{best as alike_best, clock_among, dis
 use Rattle.gptp_theorem.proofs.CalmLemmas.{quiet_stands}
 use Rattle.gptp_theorem.proofs.SyncPathLemmas.{paths_stand}
 use Rattle.gptp_settling_time.specs.InTurn.{IsGoneBy, LowersUnusedCalm, SplitsNow}
-use Rattle.gptp_settling_time.specs.Losses.{AgesWithin, LowersUnused}
+use Rattle.gptp_settling_time.specs.Losses.{LowersUnused}
 use Rattle.gptp_settling_time.specs.TreeLosses.{FailsTrees, IsTreeCutOff, IsUnmovedOrInTree}
 use Rattle.gptp_settling_time.proofs.AgesByLemmas.{by_map}
 use Rattle.gptp_settling_time.proofs.AgesByWorldLemmas.{WorldAgesBy}
