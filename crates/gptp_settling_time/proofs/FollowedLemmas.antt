@@ -553,7 +553,7 @@ module _ (d : DocumentState) (network : IsNetwork d.network) (order : AreInOrder
         earlier : List Timed
         earlier = events_by last d.events
 
-        silence : ℕ
+        abbrev silence : ℕ
         silence = silence_span (pace_of n)
 
         all_here : AllByRecursion (λ (t : Timed). t.at ≡ time) (event ∷ now)
