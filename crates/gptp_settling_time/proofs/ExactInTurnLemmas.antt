@@ -34,8 +34,10 @@ use Rattle.gptp_theorem.proofs.CalmKeptLemmas.{no_change}
 use Rattle.gptp_settling_time.specs.ExactInTurn.{ActsAreExactInTurn, arrived_by}
 use Rattle.gptp_settling_time.specs.Exactly.{AreExactFrom}
 use Rattle.gptp_settling_time.specs.Gains.{HasDelaysWithin}
-use Rattle.gptp_settling_time.specs.InTurn.{Aging, AnyPast, ChoosesAfter, ChoosesByEvents, Cleared, Fallen, Gained, Heard, Left, Lost, Past, Starting, Turned, TurnedTree}
+use Rattle.gptp_settling_time.specs.InTurn.{Aging, AnyPast, ChoosesAfter, ChoosesByEvents, Cleared, Fallen, Gained, Heard, Left, Lost, Past, Split, Starting, Turned, TurnedTree}
 use Rattle.gptp_settling_time.proofs.AgingClaimedLemmas.{aging_measured}
+use Rattle.gptp_settling_time.proofs.SplitSettlesLemmas.{split_measured}
+use Rattle.gptp_settling_time.proofs.SplitToLemmas.{GoesOver}
 use Rattle.gptp_settling_time.proofs.LostClaimedLemmas.{lost_measured}
 use Rattle.gptp_settling_time.proofs.BegunLemmas.{begun_last}
 use Rattle.gptp_settling_time.proofs.DocumentLemmas.{run_to}
@@ -108,6 +110,10 @@ module _ (d : DocumentState) (playable : IsPlayable d) (all : List Timed) (calm 
   have_measured (Aging ago aged silent) w so settles links on =
       let change = (after_keeps d all (Aging ago aged silent) w so).stands.last in
       aging_measured p so.before aged silent w so.since links (omega (arith, behind, on, change))
+  have_measured (Split ago gone silent) w so settles links on =
+      let change = (after_keeps d all (Split ago gone silent) w so).stands.last in
+      split_measured p so.before (GoesOver d.network ago all so.failed gone silent) so.failed gone silent w so.since
+      links (omega (arith, behind, on, change))
   have_measured (Lost since most silent) w so settles links on =
       let change = (after_keeps d all (Lost since most silent) w so).stands.last in
       lost_measured p since most silent w so.is (omega (arith, behind, on, change))

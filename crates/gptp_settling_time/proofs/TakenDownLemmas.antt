@@ -148,10 +148,10 @@ module _ (p : SettlingParams) (w : WorldState) (is : IsWorld p w) (place : ℕ) 
         }
 
     module _ (at : LinkPlace) (s : StandsUnanswered at w') where
-      apart : at.link ≢ place
+      pub apart : at.link ≢ place
       apart = up_apart at.link s.channel s.here s.up
 
-      before : StandsUnanswered at w
+      pub before : StandsUnanswered at w
       before =
           let (old, old_there, same) = stood_so at.link s.channel s.here in
           record {
@@ -166,21 +166,21 @@ module _ (p : SettlingParams) (w : WorldState) (is : IsWorld p w) (place : ℕ) 
                 (sym (receiver_bare at.direction old s.channel same)) s.answering);
           }
 
-      joins : JoinTheSame w.net.channels taken.net.channels
+      pub joins : JoinTheSame w.net.channels taken.net.channels
       joins = set_join w.net.channels place channel (lost channel) here refl refl
 
       -- its port is none of the link that goes down
-      no_end : (v : WorldState) → JoinTheSame w.net.channels v.net.channels → (l : IsUnansweredAt at v)
+      pub no_end : (v : WorldState) → JoinTheSame w.net.channels v.net.channels → (l : IsUnansweredAt at v)
           (way : Direction) → sender at.direction l.channel ≢ sender way channel
       no_end v on l way same =
           let was = on at.link l.channel l.here in
           apart (is.sound.wired.apart at.link place at.direction way was.old channel was.here here
           (sym (begins_same w.net.channels at.link at.direction l.channel was) ∙ same))
 
-      ports : (direction : Direction) → IsPortAmong (sender direction channel) taken.stations
+      pub ports : (direction : Direction) → IsPortAmong (sender direction channel) taken.stations
       ports = join_among w place channel is.sound.wired.ports here
 
-      link_taken : (l : IsUnansweredAt at w) → IsUnansweredAt at taken
+      abbrev pub link_taken : (l : IsUnansweredAt at w) → IsUnansweredAt at taken
       link_taken l = record {
         channel = l.channel;
         here = get-set_other w.net.channels place at.link (lost channel) apart ∙ l.here;
@@ -190,7 +190,6 @@ module _ (p : SettlingParams) (w : WorldState) (is : IsWorld p w) (place : ℕ) 
       }
 
       last_at : (sent : ℕ) → IsLastAnswered sent at w → IsLastAnswered sent at w'
-      unfolding link_taken
       last_at sent one =
           each_end_told PortDown channel taken (IsLastAnswered sent at)
           (λ direction q v ds answer v' c stays named number last.
@@ -201,7 +200,6 @@ module _ (p : SettlingParams) (w : WorldState) (is : IsWorld p w) (place : ℕ) 
           (record { link = link_taken one.link; replies = one.replies; inv = one.inv })
 
       off_at : IsOff at w → IsOff at w'
-      unfolding link_taken
       off_at one =
           each_end_told PortDown channel taken (IsOff at)
           (λ direction q v ds answer v' c stays named number so.
