@@ -168,7 +168,8 @@ pub mod LostMadeLemmas
 pub mod LosesVainLemmas
 pub mod CalmStillLemmas
 pub mod LosesLeadLemmas
-pub mod MovedFlightLemmas
+pub mod FlightsFitLemmas
 pub mod RightBeginLemmas
 pub mod ToldAnewLemmas
+pub mod TurnedAlwaysLemmas
 pub mod NamesItselfLemmas

@@ -49,7 +49,7 @@ use Rattle.gptp_settling_time.proofs.LoweredLemmas.{act_left, ends, less as lowe
 use Rattle.gptp_settling_time.proofs.SettledSeenLemmas.{HasSettledSeen, IsSettledSeen}
 use Rattle.gptp_settling_time.proofs.SilentLinksLemmas.{AgesOver, over_within}
 use Rattle.gptp_settling_time.proofs.TakenDownLemmas.{told_lives}
-use Rattle.gptp_settling_time.proofs.ToldAnewLemmas.{IsTurnedAlways, anew_begins}
+use Rattle.gptp_settling_time.proofs.TurnedAlwaysLemmas.{IsTurnedAlways, anew_begins}
 use Rattle.gptp_settling_time.proofs.TurnedToLemmas.{IsTurnedTo}
 use Rattle.gptp_settling_time.proofs.TurnsBeginLemmas.{act_turned}
 use Rattle.gptp_settling_time.proofs.WorldMovesLemmas.{cut_off_so, far_end_so, near_so, stays_joined, turns_so}

@@ -30,7 +30,8 @@ use Rattle.gptp_settling_time.specs.InTurn.{HasToldAnew}
 use Rattle.gptp_settling_time.proofs.ClaimedToLemmas.{IsClaimedTo}
 use Rattle.gptp_settling_time.proofs.KeptToLemmas.{KeepsTo, keeps_act, keeps_later}
 use Rattle.gptp_settling_time.proofs.MovedAlwaysLemmas.{moved_settles}
-use Rattle.gptp_settling_time.proofs.ToldAnewLemmas.{IsTurnedAlways, turned_acts, turned_claimed, turned_later, way_in}
+use Rattle.gptp_settling_time.proofs.ToldAnewLemmas.{way_in}
+use Rattle.gptp_settling_time.proofs.TurnedAlwaysLemmas.{IsTurnedAlways, turned_acts, turned_claimed, turned_later}
 
 -- A world of a document after these events, by the last of which a system turned at a time; ports without a link aren't
 -- capable from a time on.

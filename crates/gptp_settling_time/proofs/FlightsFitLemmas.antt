@@ -1,27 +1,25 @@
--- What a system tells once each neighbour has turned away from the one that is moved fits what is left. What was told
--- before is gone a delay later: from then on all that is held and in flight fits it.
+-- What systems tell once all that is held fits what is left fits it too. What was told before is gone a delay later:
+-- from then on all that is held and in flight fits it.
 use Rattle.std.proofs.Common.{◌≡◌, ◌⊎◌, ◌<◌, ◌≤◌, ◌+◌, ℕ, true, List, Some, slice_get, sym, subst, ◌∙◌, inl, inr, arith}
 use native.Mathlib.Decide.{dec_le}
 use Rattle.gptp_lists.specs.Members.{In}
 use Rattle.gptp_lists.proofs.SystemSpecLemmas.{In-parts}
 use Rattle.gptp_graph.specs.Best.{IsBest}
 use Rattle.gptp_graph.specs.Distance.{IsDistance}
-use Rattle.gptp_graph.specs.Snapshot.{Joins, PortIdentity, Snapshot, System, clocks, port_of}
+use Rattle.gptp_graph.specs.Snapshot.{IsWellFormed, Joins, PortIdentity, Snapshot, clocks, port_of}
 use Rattle.gptp_graph.proofs.LinkLemmas.{Joins-clock}
 use Rattle.gptp_graph.proofs.SystemLemmas.{In-clocks}
 use Rattle.gptp_bmca_machine.specs.Acts.{LaneStep, MachineSteps, Pops, StationAnswers}
 use Rattle.gptp_bmca_machine.specs.Clean.{HeldFits}
 use Rattle.gptp_bmca_machine.specs.Facts.{station_system}
 use Rattle.gptp_bmca_machine.specs.Frame.{Announce, AnnounceFrame, Lane, Spelling}
-use Rattle.gptp_bmca_machine.specs.LossLaws.{EverythingFits, FlightFits, IsWhatIsLeft}
+use Rattle.gptp_bmca_machine.specs.LossLaws.{EverythingFits, FlightFits, IsAfterLoss, IsWhatIsLeft}
 use Rattle.gptp_bmca_machine.specs.Network.{Network}
 use Rattle.gptp_bmca_machine.specs.Reacts.{IsOwn}
+use Rattle.gptp_bmca_machine.specs.Sound.{ReceivedFits}
 use Rattle.gptp_bmca_machine.specs.Station.{MachineState}
 use Rattle.gptp_bmca_machine.specs.Touch.{StationTouch}
 use Rattle.gptp_bmca_machine.proofs.LossLemmas.{flight_fits}
-use Rattle.gptp_settling_time.proofs.BesideLemmas.{IsMoving}
-use Rattle.gptp_settling_time.proofs.MovedLemmas.{EachTurns, received_then}
-use Rattle.gptp_settling_time.proofs.TurnLemmas.{TurnsOne}
 
 -- each Announce in flight to a live system of the network is due by a time, or fits the network
 abbrev pub FlightsFit : Spelling → Network → ℕ → MachineState → Type 0
@@ -41,29 +39,30 @@ fits_same g l l' a from to fit = record {
   fits = subst (λ (x : PortIdentity). HeldFits g x.clock a) (sym to) fit.fits;
 }
 
-module _ (says : Spelling) (g : Snapshot) (n : Network) (x d e : ℕ) (best : System) (t : TurnsOne g n x d e best) where
+module _ (says : Spelling) (n : Network) (well : IsWellFormed n.graph) where
   itself : IsWhatIsLeft n.graph n
-  itself = record { graph = t.well; systems = λ s member. member; links = λ p q joins. joins }
+  itself = record { graph = well; systems = λ s member. member; links = λ p q joins. joins }
 
   -- what is in flight now is due within the greatest delay
-  due_soon : (w : MachineState) → IsMoving says g n x e best w → (j : ℕ) (l : Lane) (f : AnnounceFrame)
+  due_soon : (w : MachineState) → IsAfterLoss n w → (j : ℕ) (l : Lane) (f : AnnounceFrame)
       → slice_get w.lanes j ≡ Some l → In f l.frames → Joins n.graph l.from l.to → f.due ≤ w.time + n.most
-  due_soon w m j l f at flies joins = elim (m.kept.calm.facts.fresh j l f at flies joins) [
+  due_soon w kept j l f at flies joins = elim (kept.calm.facts.fresh j l f at flies joins) [
     | inl soon ↦ soon
-    | inr early ↦ let begun = m.kept.begun in omega (arith, early, begun)
+    | inr early ↦ let begun = kept.begun in omega (arith, early, begun)
   ]
 
-  -- so it is as the link goes down, where no system is lost
-  pub flights_begin : (until : ℕ) (w : MachineState) → IsMoving says g n x e best w → w.time + n.most ≤ until
-      → ((v : ℕ) → In v (clocks g) → In v (clocks n.graph)) → FlightsFit says n until w
-  flights_begin until w m room stays j l f a at flies said known =
-      let over = (m.fits.lanes j l f a at flies said known).joins in
-      let sender = stays l.from.clock (Joins-clock g l.from l.to t.left.graph over) in
-      let soon = due_soon w m j l f at flies (m.kept.calm.facts.linked j l f at flies sender known) in
+  -- so it is after a loss in which no system is lost
+  pub flights_begin : (g : Snapshot) → IsWellFormed g → (until : ℕ) (w : MachineState) → IsAfterLoss n w
+      → EverythingFits says g n w → w.time + n.most ≤ until → ((v : ℕ) → In v (clocks g) → In v (clocks n.graph))
+      → FlightsFit says n until w
+  flights_begin g was until w kept fits room stays j l f a at flies said known =
+      let over = (fits.lanes j l f a at flies said known).joins in
+      let sender = stays l.from.clock (Joins-clock g l.from l.to was over) in
+      let soon = due_soon w kept j l f at flies (kept.calm.facts.linked j l f at flies sender known) in
       inl (omega (arith, soon, room))
 
-  module _ (last : ℕ) (before : ℕ → ℕ) (until : ℕ) (room : last + n.most ≤ until) (w w' : MachineState)
-      (m' : IsMoving says g n x e best w') (each' : EachTurns says g n x d e best t last before w') where
+  module _ (last until : ℕ) (room : last + n.most ≤ until) (w w' : MachineState) (kept' : IsAfterLoss n w')
+      (received : last < w'.time → ReceivedFits n.graph w') where
     -- a system answers: what it sends is due by then, or it holds what fits only
     called : (touch : StationTouch) (mid : MachineState) → StationAnswers says touch mid w'
         → FlightsFit says n until mid → FlightsFit says n until w'
@@ -76,22 +75,21 @@ module _ (says : Spelling) (g : Snapshot) (n : Network) (x d e : ℕ) (best : Sy
             → (f.due ≤ until) ⊎ FlightFits n.graph l' a
         sent p own from = elim (dec_le w'.time last) [
           | yes early ↦
-              let soon = due_soon w' m' j l' f at flies joins in inl (omega (arith, soon, early, room))
+              let soon = due_soon w' kept' j l' f at flies joins in inl (omega (arith, soon, early, room))
           | no late ↦
-              inr (flight_fits says n.graph n itself w' m'.kept.calm call.place call.s' call.there live'
+              inr (flight_fits says n.graph n itself w' kept'.calm call.place call.s' call.there live'
               (λ place r holds.
-              received_then says g n x d e best t last before w' m' (omega (arith, late)) each' call.place call.s' place
-              r call.there live' holds) p a own l' from joins)
+              received (omega (arith, late)) call.place call.s' place r call.there live' holds) p a own l' from joins)
         ]
           where
             sender : In l'.from.clock (clocks n.graph)
             sender =
                 subst (λ (y : PortIdentity). In y.clock (clocks n.graph)) (sym from)
                 (In-clocks n.graph (station_system call.s')
-                (m'.kept.calm.facts.stations call.place call.s' call.there live').known)
+                (kept'.calm.facts.stations call.place call.s' call.there live').known)
 
             joins : Joins n.graph l'.from l'.to
-            joins = m'.kept.calm.facts.linked j l' f at flies sender known
+            joins = kept'.calm.facts.linked j l' f at flies sender known
 
         by : ((l : Lane) × (slice_get mid.lanes j ≡ Some l) × LaneStep call.s.clock call.sends l l')
             → (f.due ≤ until) ⊎ FlightFits n.graph l' a
@@ -131,13 +129,12 @@ module _ (says : Spelling) (g : Snapshot) (n : Network) (x d e : ℕ) (best : Sy
     flights_kept (inr (inr (inr act))) all = called act.touch w act.call all
 
   -- later than that everything fits
-  pub fits_then : (last : ℕ) (before : ℕ → ℕ) (until : ℕ) → last + n.most ≤ until → (w : MachineState)
-      → IsMoving says g n x e best w → EachTurns says g n x d e best t last before w → until < w.time
+  pub fits_then : (until : ℕ) (w : MachineState) → IsAfterLoss n w → ReceivedFits n.graph w → until < w.time
       → FlightsFit says n until w → EverythingFits says n.graph n w
-  fits_then last before until room w m each late all = record {
+  fits_then until w kept received late all = record {
     lanes = λ j l f a at flies said known. elim (all j l f a at flies said known) [
-      | inl soon ↦ let left = m.kept.calm.left j l f at flies in absurd (omega (arith, soon, left, late))
+      | inl soon ↦ let left = kept.calm.left j l f at flies in absurd (omega (arith, soon, left, late))
       | inr fit ↦ fit
     ];
-    stations = received_then says g n x d e best t last before w m (omega (arith, room, late)) each;
+    stations = received;
   }
