@@ -1,5 +1,5 @@
--- A world since one system was moved: it settles, and then traces are told anew. So claims are made of it as of one since
--- news.
+-- A world since one system was moved: it settles, and then traces are told anew. So claims are made of it as of one
+-- since news.
 use Rattle.std.proofs.Common.{◌≡◌, ◌<◌, ◌≤◌, ◌+◌, ◌*◌, ℕ, zero, suc, pred, List, refl, sym, ap, subst, inl, inr, arith}
 use Rattle.gptp_lists.specs.Members.{In}
 use Rattle.gptp_graph.specs.Best.{IsBest}
