@@ -31,7 +31,7 @@ use Rattle.gptp_settling_time.proofs.NamesItselfLemmas.{AllNameItself}
 use Rattle.gptp_settling_time.proofs.RightBeginLemmas.{right_begins, root_right}
 use Rattle.gptp_settling_time.proofs.RightKeptLemmas.{right_kept}
 use Rattle.gptp_settling_time.proofs.RightLemmas.{all_right}
-use Rattle.gptp_settling_time.proofs.TellsRightLemmas.{IsSettledState, LevelTellsRight, right_last, tells_right_from}
+use Rattle.gptp_settling_time.proofs.TellsRightLemmas.{IsSettledState, LevelTellsRight, right_last, settled_state, tells_right_from}
 use Rattle.gptp_settling_time.proofs.DueLemmas.{AreDueBy, UpIsInUse, due_by_delay, due_by_interval, use_kept}
 use Rattle.gptp_settling_time.proofs.UnlinkedLemmas.{IsLeftSeen}
 use native.Mathlib.Decide.{dec_le}
@@ -124,12 +124,9 @@ becoming p g silent gone w is goes before was quiet off itself =
         goes = goes;
         levels = right_begins says_announce n (suc w.time) (view w) (omega arith)
             (root_right says_announce before n (left_net p silent w is.standing.world) is.near (view w)
-            (record {
-              calm = calm_now p g silent w is quiet off;
-              invariant = (is.seen quiet off).invariant;
-              late = late_now p g silent w is quiet off;
-              none = (is.seen quiet off).unlinked;
-            }) was itself (suc w.time));
+            (settled_state says_announce n (left_net p silent w is.standing.world) is.near (view w)
+            (calm_now p g silent w is quiet off) (is.seen quiet off).invariant (late_now p g silent w is quiet off)
+            (is.seen quiet off).unlinked) was itself (suc w.time));
         is = omega (arith, by);
         early = omega arith;
         by = omega arith;
@@ -191,15 +188,13 @@ module _ (p : SettlingParams) (g : Snapshot) (silent right old : ℕ) (w w' : Wo
     -- links go on to tell right traces
     module _ (gone : ℕ) (becomes : IsBecomingRight p n right gone old w) where
       x : IsSettledState says_announce n (view w)
-      x = record { calm = calm; invariant = seen.invariant; late = late; none = seen.unlinked }
+      x = settled_state says_announce n net is.near (view w) calm seen.invariant late seen.unlinked
 
       x' : IsSettledState says_announce n (view w')
-      x' = record {
-        calm = calm';
-        invariant = subst (λ y. Invariant says_announce y (view w')) same seen'.invariant;
-        late = subst (λ (y : Network). settled_from y ≤ w'.time) same (late_now p g silent w' is' quiet' off);
-        none = none';
-      }
+      x' =
+          settled_state says_announce n net is.near (view w') calm'
+          (subst (λ y. Invariant says_announce y (view w')) same seen'.invariant)
+          (subst (λ (y : Network). settled_from y ≤ w'.time) same (late_now p g silent w' is' quiet' off)) none'
 
       levels' : (d : ℕ) → LevelTellsRight says_announce n becomes.base (view w') d
       levels' =

@@ -121,6 +121,7 @@ pub mod NamedAfterLemmas
 pub mod TurnsDownLemmas
 pub mod TurnedToLemmas
 pub mod AtRestLemmas
+pub mod SettledRestLemmas
 pub mod BecomesSoundLemmas
 pub mod AgedLemmas
 pub mod GoesToLemmas

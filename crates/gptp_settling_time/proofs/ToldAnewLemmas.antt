@@ -39,7 +39,7 @@ use Rattle.gptp_settling_time.proofs.NamesItselfLemmas.{AllNameItself}
 use Rattle.gptp_settling_time.proofs.RightBeginLemmas.{right_enters, root_right}
 use Rattle.gptp_settling_time.proofs.RightLemmas.{all_right}
 use Rattle.gptp_settling_time.proofs.SettledSeenLemmas.{IsSettledSeen, stage_settled}
-use Rattle.gptp_settling_time.proofs.TellsRightLemmas.{IsSettledState, LevelTellsRight, right_last, tells_right_from}
+use Rattle.gptp_settling_time.proofs.TellsRightLemmas.{IsSettledState, LevelTellsRight, right_last, settled_state, tells_right_from}
 use Rattle.gptp_settling_time.proofs.UnlinkedLemmas.{IsLeftSeen}
 
 -- the greatest delay for each system of a path but one
@@ -184,13 +184,17 @@ module _ (p : SettlingParams) (g : Snapshot) (silent start fit settled : ℕ) (w
         left_now : IsLeftSeen says_announce (snapshot_of w') n' (view w')
         left_now = left'.seen quiet' off
 
+        world' : IsWorld p w'
+        world' = once'.standing.world
+
+        net : IsSettlingNetwork n'
+        net = left_net p silent w' world'
+
         x' : IsSettledState says_announce n' (view w')
-        x' = record {
-          calm = left_calm p silent w' left'.standing left'.asked quiet' left_now.unlinked;
-          invariant = left_now.invariant;
-          late = let past = left'.late in omega (arith, past);
-          none = left_now.unlinked;
-        }
+        x' =
+            settled_state says_announce n' net once'.near (view w')
+            (left_calm p silent w' left'.standing left'.asked quiet' left_now.unlinked) left_now.invariant
+            (let past = left'.late in omega (arith, past)) left_now.unlinked
 
         calm_then : Calm (left_network p silent w) (view w)
         calm_then = calm_now p silent w once.standing once.asked quiet once.past
@@ -206,12 +210,6 @@ module _ (p : SettlingParams) (g : Snapshot) (silent start fit settled : ℕ) (w
 
         abbrev base : ℕ
         base = suc settled
-
-        world' : IsWorld p w'
-        world' = once'.standing.world
-
-        net : IsSettlingNetwork n'
-        net = left_net p silent w' world'
 
         levels : (d : ℕ) → LevelTellsRight says_announce n' base (view w') d
         levels =
