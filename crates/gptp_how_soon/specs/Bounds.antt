@@ -13,7 +13,7 @@ use Rattle.gptp_how_soon.specs.Kinds.{recovers}
 use Rattle.gptp_how_soon.specs.Links.{varies}
 use Rattle.gptp_how_soon.specs.declared.bounds.Loss.{Loss}
 use Rattle.gptp_how_soon.specs.declared.bounds.Row.{Row}
-use Rattle.gptp_how_soon.specs.declared.bounds.Row.TheVariants.{AnyLosses, AnyPast, CutOff, FailedEnd, FailedHeard, FailureCutsOff, Gained, LostEnd, LostPower, Lowered, OneTurned, PowerCutsOff, TreeCutOff, Unchanged}
+use Rattle.gptp_how_soon.specs.declared.bounds.Row.TheVariants.{AnyLosses, AnyPast, CutOff, FailedEnd, FailedHeard, FailureCutsOff, FailureCutsTrees, Gained, LostEnd, LostPower, Lowered, OneTurned, PowerCutsOff, PowerCutsTrees, TreeCutOff, TreeTurned, Unchanged}
 use Rattle.gptp_how_soon.specs.declared.bounds.Settling.{Settling}
 use Rattle.gptp_how_soon.specs.declared.bounds.SettlingTime.{SettlingTime}
 use Rattle.gptp_how_soon.specs.declared.kinds.Told.{Told}
@@ -28,8 +28,8 @@ two_exchanges p paths = interval_of p.pdelay + (paths.delay + p.turnaround + pat
 abbrev pub asked_again : Params → SyncPaths → ℕ
 asked_again p paths = interval_of p.pdelay + two_exchanges p paths
 
--- How long a network that had come to rest takes at most to settle after losses: what was told comes within the greatest
--- delay of a link that is in use, or was just before.
+-- How long a network that had come to rest takes at most to settle after losses: what was told comes within the
+-- greatest delay of a link that is in use, or was just before.
 abbrev pub any_loss_span : NetworkState → Loss → SyncPaths → ℕ
 any_loss_span n loss paths = loss_span (pace_of n) paths (max loss.paths_before.delay paths.delay)
 
@@ -58,8 +58,8 @@ heard_by n followed told new =
 
 -- The choice, by what a loss leaves of before. Where something may lapse for want of Sync it takes the span. Else it is
 -- as the row says, with so much after gains. Where others heard a system that fails it stands once they don't hold that
--- any more. A system that turns tells what it chooses, and its neighbours answer: a way there, and one back. A tree that
--- falls off drops its root within a way, and has another within one more.
+-- any more. A system that turns tells what it chooses, and its neighbours answer: a way there, and one back. A tree
+-- that falls off, or turns, drops what it had within a way, and has another within one more.
 abbrev pub choice_of_row : NetworkState → Loss → SyncPaths → Row → ℕ → ℕ
 choice_of_row n loss paths AnyPast gained = settling_span_at_once (pace_of n) paths
 choice_of_row n loss paths Unchanged gained = 0
@@ -73,6 +73,9 @@ choice_of_row n loss paths FailedHeard gained = loss.held
 choice_of_row n loss paths FailureCutsOff gained = loss.held + 2 * way_span paths
 choice_of_row n loss paths OneTurned gained = 2 * way_span paths
 choice_of_row n loss paths TreeCutOff gained = 2 * way_span paths
+choice_of_row n loss paths TreeTurned gained = 2 * way_span paths
+choice_of_row n loss paths PowerCutsTrees gained = 2 * way_span paths
+choice_of_row n loss paths FailureCutsTrees gained = loss.held + 2 * way_span paths
 choice_of_row n loss paths AnyLosses gained = any_loss_span n loss paths
 choice_of_row n loss paths Gained gained = gained
 
@@ -81,8 +84,8 @@ choice_by n loss paths row gained =
     if not (n.params.sync_timeout == 0) then settling_span_with (pace_of n) paths paths.systems
     else choice_of_row n loss paths row gained
 
--- After losses without a row of their own roles stand with the choice; but no sooner than the ports beside a system that
--- fails aren't capable any more, where a link may be left silent.
+-- After losses without a row of their own roles stand with the choice; but no sooner than the ports beside a system
+-- that fails aren't capable any more, where a link may be left silent.
 abbrev pub roles_after_losses : NetworkState → Loss → SyncPaths → ℕ
 roles_after_losses n loss paths =
     if loss.silent then max (any_loss_span n loss paths) (silence_span (pace_of n)) else any_loss_span n loss paths
@@ -103,6 +106,10 @@ roles_of_row n loss paths FailureCutsOff gained =
     max (choice_of_row n loss paths FailureCutsOff gained) (silence_span (pace_of n))
 roles_of_row n loss paths OneTurned gained = choice_of_row n loss paths OneTurned gained
 roles_of_row n loss paths TreeCutOff gained = choice_of_row n loss paths TreeCutOff gained
+roles_of_row n loss paths TreeTurned gained = choice_of_row n loss paths TreeTurned gained
+roles_of_row n loss paths PowerCutsTrees gained = choice_of_row n loss paths PowerCutsTrees gained
+roles_of_row n loss paths FailureCutsTrees gained =
+    max (choice_of_row n loss paths FailureCutsTrees gained) (silence_span (pace_of n))
 roles_of_row n loss paths AnyLosses gained = roles_after_losses n loss paths
 roles_of_row n loss paths Gained gained = gained
 
@@ -127,9 +134,9 @@ aged_echo_span n loss paths =
 -- By when all that is held and in flight is sound: as soon as the choice stands, but after a loss it may name what is
 -- gone. After a far end or a tree is cut off, or a far end fails, only what was in flight does; of one that fails by
 -- links of before too. Where ports beside it may still be capable roles have to stand too. After a link goes down by
--- which no system is moved, or a system that others heard loses its power, traces have to be told anew first. So they do
--- once the choice stands where one system turns, or one fails that others heard. After losses without a row of their own
--- all is sound once roles stand.
+-- which no system is moved, or a system that others heard loses its power, traces have to be told anew first. So they
+-- do once the choice stands where one system turns, or one fails that others heard. After losses without a row of
+-- their own all is sound once roles stand. After others it is as soon as the choice stands from any past.
 abbrev pub sound_of_row : NetworkState → Loss → SyncPaths → Row → ℕ → ℕ
 sound_of_row n loss paths AnyPast gained = settling_span_at_once (pace_of n) paths
 sound_of_row n loss paths Unchanged gained = 0
@@ -145,6 +152,9 @@ sound_of_row n loss paths FailedHeard gained = aged_echo_span n loss paths
 sound_of_row n loss paths FailureCutsOff gained = max (loss.held + 2 * way_span paths) (aged_echo_span n loss paths)
 sound_of_row n loss paths OneTurned gained = 2 * way_span paths + echo_span (pace_of n) paths
 sound_of_row n loss paths TreeCutOff gained = max (2 * way_span paths) (gone_by n paths loss.used_before)
+sound_of_row n loss paths TreeTurned gained = settling_span_at_once (pace_of n) paths
+sound_of_row n loss paths PowerCutsTrees gained = settling_span_at_once (pace_of n) paths
+sound_of_row n loss paths FailureCutsTrees gained = settling_span_at_once (pace_of n) paths
 sound_of_row n loss paths AnyLosses gained = roles_after_losses n loss paths
 sound_of_row n loss paths Gained gained = gained
 
@@ -162,6 +172,9 @@ echo_of_row n paths PowerCutsOff = echo_span (pace_of n) paths
 echo_of_row n paths FailedHeard = echo_span (pace_of n) paths
 echo_of_row n paths FailureCutsOff = echo_span (pace_of n) paths
 echo_of_row n paths OneTurned = echo_span (pace_of n) paths
+echo_of_row n paths TreeTurned = echo_span (pace_of n) paths
+echo_of_row n paths PowerCutsTrees = echo_span (pace_of n) paths
+echo_of_row n paths FailureCutsTrees = echo_span (pace_of n) paths
 echo_of_row n paths row = 0
 
 abbrev pub echo_by : NetworkState → SyncPaths → Row → ℕ

@@ -6,6 +6,7 @@
 
 mod bounds;
 mod chosen;
+mod cut_trees;
 mod far;
 mod kinds;
 mod links;
@@ -16,6 +17,7 @@ mod tests;
 mod times;
 mod tree;
 mod turned;
+mod turned_tree;
 mod walk;
 
 pub use bounds::{Loss, Row, Settling, SettlingTime};

@@ -11,6 +11,7 @@ use crate::bounds::{Loss, SettlingTime, announce_interval, heard, ready, times_b
 use crate::chosen::{
     Chosen, Ends, any_counted, any_moved, choose, copy_systems, ends_in_use, ends_of,
 };
+use crate::cut_trees::cuts_trees;
 use crate::far::{all_cut_far_ends, are_far, up_is_used};
 use crate::kinds::{Told, sets_bounds, sets_link, takes_one, tell};
 use crate::links::{delay_set, longest_among, lost_among, mark_used, new_links};
@@ -20,6 +21,7 @@ use crate::rest::{
 use crate::silent::{held_among, own_intervals};
 use crate::tree::cuts_tree;
 use crate::turned::turns_one;
+use crate::turned_tree::turns_tree;
 use gptp_scenario::{Act, Network, SyncPaths};
 use gptp_topology::{System, Tables, cables_of};
 use std::alloc::{AllocError, Global};
@@ -128,6 +130,8 @@ impl Walk {
             cut: all_cut_far_ends(&systems, &before, &links_before, &links, &lost),
             turned,
             falls: rested && cuts_tree(&systems, &lost, &links, &before, &now),
+            tree_turns: rested && turns_tree(&systems, &lost, &links, &before, &now),
+            trees_fall: rested && cuts_trees(&systems, &lost, &links, &before, &now),
             far: are_far(&self.systems_before, &before, &links_before, &self.told),
         })
     }
@@ -151,6 +155,8 @@ impl Walk {
                 cut: false,
                 turned: false,
                 falls: false,
+                tree_turns: false,
+                trees_fall: false,
                 far: false,
             })
         }

@@ -70,7 +70,6 @@ pub mod SamePathsLemmas
 pub mod MomentLemmas
 pub mod FollowedLemmas
 pub mod ChoiceBoundLemmas
-pub mod ReactionStageLemmas
 pub mod ReactsLemmas
 pub mod SettledSeenLemmas
 pub mod PriorityNewsLemmas
@@ -174,3 +173,4 @@ pub mod RightBeginLemmas
 pub mod ToldAnewLemmas
 pub mod TurnedAlwaysLemmas
 pub mod NamesItselfLemmas
+pub mod TreeTurnsLemmas
