@@ -174,3 +174,4 @@ pub mod ToldAnewLemmas
 pub mod TurnedAlwaysLemmas
 pub mod NamesItselfLemmas
 pub mod TreeTurnsLemmas
+pub mod TurnedTreeLemmas

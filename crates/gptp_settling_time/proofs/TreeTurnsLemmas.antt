@@ -12,7 +12,7 @@ use Rattle.gptp_bmca_machine.specs.Acts.{LaneStep}
 use Rattle.gptp_bmca_machine.specs.Calm.{Calm}
 use Rattle.gptp_bmca_machine.specs.Clean.{CameSound, IsWorse, Whole}
 use Rattle.gptp_bmca_machine.specs.Frame.{Announce, AnnounceFrame, Lane, Spelling}
-use Rattle.gptp_bmca_machine.specs.Levels.{Invariant}
+use Rattle.gptp_bmca_machine.specs.Levels.{Invariant, LeadsFarther}
 use Rattle.gptp_bmca_machine.specs.LossLaws.{IsAfterLoss, Unmoved}
 use Rattle.gptp_bmca_machine.specs.Network.{IsSettlingNetwork, Network, settled_from}
 use Rattle.gptp_bmca_machine.specs.RestLaws.{SameWiring}
@@ -21,18 +21,21 @@ use Rattle.gptp_bmca_machine.specs.SoundEverywhere.{IsSoundEverywhere}
 use Rattle.gptp_bmca_machine.specs.SoundLaws.{AllAreNear, IsSoundOnLinks, UnlinkedAreOff}
 use Rattle.gptp_bmca_machine.specs.Station.{MachineState, Port, Received, Reception, Station}
 use Rattle.gptp_bmca_machine.specs.TurnTree.{TurnsTree}
-use Rattle.gptp_bmca_machine.proofs.FallBeginLemmas.{falling_begins}
+use Rattle.gptp_bmca_machine.proofs.FallBeginLemmas.{falling_begins, settles_begin}
 use Rattle.gptp_bmca_machine.proofs.FallLeaveLemmas.{TreeAnswers}
 use Rattle.gptp_bmca_machine.proofs.FallLemmas.{IsAftermath, IsFreeAt, off_hold_old}
 use Rattle.gptp_bmca_machine.proofs.LinkStepLemmas.{lives_at}
-use Rattle.gptp_bmca_machine.proofs.MovedTreeLemmas.{Around}
+use Rattle.gptp_bmca_machine.proofs.MovedTreeLemmas.{Around, LeadsDown}
 use Rattle.gptp_bmca_machine.proofs.PlaceLemmas.{same_there}
 use Rattle.gptp_bmca_machine.proofs.SoundLemmas.{says_sound}
+use Rattle.gptp_bmca_machine.proofs.StillLemmas.{station_of}
 use Rattle.gptp_bmca_machine.proofs.TurnLemmas.{TurnsBack}
-use Rattle.gptp_bmca_machine.proofs.TurnTreeLemmas.{IsOf, LeadsOut, out_was_best, out_whole, turns_moves, up_whole}
-use Rattle.gptp_settling_time.proofs.AtRestLemmas.{held_settled}
+use Rattle.gptp_bmca_machine.proofs.TurnLevelLemmas.{Times, TurnSettles}
+use Rattle.gptp_bmca_machine.proofs.TurnOutLemmas.{HasTurned, as_far, worse_out}
+use Rattle.gptp_bmca_machine.proofs.TurnTreeLemmas.{IsOf, LeadsOut, near_now, out_lives, out_was_best, out_whole, turns_moves, up_whole}
+use Rattle.gptp_settling_time.proofs.AtRestLemmas.{LinkAtRest, at_rest, held_settled}
 use Rattle.gptp_settling_time.proofs.EndAnswersLemmas.{EndAnswers, HeldBefore, fits', flew, held_before, levels'}
-use Rattle.gptp_settling_time.proofs.FallDownLemmas.{FlightNames, answers, lanes_then, link_whole}
+use Rattle.gptp_settling_time.proofs.FallDownLemmas.{FlightNames, answers, lanes_then, link_whole, place_apart}
 
 module _ (says : Spelling) (n0 n : Network) (tree : List ℕ) (top other last out : ℕ) (best : System) (base : ℕ)
     (depth : ℕ → ℕ) (t : TurnsTree n0.graph n tree top other last out best base depth) (in_top : In top tree)
@@ -209,4 +212,59 @@ module _ (says : Spelling) (n0 n : Network) (tree : List ℕ) (top other last ou
     };
     dark = dark';
     sound = sound';
+  }
+
+  -- ---- the way in hasn't turned yet
+
+  module _ (p k : ℕ) (joins : Joins n.graph (port_of last (suc p)) (port_of out (suc k)))
+      (leads : LeadsDown g (IsOf tree) (LeadsOut last out) base depth last out) where
+    leads0 : LeadsFarther g (base + depth last) best last p out k
+    leads0 = record {
+      is_best = t.was_best last t.in_last;
+      here = t.was last t.in_last;
+      joins = t.left.links (port_of last (suc p)) (port_of out (suc k)) joins;
+      far = leads.far;
+      there = leads.there;
+      farther = leads.farther;
+    }
+
+    rest : LinkAtRest says n0 net0 w calm0 invariant0 late0 near0 (base + depth last) best last p out k
+    rest =
+        at_rest says n0 net0 w calm0 invariant0 late0 near0 (base + depth last) best last p out k
+        (near_now g n tree top other last out best base depth t last t.in_last) leads0
+
+    not_turned : HasTurned says g n tree top other last out best base depth t w.time p k joins leads w' → ⊥
+    not_turned turned =
+        let lives = out_lives g n tree top other last out best base depth t in
+        let (s, at, live, clock) = station_of g n t.well t.left w' after.kept after.fits.stations out lives in
+        let apart : out ≢ top = λ is_top. t.outside (subst (λ c. In c tree) (sym is_top) in_top) in
+        let stood = a.stood (n.place out) s at
+        (place_apart says n (Around (IsOf tree) (LeadsOut last out)) top lost place w w' a kept' (t.lives top in_top)
+        beside_so out s lives apart at) (beside out s (inr refl) at) in
+        let one : rest.stand.u ≡ s =
+        same_there w.stations (n.place out) rest.stand.u s
+        (subst (λ i. slice_get w.stations i ≡ Some rest.stand.u) (sym (same.place out)) rest.stand.hearer) stood in
+        let has = kept'.calm.lanes (port_of last (suc p)) (port_of out (suc k)) joins in
+        let whole = (turned.1 s rest.pu has.lane at
+        (subst (λ (z : Station). slice_get z.ports k ≡ Some rest.pu) one rest.stand.hearer_port) has.there).hears
+        rest.stays.what rest.stays.holds in
+        let near = (as_far says g n tree top other last out best base depth t w.time p k joins leads).0 in
+        let root = rest.stays.final.root in
+        let steps = rest.stays.final.steps in
+        elim (worse_out says g n tree top other last out best base depth t w.time p k joins leads rest.stays.what.said
+        whole) [
+          | inl over ↦ omega (arith, over, root)
+          | inr (same_root, more) ↦ omega (arith, more, steps, near)
+        ]
+
+  -- each link of the tree is at a stage, and so is the way in
+  pub turn_settles : (over : ℕ) (before : ℕ → ℕ)
+      (times : Times says g n tree top other last out best base depth t w.time over before) → w'.time ≤ over
+      → TurnSettles says g n tree top other last out best base depth t w.time over before times w'
+  turn_settles over before times late = record {
+    levels = settles_begin says n0 n (IsOf tree) (LeadsOut last out) top best best base depth
+        (turns_moves g n tree top other last out best base depth t) net0 w calm0 invariant0 late0 came0 same w' in_top
+        answer lost refl lanes_so after dark' inward_so before
+        (λ f. let room = times.room f in omega (arith, room, late));
+    way = λ p k joins leads turned. absurd (not_turned p k joins leads turned);
   }
