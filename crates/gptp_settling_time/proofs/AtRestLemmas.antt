@@ -4,7 +4,8 @@ use Rattle.std.proofs.Common.{◌≡◌, ◌≢◌, ◌⊎◌, ◌<◌, ◌≤�
 use native.Mathlib.Decide.{dec_lt}
 use Rattle.gptp_lists.specs.Members.{In}
 use Rattle.gptp_graph.specs.Distance.{IsDistance}
-use Rattle.gptp_graph.specs.Snapshot.{Joins, PortIdentity, Snapshot, System, port_of}
+use Rattle.gptp_graph.specs.PathBound.{BoundsPaths}
+use Rattle.gptp_graph.specs.Snapshot.{IsWellFormed, Joins, PortIdentity, Snapshot, System, port_of}
 use Rattle.gptp_graph.proofs.DistanceLemmas.{IsDistance-unique}
 use Rattle.gptp_graph.proofs.ExistenceLemmas.{distance_exists}
 use Rattle.gptp_graph.proofs.LinkLemmas.{Joins-clock, Joins-sym}
@@ -104,16 +105,15 @@ module _ (n : Network) (net : IsSettlingNetwork n) (near : AllAreNear n.graph) w
   }
 
 -- a system that a link leads farther from is not the last but one of a path
-pub few : (n : Network) (net : IsSettlingNetwork n) (d : ℕ) (best : System) (v p u q : ℕ)
+pub few : (n : Network) → IsWellFormed n.graph → BoundsPaths n.graph n.reach → (d : ℕ) (best : System) (v p u q : ℕ)
     → LeadsFarther n.graph d best v p u q → suc (suc d) ≤ n.reach
-few n net d best v p u q leads = elim leads.farther [
+few n well paths d best v p u q leads = elim leads.farther [
   | inl less ↦
-      let within : leads.far < n.reach =
-      IsDistance-within n.graph n.reach u leads.far net.paths leads.there in
+      let within : leads.far < n.reach = IsDistance-within n.graph n.reach u leads.far paths leads.there in
       omega (arith, less, within)
   | inr (same, lower) ↦
-      equal_within n.graph n.reach v u d net.graph net.paths (suc p, suc q, leads.joins)
-      (net.graph.apart (port_of v (suc p)) (port_of u (suc q)) leads.joins) leads.here
+      equal_within n.graph n.reach v u d well paths (suc p, suc q, leads.joins)
+      (well.apart (port_of v (suc p)) (port_of u (suc q)) leads.joins) leads.here
       (subst (IsDistance n.graph u) (sym same) leads.there)
 ]
 

@@ -255,6 +255,32 @@ module _ (p : SettlingParams) (g : Snapshot) (silent right old : ℕ) (w w' : Wo
 
 -- ---- what is old is gone
 
+-- In a world that has settled, and in which all that is held and in flight is sound, claims are made of all links
+-- always, from each time on by which ports at links are capable, and those without one aren't.
+pub sound_claimed : (p : SettlingParams) (since silent : ℕ) (w : WorldState) → IsStanding p silent w → HaveAskedLong w
+    → HaveAskedBy since w → IsSoundWorld w → IsSettledSeen p w → NothingLapses p.params
+    → (start : ℕ) → since ≤ start → AreSilentBy p start w → IsClaimedAlways p start w
+sound_claimed p since silent w standing asked_long asked sound settled off start past silent_from = record {
+  news = news;
+  heard = asked_heard p start w asked_long;
+  settling = λ m bounded quiet off. always_seen p m start w standing.world sound settled bounded;
+}
+  where
+    news : IsNews p start w
+    news = record {
+      pace = standing.pace;
+      world = standing.world;
+      measured = standing.measured;
+      silent = silent_from;
+      sound = sound;
+      ready = λ at stands.
+          let (first, by, before, x) = asked at stands in
+          let soon = x.is.1 in
+          inl (first, (x.is.0, omega (arith, before, soon, past)));
+      settling = λ m bounded quiet off. news_seen p m start w standing.world sound settled bounded;
+      in_turn = λ m bounded quiet short. absurd (none_short p (paths_with m w) off short);
+    }
+
 module _ (p : SettlingParams) (g : Snapshot) (since silent right old : ℕ) (w : WorldState)
     (is : IsLeftNow p g silent w) (asked : HaveAskedBy since w)
     (sound : HaveQuietLinks p.params w → NothingLapses p.params → BecomesSound p silent right old w)
@@ -272,31 +298,7 @@ module _ (p : SettlingParams) (g : Snapshot) (since silent right old : ℕ) (w :
             absurd (omega (arith, gone, early, by))
       ]
 
-  settled : IsSettledSeen p w
-  settled = settled_now p g silent w is quiet off
-
-  -- So claims are made of all links always, from each time on by which ports at links are capable, and those without
-  -- one aren't.
+  -- so claims are made of all links always
   pub becomes_claimed : (start : ℕ) → since ≤ start → AreSilentBy p start w → IsClaimedAlways p start w
-  becomes_claimed start past silent_from = record {
-    news = news;
-    heard = asked_heard p start w is.asked;
-    settling = λ m bounded quiet off.
-        always_seen p m start w is.standing.world becomes_sound settled bounded;
-  }
-    where
-      news : IsNews p start w
-      news = record {
-        pace = is.standing.pace;
-        world = is.standing.world;
-        measured = is.standing.measured;
-        silent = silent_from;
-        sound = becomes_sound;
-        ready = λ at stands.
-            let (first, by, before, x) = asked at stands in
-            let soon = x.is.1 in
-            inl (first, (x.is.0, omega (arith, before, soon, past)));
-        settling = λ m bounded quiet off.
-            news_seen p m start w is.standing.world becomes_sound settled bounded;
-        in_turn = λ m bounded quiet short. absurd (none_short p (paths_with m w) off short);
-      }
+  becomes_claimed =
+      sound_claimed p since silent w is.standing is.asked asked becomes_sound (settled_now p g silent w is quiet off) off

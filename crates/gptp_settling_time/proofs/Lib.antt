@@ -168,10 +168,10 @@ pub mod LostMadeLemmas
 pub mod LosesVainLemmas
 pub mod CalmStillLemmas
 pub mod LosesLeadLemmas
-pub mod FlightsFitLemmas
 pub mod RightBeginLemmas
 pub mod ToldAnewLemmas
 pub mod TurnedAlwaysLemmas
 pub mod NamesItselfLemmas
 pub mod TreeTurnsLemmas
 pub mod TurnedTreeLemmas
+pub mod TurnedRestLemmas

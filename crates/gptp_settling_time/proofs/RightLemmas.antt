@@ -40,7 +40,7 @@ module _ (says : Spelling) (n : Network) (net : IsSettlingNetwork n) (near : All
           below zero h = absurd (omega (arith, h))
           below (suc m) h = omega (arith, h)
 
-      all_held_right : (i : ℕ) (s : Station) → slice_get w.stations i ≡ Some s → s.live ≡ true → StationIsSound g s
+      pub all_held_right : (i : ℕ) (s : Station) → slice_get w.stations i ≡ Some s → s.live ≡ true → StationIsSound g s
       all_held_right i s at live place r holds =
           held_right says n net near base w x i s place r at live holds (λ from f joins tells less.
           (by_then f less, levels f))
@@ -78,7 +78,7 @@ module _ (says : Spelling) (n : Network) (net : IsSettlingNetwork n) (near : All
                   let close = close_to n net near l.from.clock e from_far in
                   let link = x.rest.links e from_far.best l.from.clock p
                   l.to.clock q close leads in
-                  let short = few n net e from_far.best l.from.clock p l.to.clock q leads in
+                  let short = few n net.graph net.paths e from_far.best l.from.clock p l.to.clock q leads in
                   let (held, all) = link_right says n net near base w x e from_far.best l.from.clock p l.to.clock q
                   close leads (levels e) (by_then e short) link.pv link.pu link.lane link.stand in
                   let has = x.calm.lanes (port_of l.from.clock (suc p)) (port_of l.to.clock (suc q)) leads.joins in

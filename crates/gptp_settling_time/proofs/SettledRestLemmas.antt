@@ -29,13 +29,13 @@ module _ (says : Spelling) (n : Network) (net : IsSettlingNetwork n) (w : Machin
     known = Joins-clock n.graph (port_of v (suc p)) (port_of u (suc q)) net.graph leads.joins
 
     passed : since n (suc d) ≤ w.time
-    passed = by_then_at says n net w calm invariant late (suc d) (few n net d best v p u q leads)
+    passed = by_then_at says n net w calm invariant late (suc d) (few n net.graph net.paths d best v p u q leads)
 
     choose : AllChoose n w d
     choose =
         all_choose says n net w calm invariant late d close
         (by_then_at says n net w calm invariant late d
-        (let less = few n net d best v p u q leads in omega (arith, less)))
+        (let less = few n net.graph net.paths d best v p u q leads in omega (arith, less)))
 
     claimed : n.claimed d (port_of v (suc p)) ≤ w.time
     claimed =

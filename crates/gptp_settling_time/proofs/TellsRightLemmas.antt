@@ -179,7 +179,7 @@ module _ (says : Spelling) (n : Network) (net : IsSettlingNetwork n) (near : All
                     s.clock
                     place close leads in
                     let (late, level) = ready from f joins tells
-                    (few n net f tells.here.best from.clock p s.clock place leads) in
+                    (few n net.graph net.paths f tells.here.best from.clock p s.clock place leads) in
                     let (right, all) = link_right f tells.here.best from.clock p s.clock place close leads level late
                     link.pv link.pu link.lane link.stand in
                     let one : link.stand.u ≡ s =

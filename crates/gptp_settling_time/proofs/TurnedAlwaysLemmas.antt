@@ -1,7 +1,6 @@
 -- A world since one system was moved: it settles, and then traces are told anew. So claims are made of it as of one
 -- since news.
 use Rattle.std.proofs.Common.{◌≡◌, ◌<◌, ◌≤◌, ◌+◌, ◌*◌, ℕ, zero, suc, pred, List, refl, sym, ap, subst, inl, inr, arith}
-use Rattle.gptp_lists.specs.Members.{In}
 use Rattle.gptp_graph.specs.Best.{IsBest}
 use Rattle.gptp_graph.specs.Distance.{IsDistance}
 use Rattle.gptp_graph.specs.PathBound.{path_bound}
@@ -16,7 +15,6 @@ use Rattle.gptp_model.specs.Pending.{NothingBefore}
 use Rattle.gptp_model.specs.World.{WorldState}
 use Rattle.gptp_model.specs.declared.done.Done.{Done}
 use Rattle.gptp_bmca_machine.specs.Acts.{MachineSteps}
-use Rattle.gptp_bmca_machine.specs.LossLaws.{EverythingFits}
 use Rattle.gptp_bmca_machine.specs.Network.{Network}
 use Rattle.gptp_bmca_machine.specs.Sound.{ReceivedFits}
 use Rattle.gptp_bmca_machine.specs.SoundLaws.{AllAreNear}
@@ -27,15 +25,17 @@ use Rattle.gptp_invariants.specs.ChoiceView.{says_announce, view}
 use Rattle.gptp_invariants.specs.WorldEncodableLaws.{SetsAnOctet}
 use Rattle.gptp_invariants.specs.WorldNews.{AreSilentBy}
 use Rattle.gptp_invariants.specs.WorldStanding.{snapshot_of}
-use Rattle.gptp_invariants.proofs.ChoiceCalmKeptLemmas.{KeepsNetwork, acts_keep, delay_kept}
+use Rattle.gptp_invariants.proofs.ChoiceCalmKeptLemmas.{KeepsNetwork, acts_keep}
 use Rattle.gptp_invariants.proofs.ChoiceSeenActLemmas.{acts_seen}
 use Rattle.gptp_invariants.proofs.ChoiceSettlesAsMachineLemmas.{paths_bound}
 use Rattle.gptp_invariants.proofs.WorldNewsCourseLemmas.{later_keeps}
 use Rattle.gptp_settling_time.proofs.AlwaysClaimedLemmas.{IsClaimedAlways}
-use Rattle.gptp_settling_time.proofs.LeftClaimedLemmas.{HaveAskedBy, asked_acts, asked_later}
-use Rattle.gptp_settling_time.proofs.MovedAlwaysLemmas.{IsMovedAlways, moved_acts, moved_later, moved_seen, turned_by}
+use Rattle.gptp_settling_time.proofs.LeftClaimedLemmas.{HaveAskedBy, asked_acts, asked_later, left_net, left_network}
+use Rattle.gptp_settling_time.proofs.MovedAlwaysLemmas.{IsMovedAlways, calm_now, moved_acts, moved_later, moved_seen, nothing_held, turned_by}
 use Rattle.gptp_settling_time.proofs.MovedLemmas.{best_before, received_then}
 use Rattle.gptp_settling_time.proofs.NamesItselfLemmas.{AllNameItself}
+use Rattle.gptp_settling_time.proofs.SettledSeenLemmas.{stage_settled}
+use Rattle.gptp_settling_time.proofs.TellsRightLemmas.{IsSettledState, settled_state}
 use Rattle.gptp_settling_time.proofs.ToldAnewLemmas.{SettlesOnce, TellsOnce, once_claimed, same_way, tells_begins, tells_on, way_in}
 use Rattle.gptp_settling_time.proofs.TurnLemmas.{starts_far}
 
@@ -78,36 +78,51 @@ module _ (p : SettlingParams) (g : Snapshot) (silent start : ℕ) (w : WorldStat
   two_delays : 2 * delay_in w ≤ way_in w
   two_delays = two_at_least (path_bound (snapshot_of w)) (delay_in w) is.e far reaches
 
+  -- what was told before is gone within one
   most : is.n.most ≡ delay_in w
   most = ap (λ (z : Network). z.most) (sym is.same)
 
-  -- it settles a way later
-  moved_once : SettlesOnce p g silent (start + delay_in w) (start + way_in w) w
+  -- links are at rest a way later
+  state : HaveQuietLinks p.params w → NothingLapses p.params → start + way_in w < w.time
+      → IsSettledState says_announce (left_network p silent w) (view w)
+  state quiet off late =
+      let n = left_network p silent w in
+      let seen = moved_seen p g silent start w is quiet off (omega (arith, late)) in
+      let (m, each) = is.seen quiet off in
+      let same = most in
+      let two = two_delays in
+      let received : ReceivedFits (snapshot_of w) (view w) =
+      subst (λ (z : Network). ReceivedFits z.graph (view w)) (sym is.same)
+      (received_then says_announce g is.n is.x is.d is.e is.best is.turns (start + is.n.most) (turned_by is.n start)
+      (view w) m (omega (arith, same, two, late)) each) in
+      settled_state says_announce n (left_net p silent w world)
+      (subst (λ (z : Network). AllAreNear z.graph) (sym is.same) is.turns.near) (view w)
+      (calm_now p silent w is.standing is.asked quiet is.past)
+      (record {
+        sound = λ now. received;
+        levels = λ d best v pp u q near leads.
+            stage_settled p w seen n seen.graph (record {
+              place = seen.same.place;
+              lane = seen.same.lane;
+              log = seen.same.log;
+              interval = seen.same.interval;
+            }) d best v pp u q near leads;
+      }) (omega (arith, late)) (nothing_held p silent w is.standing is.asked quiet is.past)
+
+  moved_once : SettlesOnce p g silent (start + way_in w) w
   moved_once = record {
     standing = is.standing;
     asked = is.asked;
     past = is.past;
-    late = is.late;
     near = subst (λ (z : Network). AllAreNear z.graph) (sym is.same) is.turns.near;
     long = omega arith;
-    room = let two = two_delays in omega (arith, two);
     was = λ v u best joined is_best here.
         best_before says_announce g is.n is.x is.d is.e is.best is.turns v best
         (subst (λ (z : Network). IsBest z.graph v best) is.same is_best);
     itself = λ quiet off.
         subst (λ z. AllNameItself says_announce z g (view w)) (sym is.same) (is.seen quiet off).0.itself;
-    received = received;
-    seen = λ quiet off late. moved_seen p g silent start w is quiet off (omega (arith, late));
+    state = state;
   }
-    where
-      received : HaveQuietLinks p.params w → NothingLapses p.params → start + delay_in w < w.time
-          → ReceivedFits (snapshot_of w) (view w)
-      received quiet off late =
-          let (m, each) = is.seen quiet off in
-          let same = most in
-          subst (λ (z : Network). ReceivedFits z.graph (view w)) (sym is.same)
-          (received_then says_announce g is.n is.x is.d is.e is.best is.turns (start + is.n.most)
-          (turned_by is.n start) (view w) m (omega (arith, same, late)) each)
 
 -- ---- it goes on
 
@@ -118,15 +133,12 @@ module _ (p : SettlingParams) (g : Snapshot) (silent start : ℕ) (w w' : WorldS
   turned_step : IsTurnedAlways p g silent start w'
   turned_step =
       let same = same_way w w' keeps in
-      let delay : delay_in w' ≡ delay_in w = delay_kept w w' keeps in
       record {
         moved = moved';
         asked = asked';
-        tells = tells_on p g silent start (start + delay_in w') (start + way_in w') w w'
-            (subst (λ m. SettlesOnce p g silent (start + m) (start + way_in w') w) (sym delay)
-            (subst (λ way. SettlesOnce p g silent (start + delay_in w) (start + way) w) (sym same)
-            (moved_once p g silent start w is.moved)))
-            (moved_once p g silent start w' moved') is.asked asked'
+        tells = tells_on p g silent (start + way_in w') w w'
+            (subst (λ way. SettlesOnce p g silent (start + way) w) (sym same) (moved_once p g silent start w is.moved))
+            (moved_once p g silent start w' moved')
             (subst (λ way. TellsOnce p silent (start + way) w) (sym same) is.tells) keeps step;
       }
 
@@ -151,20 +163,13 @@ turned_acts p g silent start act w draws done w' none octet acts is =
 
 -- ---- it begins
 
--- as a link goes down by which no system is lost
+-- as the link goes down
 pub anew_begins : (p : SettlingParams) (g : Snapshot) (silent start : ℕ) (w : WorldState)
-    → IsMovedAlways p g silent start w → w.time ≡ start → w.last_change ≡ start
-    → ((v : ℕ) → In v (clocks g) → In v (clocks (snapshot_of w))) → IsTurnedAlways p g silent start w
-anew_begins p g silent start w moved now last stays = record {
+    → IsMovedAlways p g silent start w → w.time ≡ start → w.last_change ≡ start → IsTurnedAlways p g silent start w
+anew_begins p g silent start w moved now last = record {
   moved = moved;
   asked = subst (λ t. HaveAskedBy t w) last moved.asked;
-  tells =
-      let two = two_delays p g silent start w moved in
-      tells_begins p g silent (start + delay_in w) (start + way_in w) w (moved_once p g silent start w moved)
-      moved.turns.left.graph
-      (λ quiet off. subst (λ z. EverythingFits says_announce g z (view w)) (sym moved.same)
-      (moved.seen quiet off).0.fits)
-      (omega (arith, now, two)) stays;
+  tells = tells_begins p silent (start + way_in w) w (omega (arith, now));
 }
 
 -- ---- rest
@@ -175,5 +180,5 @@ pub turned_claimed : (p : SettlingParams) (g : Snapshot) (silent start : ℕ) (w
     → start + way_in w + pred (path_bound (snapshot_of w)) * (largest_interval p + delay_in w) < w.time
     → (begin : ℕ) → start ≤ begin → AreSilentBy p begin w → IsClaimedAlways p begin w
 turned_claimed p g silent start w is quiet off over begin later silent_by =
-    once_claimed p g silent start (start + delay_in w) (start + way_in w) w (moved_once p g silent start w is.moved)
-    is.asked is.tells (several p g silent start w is.moved) quiet off over begin later silent_by
+    once_claimed p g silent start (start + way_in w) w (moved_once p g silent start w is.moved) is.asked is.tells
+    (several p g silent start w is.moved) quiet off over begin later silent_by
