@@ -175,3 +175,4 @@ pub mod NamesItselfLemmas
 pub mod TreeTurnsLemmas
 pub mod TurnedTreeLemmas
 pub mod TurnedRestLemmas
+pub mod TurnedTreeRestLemmas
