@@ -6,7 +6,6 @@
 
 mod bounds;
 mod chosen;
-mod cut_trees;
 mod far;
 mod kinds;
 mod links;

@@ -11,7 +11,6 @@ use crate::bounds::{Loss, SettlingTime, announce_interval, heard, ready, times_b
 use crate::chosen::{
     Chosen, Ends, any_counted, any_moved, choose, copy_systems, ends_in_use, ends_of,
 };
-use crate::cut_trees::cuts_trees;
 use crate::far::{all_cut_far_ends, are_far, up_is_used};
 use crate::kinds::{Told, sets_bounds, sets_link, takes_one, tell};
 use crate::links::{delay_set, longest_among, lost_among, mark_used, new_links};
@@ -131,7 +130,6 @@ impl Walk {
             turned,
             falls: rested && cuts_tree(&systems, &lost, &links, &before, &now),
             tree_turns: rested && turns_tree(&systems, &lost, &links, &before, &now),
-            trees_fall: rested && cuts_trees(&systems, &lost, &links, &before, &now),
             far: are_far(&self.systems_before, &before, &links_before, &self.told),
         })
     }
@@ -156,7 +154,6 @@ impl Walk {
                 turned: false,
                 falls: false,
                 tree_turns: false,
-                trees_fall: false,
                 far: false,
             })
         }

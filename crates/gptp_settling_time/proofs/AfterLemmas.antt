@@ -32,7 +32,7 @@ use Rattle.gptp_theorem.proofs.CalmLemmas.{pace_stands, quiet_stands}
 use Rattle.gptp_theorem.proofs.SyncPathLemmas.{paths_stand}
 use Rattle.gptp_settling_time.specs.ChoiceAlone.{ChoiceStands}
 use Rattle.gptp_settling_time.specs.Exactly.{SettlesBy}
-use Rattle.gptp_settling_time.specs.InTurn.{Aging, AnyPast, BeginsBy, ChoosesAfter, Cleared, Fallen, Gained, Heard, IsTakenAs, Left, Lost, Past, RestsFrom, SettlesAfter, Starting, Turned}
+use Rattle.gptp_settling_time.specs.InTurn.{Aging, AnyPast, BeginsBy, ChoosesAfter, Cleared, Fallen, Gained, Heard, IsTakenAs, Left, Lost, Past, RestsFrom, SettlesAfter, Starting, Turned, TurnedTree}
 use Rattle.gptp_settling_time.proofs.AgingToLemmas.{IsAgingTo, aging_to_act, aging_to_chooses, aging_to_claimed, aging_to_later, aging_to_settled}
 use Rattle.gptp_settling_time.proofs.BegunLemmas.{begun_keeps}
 use Rattle.gptp_settling_time.proofs.ClaimedToLemmas.{IsClaimedTo, claimed_act, claimed_later, claimed_settled}
@@ -41,6 +41,7 @@ use Rattle.gptp_settling_time.proofs.KeptToLemmas.{IsNewsTo, KeepsTo, keeps_act,
 use Rattle.gptp_settling_time.proofs.LeftToLemmas.{IsLeftTo, left_to_act, left_to_chooses, left_to_later, left_to_settled}
 use Rattle.gptp_settling_time.proofs.FallenToLemmas.{IsFallenTo, fallen_to_act, fallen_to_claimed, fallen_to_later, fallen_to_settled}
 use Rattle.gptp_settling_time.proofs.LostToLemmas.{IsLostTo, lost_to_act, lost_to_chooses, lost_to_claimed, lost_to_later, lost_to_settled}
+use Rattle.gptp_settling_time.proofs.TurnedTreeToLemmas.{IsTurnedTreeTo, turned_tree_to_act, turned_tree_to_later, turned_tree_to_settled}
 use Rattle.gptp_settling_time.proofs.TurnedToLemmas.{IsTurnedTo, turned_to_act, turned_to_claimed, turned_to_later, turned_to_settled}
 use Rattle.gptp_settling_time.proofs.StartEventLemmas.{IsStartingTo, begun_soon_claimed, begun_soon_news, starting_act, starting_begins, starting_later}
 use Rattle.gptp_settling_time.proofs.TimedNewsLemmas.{CanSettle, has_settled}
@@ -54,6 +55,7 @@ IsAfter d events (Heard start) w = IsClaimedTo d events start w
 IsAfter d events (Left start) w = IsLeftTo d events start w
 IsAfter d events (Turned silent now) w = IsTurnedTo d events silent now w
 IsAfter d events (Fallen silent now) w = IsFallenTo d events silent now w
+IsAfter d events (TurnedTree silent now) w = IsTurnedTreeTo d events silent now w
 IsAfter d events (Cleared since silent right old) w = IsClearedTo d events since silent right old w
 IsAfter d events (Aging ago aged silent) w = IsAgingTo d ago events aged silent w
 IsAfter d events (Lost since most silent) w = IsLostTo d events since most silent w
@@ -67,6 +69,7 @@ module _ (d : DocumentState) (events : List Timed) where
   after_keeps (Left start) w so = so.keeps
   after_keeps (Turned silent now) w so = so.keeps
   after_keeps (Fallen silent now) w so = so.keeps
+  after_keeps (TurnedTree silent now) w so = so.keeps
   after_keeps (Cleared since silent right old) w so = so.keeps
   after_keeps (Aging ago aged silent) w so = so.keeps
   after_keeps (Lost since most silent) w so = so.keeps
@@ -80,6 +83,8 @@ module _ (d : DocumentState) (events : List Timed) where
   after_later (Left start) w time later first so = left_to_later d events start w time later first so
   after_later (Turned silent now) w time later first so = turned_to_later d events silent now w time later first so
   after_later (Fallen silent now) w time later first so = fallen_to_later d events silent now w time later first so
+  after_later (TurnedTree silent now) w time later first so =
+      turned_tree_to_later d events silent now w time later first so
   after_later (Cleared since silent right old) w time later first so = cleared_to_later d events since silent right old
       w time later first so
   after_later (Aging ago aged silent) w time later first so =
@@ -103,6 +108,8 @@ module _ (d : DocumentState) (events : List Timed) where
       turned_to_act d events silent now answers t fate drawn w next was so
   after_act answers (Fallen silent now) t fate drawn w next was so =
       fallen_to_act d events silent now answers t fate drawn w next was so
+  after_act answers (TurnedTree silent now) t fate drawn w next was so =
+      turned_tree_to_act d events silent now answers t fate drawn w next was so
   after_act answers (Cleared since silent right old) t fate drawn w next was so =
       cleared_to_act d events since silent right old answers t fate drawn w next was so
   after_act answers (Aging ago aged silent) t fate drawn w next was so =
@@ -123,6 +130,7 @@ module _ (d : DocumentState) (playable : IsPlayable d) (events : List Timed) (w 
   rests_from (Left silent) start none so = absurd none
   rests_from (Turned silent now) start rest so = turned_to_claimed d events silent now w start so playable rest
   rests_from (Fallen silent now) start rest so = fallen_to_claimed d events silent now w start so playable rest
+  rests_from (TurnedTree silent now) start none so = absurd none
   rests_from (Cleared since silent right old) start rest so =
       cleared_to_claimed d events since silent right old w start so playable rest
   rests_from (Aging ago aged silent) start rest so =
@@ -156,6 +164,7 @@ begins_after answers d playable fate until first w ts k (Heard start) (little, b
 begins_after answers d playable fate until first w ts k (Left start) none = absurd none
 begins_after answers d playable fate until first w ts k (Turned silent now) none = absurd none
 begins_after answers d playable fate until first w ts k (Fallen silent now) none = absurd none
+begins_after answers d playable fate until first w ts k (TurnedTree silent now) none = absurd none
 begins_after answers d playable fate until first w ts k (Cleared since silent right old) none = absurd none
 begins_after answers d playable fate until first w ts k (Aging ago aged silent) none = absurd none
 begins_after answers d playable fate until first w ts k (Lost since most silent) none = absurd none
@@ -248,6 +257,10 @@ module _ (d : DocumentState) (playable : IsPlayable d) (all : List Timed) (calm 
       fallen_to_settled d all silent now w so playable calm off
       (subst (λ (x : SyncPaths). now + 1 + 2 * (pred x.systems * x.delay) ≤ w.time) (paths so.keeps)
       (omega (arith, passed, on)))
+  after_settles (TurnedTree silent now) so (off, passed) =
+      turned_tree_to_settled d all silent now w so playable calm off
+      (subst (λ (x : SyncPaths). now + 1 + 2 * (pred x.systems * x.delay) ≤ w.time) (paths so.keeps)
+      (omega (arith, passed, on)))
   after_settles (Cleared since silent right old) so (off, inl passed) =
       left_to_settled d all silent w (cleared_left d all since silent right old w so) playable calm off
       (inl (omega (arith, passed, on)))
@@ -276,6 +289,8 @@ module _ (d : DocumentState) (playable : IsPlayable d) (all : List Timed) (calm 
   after_chooses (Left silent) so off = left_to_chooses d all silent w so playable calm off
   after_chooses (Turned silent now) so settles = chooses_so (after_settles (Turned silent now) so settles).0
   after_chooses (Fallen silent now) so settles = chooses_so (after_settles (Fallen silent now) so settles).0
+  after_chooses (TurnedTree silent now) so settles =
+      chooses_so (after_settles (TurnedTree silent now) so settles).0
   after_chooses (Cleared since silent right old) so off =
       left_to_chooses d all silent w (cleared_left d all since silent right old w so) playable calm off
   after_chooses (Aging ago aged silent) so (off, inl gone) =

@@ -1,7 +1,6 @@
 -- The act by which a link goes down that cuts a tree off: from then on the tree falls back.
-use Rattle.std.proofs.Common.{◌≡◌, ◌≢◌, ◌⊎◌, ◌≤◌, ◌+◌, ℕ, zero, suc, true, List, Some, slice_get, refl, sym, ap, subst, ◌∙◌, inl, inr, arith}
+use Rattle.std.proofs.Common.{◌≡◌, ◌≢◌, ◌⊎◌, ◌≤◌, ◌+◌, ℕ, true, List, Some, slice_get, refl, sym, ap, subst, ◌∙◌, inl, inr, arith}
 use Rattle.gptp_lists.specs.Members.{In}
-use native.Mathlib.Decide.{ℕ_discrete}
 use Rattle.gptp_graph.specs.Best.{IsBest}
 use Rattle.gptp_graph.specs.PathBound.{path_bound}
 use Rattle.gptp_graph.specs.Snapshot.{IsWellFormed, PortIdentity, System, clocks, port_of}
@@ -18,7 +17,6 @@ use Rattle.gptp_scenario.specs.declared.change.Change.TheVariants.{LinkDown}
 use Rattle.gptp_setup.specs.SettlingParams.{SettlingParams}
 use Rattle.gptp_system.specs.Input.{PortDown}
 use Rattle.gptp_system.specs.State.{clock}
-use Rattle.gptp_system.specs.Steps.{HasPortNumber}
 use Rattle.gptp_model.specs.Acts.{Acts}
 use Rattle.gptp_model.specs.Changing.{TellsEnds, taken_down}
 use Rattle.gptp_model.specs.World.{Channel, WorldState, receiver, sender}
@@ -33,15 +31,13 @@ use Rattle.gptp_bmca_machine.specs.SoundLaws.{AllAreNear, UnlinkedAreOff}
 use Rattle.gptp_bmca_machine.specs.Station.{Station as SeenStation}
 use Rattle.gptp_bmca_machine.proofs.FallEndLemmas.{FallsOff}
 use Rattle.gptp_bmca_machine.proofs.LinkStepLemmas.{lives_at}
-use Rattle.gptp_bmca_machine.proofs.PlaceLemmas.{same_there as machine_there}
 use Rattle.gptp_invariants.specs.ChoiceCalm.{HaveQuietLinks, delay_in}
 use Rattle.gptp_invariants.specs.ChoiceSettlesAsMachine.{IsWorld}
-use Rattle.gptp_invariants.specs.ChoiceView.{says_announce, station_view, view}
+use Rattle.gptp_invariants.specs.ChoiceView.{says_announce, view}
 use Rattle.gptp_invariants.specs.DelayMeasured.{LinkIsMeasured}
 use Rattle.gptp_invariants.specs.WorldNews.{AreReadyBy, AreSilentBy}
 use Rattle.gptp_invariants.specs.WorldSound.{IsSoundWorld}
 use Rattle.gptp_invariants.specs.WorldStanding.{snapshot_of}
-use Rattle.gptp_invariants.proofs.ChoicePlaceLemmas.{station_there}
 use Rattle.gptp_invariants.proofs.ChoiceSendLemmas.{world_apart}
 use Rattle.gptp_invariants.proofs.ChoiceSettlesAsMachineLemmas.{paths_bound}
 use Rattle.gptp_invariants.proofs.WorldStandsLemmas.{stands_well}
@@ -56,9 +52,9 @@ use Rattle.gptp_settling_time.proofs.FallDownLemmas.{FlightNames, OffSettles, tr
 use Rattle.gptp_settling_time.proofs.LeftClaimedLemmas.{HaveAskedLong, left_network}
 use Rattle.gptp_settling_time.proofs.LoweredLemmas.{ends, known, less_then, ready_on, still_joins, wires}
 use Rattle.gptp_settling_time.proofs.MovedAlwaysLemmas.{after_loss, dark_now}
-use Rattle.gptp_settling_time.proofs.OneEndLemmas.{turns_a, turns_b}
 use Rattle.gptp_settling_time.proofs.ReducedLemmas.{NearerStay}
 use Rattle.gptp_settling_time.proofs.SettledSeenLemmas.{IsSettledSeen}
+use Rattle.gptp_settling_time.proofs.TreeEndLemmas.{TopAnswers, top_answers}
 use Rattle.gptp_settling_time.proofs.TakenDownLemmas.{silent_down, told_keeps}
 use Rattle.gptp_settling_time.proofs.TreeSoundBeginLemmas.{outside_begins}
 use Rattle.gptp_settling_time.proofs.TreeSoundLemmas.{IsSoundOutside}
@@ -124,7 +120,8 @@ module _ (p : SettlingParams) (w : WorldState) (is : IsWorld p w) (place : ℕ) 
 
     begins : HaveQuietLinks p.params w' → NothingLapses p.params
         → FallsOff says_announce (snapshot_of w) n top best next base depth tree w.time (view w')
-        × OffSettles says_announce (snapshot_of w) n top best next base depth tree w.time (settles_by n w.time) (view w')
+        × OffSettles says_announce (snapshot_of w) n top best next base depth tree w.time (settles_by n w.time)
+        (view w')
     begins quiet' off =
         subst (λ h. (t : CutsTree h n top best next base depth) → (Unmoved h n top → ⊥)
         → IsSoundEverywhere says_announce h (view w) → FlightNames says_announce h (view w)
@@ -224,11 +221,12 @@ module _ (p : SettlingParams) (silent owner port : ℕ) (w : WorldState) (draws 
   -- both ends live, and one of them is the top of a tree
   module _ (live : (direction : Direction) (at : ℕ) (station : Station) → slice_get w.stations at ≡ Some station
       → clock station.system ≡ (sender direction acts.1.channel).clock → station.live ≡ true)
-      (top other : ℕ) (best next : System) (base : ℕ) (depth : ℕ → ℕ)
-      (so : IsCutTree (snapshot_of w) (snapshot_of w') top other best next base depth)
+      (top_at other : ℕ) (best next : System) (base : ℕ) (depth : ℕ → ℕ)
+      (so : IsCutTree (snapshot_of w) (snapshot_of w') top_at other best next base depth)
       (few : path_bound (snapshot_of w') ≤ 255)
-      (ends_are : ((channel.a.clock ≡ top) × (channel.b.clock ≡ other))
-      ⊎ ((channel.b.clock ≡ top) × (channel.a.clock ≡ other))) (late : delay_in w' ≤ w'.time) (sound : IsSoundWorld w)
+      (ends_are : ((channel.a.clock ≡ top_at) × (channel.b.clock ≡ other))
+      ⊎ ((channel.b.clock ≡ top_at) × (channel.a.clock ≡ other))) (late : delay_in w' ≤ w'.time)
+      (sound : IsSoundWorld w)
       (named : FlightNames says_announce (snapshot_of w) (view w)) where
     well : IsWellFormed (snapshot_of w)
     well = stands_well w is.sound is.between is.encodable
@@ -237,7 +235,7 @@ module _ (p : SettlingParams) (silent owner port : ℕ) (w : WorldState) (draws 
     well' = stands_well w' is'.sound is'.between is'.encodable
 
     -- what the machine knows of it
-    tree : CutsTree (snapshot_of w) (left_network p silent w') top best next base depth
+    tree : CutsTree (snapshot_of w) (left_network p silent w') top_at best next base depth
     tree =
         let less = less_then p w is acts.1.place channel here draws w' is' told seen near in
         record {
@@ -255,7 +253,7 @@ module _ (p : SettlingParams) (silent owner port : ℕ) (w : WorldState) (draws 
               let one = IsDistance-unique (snapshot_of w) v (base + depth v) far well was there in
               omega (arith, one, close);
           deep = λ v in_v.
-              deep_within (snapshot_of w) (snapshot_of w') well well' top other best next base depth so
+              deep_within (snapshot_of w) (snapshot_of w') well well' top_at other best next base depth so
               (left_network p silent w').reach (paths_bound p w' is') v in_v;
           first = so.first;
           lost = so.lost;
@@ -267,7 +265,7 @@ module _ (p : SettlingParams) (silent owner port : ℕ) (w : WorldState) (draws 
 
     -- these are the ends of the link
     ends_of : (way : Direction) (v u : ℕ) → v ≡ (sender way channel).clock → u ≡ (receiver way channel).clock
-        → ((v ≡ top) × (u ≡ other)) ⊎ ((v ≡ other) × (u ≡ top))
+        → ((v ≡ top_at) × (u ≡ other)) ⊎ ((v ≡ other) × (u ≡ top_at))
     ends_of FromA v u from to = elim ends_are [
       | inl (is_a, is_b) ↦ inl (from ∙ is_a, to ∙ is_b)
       | inr (is_b, is_a) ↦ inr (from ∙ is_a, to ∙ is_b)
@@ -278,7 +276,7 @@ module _ (p : SettlingParams) (silent owner port : ℕ) (w : WorldState) (draws 
     ]
 
     -- all else is left
-    left_but : HasAllButLink (snapshot_of w) (snapshot_of w') top other
+    left_but : HasAllButLink (snapshot_of w) (snapshot_of w') top_at other
     left_but = record {
       systems = λ s member.
           subst (In s)
@@ -292,22 +290,6 @@ module _ (p : SettlingParams) (silent owner port : ℕ) (w : WorldState) (draws 
           ];
     }
 
-    live_a : told.station_a.live ≡ true
-    live_a = live FromA told.place_a told.station_a told.is_a.here told.is_a.named
-
-    live_b : told.station_b.live ≡ true
-    live_b = live FromB told.place_b told.station_b told.is_b.here told.is_b.named
-
-    end_known : (way : Direction) → In (sender way channel).clock (clocks (snapshot_of w'))
-    end_known FromA =
-        subst (λ c. In c (clocks (snapshot_of w'))) told.is_a.named
-        (known p w is acts.1.place channel here draws w' is' told seen near FromA told.place_a told.station_a
-        told.is_a.here told.is_a.named live_a)
-    end_known FromB =
-        subst (λ c. In c (clocks (snapshot_of w'))) told.is_b.named
-        (known p w is acts.1.place channel here draws w' is' told seen near FromB told.place_b told.station_b
-        told.is_b.here told.is_b.named live_b)
-
     -- the other end is unmoved, and so are its neighbours
     other_stays : In other (clocks (snapshot_of w'))
         → IsUnmoved (snapshot_of w) (snapshot_of w') other × NearerStay (snapshot_of w) (snapshot_of w') other
@@ -319,79 +301,22 @@ module _ (p : SettlingParams) (silent owner port : ℕ) (w : WorldState) (draws 
           (Adjacent-sym (snapshot_of w') other y joined) in_y))),
     )
 
-    stays_by : (way : Direction) → (sender way channel).clock ≡ other
-        → IsUnmoved (snapshot_of w) (snapshot_of w') (sender way channel).clock
-        × NearerStay (snapshot_of w) (snapshot_of w') (sender way channel).clock
-    stays_by way is_other =
-        subst (λ v. IsUnmoved (snapshot_of w) (snapshot_of w') v × NearerStay (snapshot_of w) (snapshot_of w') v)
-        (sym is_other)
-        (other_stays (subst (λ c. In c (clocks (snapshot_of w'))) is_other (end_known way)))
-
-    stays : (way : Direction) → (sender way channel).clock ≢ top
-        → IsUnmoved (snapshot_of w) (snapshot_of w') (sender way channel).clock
-        × NearerStay (snapshot_of w) (snapshot_of w') (sender way channel).clock
-    stays FromA apart = elim ends_are [
-      | inl (is_a, is_b) ↦ absurd (apart is_a)
-      | inr (is_b, is_a) ↦ stays_by FromA is_a
-    ]
-    stays FromB apart = elim ends_are [
-      | inl (is_a, is_b) ↦ stays_by FromB is_b
-      | inr (is_b, is_a) ↦ absurd (apart is_b)
-    ]
-
-    begins_so : (lost place : ℕ) → EndAnswers says_announce (left_network p silent w') top lost place (view w) (view w')
-        → ((m : SeenStation) → slice_get (view w').stations place ≡ Some m → m.live ≡ true
-        → IsBest (snapshot_of w') m.clock next → ⊥) → IsFallenAlways p (snapshot_of w) silent w.time w'
-    begins_so lost place a outside =
-        fallen_begins p w is acts.1.place channel here draws w' is' told seen near silent top best next base depth tree
-        so.in_top lost place a outside pace measured' past late sound named still_ready quiet_by other left_but
-        so.outside
+    top : TopAnswers p silent w is acts.1.place channel here draws w' is' told seen near live top_at other ends_are
+        other_stays
+    top =
+        top_answers p silent w is acts.1.place channel here draws w' is' told seen near live top_at other ends_are
+        other_stays
 
     -- what stands at the other end isn't of the tree
-    not_tree : (lost place : ℕ) (station : Station) → slice_get w.stations place ≡ Some station
-        → clock station.system ≡ other
-        → EndAnswers says_announce (left_network p silent w') top lost place (view w) (view w') → (m : SeenStation)
-        → slice_get (view w').stations place ≡ Some m → m.live ≡ true → IsBest (snapshot_of w') m.clock next → ⊥
-    not_tree lost place station stands is_other a m at lives in_m = elim (ℕ_discrete place ((left_network p silent
-        w').place top)) [
-          | yes same ↦
-              let one = machine_there (view w).stations place (station_view station) a.s
-              (station_there w.stations place station stands)
-              (subst (λ i. slice_get (view w).stations i ≡ Some a.s) (sym same) a.here) in
-              so.outside (subst (λ c. IsBest (snapshot_of w') c next)
-              (sym a.named ∙ ap (λ (z : SeenStation). z.clock) (sym one) ∙ is_other) so.in_top)
-          | no apart ↦
-              let (old, stood, less) = a.others place m at lives apart in
-              let one = machine_there (view w).stations place old (station_view station) stood
-              (station_there w.stations place station stands) in
-              so.outside (subst (λ c. IsBest (snapshot_of w') c next)
-              (less.clock ∙ ap (λ (z : SeenStation). z.clock) one ∙ is_other) in_m)
-        ]
-
-    by_a : channel.a.clock ≡ top → channel.b.clock ≡ other → (i : ℕ) → channel.a.port ≡ i
-        → HasPortNumber told.station_a.system i → IsFallenAlways p (snapshot_of w) silent w.time w'
-    by_a is_a is_b zero number of = absurd (let least = of.least in omega (arith, least))
-    by_a is_a is_b (suc i) number of =
-        let a = turns_a p w is acts.1.place channel here draws w' is' told seen near silent top stays live_a live_b
-        is_a i number in
-        begins_so i told.place_b a
-        (not_tree i told.place_b told.station_b told.is_b.here (told.is_b.named ∙ is_b) a)
-
-    by_b : channel.b.clock ≡ top → channel.a.clock ≡ other → (i : ℕ) → channel.b.port ≡ i
-        → HasPortNumber told.station_b.system i → IsFallenAlways p (snapshot_of w) silent w.time w'
-    by_b is_b is_a zero number of = absurd (let least = of.least in omega (arith, least))
-    by_b is_b is_a (suc i) number of =
-        let a = turns_b p w is acts.1.place channel here draws w' is' told seen near silent top stays live_a live_b
-        is_b i number in
-        begins_so i told.place_a a
-        (not_tree i told.place_a told.station_a told.is_a.here (told.is_a.named ∙ is_a) a)
+    not_tree : (m : SeenStation) → slice_get (view w').stations top.at ≡ Some m → m.live ≡ true
+        → IsBest (snapshot_of w') m.clock next → ⊥
+    not_tree m at lives in_m = elim (top.end m at lives) [
+      | inl same ↦ so.outside (subst (λ c. IsBest (snapshot_of w') c next) same so.in_top)
+      | inr is_other ↦ so.outside (subst (λ c. IsBest (snapshot_of w') c next) is_other in_m)
+    ]
 
     pub act_fallen : IsFallenAlways p (snapshot_of w) silent w.time w'
-    act_fallen = elim ends_are [
-      | inl (is_a, is_b) ↦ by_a is_a is_b channel.a.port refl
-          (is.sound.wired.ports acts.1.place told.place_a FromA channel told.station_a here told.is_a.here
-          told.is_a.named)
-      | inr (is_b, is_a) ↦ by_b is_b is_a channel.b.port refl
-          (is.sound.wired.ports acts.1.place told.place_b FromB channel told.station_b here told.is_b.here
-          told.is_b.named)
-    ]
+    act_fallen =
+        fallen_begins p w is acts.1.place channel here draws w' is' told seen near silent top_at best next base depth
+        tree so.in_top top.lost top.at top.answers not_tree pace measured' past late sound named still_ready quiet_by
+        other left_but so.outside

@@ -1,11 +1,8 @@
 -- A link goes down that cuts a tree off, in a world of a document whose choice had stood: the tree falls back.
-use Rattle.std.proofs.Common.{List, [], arith, inl, inr, subst, sym, true, ℕ, ◌++◌, ◌+◌, ◌∷◌, ◌≡◌, ◌≤◌, ◌⊎◌, slice_get, Some}
-use Rattle.gptp_lists.proofs.MappedLemmas.{alike}
+use Rattle.std.proofs.Common.{List, [], arith, inl, inr, subst, ℕ, ◌++◌, ◌+◌, ◌∷◌, ◌≡◌, ◌≤◌, ◌⊎◌, slice_get, Some}
 use Rattle.gptp_graph.specs.Best.{IsBest}
 use Rattle.gptp_graph.specs.PathBound.{path_bound}
 use Rattle.gptp_graph.specs.Snapshot.{Snapshot, System, port_of}
-use Rattle.gptp_links.specs.declared.link.Direction.{Direction}
-use Rattle.gptp_links.specs.declared.link.Direction.TheVariants.{FromA, FromB}
 use Rattle.gptp_links.specs.Fate.{Draw}
 use Rattle.gptp_setup.specs.SettlingParams.{SettlingParams, largest_interval}
 use Rattle.gptp_scenario.specs.Calm.{IsUsed}
@@ -16,37 +13,32 @@ use Rattle.gptp_scenario.specs.declared.change.Act.TheVariants.{Change as Changi
 use Rattle.gptp_scenario.specs.declared.change.Change.TheVariants.{LinkDown}
 use Rattle.gptp_scenario.specs.declared.change.Timed.{Timed}
 use Rattle.gptp_scenario.specs.declared.network.LinkSpec.{LinkSpec}
-use Rattle.gptp_scenario.specs.declared.sync_wait.SyncPaths.{SyncPaths}
 use Rattle.gptp_system.specs.State.{clock}
 use Rattle.gptp_model.specs.Acts.{Acts}
-use Rattle.gptp_model.specs.World.{Channel, WorldState, port_id, sender}
+use Rattle.gptp_model.specs.World.{WorldState, port_id}
 use Rattle.gptp_model.specs.declared.done.Done.{Done}
-use Rattle.gptp_model.specs.declared.station.Station.{Station}
 use Rattle.gptp_network.specs.Document.{DocumentState}
 use Rattle.gptp_network.proofs.ExistenceLemmas.{stands_after}
-use Rattle.gptp_invariants.specs.ChoiceCalm.{delay_in, sync_paths_of}
-use Rattle.gptp_invariants.specs.ChoiceSettlesAsMachine.{IsWorld}
+use Rattle.gptp_invariants.specs.ChoiceCalm.{delay_in}
 use Rattle.gptp_invariants.specs.ChoiceView.{says_announce, view}
 use Rattle.gptp_invariants.specs.WorldStanding.{snapshot_of}
-use Rattle.gptp_invariants.proofs.WorldGreatestDelayLemmas.{delay_short}
 use Rattle.gptp_theorem.specs.AlikeLaws.{AreAlike}
 use Rattle.gptp_theorem.specs.PlayedLaws.{IsPlayable}
 use Rattle.gptp_theorem.specs.Reached.{channel_wire}
 use Rattle.gptp_theorem.proofs.AlikeLemmas.{best as alike_best, clock_among, distance as alike_distance, turned}
-use Rattle.gptp_theorem.proofs.CalmLemmas.{quiet_stands}
-use Rattle.gptp_theorem.proofs.SyncPathLemmas.{paths_stand}
 use Rattle.gptp_settling_time.specs.InTurn.{FallsCalm}
 use Rattle.gptp_settling_time.specs.TreeLosses.{IsCutTree, LowersTree}
 use Rattle.gptp_settling_time.proofs.FallActLemmas.{act_fallen}
 use Rattle.gptp_settling_time.proofs.FallAlwaysLemmas.{IsFallenAlways}
 use Rattle.gptp_settling_time.proofs.FallDownLemmas.{FlightNames}
 use Rattle.gptp_settling_time.proofs.FallenToLemmas.{IsFallenTo}
-use Rattle.gptp_settling_time.proofs.GainLemmas.{lives_so, up_so}
+use Rattle.gptp_settling_time.proofs.GainLemmas.{up_so}
 use Rattle.gptp_settling_time.proofs.KeptToLemmas.{KeepsTo}
 use Rattle.gptp_settling_time.proofs.LossMadeLemmas.{HasRestedSo}
 use Rattle.gptp_settling_time.proofs.NamedLemmas.{IsNamedFrom}
 use Rattle.gptp_settling_time.proofs.SettledSeenLemmas.{IsSettledSeen}
 use Rattle.gptp_settling_time.proofs.WorldMovesLemmas.{adjacent_alike, alike_so, joins_alike, near_so, unmoved_alike}
+use Rattle.gptp_settling_time.proofs.TreeMadeLemmas.{at_link, few_then, late_then, live_ends, names_now, seen_then}
 
 -- a tree is cut off between two snapshots that is so between others of the same systems and links
 cut_alike : (g h g' h' : Snapshot) → AreAlike g h → AreAlike g' h' → (top other : ℕ) (best next : System) (base : ℕ)
@@ -100,13 +92,6 @@ module _ (d : DocumentState) (playable : IsPlayable d) (made : List Timed) (even
   abbrev x : LowersTree n made event
   x = falls.lowers
 
-  world_then : IsWorld p then
-  world_then = keeps.claim.world
-
-  seen_then : IsSettledSeen p then
-  seen_then =
-      rest.settled (quiet_stands n made then playable.network keeps.stands world_then.sound falls.calm).links falls.off
-
   -- the tree is so in the worlds
   cuts_so : (best : System) × (next : System) × (base : ℕ) × (depth : ℕ → ℕ)
       × IsCutTree (snapshot_of then) (snapshot_of w') x.top x.other best next base depth
@@ -122,67 +107,56 @@ module _ (d : DocumentState) (playable : IsPlayable d) (made : List Timed) (even
             (alike_so d playable more w' after g' stands') x.top x.other best next base depth is,
       )
 
-  -- ---- times
-
-  paths_then : sync_paths n made ≡ sync_paths_of then
-  paths_then = paths_stand n made then playable.network keeps.stands world_then.sound
-
-  paths_after : sync_paths n more ≡ sync_paths_of w'
-  paths_after = paths_stand n more w' playable.network after.stands after.claim.world.sound
-
-  few_then : path_bound (snapshot_of w') ≤ 255
-  few_then =
-      let few = x.few in
-      let fewer = x.paths in
-      subst (λ (y : SyncPaths). y.systems ≤ 255) paths_after (omega (arith, few, fewer))
-
-  -- what is in flight names the best
-  names_now : FlightNames says_announce (snapshot_of then) (view then)
-  names_now j l f a best at among said joins is_best =
-      let left = seen_then.calm.left j l f at among in
-      named j l f a best at among said joins is_best (omega (arith, left, at_time, quiet))
-
-  -- ---- the act
-
+  -- the act
   came : Acts (Changing (LinkDown x.clock x.port)) then draws done w'
   came = subst (λ act. Acts act then draws done w') x.act acts
 
   pub fallen_to : IsFallenTo d more start event.at w'
   fallen_to =
       let over = rest.over in
-      let end = port_id x.clock x.port in
-      let channel = came.1.channel in
-      let (v, there, same) = alike (link_after made) channel_wire n.links then.net.channels (sym keeps.stands.links)
-      came.1.place channel came.1.is.here in
-      let is_end = subst (IsEnd end) (sym same) came.1.is.joined in
-      let used = subst (IsUsed n.systems made) same (x.used came.1.place v there is_end) in
-      let ends_are = subst (λ (u : LinkSpec). ((u.a.clock ≡ x.top) × (u.b.clock ≡ x.other))
-      ⊎ ((u.b.clock ≡ x.top) × (u.a.clock ≡ x.other))) same (x.ends came.1.place v there is_end) in
       let (best, next, base, depth, is) = cuts_so in
       record {
         keeps = after;
         before = snapshot_of then;
         since = subst (λ t. IsFallenAlways p (snapshot_of then) start t w') at_time
-            (act_fallen p start x.clock x.port then draws done w' keeps.claim.pace world_then after.claim.world
+            (act_fallen p start x.clock x.port then draws done w' keeps.claim.pace keeps.claim.world after.claim.world
             keeps.claim.measured after.claim.measured came
-            (up_so n made then keeps.stands end (λ place u u_there u_end. (x.used place u u_there u_end).up)
-            came.1.place channel came.1.is) (omega (arith, over, at_time)) rest.ready rest.silent seen_then
-            (near_so d playable made then keeps x.few) (live_ends channel used) x.top x.other best next base depth is
-            few_then ends_are late_then rest.sound names_now);
+            (up_so n made then keeps.stands (port_id x.clock x.port)
+            (λ place u u_there u_end. (x.used place u u_there u_end).up) came.1.place came.1.channel came.1.is)
+            (omega (arith, over, at_time)) rest.ready rest.silent seen (near_so d playable made then keeps x.few)
+            (live_ends d playable made event then draws done w' at_time time keeps after start rest stood named quiet
+            falls.calm falls.off came.1.channel (link x.clock x.port came (IsUsed n.systems made) x.used))
+            x.top x.other best next base depth is (few x.paths x.few)
+            (link x.clock x.port came (λ (u : LinkSpec). ((u.a.clock ≡ x.top) × (u.b.clock ≡ x.other))
+            ⊎ ((u.b.clock ≡ x.top) × (u.a.clock ≡ x.other))) x.ends) late rest.sound names);
       }
     where
-      -- a delay is over
-      late_then : delay_in w' ≤ w'.time
-      late_then =
-          let short : delay_in w' ≤ largest_interval p = delay_short p w' after.claim.world.known in
-          omega (arith, short, quiet, time)
+      seen : IsSettledSeen p then
+      seen =
+          seen_then d playable made event then draws done w' at_time time keeps after start rest stood named quiet
+          falls.calm falls.off
 
-      live_ends : (channel : Channel) → IsUsed n.systems made (channel_wire channel) → (direction : Direction)
-          (at_place : ℕ) (station : Station) → slice_get then.stations at_place ≡ Some station
-          → clock station.system ≡ (sender direction channel).clock → station.live ≡ true
-      live_ends channel used FromA at_place station stands named =
-          lives_so n made then keeps.stands world_then.sound channel.a.clock used.a at_place station
-          (record { here = stands; named = named })
-      live_ends channel used FromB at_place station stands named =
-          lives_so n made then keeps.stands world_then.sound channel.b.clock used.b at_place station
-          (record { here = stands; named = named })
+      names : FlightNames says_announce (snapshot_of then) (view then)
+      names =
+          names_now d playable made event then draws done w' at_time time keeps after start rest stood named quiet
+          falls.calm falls.off
+
+      late : delay_in w' ≤ w'.time
+      late =
+          late_then d playable made event then draws done w' at_time time keeps after start rest stood named quiet
+          falls.calm falls.off
+
+      few : (sync_paths n more).systems ≤ (sync_paths n made).systems → (sync_paths n made).systems ≤ 255
+          → path_bound (snapshot_of w') ≤ 255
+      few =
+          few_then d playable made event then draws done w' at_time time keeps after start rest stood named quiet
+          falls.calm falls.off
+
+      link : (owner port : ℕ) (acted : Acts (Changing (LinkDown owner port)) then draws done w')
+          (So : LinkSpec → Type 0)
+          → ((place : ℕ) (v : LinkSpec) → slice_get n.links place ≡ Some v
+          → IsEnd (port_id owner port) (link_after made v) → So (link_after made v))
+          → So (channel_wire acted.1.channel)
+      link =
+          at_link d playable made event then draws done w' at_time time keeps after start rest stood named quiet
+          falls.calm falls.off

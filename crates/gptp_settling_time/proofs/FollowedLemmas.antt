@@ -14,15 +14,15 @@ use Rattle.gptp_network.specs.Document.{DocumentState}
 use Rattle.gptp_network.specs.Events.{AreInOrder}
 use Rattle.gptp_network.specs.Snapshot.{events_by}
 use Rattle.gptp_settling_time.specs.HowSoon.{AreGainEvents, AreHeardEvents, AreReadyAtStart, AreStartEvents, BoundsAging, BoundsAnyLoss, BoundsEvents, BoundsLoss, BoundsStart, IsChoiceAloneBound, IsChoiceBound, IsChoiceBoundAfter, IsLossBoundAfter, IsRestBoundAfter, EachEvent, NoneBetween, OneEvent, RestsAfterLoss, events_at}
-use Rattle.gptp_settling_time.specs.InTurn.{Aging, AnyPast, AreCapableSoon, BeginsBy, ChoosesAfter, ChoosesByEvents, ComesByEvents, EventLeads, Fallen, FlightIsGone, Gained, Heard, LeadOn, Left, Lost, Past, SettlesAfter, SettlesByEvents, Starting, StartsWith, TellsNothing, Turned, UsedVaryLittle}
-use Rattle.gptp_settling_time.specs.TreeLosses.{LowersTree}
+use Rattle.gptp_settling_time.specs.InTurn.{Aging, AnyPast, AreCapableSoon, BeginsBy, ChoosesAfter, ChoosesByEvents, ComesByEvents, EventLeads, Fallen, FallsCalm, FlightIsGone, Gained, Heard, LeadOn, LeadsByTree, Left, Lost, Past, SettlesAfter, SettlesByEvents, Starting, StartsWith, TellsNothing, Turned, TurnedTree, TurnsTreeCalm, UsedVaryLittle}
+use Rattle.gptp_settling_time.specs.TreeLosses.{LowersTree, TurnsTreeLink}
 use Rattle.gptp_settling_time.specs.Losses.{AgesWithin, FailsHeard, LowersLink, LowersUnused, TurnsLink, UpIsUsed}
 use Rattle.gptp_settling_time.proofs.CalmLessLemmas.{fails_calm}
 use Rattle.gptp_settling_time.proofs.CutLemmas.{IsBy, all_by}
 use Rattle.gptp_settling_time.proofs.MomentLemmas.{all_at, last_by, parted}
 use Rattle.gptp_settling_time.proofs.LeadOnLemmas.{HasRested, HasSettled, IsLed, after_idle, any_leads, gains_led, heard_led, idle_led, lead_as, leads_on, led_as, next, rested_so, settled_later, taken_later, wider_led}
 use Rattle.gptp_settling_time.proofs.LosesLeadLemmas.{LosesBy, any_rests, loses_by}
-use Rattle.gptp_settling_time.proofs.LossLeadLemmas.{IsLeftBy, dead_lead, fall_leads, heard_lead, loss_leads, settles_chooses, turn_leads}
+use Rattle.gptp_settling_time.proofs.LossLeadLemmas.{IsLeftBy, dead_lead, heard_lead, loss_leads, settles_chooses, tree_leads, turn_leads}
 use Rattle.gptp_settling_time.proofs.LossRestLemmas.{cleared_led, last_at}
 use Rattle.gptp_settling_time.proofs.SilentSpanLemmas.{none_silent}
 
@@ -211,34 +211,56 @@ module _ (n : NetworkState) (network : IsNetwork n) (off : NothingLapses n.param
           ]) in
           record { first = before.first; begins = before.begins; last = x; lead = lead; settles = rested }
 
-    -- A tree is cut off, an announce interval after the time before has come to rest: it falls back.
-    falls_on : (then : ℕ) (now : List Timed) → at_now ≡ now → IsCalm n before_now
-        → (before : IsFollowedTo n before_now last then) → last + then + largest_interval (pace_of n) < time
-        → OneEvent (LowersTree n) before_now now
+    -- A tree is moved, an announce interval after the time before has come to rest.
+    module _ (Moves : List Timed → Timed → Type 0) (Calm : Timed → Type 0) (then : ℕ)
+        (before : IsFollowedTo n before_now last then) (soon : last + then + largest_interval (pace_of n) < time)
+        (calm : (event : Timed) → Moves before_now event → Calm event) (Tree : ℕ → ℕ → Past)
+        (is_tree : (past : Past) (event : Timed) (silent now : ℕ)
+        → LeadsByTree n before_now past event (Calm event) silent now
+        → EventLeads n before_now past event (Tree silent now)) where
+      moves_on : (now : List Timed) → at_now ≡ now → OneEvent Moves before_now now
+          → (silent : ℕ) × LeadOn n [] before.first (events_by time all) (Tree silent time)
+      moves_on [] same none = absurd none
+      moves_on (event ∷ other ∷ now) same none = absurd none
+      moves_on (event ∷ []) same moves =
+          let here : event.at ≡ time =
+          (subst (AllByRecursion (λ (t : Timed). t.at ≡ time)) same (all_at time all)).0 in
+          let (seen, taken, is) = before.settles in
+          let over = last_by last all in
+          let (silent, leads) = tree_leads n before_now event (suc (last + then)) (omega (arith, over))
+          (omega (arith, soon, here)) (Calm event) seen is (calm event moves) in
+          let past : Past = Tree silent event.at in (
+            silent,
+            subst (λ at. LeadOn n [] before.first (events_by time all) (Tree silent at)) here
+                (subst (λ es. LeadOn n [] before.first es past)
+                (sym (parted all last time order less between ∙ ap (λ es. before_now ++ es) same))
+                (leads_on n [] before.first before.last past before_now (event ∷ []) before.lead (
+                  seen,
+                  taken_later n before_now before.last seen (suc (last + then)) event.at (omega (arith, soon, here))
+                      taken,
+                  past,
+                  is_tree seen event silent event.at leads,
+                  refl,
+                ))),
+          )
+
+    -- it is cut off and falls back
+    falls_on : (then : ℕ) → IsCalm n before_now → (before : IsFollowedTo n before_now last then)
+        → last + then + largest_interval (pace_of n) < time → OneEvent (LowersTree n) before_now at_now
         → (silent : ℕ) × LeadOn n [] before.first (events_by time all) (Fallen silent time)
-    falls_on then [] same calm before soon none = absurd none
-    falls_on then (event ∷ other ∷ now) same calm before soon none = absurd none
-    falls_on then (event ∷ []) same calm before soon lowers =
-        let here : event.at ≡ time =
-        (subst (AllByRecursion (λ (t : Timed). t.at ≡ time)) same (all_at time all)).0 in
-        let (seen, taken, is) = before.settles in
-        let over = last_by last all in
-        let (silent, leads) = fall_leads n before_now event (suc (last + then)) (omega (arith, over))
-        (omega (arith, soon, here)) seen is (record { lowers = lowers; calm = calm; off = off }) in
-        let past : Past = Fallen silent event.at in (
-          silent,
-          subst (λ at. LeadOn n [] before.first (events_by time all) (Fallen silent at)) here
-              (subst (λ es. LeadOn n [] before.first es past)
-              (sym (parted all last time order less between ∙ ap (λ es. before_now ++ es) same))
-              (leads_on n [] before.first before.last past before_now (event ∷ []) before.lead (
-                seen,
-                taken_later n before_now before.last seen (suc (last + then)) event.at (omega (arith, soon, here))
-                    taken,
-                past,
-                leads,
-                refl,
-              ))),
-        )
+    falls_on then calm before soon lowers =
+        moves_on (LowersTree n) (FallsCalm n before_now) then before soon
+        (λ event moves. record { lowers = moves; calm = calm; off = off }) Fallen (λ past event silent now leads. leads)
+        at_now refl lowers
+
+    -- or it turns to its one way out
+    turns_on : (then : ℕ) → IsCalm n before_now → (before : IsFollowedTo n before_now last then)
+        → last + then + largest_interval (pace_of n) < time → OneEvent (TurnsTreeLink n) before_now at_now
+        → (silent : ℕ) × LeadOn n [] before.first (events_by time all) (TurnedTree silent time)
+    turns_on then calm before soon turns =
+        moves_on (TurnsTreeLink n) (TurnsTreeCalm n before_now) then before soon
+        (λ event moves. record { turns = moves; calm = calm; off = off }) TurnedTree
+        (λ past event silent now leads. leads) at_now refl turns
 
     -- it has come to rest once the tree has settled and what was in flight is gone
     fall_followed : (then rest gone : ℕ) → IsCalm n before_now → IsCalm n (events_by time all)
@@ -247,7 +269,7 @@ module _ (n : NetworkState) (network : IsNetwork n) (off : NothingLapses n.param
         → rest ≡ max (2 * way_span (sync_paths n (events_by time all))) gone
         → IsFollowedTo n (events_by time all) time rest
     fall_followed then rest gone calm_then calm before soon lowers flight is =
-        let (silent, lead) = falls_on then at_now refl calm_then before soon lowers in
+        let (silent, lead) = falls_on then calm_then before soon lowers in
         let way : ℕ = way_span (sync_paths n (events_by time all)) in
         let start : ℕ = suc (time + way) in
         let ways = le-max_left (2 * way) gone in
@@ -515,16 +537,17 @@ module _ (d : DocumentState) (network : IsNetwork d.network) (order : AreInOrder
             heard held quiet (omega (arith, is_later)) (omega (arith, roles_later, more)) fails others bounds
         by (inr (inr (inr (inr any)))) = any_lost any
 
-    -- a tree is cut off
+    -- a tree is cut off, or turns to its one way out
     tree_by : (last choice_then : ℕ) (less : last < time) (between : NoneBetween d.events last time)
         → NothingLapses d.network.params → IsCalm d.network (events_by last d.events)
         → IsCalm d.network (events_by time d.events) → IsFollowedTo d.network (events_by last d.events) last choice_then
         → last + choice_then + largest_interval (pace_of d.network) < time
         → OneEvent (LowersTree d.network) (events_by last d.events) (events_at time d.events)
+        ⊎ OneEvent (TurnsTreeLink d.network) (events_by last d.events) (events_at time d.events)
         → choice ≡ 2 * way_span (sync_paths d.network (events_by time d.events)) → roles ≡ choice → IsLost
-    tree_by last choice_then less between off calm_then calm before soon lowers is_choice same =
-        let (silent, lead) = falls_on d.network network off d.events order last time less between choice_then
-        (events_at time d.events) refl calm_then before soon lowers in
+    tree_by last choice_then less between off calm_then calm before soon (inl lowers) is_choice same =
+        let (silent, lead) = falls_on d.network network off d.events order last time less between choice_then calm_then
+        before soon lowers in
         record {
           first = before.first;
           begins = before.begins;
@@ -534,14 +557,31 @@ module _ (d : DocumentState) (network : IsNetwork d.network) (order : AreInOrder
           settles = λ settled late. (off, omega (arith, is_choice, same, late));
           chooses = λ settled late. (off, omega (arith, is_choice, late));
         }
+    tree_by last choice_then less between off calm_then calm before soon (inr turns) is_choice same =
+        let (silent, lead) = turns_on d.network network off d.events order last time less between choice_then calm_then
+        before soon turns in
+        record {
+          first = before.first;
+          begins = before.begins;
+          last = TurnedTree silent time;
+          lead = lead;
+          calm = calm;
+          settles = λ settled late. (off, omega (arith, is_choice, same, late));
+          chooses = λ settled late. (off, omega (arith, is_choice, late));
+        }
 
     lost_after : (earlier : List ℕ) → IsLossBoundAfter d.network d.events earlier time choice roles → IsLost
     lost_after [] none = absurd none
     lost_after (last ∷ earlier)
-        (inr (less, between, calm, off, (choice_then, bound, soon), lowers, (is_choice, same))) =
+        (inr (inl (less, between, calm, off, (choice_then, bound, soon), lowers, (is_choice, same)))) =
         tree_by last choice_then less between off
         (bound_calm d.network network off d.events order earlier last choice_then bound) calm
-        (followed d.network network off d.events order earlier last choice_then bound) soon lowers is_choice same
+        (followed d.network network off d.events order earlier last choice_then bound) soon (inl lowers) is_choice same
+    lost_after (last ∷ earlier)
+        (inr (inr (less, between, calm, off, (choice_then, bound, soon), turns, (is_choice, same)))) =
+        tree_by last choice_then less between off
+        (bound_calm d.network network off d.events order earlier last choice_then bound) calm
+        (followed d.network network off d.events order earlier last choice_then bound) soon (inr turns) is_choice same
     lost_after (last ∷ earlier) (inl (less, between, calm, off, (choice_then, bound, soon), loses)) =
         lost_by last choice_then (events_at time d.events) off refl (parted d.events last time order less between)
         (bound_calm d.network network off d.events order earlier last choice_then bound) calm

@@ -14,7 +14,7 @@ use Rattle.gptp_scenario.specs.declared.change.Change.TheVariants.{LinkDown, Lin
 use Rattle.gptp_scenario.specs.declared.change.Timed.{Timed}
 use Rattle.gptp_scenario.specs.declared.sync_wait.SyncPaths.{SyncPaths}
 use Rattle.gptp_settling_time.specs.HowSoon.{AfterIdleEvents, AreGainEvents, AreHeardEvents, AreWiderEvents, EachEvent, IsGainEvent, IsGainToo, IsHeardEvent, IsHeardToo, IsIdleEvent, IsStillEvent, TurnsUnused}
-use Rattle.gptp_settling_time.specs.InTurn.{Aging, AnyPast, Cleared, EventLeads, Fallen, Gained, HasSettledAnyhow, HasSettledHeard, HasSettledSince, Heard, IsTakenAs, LeadOn, LeavesSettled, Left, Lost, MakesNothing, Past, RestsFrom, SettlesAfter, Starting, Turned, TurnsInVain, WidensLink}
+use Rattle.gptp_settling_time.specs.InTurn.{Aging, AnyPast, Cleared, EventLeads, Fallen, Gained, HasSettledAnyhow, HasSettledHeard, HasSettledSince, Heard, IsTakenAs, LeadOn, LeavesSettled, Left, Lost, MakesNothing, Past, RestsFrom, SettlesAfter, Starting, Turned, TurnedTree, TurnsInVain, WidensLink}
 use Rattle.gptp_settling_time.specs.Losses.{LeavesChoice}
 use Rattle.gptp_settling_time.proofs.MadeLemmas.{adds_later}
 use Rattle.gptp_settling_time.proofs.SamePathsLemmas.{idle_paths, priority_paths, turned_paths}
@@ -51,6 +51,7 @@ HasSettled n events (Heard start) time = HasSettledHeard n events start time
 HasSettled n events (Left start) time = ⊥
 HasSettled n events (Turned silent now) time = ⊥
 HasSettled n events (Fallen silent now) time = ⊥
+HasSettled n events (TurnedTree silent now) time = ⊥
 HasSettled n events (Cleared begun silent right old) time = ⊥
 HasSettled n events (Aging ago aged silent) time = ⊥
 HasSettled n events (Lost since most silent) time = ⊥
@@ -65,6 +66,7 @@ settled_later n events (Heard start) time later less is = omega (arith, is, less
 settled_later n events (Left start) time later less is = absurd is
 settled_later n events (Turned silent now) time later less is = absurd is
 settled_later n events (Fallen silent now) time later less is = absurd is
+settled_later n events (TurnedTree silent now) time later less is = absurd is
 settled_later n events (Cleared begun silent right old) time later less is = absurd is
 settled_later n events (Aging ago aged silent) time later less is = absurd is
 settled_later n events (Lost since most silent) time later less is = absurd is
@@ -106,6 +108,7 @@ taken_later n events past seen time later less (inr (start, same, rests)) = inr 
           gone = omega (arith, gone, less);
           over = omega (arith, over, less);
         }
+    by (TurnedTree silent now) none = absurd none
     by (Cleared begun silent right old) is =
         let gone = is.gone in
         let over = is.over in
@@ -160,6 +163,7 @@ settled_so n events (Heard start) time off is = (off, is)
 settled_so n events (Left start) time off is = absurd is
 settled_so n events (Turned silent now) time off is = absurd is
 settled_so n events (Fallen silent now) time off is = absurd is
+settled_so n events (TurnedTree silent now) time off is = absurd is
 settled_so n events (Cleared begun silent right old) time off is = absurd is
 settled_so n events (Aging ago aged silent) time off is = absurd is
 settled_so n events (Lost since most silent) time off is = absurd is
@@ -182,6 +186,7 @@ rested_so n events past time off (seen, inr (start, same, rests), is) = by past 
         let later = rest.later in
         let over = rest.over in
         (off, omega (arith, later, over))
+    by (TurnedTree silent now) none = absurd none
     by (Cleared begun silent right old) rest = (off, rest.unlinked)
     by (Aging ago aged silent) rest = (off, inl rest.unlinked)
     by (Lost begun most silent) rest =
@@ -242,6 +247,7 @@ module _ (n : NetworkState) (made : List Timed) (event : Timed) where
   gain_leads (Left start) next settled less gain = absurd settled
   gain_leads (Turned silent now) next settled less gain = absurd settled
   gain_leads (Fallen silent now) next settled less gain = absurd settled
+  gain_leads (TurnedTree silent now) next settled less gain = absurd settled
   gain_leads (Cleared begun silent right old) next settled less gain = absurd settled
   gain_leads (Aging ago aged silent) next settled less gain = absurd settled
   gain_leads (Lost since most silent) next settled less gain = absurd settled
@@ -259,6 +265,7 @@ module _ (n : NetworkState) (made : List Timed) (event : Timed) where
   heard_leads (Left start) next settled heard = absurd settled
   heard_leads (Turned silent now) next settled heard = absurd settled
   heard_leads (Fallen silent now) next settled heard = absurd settled
+  heard_leads (TurnedTree silent now) next settled heard = absurd settled
   heard_leads (Cleared begun silent right old) next settled heard = absurd settled
   heard_leads (Aging ago aged silent) next settled heard = absurd settled
   heard_leads (Lost since most silent) next settled heard = absurd settled
@@ -283,6 +290,7 @@ module _ (n : NetworkState) (made : List Timed) (event : Timed) where
     way_over (Left start) settled = absurd settled
     way_over (Turned silent now) settled = absurd settled
     way_over (Fallen silent now) settled = absurd settled
+    way_over (TurnedTree silent now) settled = absurd settled
     way_over (Cleared begun silent right old) settled = absurd settled
     way_over (Aging ago aged silent) settled = absurd settled
     way_over (Lost begun most silent) settled = absurd settled
@@ -308,6 +316,7 @@ module _ (n : NetworkState) (made : List Timed) (event : Timed) where
       idle_leads (Left start) settled = absurd settled
       idle_leads (Turned silent now) settled = absurd settled
       idle_leads (Fallen silent now) settled = absurd settled
+      idle_leads (TurnedTree silent now) settled = absurd settled
       idle_leads (Cleared begun silent right old) settled = absurd settled
       idle_leads (Aging ago aged silent) settled = absurd settled
       idle_leads (Lost begun most silent) settled = absurd settled
@@ -477,6 +486,7 @@ module _ (n : NetworkState) (network : IsNetwork n) where
     widens_leads made event (Left start) settled by here calm is late widens soon = absurd is
     widens_leads made event (Turned silent now) settled by here calm is late widens soon = absurd is
     widens_leads made event (Fallen silent now) settled by here calm is late widens soon = absurd is
+    widens_leads made event (TurnedTree silent now) settled by here calm is late widens soon = absurd is
     widens_leads made event (Cleared begun silent right old) settled by here calm is late widens soon = absurd is
     widens_leads made event (Aging ago aged silent) settled by here calm is late widens soon = absurd is
     widens_leads made event (Lost begun most silent) settled by here calm is late widens soon = absurd is

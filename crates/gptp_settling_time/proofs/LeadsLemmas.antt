@@ -5,7 +5,7 @@ use Rattle.gptp_vector.specs.declared.port.PortId.{PortId}
 use Rattle.gptp_links.specs.declared.bounds.Bounds.{Bounds}
 use Rattle.gptp_setup.specs.Intervals.{interval_of}
 use Rattle.gptp_setup.specs.SettlingParams.{SettlingParams, largest_interval}
-use Rattle.gptp_scenario.specs.Calm.{NothingLapses, last_change}
+use Rattle.gptp_scenario.specs.Calm.{IsCalm, NothingLapses, last_change}
 use Rattle.gptp_scenario.specs.Network.{NetworkState, pace_of}
 use Rattle.gptp_scenario.specs.SettlingAtOnce.{settling_span_at_once}
 use Rattle.gptp_scenario.specs.SettlingTime.{capability_span}
@@ -33,7 +33,7 @@ use Rattle.gptp_theorem.proofs.CalmLemmas.{quiet_stands}
 use Rattle.gptp_theorem.proofs.SettlingInvariantLemmas.{IsFitEvent, least_of}
 use Rattle.gptp_theorem.proofs.SyncPathLemmas.{paths_stand}
 use Rattle.gptp_settling_time.specs.Gains.{ChangesNothing, LeavesCapable, TakesNothing}
-use Rattle.gptp_settling_time.specs.InTurn.{AddsHeard, AgesSooner, Aging, AnyPast, BettersClock, BringsUp, Cleared, ClearsBy, EventLeads, FailsNow, Fallen, FallsNow, Gained, HasSettledAnyhow, HasSettledHeard, HasSettledSince, Heard, LeavesSettled, LeavesStanding, Left, LosesNow, Lost, LowersUnusedCalm, MakesNothing, Past, RecoversAlone, Starting, Turned, TurnsInVain, TurnsNow, WidensFrom}
+use Rattle.gptp_settling_time.specs.InTurn.{AddsHeard, AgesSooner, Aging, AnyPast, BettersClock, BringsUp, Cleared, ClearsBy, EventLeads, FailsNow, Fallen, FallsCalm, Gained, HasSettledAnyhow, HasSettledHeard, HasSettledSince, Heard, LeadsByTree, LeavesSettled, LeavesStanding, Left, LosesNow, Lost, LowersUnusedCalm, MakesNothing, Past, RecoversAlone, Starting, TreeNow, Turned, TurnedTree, TurnsInVain, TurnsNow, TurnsTreeCalm, WidensFrom}
 use Rattle.gptp_settling_time.proofs.AgingDownLemmas.{down_ages}
 use Rattle.gptp_settling_time.proofs.AgesByLemmas.{by_map}
 use Rattle.gptp_settling_time.proofs.AgesByWorldLemmas.{WorldAgesBy, aging_by}
@@ -51,6 +51,8 @@ use Rattle.gptp_settling_time.proofs.FailedDownLemmas.{lowered_claimed, lowered_
 use Rattle.gptp_settling_time.proofs.FailedUpLemmas.{raised_claimed, raised_from}
 use Rattle.gptp_settling_time.proofs.FallMadeLemmas.{fallen_to}
 use Rattle.gptp_settling_time.proofs.FallenToLemmas.{IsFallenTo}
+use Rattle.gptp_settling_time.proofs.TurnedTreeMadeLemmas.{turned_tree_to}
+use Rattle.gptp_settling_time.proofs.TurnedTreeToLemmas.{IsTurnedTreeTo}
 use Rattle.gptp_settling_time.proofs.NamedAfterLemmas.{NamesAfter}
 use Rattle.gptp_settling_time.proofs.NamedLemmas.{IsNamedFrom}
 use Rattle.gptp_settling_time.proofs.HeardLemmas.{heard_on}
@@ -412,6 +414,7 @@ module _ {F : Type 0} (answers : Bounds → ℕ → F → Option ℕ → F → T
     leads_to_heard (Left start) next none so = absurd none
     leads_to_heard (Turned silent now) next none so = absurd none
     leads_to_heard (Fallen silent now) next none so = absurd none
+    leads_to_heard (TurnedTree silent now) next none so = absurd none
     leads_to_heard (Cleared since silent right old) next none so = absurd none
     leads_to_heard (Aging ago aged silent) next none so = absurd none
     leads_to_heard (Lost since most silent) next none so = absurd none
@@ -538,6 +541,7 @@ module _ {F : Type 0} (answers : Bounds → ℕ → F → Option ℕ → F → T
         })
     leads_to_left (Turned silent now) next none so = absurd none
     leads_to_left (Fallen silent now) next none so = absurd none
+    leads_to_left (TurnedTree silent now) next none so = absurd none
     leads_to_left (Cleared since silent right old) next none so = absurd none
     leads_to_left (Aging ago aged silent) next none so = absurd none
     leads_to_left (Lost since most silent) next none so = absurd none
@@ -554,6 +558,7 @@ module _ {F : Type 0} (answers : Bounds → ℕ → F → Option ℕ → F → T
     leads_to_turned (Left start) silent now none so = absurd none
     leads_to_turned (Turned start was) silent now none so = absurd none
     leads_to_turned (Fallen start was) silent now none so = absurd none
+    leads_to_turned (TurnedTree start was) silent now none so = absurd none
     leads_to_turned (Cleared since start right old) silent now none so = absurd none
     leads_to_turned (Aging ago aged start) silent now none so = absurd none
     leads_to_turned (Lost since most start) silent now none so = absurd none
@@ -633,6 +638,7 @@ module _ {F : Type 0} (answers : Bounds → ℕ → F → Option ℕ → F → T
     leads_to_cleared (Left start) since silent right old none so = absurd none
     leads_to_cleared (Turned start now) since silent right old none so = absurd none
     leads_to_cleared (Fallen start now) since silent right old none so = absurd none
+    leads_to_cleared (TurnedTree start now) since silent right old none so = absurd none
     leads_to_cleared (Cleared start dark clean last) since silent right old (falls, past, (begun, by, is, gone)) so =
         let x = cleared_to_later d made start dark clean last w event.at k.ready.timely.now k.ready.timely.first so in
         subst (λ t. IsClearedTo d more t silent right old w') (sym begun)
@@ -670,6 +676,7 @@ module _ {F : Type 0} (answers : Bounds → ℕ → F → Option ℕ → F → T
     leads_to_aging (Left start) ago aged silent none so = absurd none
     leads_to_aging (Turned start was) ago aged silent none so = absurd none
     leads_to_aging (Fallen start was) ago aged silent none so = absurd none
+    leads_to_aging (TurnedTree start was) ago aged silent none so = absurd none
     leads_to_aging (Cleared since start right old) ago aged silent none so = absurd none
     leads_to_aging (Aging old gone start) ago aged silent (falls, same_ago, same_silent, sooner) so =
         subst (λ es. IsAgingTo d es more aged silent w') (sym same_ago)
@@ -698,6 +705,7 @@ module _ {F : Type 0} (answers : Bounds → ℕ → F → Option ℕ → F → T
     leads_to_lost (Left start) since most silent none so = absurd none
     leads_to_lost (Turned start was) since most silent none so = absurd none
     leads_to_lost (Fallen start was) since most silent none so = absurd none
+    leads_to_lost (TurnedTree start was) since most silent none so = absurd none
     leads_to_lost (Cleared begun start right old) since most silent none so = absurd none
     leads_to_lost (Aging ago aged start) since most silent none so = absurd none
     leads_to_lost (Lost begun delay start) since most silent (more_now, same_since, same_most, same_silent) so =
@@ -722,6 +730,7 @@ module _ {F : Type 0} (answers : Bounds → ℕ → F → Option ℕ → F → T
     leads_to_gain (Left start) next (inl (nothing, none)) so = absurd none
     leads_to_gain (Turned silent now) next (inl (nothing, none)) so = absurd none
     leads_to_gain (Fallen silent now) next (inl (nothing, none)) so = absurd none
+    leads_to_gain (TurnedTree silent now) next (inl (nothing, none)) so = absurd none
     leads_to_gain (Cleared since silent right old) next (inl (nothing, none)) so = absurd none
     leads_to_gain (Aging ago aged silent) next (inl (nothing, none)) so = absurd none
     leads_to_gain (Lost since most silent) next (inl (nothing, none)) so = absurd none
@@ -731,6 +740,7 @@ module _ {F : Type 0} (answers : Bounds → ℕ → F → Option ℕ → F → T
     leads_to_gain (Left start) next (inr (inl (nothing, stays))) so = absurd stays
     leads_to_gain (Turned silent now) next (inr (inl (nothing, stays))) so = absurd stays
     leads_to_gain (Fallen silent now) next (inr (inl (nothing, stays))) so = absurd stays
+    leads_to_gain (TurnedTree silent now) next (inr (inl (nothing, stays))) so = absurd stays
     leads_to_gain (Cleared since silent right old) next (inr (inl (nothing, stays))) so = absurd stays
     leads_to_gain (Aging ago aged silent) next (inr (inl (nothing, stays))) so = absurd stays
     leads_to_gain (Lost since most silent) next (inr (inl (nothing, stays))) so = absurd stays
@@ -746,6 +756,7 @@ module _ {F : Type 0} (answers : Bounds → ℕ → F → Option ℕ → F → T
     leads_to_gain (Left start) next (inr (inr none)) so = absurd none
     leads_to_gain (Turned silent now) next (inr (inr none)) so = absurd none
     leads_to_gain (Fallen silent now) next (inr (inr none)) so = absurd none
+    leads_to_gain (TurnedTree silent now) next (inr (inr none)) so = absurd none
     leads_to_gain (Cleared since silent right old) next (inr (inr none)) so = absurd none
     leads_to_gain (Aging ago aged silent) next (inr (inr none)) so = absurd none
     leads_to_gain (Lost since most silent) next (inr (inr none)) so = absurd none
@@ -761,39 +772,59 @@ module _ {F : Type 0} (answers : Bounds → ℕ → F → Option ℕ → F → T
     leads_to_start (Left start) none so = absurd none
     leads_to_start (Turned silent now) none so = absurd none
     leads_to_start (Fallen silent now) none so = absurd none
+    leads_to_start (TurnedTree silent now) none so = absurd none
     leads_to_start (Cleared since silent right old) none so = absurd none
     leads_to_start (Aging ago aged silent) none so = absurd none
     leads_to_start (Lost since most silent) none so = absurd none
 
-    -- a tree is cut off
-    falls_back : (start stood silent now : ℕ) → HasRestedSo p start event.at then → IsNamedFrom p stood w
-        → FallsNow n made event start stood silent now → IsFallenTo d more silent now w'
-    falls_back start stood silent now rest named (later, since, falls, by, here) =
-        subst (λ t. IsFallenTo d more silent t w') (sym here)
-        (subst (λ t. IsFallenTo d more t event.at w') (sym by)
-        (fallen_to d playable made event then k.draws done w' k.acts refl time_now keeps_then after start rest stood
-        named since falls))
+    -- a tree is so moved
+    module _ (Moves : Type 0) (calm : Moves → IsCalm n made) (off : Moves → NothingLapses n.params)
+        (few : Moves → (sync_paths n made).systems ≤ 255) (Is : ℕ → ℕ → Type 0)
+        (is_moved : (start stood : ℕ) → HasRestedSo p start event.at then → IsNamedFrom p stood w
+        → stood + largest_interval p ≤ event.at → Moves → Is start event.at) where
+      tree_now : (start stood silent now : ℕ) → HasRestedSo p start event.at then → IsNamedFrom p stood w
+          → TreeNow n made event Moves start stood silent now → Is silent now
+      tree_now start stood silent now rest named (later, since, moves, by, here) =
+          subst (Is silent) (sym here)
+          (subst (λ t. Is t event.at) (sym by) (is_moved start stood rest named since moves))
+
+      leads_by_tree : (past : Past) (silent now : ℕ) → LeadsByTree n made past event Moves silent now
+          → NamesAfter d made past w → IsAfter d made past w → Is silent now
+      leads_by_tree AnyPast silent now (stood, settled, (later, since, moves, by, here)) named so =
+          let passed = settled.passed in
+          tree_now (last_change made + capability_span p) stood silent now
+          (rested_any (record { calm = settled.calm; passed = omega (arith, passed, since) }))
+          (named stood (calm moves) (few moves) (inl (off moves, passed)) later) (later, since, moves, by, here)
+      leads_by_tree Starting silent now none named so = absurd none
+      leads_by_tree (Gained start) silent now (stood, settled, (later, since, moves, by, here)) named so =
+          tree_now start stood silent now (rested_gained start (omega (arith, settled, since)) so.news)
+          (named stood (calm moves) (few moves) (inl (off moves, settled)) later) (later, since, moves, by, here)
+      leads_by_tree (Heard start) silent now (stood, settled, (later, since, moves, by, here)) named so =
+          tree_now start stood silent now (rested_heard start (omega (arith, settled, since)) so.since)
+          (named stood (calm moves) (few moves) (off moves, settled) later) (later, since, moves, by, here)
+      leads_by_tree (Left start) silent now none named so = absurd none
+      leads_by_tree (Turned start was) silent now none named so = absurd none
+      leads_by_tree (Fallen start was) silent now none named so = absurd none
+      leads_by_tree (TurnedTree start was) silent now none named so = absurd none
+      leads_by_tree (Cleared since start right old) silent now none named so = absurd none
+      leads_by_tree (Aging ago aged start) silent now none named so = absurd none
+      leads_by_tree (Lost since most start) silent now none named so = absurd none
 
     leads_to_fallen : (past : Past) (silent now : ℕ) → EventLeads n made past event (Fallen silent now)
         → NamesAfter d made past w → IsAfter d made past w → IsFallenTo d more silent now w'
-    leads_to_fallen AnyPast silent now (stood, settled, (later, since, falls, by, here)) named so =
-        let passed = settled.passed in
-        falls_back (last_change made + capability_span p) stood silent now
-        (rested_any (record { calm = settled.calm; passed = omega (arith, passed, since) }))
-        (named stood falls.calm falls.lowers.few (inl (falls.off, passed)) later) (later, since, falls, by, here)
-    leads_to_fallen Starting silent now none named so = absurd none
-    leads_to_fallen (Gained start) silent now (stood, settled, (later, since, falls, by, here)) named so =
-        falls_back start stood silent now (rested_gained start (omega (arith, settled, since)) so.news)
-        (named stood falls.calm falls.lowers.few (inl (falls.off, settled)) later) (later, since, falls, by, here)
-    leads_to_fallen (Heard start) silent now (stood, settled, (later, since, falls, by, here)) named so =
-        falls_back start stood silent now (rested_heard start (omega (arith, settled, since)) so.since)
-        (named stood falls.calm falls.lowers.few (falls.off, settled) later) (later, since, falls, by, here)
-    leads_to_fallen (Left start) silent now none named so = absurd none
-    leads_to_fallen (Turned start was) silent now none named so = absurd none
-    leads_to_fallen (Fallen start was) silent now none named so = absurd none
-    leads_to_fallen (Cleared since start right old) silent now none named so = absurd none
-    leads_to_fallen (Aging ago aged start) silent now none named so = absurd none
-    leads_to_fallen (Lost since most start) silent now none named so = absurd none
+    leads_to_fallen =
+        leads_by_tree (FallsCalm n made event) (λ x. x.calm) (λ x. x.off) (λ x. x.lowers.few)
+        (λ silent now. IsFallenTo d more silent now w') (λ start stood rest named since falls.
+        fallen_to d playable made event then k.draws done w' k.acts refl time_now keeps_then after start rest stood
+        named since falls)
+
+    leads_to_turned_tree : (past : Past) (silent now : ℕ) → EventLeads n made past event (TurnedTree silent now)
+        → NamesAfter d made past w → IsAfter d made past w → IsTurnedTreeTo d more silent now w'
+    leads_to_turned_tree =
+        leads_by_tree (TurnsTreeCalm n made event) (λ x. x.calm) (λ x. x.off) (λ x. x.turns.few)
+        (λ silent now. IsTurnedTreeTo d more silent now w') (λ start stood rest named since turns.
+        turned_tree_to d playable made event then k.draws done w' k.acts refl time_now keeps_then after start rest stood
+        named since turns)
 
     pub leads_to : (past next : Past) → EventLeads n made past event next → NamesAfter d made past w
         → IsAfter d made past w → IsAfter d more next w'
@@ -804,6 +835,7 @@ module _ {F : Type 0} (answers : Bounds → ℕ → F → Option ℕ → F → T
     leads_to past (Left next) leads named so = leads_to_left past next leads so
     leads_to past (Turned silent now) leads named so = leads_to_turned past silent now leads so
     leads_to past (Fallen silent now) leads named so = leads_to_fallen past silent now leads named so
+    leads_to past (TurnedTree silent now) leads named so = leads_to_turned_tree past silent now leads named so
     leads_to past (Cleared since silent right old) leads named so = leads_to_cleared past since silent right old
         leads so
     leads_to past (Aging ago aged silent) leads named so = leads_to_aging past ago aged silent leads so

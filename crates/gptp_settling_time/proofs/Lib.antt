@@ -115,6 +115,7 @@ pub mod TreeSoundLemmas
 pub mod TreeSoundBeginLemmas
 pub mod FallenClaimedLemmas
 pub mod FallenToLemmas
+pub mod TreeMadeLemmas
 pub mod FallMadeLemmas
 pub mod NamedAfterLemmas
 pub mod TurnsDownLemmas
@@ -174,5 +175,9 @@ pub mod TurnedAlwaysLemmas
 pub mod NamesItselfLemmas
 pub mod TreeTurnsLemmas
 pub mod TurnedTreeLemmas
+pub mod TreeEndLemmas
+pub mod TurnedTreeActLemmas
+pub mod TurnedTreeToLemmas
+pub mod TurnedTreeMadeLemmas
 pub mod TurnedRestLemmas
 pub mod TurnedTreeRestLemmas

@@ -8,7 +8,7 @@ use Rattle.gptp_scenario.specs.SettlingTime.{aging_span, capability_span, silenc
 use Rattle.gptp_scenario.specs.SyncWait.{sync_paths}
 use Rattle.gptp_scenario.specs.declared.change.Timed.{Timed}
 use Rattle.gptp_settling_time.specs.HowSoon.{EachEvent, TurnsUnused}
-use Rattle.gptp_settling_time.specs.InTurn.{AgesSooner, Aging, AnyPast, ChoosesAfter, Cleared, EventLeads, FailsCalm, FailsNow, Fallen, FallsCalm, Gained, Heard, LeadOn, Left, LosesNow, Lost, LowersCalm, Past, SettlesAfter, Starting, Turned, TurnsCalm}
+use Rattle.gptp_settling_time.specs.InTurn.{AgesSooner, Aging, AnyPast, ChoosesAfter, Cleared, EventLeads, FailsCalm, FailsNow, Fallen, Gained, Heard, LeadOn, LeadsByTree, Left, LosesNow, Lost, LowersCalm, Past, SettlesAfter, Starting, Turned, TurnedTree, TurnsCalm}
 use Rattle.gptp_settling_time.specs.Losses.{AgesWithin, FailsHeard, LowersUnused}
 use Rattle.gptp_settling_time.proofs.CalmLessLemmas.{failure_calm, lowers_calm}
 use Rattle.gptp_settling_time.proofs.SamePathsLemmas.{turned_paths}
@@ -59,26 +59,28 @@ module _ (n : NetworkState) (made : List Timed) (event : Timed) (roles : ℕ) wh
   loss_leads (Left silent) settled loses = absurd settled
   loss_leads (Turned silent now) settled loses = absurd settled
   loss_leads (Fallen silent now) settled loses = absurd settled
+  loss_leads (TurnedTree silent now) settled loses = absurd settled
   loss_leads (Cleared begun silent right old) settled loses = absurd settled
   loss_leads (Aging ago aged silent) settled loses = absurd settled
   loss_leads (Lost since most silent) settled loses = absurd settled
 
--- after one by which a tree is cut off it falls back, where the choice had stood for an announce interval
+-- after one by which a tree is so moved it is, where the choice had stood for an announce interval
 module _ (n : NetworkState) (made : List Timed) (event : Timed) (stood : ℕ) (later : last_change made < stood)
-    (quiet : stood + largest_interval (pace_of n) ≤ event.at) where
-  pub fall_leads : (past : Past) → HasSettled n made past stood → FallsCalm n made event
-      → (silent : ℕ) × EventLeads n made past event (Fallen silent event.at)
-  fall_leads AnyPast settled falls =
-      (last_change made + capability_span (pace_of n), (stood, settled, (later, quiet, falls, refl, refl)))
-  fall_leads Starting settled falls = absurd settled
-  fall_leads (Gained start) settled falls = (start, (stood, settled, (later, quiet, falls, refl, refl)))
-  fall_leads (Heard start) settled falls = (start, (stood, settled, (later, quiet, falls, refl, refl)))
-  fall_leads (Left silent) settled falls = absurd settled
-  fall_leads (Turned silent now) settled falls = absurd settled
-  fall_leads (Fallen silent now) settled falls = absurd settled
-  fall_leads (Cleared begun silent right old) settled falls = absurd settled
-  fall_leads (Aging ago aged silent) settled falls = absurd settled
-  fall_leads (Lost since most silent) settled falls = absurd settled
+    (quiet : stood + largest_interval (pace_of n) ≤ event.at) (Moves : Type 0) where
+  pub tree_leads : (past : Past) → HasSettled n made past stood → Moves
+      → (silent : ℕ) × LeadsByTree n made past event Moves silent event.at
+  tree_leads AnyPast settled moves =
+      (last_change made + capability_span (pace_of n), (stood, settled, (later, quiet, moves, refl, refl)))
+  tree_leads Starting settled moves = absurd settled
+  tree_leads (Gained start) settled moves = (start, (stood, settled, (later, quiet, moves, refl, refl)))
+  tree_leads (Heard start) settled moves = (start, (stood, settled, (later, quiet, moves, refl, refl)))
+  tree_leads (Left silent) settled moves = absurd settled
+  tree_leads (Turned silent now) settled moves = absurd settled
+  tree_leads (Fallen silent now) settled moves = absurd settled
+  tree_leads (TurnedTree silent now) settled moves = absurd settled
+  tree_leads (Cleared begun silent right old) settled moves = absurd settled
+  tree_leads (Aging ago aged silent) settled moves = absurd settled
+  tree_leads (Lost since most silent) settled moves = absurd settled
 
 -- after one by which a system turns it has turned
 module _ (n : NetworkState) (made : List Timed) (event : Timed) where
@@ -105,6 +107,7 @@ module _ (n : NetworkState) (made : List Timed) (event : Timed) where
   turn_leads (Left silent) settled turns = absurd settled
   turn_leads (Turned silent now) settled turns = absurd settled
   turn_leads (Fallen silent now) settled turns = absurd settled
+  turn_leads (TurnedTree silent now) settled turns = absurd settled
   turn_leads (Cleared begun silent right old) settled turns = absurd settled
   turn_leads (Aging ago aged silent) settled turns = absurd settled
   turn_leads (Lost since most silent) settled turns = absurd settled
@@ -119,6 +122,7 @@ module _ (n : NetworkState) (made : List Timed) (event : Timed) where
   ages_leads (Left start) aged silent settled now = absurd settled
   ages_leads (Turned start was) aged silent settled now = absurd settled
   ages_leads (Fallen start was) aged silent settled now = absurd settled
+  ages_leads (TurnedTree start was) aged silent settled now = absurd settled
   ages_leads (Cleared begun start right old) aged silent settled now = absurd settled
   ages_leads (Aging ago gone start) aged silent settled now = absurd settled
   ages_leads (Lost since most start) aged silent settled now = absurd settled
@@ -133,6 +137,7 @@ module _ (n : NetworkState) (made : List Timed) (event : Timed) where
   loses_leads (Left start) since most silent settled now = absurd settled
   loses_leads (Turned start was) since most silent settled now = absurd settled
   loses_leads (Fallen start was) since most silent settled now = absurd settled
+  loses_leads (TurnedTree start was) since most silent settled now = absurd settled
   loses_leads (Cleared begun start right old) since most silent settled now = absurd settled
   loses_leads (Aging ago aged start) since most silent settled now = absurd settled
   loses_leads (Lost begun delay start) since most silent settled now = absurd settled
@@ -147,6 +152,7 @@ settles_chooses n events (Heard start) settled is = is
 settles_chooses n events (Left silent) settled (off, late) = off
 settles_chooses n events (Turned silent now) settled so = so
 settles_chooses n events (Fallen silent now) settled so = so
+settles_chooses n events (TurnedTree silent now) settled so = so
 settles_chooses n events (Cleared begun silent right old) settled (off, late) = off
 settles_chooses n events (Aging ago aged silent) settled (off, late) = (off, inr late)
 settles_chooses n events (Lost since most silent) settled (off, passed, late) = (off, passed)

@@ -12,7 +12,7 @@ use Rattle.gptp_scenario.specs.declared.change.Timed.{Timed}
 use Rattle.gptp_scenario.specs.declared.sync_wait.SyncPaths.{SyncPaths}
 use Rattle.gptp_theorem.proofs.EventLemmas.{last_behind}
 use Rattle.gptp_settling_time.specs.HowSoon.{CutsOneEnd, EachEvent, FailsEndFirst, FailsHeardFirst, LowersOneLink, RestsAfterOneLoss, RestsOnceTold, TurnsOneLink}
-use Rattle.gptp_settling_time.specs.InTurn.{Aging, AnyPast, Cleared, CutsCalm, EventLeads, FailsCalm, FailsNow, Fallen, FlightIsGone, Gained, Heard, LeadOn, Left, Lost, LowersCalm, Past, Starting, Turned, nearer_echo_span, turned_echo_span}
+use Rattle.gptp_settling_time.specs.InTurn.{Aging, AnyPast, Cleared, CutsCalm, EventLeads, FailsCalm, FailsNow, Fallen, FlightIsGone, Gained, Heard, LeadOn, Left, Lost, LowersCalm, Past, Starting, Turned, TurnedTree, nearer_echo_span, turned_echo_span}
 use Rattle.gptp_settling_time.specs.Losses.{AgesWithin, CutsFarEnd, FailsFarEnd, FailsHeard, LowersLink, LowersUnused, TurnsLink, UpIsUsed}
 use Rattle.gptp_settling_time.proofs.CalmLessLemmas.{failure_calm, fails_calm, lowers_calm}
 use Rattle.gptp_settling_time.proofs.LeftToLemmas.{less_way}
@@ -61,6 +61,7 @@ module _ (n : NetworkState) (made : List Timed) (event : Timed) (gone : ℕ) whe
   cut_leads flight (Left silent) settled cuts = absurd settled
   cut_leads flight (Turned silent now) settled cuts = absurd settled
   cut_leads flight (Fallen silent now) settled cuts = absurd settled
+  cut_leads flight (TurnedTree silent now) settled cuts = absurd settled
   cut_leads flight (Cleared begun silent right last) settled cuts = absurd settled
   cut_leads flight (Aging ago aged silent) settled cuts = absurd settled
   cut_leads flight (Lost since most silent) settled cuts = absurd settled
@@ -97,6 +98,7 @@ module _ (n : NetworkState) (made : List Timed) (event : Timed) (gone : ℕ) whe
   fail_leads flight (Left silent) settled fails = absurd settled
   fail_leads flight (Turned silent now) settled fails = absurd settled
   fail_leads flight (Fallen silent now) settled fails = absurd settled
+  fail_leads flight (TurnedTree silent now) settled fails = absurd settled
   fail_leads flight (Cleared begun silent right last) settled fails = absurd settled
   fail_leads flight (Aging ago aged silent) settled fails = absurd settled
   fail_leads flight (Lost since most silent) settled fails = absurd settled
@@ -136,6 +138,7 @@ module _ (n : NetworkState) (made : List Timed) (event : Timed) (gone : ℕ)
   right_leads (Left silent) settled lowers = absurd settled
   right_leads (Turned silent now) settled lowers = absurd settled
   right_leads (Fallen silent now) settled lowers = absurd settled
+  right_leads (TurnedTree silent now) settled lowers = absurd settled
   right_leads (Cleared begun silent right last) settled lowers = absurd settled
   right_leads (Aging ago aged silent) settled lowers = absurd settled
   right_leads (Lost since most silent) settled lowers = absurd settled
@@ -156,6 +159,7 @@ module _ (n : NetworkState) (made : List Timed) (event : Timed) (aged silent : �
   power_leads (Left start) settled = absurd settled
   power_leads (Turned start was) settled = absurd settled
   power_leads (Fallen start was) settled = absurd settled
+  power_leads (TurnedTree start was) settled = absurd settled
   power_leads (Cleared begun start right last) settled = absurd settled
   power_leads (Aging ago gone start) settled = absurd settled
   power_leads (Lost since most start) settled = absurd settled

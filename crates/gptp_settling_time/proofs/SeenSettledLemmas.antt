@@ -111,7 +111,8 @@ module _ (p : SettlingParams) (n : Network) (w : WorldState) (is : IsWorld p w) 
     (net : IsSettlingNetwork n) (state : Calm n (view w)) (invariant : Invariant says_announce n (view w))
     (late : settled_from n ≤ w.time) (bare : n.bare ≤ w.time) (sound : n.sound ≤ w.time) where
   has : NearHaveSettled n (view w)
-  has place s there live near = network_settles says_announce n (view w) place s net state invariant there live near late
+  has place s there live near =
+      network_settles says_announce n (view w) place s net state invariant there live near late
 
   came : (place : ℕ) (s : SeenStation) (i : ℕ) (r : Reception) → slice_get (view w).stations place ≡ Some s
       → s.live ≡ true → IsNear n.graph s.clock → HoldsAt s i r → IsLinked n.graph (port_of s.clock (suc i))

@@ -31,7 +31,8 @@ module _ (says : Spelling) (n0 n : Network) (top other : ℕ) (best next : Syste
     (invariant0 : Invariant says n0 w) (late0 : settled_from n0 ≤ w.time)
     (sound0 : IsSoundEverywhere says n0.graph w) (same : SameWiring n0 n) (w' : MachineState) (lost place : ℕ)
     (a : EndAnswers says n top lost place w w') (start : ℕ)
-    (b' : FallsOff says n0.graph n top best next base depth t start w') (apart' : LanesBeginApart w') (dark' : UnlinkedAreOff n.graph w') (old : ℕ)
+    (b' : FallsOff says n0.graph n top best next base depth t start w') (apart' : LanesBeginApart w')
+    (dark' : UnlinkedAreOff n.graph w') (old : ℕ)
     (deep : (v : ℕ) → IsBest n.graph v next → falls_by n start (depth v) + n.most ≤ old)
     (due : (j : ℕ) (l : Lane) (f : AnnounceFrame) (c : Announce) → slice_get w'.lanes j ≡ Some l → In f l.frames
     → says f.octets c → f.due ≤ old) where
@@ -68,7 +69,8 @@ module _ (says : Spelling) (n0 n : Network) (top other : ℕ) (best next : Syste
             joins = back;
             source = was.source ∙ one;
             sound = stays from.clock r.said
-                (λ in_from. out (beside g n top best next base depth (cuts_off g n top best next base depth t) from.clock s.clock (from.port, suc k, back)
+                (λ in_from. out (beside g n top best next base depth (cuts_off g n top best next base depth t)
+                from.clock s.clock (from.port, suc k, back)
                 in_from))
                 (Joins-clock g from (port_of s.clock (suc k)) t.left.graph
                 (Joins-sym g (port_of s.clock (suc k)) from joined_then))

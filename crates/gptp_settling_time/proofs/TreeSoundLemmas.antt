@@ -18,7 +18,7 @@ use Rattle.gptp_bmca_machine.specs.Network.{Network, network_setting}
 use Rattle.gptp_bmca_machine.specs.Reacts.{IsMasterAt, IsOwn}
 use Rattle.gptp_bmca_machine.specs.SoundEverywhere.{IsSoundEverywhere, IsSoundSent, StationIsSound}
 use Rattle.gptp_bmca_machine.specs.SoundLaws.{UnlinkedAreOff}
-use Rattle.gptp_bmca_machine.specs.Station.{Disabled, HoldsAt, MachineState, Mine, Port, Received, Reception, Station}
+use Rattle.gptp_bmca_machine.specs.Station.{Disabled, MachineState, Mine, Port, Received, Station}
 use Rattle.gptp_bmca_machine.specs.Touch.{Hear, StationTouch}
 use Rattle.gptp_bmca_machine.proofs.CutTreeLemmas.{IsCutOff, LeadsNowhere, beside, cuts_off, moves_tree, tree_dec}
 use Rattle.gptp_bmca_machine.proofs.FallEndLemmas.{FallsOff}
@@ -71,7 +71,8 @@ module _ (says : Spelling) (g : Snapshot) (n : Network) (top : ℕ) (best next :
     there = subst (λ k. slice_get w.stations k ≡ Some s) (calm.placed i s at) at
 
     -- a port that received something is at a link, and so is a master port
-    pub linked_at : UnlinkedAreOff n.graph w → (place : ℕ) (q : Port) → slice_get s.ports place ≡ Some q → (q.held ≡ Disabled → ⊥)
+    pub linked_at : UnlinkedAreOff n.graph w → (place : ℕ) (q : Port) → slice_get s.ports place ≡ Some q
+        → (q.held ≡ Disabled → ⊥)
         → IsLinked n.graph (port_of s.clock (suc place))
     linked_at dark place q at_q on = elim (IsLinked-dec n.graph (port_of s.clock (suc place))) [
       | yes linked ↦ linked
@@ -79,7 +80,8 @@ module _ (says : Spelling) (g : Snapshot) (n : Network) (top : ℕ) (best next :
     ]
 
     module _ (old : ℕ) (deep : (v : ℕ) → IsBest n.graph v next → falls_by n start (depth v) + n.most ≤ old)
-        (apart : LanesBeginApart w) (dark : UnlinkedAreOff n.graph w) (held : (IsBest n.graph s.clock next → ⊥) → StationIsSound n.graph s) (port : ℕ)
+        (apart : LanesBeginApart w) (dark : UnlinkedAreOff n.graph w)
+        (held : (IsBest n.graph s.clock next → ⊥) → StationIsSound n.graph s) (port : ℕ)
         (a : Announce) (own : IsOwn s port a) (master : IsMasterAt s port) (j : ℕ) (l : Lane) (f : AnnounceFrame)
         (at_l : slice_get w.lanes j ≡ Some l) (among : In f l.frames) (from : l.from ≡ port_of s.clock port) where
       -- it tells over a link
@@ -122,12 +124,15 @@ module _ (says : Spelling) (g : Snapshot) (n : Network) (top : ℕ) (best next :
         | no not ↦ inl (sent (record {
           sender = known_at;
           source = own.source;
-          sound = inr (says_whole says g n (IsCutOff n next) LeadsNowhere top best next base depth m start w b.after s.clock in_s s there
-              (holds_in_tree says g n (IsCutOff n next) LeadsNowhere top best next base depth m start w b.after b.falling s.clock in_s) not port a
+          sound = inr (says_whole says g n (IsCutOff n next) LeadsNowhere top best next base depth m start w b.after
+              s.clock in_s s there
+              (holds_in_tree says g n (IsCutOff n next) LeadsNowhere top best next base depth m start w b.after
+              b.falling s.clock in_s) not port a
               own);
         }))
         | yes choice ↦
-            let late = old_in_time says g n (IsCutOff n next) LeadsNowhere top best next base depth m start w b.after b.falling (depth s.clock)
+            let late = old_in_time says g n (IsCutOff n next) LeadsNowhere top best next base depth m start w b.after
+            b.falling (depth s.clock)
             s.clock refl in_s
             (λ x at_x. subst (λ y. HasChoice y best (base + depth s.clock))
             (same_there w.stations (n.place s.clock) s x there at_x) choice) in
@@ -178,7 +183,8 @@ module _ (says : Spelling) (g : Snapshot) (n : Network) (top : ℕ) (best next :
                 let over : Joins n.graph act.l.from act.l.to =
                 subst (λ p. Joins n.graph p act.l.to) (sym from_is) (subst (Joins n.graph from) (sym to) joins) in
                 let inside = subst (λ (p : PortIdentity). IsBest n.graph p.clock next) from_is (gone.inside over) in
-                absurd (out (beside g n top best next base depth (cuts_off g n top best next base depth t) from.clock act.call.s.clock
+                absurd (out (beside g n top best next base depth (cuts_off g n top best next base depth t) from.clock
+                act.call.s.clock
                 (from.port, suc place, joins) inside))
           ]
 
@@ -243,7 +249,8 @@ module _ (says : Spelling) (g : Snapshot) (n : Network) (top : ℕ) (best next :
                   → IsSoundSent n.graph l'.from a ⊎ IsOldInTree n.graph next old l'.from l'.to f.due
               fresh (x, x_in, from, octets) =
                   let (own, master) = call.reacts.tells x a x_in (subst (λ (o : List ℕ). says o a) octets said) in
-                  tells_outside w' b' call.place call.s' call.there live' old deep apart' dark' held' x.port a own master j l'
+                  tells_outside w' b' call.place call.s' call.there live' old deep apart' dark' held' x.port a own
+                  master j l'
                   f at among (step.from ∙ from ∙ (λ i. port_of (sym call.reacts.clock i) x.port))
 
       answered : IsSoundOutside says n.graph next old w'
@@ -304,7 +311,8 @@ module _ (says : Spelling) (g : Snapshot) (n : Network) (top : ℕ) (best next :
         -- nobody has its old choice
         not : HasChoice s best (base + depth s.clock) → ⊥
         not choice =
-            let late = old_in_time says g n (IsCutOff n next) LeadsNowhere top best next base depth m start w b.after b.falling (depth s.clock)
+            let late = old_in_time says g n (IsCutOff n next) LeadsNowhere top best next base depth m start w b.after
+            b.falling (depth s.clock)
             s.clock refl in_s (λ x at_x.
             subst (λ y. HasChoice y best (base + depth s.clock))
             (same_there w.stations (n.place s.clock) s x at_place at_x) choice) in

@@ -1,10 +1,9 @@
--- A link of a network at rest goes down, by which a tree turns to its one way out: its top answers, and the tree begins to
--- fall back.
-use Rattle.std.proofs.Common.{◌≡◌, ◌≢◌, ◌⊎◌, ◌<◌, ◌≤◌, ◌+◌, ℕ, suc, List, Some, slice_get, refl, sym, ap, subst, ◌∙◌, inl, inr, arith}
+-- A link of a network at rest goes down, by which a tree turns to its one way out: its top answers, and the tree begins
+-- to fall back.
+use Rattle.std.proofs.Common.{◌≡◌, ◌≢◌, ◌⊎◌, ◌≤◌, ◌+◌, ℕ, suc, List, Some, slice_get, refl, sym, ap, subst, ◌∙◌, inl, inr, arith}
 use Rattle.gptp_lists.specs.Members.{In}
 use Rattle.gptp_lists.proofs.SystemSpecLemmas.{In-parts}
 use Rattle.gptp_graph.specs.Best.{IsBest}
-use Rattle.gptp_graph.specs.Distance.{IsDistance}
 use Rattle.gptp_graph.specs.Snapshot.{Joins, PortIdentity, Snapshot, System, clocks, port_of}
 use Rattle.gptp_graph.proofs.BestLemmas.{IsBest-unique}
 use Rattle.gptp_graph.proofs.LinkLemmas.{Joins-sym}
@@ -101,8 +100,8 @@ module _ (says : Spelling) (n0 n : Network) (tree : List ℕ) (top other last ou
         → slice_get s.ports q ≡ Some pu → pu.held ≡ Received r → Whole n.graph out r.said
     held_left s pu r at there holds =
         let (live, clock) = lives_at n w' kept'.calm last (t.lives last t.in_last) s at in
-        let o = held_before says n0 n top t.well t.left moved_top net0 w calm0 invariant0 late0 sound0 same w' lost place
-        a kept' (n.place last) s q r at live (pu, there, holds) in
+        let o = held_before says n0 n top t.well t.left moved_top net0 w calm0 invariant0 late0 sound0 same w' lost
+        place a kept' (n.place last) s q r at live (pu, there, holds) in
         let named = o.clock ∙ clock in
         let over = subst (λ c. Joins g (port_of out (suc p)) (port_of c (suc q))) (sym named) joins0 in
         let (far, settled) = held_settled says n0 net0 w calm0 invariant0 late0 near0 o.i o.old q r
@@ -117,8 +116,8 @@ module _ (says : Spelling) (n0 n : Network) (tree : List ℕ) (top other last ou
               (subst (λ c. In c r.said.path) (sym clock) names))
         ]
       where
-        whole_at : (o : HeldBefore says n0 n top t.well t.left moved_top net0 w calm0 invariant0 late0 sound0 same w' lost
-            place a kept' s.clock q r) → Joins g (port_of out (suc p)) (port_of o.old.clock (suc q))
+        whole_at : (o : HeldBefore says n0 n top t.well t.left moved_top net0 w calm0 invariant0 late0 sound0 same w'
+            lost place a kept' s.clock q r) → Joins g (port_of out (suc p)) (port_of o.old.clock (suc q))
             → r.said.root ≡ best.identity → Whole g out r.said
         whole_at o over root =
             let came = sound0.stations o.i o.old o.at o.live q r o.holds in
@@ -146,8 +145,8 @@ module _ (says : Spelling) (n0 n : Network) (tree : List ℕ) (top other last ou
         flies (l, at_l, step) f c among said =
             elim (In-parts f l.frames step.news (subst (In f) step.behind among)) [
               | inl old ↦
-                  let (whole, root) = link_whole says n0 n net0 w calm0 sound0 named0 same out p last q l f c best joins0
-                  at_l old said out_best0 in
+                  let (whole, root) = link_whole says n0 n net0 w calm0 sound0 named0 same out p last q l f c best
+                  joins0 at_l old said out_best0 in
                   out_whole g n tree top other last out best base depth t c whole root
               | inr new ↦
                   let (z, sent, from, octets) = step.sent f new in
@@ -170,14 +169,14 @@ module _ (says : Spelling) (n0 n : Network) (tree : List ℕ) (top other last ou
 
   held_sound : HeldIsSound g w'
   held_sound i s k r at live holds =
-      let o = held_before says n0 n top t.well t.left moved_top net0 w calm0 invariant0 late0 sound0 same w' lost place a
-      kept' i s k r at live holds in
+      let o = held_before says n0 n top t.well t.left moved_top net0 w calm0 invariant0 late0 sound0 same w' lost place
+      a kept' i s k r at live holds in
       subst (λ c. CameSound g c (suc k) r) o.clock (sound0.stations o.i o.old o.at o.live k r o.holds)
 
   sound' : IsSoundOnLinks says g w'
   sound' = record {
-    lanes = λ j l f c at among said joins. elim (flew says n0 n top t.well t.left moved_top net0 w calm0 invariant0 late0
-        sound0 same w' lost place a kept' j l f c at among said) [
+    lanes = λ j l f c at among said joins. elim (flew says n0 n top t.well t.left moved_top net0 w calm0 invariant0
+        late0 sound0 same w' lost place a kept' j l f c at among said) [
           | inl o ↦
               let is = sound0.lanes j o.l o.at f c o.among said in
               record {

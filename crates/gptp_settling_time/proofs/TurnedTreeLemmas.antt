@@ -5,7 +5,7 @@ use Rattle.gptp_lists.specs.Members.{In}
 use Rattle.gptp_graph.specs.Best.{IsBest}
 use Rattle.gptp_graph.specs.Distance.{IsDistance, IsNear}
 use Rattle.gptp_graph.specs.PathBound.{path_bound}
-use Rattle.gptp_graph.specs.Snapshot.{IsLinked, Snapshot, System, clocks, port_of}
+use Rattle.gptp_graph.specs.Snapshot.{IsLinked, Snapshot, System, port_of}
 use Rattle.gptp_graph.proofs.ExistenceLemmas.{distance_exists}
 use Rattle.gptp_graph.proofs.PathBoundLemmas.{IsDistance-within}
 use Rattle.gptp_links.specs.Fate.{Draw}
@@ -20,7 +20,6 @@ use Rattle.gptp_model.specs.World.{WorldState}
 use Rattle.gptp_model.specs.declared.done.Done.{Done}
 use Rattle.gptp_model.specs.declared.station.Station.{Station}
 use Rattle.gptp_bmca_machine.specs.Acts.{MachineSteps}
-use Rattle.gptp_bmca_machine.specs.Calm.{Calm}
 use Rattle.gptp_bmca_machine.specs.Clean.{CameOverLink}
 use Rattle.gptp_bmca_machine.specs.LossLaws.{IsAfterLoss}
 use Rattle.gptp_bmca_machine.specs.Network.{Network}
@@ -79,7 +78,7 @@ turn_times g n tree top other last out best base depth t start = record {
 -- ---- what is claimed
 
 -- What is claimed of a world since a link went down at a time, by which a tree turned to its one way out.
-pub record IsTurnedTree (p : SettlingParams) (g : Snapshot) (silent start : ℕ) (w : WorldState) : Type 0 where
+pub record IsTurnedTreeAlways (p : SettlingParams) (g : Snapshot) (silent start : ℕ) (w : WorldState) : Type 0 where
   pub standing : IsStanding p silent w
   pub asked : HaveAskedLong w
   pub n : Network
@@ -101,7 +100,7 @@ pub record IsTurnedTree (p : SettlingParams) (g : Snapshot) (silent start : ℕ)
       (settles_by n start) (turn_times g n tree top other last out best base depth turns start) (view w)
 
 module _ (p : SettlingParams) (g : Snapshot) (silent start : ℕ) (w w' : WorldState)
-    (is : IsTurnedTree p g silent start w) (standing' : IsStanding p silent w') (asked' : HaveAskedLong w')
+    (is : IsTurnedTreeAlways p g silent start w) (standing' : IsStanding p silent w') (asked' : HaveAskedLong w')
     (keeps : KeepsNetwork w w') (step : MachineSteps says_announce (view w) (view w')) (on : w.time ≤ w'.time) where
   same' : left_network p silent w' ≡ is.n
   same' = same_left p silent w w' keeps ∙ is.same
@@ -125,8 +124,8 @@ module _ (p : SettlingParams) (g : Snapshot) (silent start : ℕ) (w w' : WorldS
     dark' = subst (λ (z : Network). UnlinkedAreOff z.graph (view w')) same'
         (dark_now p silent w' standing' asked' quiet' past')
 
-    back' : TurnsBack says_announce g is.n is.tree is.top is.other is.last is.out is.best is.base is.depth is.turns start
-        (view w')
+    back' : TurnsBack says_announce g is.n is.tree is.top is.other is.last is.out is.best is.base is.depth is.turns
+        start (view w')
     back' =
         turns_on says_announce g is.n is.tree is.top is.other is.last is.out is.best is.base is.depth is.turns start
         (view w) (view w') (is.seen quiet off).0 kept' dark' step
@@ -140,7 +139,7 @@ module _ (p : SettlingParams) (g : Snapshot) (silent start : ℕ) (w w' : WorldS
         (turn_times g is.n is.tree is.top is.other is.last is.out is.best is.base is.depth is.turns start) (view w)
         (view w') (is.seen quiet off).0 back' step (is.seen quiet off).1
 
-  turned_step : IsTurnedTree p g silent start w'
+  turned_step : IsTurnedTreeAlways p g silent start w'
   turned_step = record {
     standing = standing';
     asked = asked';
@@ -161,8 +160,8 @@ module _ (p : SettlingParams) (g : Snapshot) (silent start : ℕ) (w w' : WorldS
   }
 
 pub turned_tree_later : (p : SettlingParams) (g : Snapshot) (silent start time : ℕ) (w : WorldState) → w.time ≤ time
-    → NothingBefore time w.net.pending → IsTurnedTree p g silent start w
-    → IsTurnedTree p g silent start (at_time time w)
+    → NothingBefore time w.net.pending → IsTurnedTreeAlways p g silent start w
+    → IsTurnedTreeAlways p g silent start (at_time time w)
 turned_tree_later p g silent start time w later first is =
     turned_step p g silent start w (at_time time w) is (standing_later p silent time w later first is.standing)
     (asked_later p w.last_change time w is.standing.world later first is.asked) (later_keeps time w)
@@ -170,7 +169,7 @@ turned_tree_later p g silent start time w later first is =
 
 pub turned_tree_acts : (p : SettlingParams) (g : Snapshot) (silent start : ℕ) (act : Act) (w : WorldState)
     (draws : List Draw) (done : Done) (w' : WorldState) → IsNoChange act → SetsAnOctet act → Acts act w draws done w'
-    → IsTurnedTree p g silent start w → IsTurnedTree p g silent start w'
+    → IsTurnedTreeAlways p g silent start w → IsTurnedTreeAlways p g silent start w'
 turned_tree_acts p g silent start act w draws done w' none octet acts is =
     let world = is.standing.world in
     let standing' = standing_acts p silent act w draws done w' none octet acts is.standing in
@@ -184,7 +183,7 @@ turned_tree_acts p g silent start act w draws done w' none octet acts is =
 -- ---- it settles
 
 module _ (p : SettlingParams) (g : Snapshot) (silent start : ℕ) (w : WorldState)
-    (is : IsTurnedTree p g silent start w) (quiet : HaveQuietLinks p.params w) (off : NothingLapses p.params)
+    (is : IsTurnedTreeAlways p g silent start w) (quiet : HaveQuietLinks p.params w) (off : NothingLapses p.params)
     (late : start + 1 + 2 * (pred (path_bound (snapshot_of w)) * delay_in w) ≤ w.time) where
   world : IsWorld p w
   world = is.standing.world
@@ -248,8 +247,15 @@ module _ (p : SettlingParams) (g : Snapshot) (silent start : ℕ) (w : WorldStat
       let within = IsDistance-within is.n.graph is.n.reach (clock station.system) d t.paths there in
       let few = t.few in
       let s = station_view station in
-      let is_clear = clear place s (station_there w.stations place station here) live (d, there, omega (arith, within,
-      few)) in (
+      let is_clear = clear place s (station_there w.stations place station here) live (
+        d,
+        there,
+        omega (
+          arith,
+          within,
+          few,
+        ),
+      ) in (
         root_above is.n.graph t.well s is_clear best is_best,
         steps_above is.n.graph t.well s is_clear best is_best,
       ))
@@ -259,7 +265,7 @@ module _ (p : SettlingParams) (g : Snapshot) (silent start : ℕ) (w : WorldStat
 
 -- its ports have measured their links
 pub turned_tree_measured : (p : SettlingParams) (g : Snapshot) (silent start : ℕ) (w : WorldState)
-    → IsTurnedTree p g silent start w → HaveQuietLinks p.params w
+    → IsTurnedTreeAlways p g silent start w → HaveQuietLinks p.params w
     → w.last_change + window_span p.params ≤ w.time → HaveMeasuredLinks w
 turned_tree_measured p g silent start w is quiet =
     ready_measures p w.last_change w is.standing.world (asked_ready p w is.asked) quiet

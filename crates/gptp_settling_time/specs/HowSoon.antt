@@ -18,8 +18,9 @@
 --   twice the greatest delay for each system of a path but one.
 -- - By the first event a system fails that others hear, and no other comes but such links. The choice stands once what
 --   they hold of it has aged, or once no port beside it is capable. Roles stand by the latter.
--- - By the one event a link goes down that so cuts a tree off, an announce interval after the time before has come to
---   rest. Choice and roles ask for twice the greatest delay for each system of a path but one.
+-- - By the one event a link goes down that so cuts a tree off, or turns one to its one way out, an announce interval
+--   after the time before has come to rest. Choice and roles ask for twice the greatest delay for each system of a
+--   path but one.
 -- - By the events anything is taken away, whatever is moved. The choice asks for the longest receipt timeout and the
 --   greatest delay for each system of a path, and then for an announce interval and the greatest delay for each but
 --   one. Roles stand then too, once the ports beside a system that failed aren't capable any more.
@@ -52,7 +53,7 @@ use Rattle.gptp_network.specs.Snapshot.{events_by}
 use Rattle.gptp_settling_time.specs.Gains.{ChangesNothing, EndHasFailed, LeavesCapable, TakesNothing}
 use Rattle.gptp_settling_time.specs.InTurn.{AddsHeard, BettersClock, FlightIsGone, MakesNothing, NoneUsed, TellsNothing, UsedVaryLittle, WidensLink, turned_echo_span}
 use Rattle.gptp_settling_time.specs.Losses.{AgesWithin, CutsFarEnd, FailsFarEnd, FailsHeard, LeavesChoice, LosesAny, LowersLink, LowersUnused, TurnsLink, UpIsUsed}
-use Rattle.gptp_settling_time.specs.TreeLosses.{LowersTree}
+use Rattle.gptp_settling_time.specs.TreeLosses.{LowersTree, TurnsTreeLink}
 
 -- ---- times
 
@@ -336,18 +337,27 @@ LosesNext n events Then last time Asks =
     × ((then : ℕ) × Then then × (last + then < time))
     × Asks (events_by last events) (events_at time events)
 
--- By the one event of a time a tree is cut off, and all events up to it ask for what `Asks` says. Nothing lapses for
+-- By the one event of a time a tree is so moved, and all events up to it ask for what `Asks` says. Nothing lapses for
 -- want of Sync. The network is calm. The event comes an announce interval after the time before has come to rest, by
 -- one of its bounds.
-abbrev pub FallsNext : NetworkState → List Timed → (ℕ → Type 0) → ℕ → ℕ → (List Timed → Type 0) → Type 0
-FallsNext n events Then last time Asks =
+abbrev pub TreeNext : NetworkState → (List Timed → Timed → Type 0) → List Timed → (ℕ → Type 0) → ℕ → ℕ
+    → (List Timed → Type 0) → Type 0
+TreeNext n Moves events Then last time Asks =
     (last < time)
     × NoneBetween events last time
     × IsCalm n (events_by time events)
     × NothingLapses n.params
     × ((then : ℕ) × Then then × (last + then + largest_interval (pace_of n) < time))
-    × OneEvent (LowersTree n) (events_by last events) (events_at time events)
+    × OneEvent Moves (events_by last events) (events_at time events)
     × Asks (events_by time events)
+
+-- a tree is cut off
+abbrev pub FallsNext : NetworkState → List Timed → (ℕ → Type 0) → ℕ → ℕ → (List Timed → Type 0) → Type 0
+FallsNext n = TreeNext n (LowersTree n)
+
+-- a tree turns to its one way out
+abbrev pub TurnsNext : NetworkState → List Timed → (ℕ → Type 0) → ℕ → ℕ → (List Timed → Type 0) → Type 0
+TurnsNext n = TreeNext n (TurnsTreeLink n)
 
 -- The tree drops the best of before within a way, and settles within another.
 abbrev pub BoundsTree : NetworkState → ℕ → ℕ → List Timed → Type 0
@@ -421,7 +431,8 @@ IsLossBoundAfter n events [] time choice roles = ⊥
 IsLossBoundAfter n events (last ∷ earlier) time choice roles =
     LosesNext n events (λ then. IsRestBoundAfter n events earlier last then) last time
     (λ made now. BoundsLoss n made now choice roles)
-    ⊎ FallsNext n events (λ then. IsRestBoundAfter n events earlier last then) last time (BoundsTree n choice roles)
+    ⊎ (FallsNext n events (λ then. IsRestBoundAfter n events earlier last then) last time (BoundsTree n choice roles)
+    ⊎ TurnsNext n events (λ then. IsRestBoundAfter n events earlier last then) last time (BoundsTree n choice roles))
 
 -- a choice bound of a document at a time: by then the choice stands, and the roles do
 abbrev pub IsChoiceBound : DocumentState → ℕ → ℕ → Type 0

@@ -14,6 +14,8 @@
 --   went down that moved none, or a system that others heard lost its power, and right traces have been told by
 --   distance since. When what was in flight is gone, and ports without a link aren't capable, the network has come to
 --   rest as if all had been heard.
+-- - TurnedTree: a link went down, by which a tree turned to its one way out. The network settles 1 ns and twice the
+--   greatest delay for each system of a path but one later.
 -- - Fallen: a link went down and so cut a tree off. The network settles 1 ns and twice the greatest delay for each
 --   system of a path but one later. When what was in flight is gone too, it has come to rest as if all had been heard.
 -- - Aging: a system failed that others heard. What they hold of it ages, and the choice stands once that is gone. The
@@ -65,7 +67,7 @@ use Rattle.gptp_settling_time.specs.Documents.{IsSettledAs}
 use Rattle.gptp_settling_time.specs.Exactly.{SettlesBy}
 use Rattle.gptp_settling_time.specs.Gains.{AreCapableAnyway, AreCapableNext, AreCapableStill, ChangesNothing, EndHasFailed, HasRested, IsDownAfter, IsNoWorse, JoinsLive, LeavesCapable, TakesNothing, UsesNoLink, exchanged_from}
 use Rattle.gptp_settling_time.specs.Losses.{AgesWithin, AreSilentAfter, CutsFarEnd, FailsFarEnd, FailsHeard, LeavesChoice, LosesAny, LowersLink, LowersUnused, TurnsLink, UpIsUsed}
-use Rattle.gptp_settling_time.specs.TreeLosses.{LowersTree}
+use Rattle.gptp_settling_time.specs.TreeLosses.{LowersTree, TurnsTreeLink}
 
 -- What a network came from. The numbers are times, but for the second of a loss.
 pub data Past : Type 0 where
@@ -78,8 +80,9 @@ pub data Past : Type 0 where
   Left : ℕ → Past
   -- from the first on ports without a link aren't capable; at the second a system turned
   Turned : ℕ → ℕ → Past
-  -- from the first on ports without a link aren't capable; at the second a tree was cut off
+  -- from the first on ports without a link aren't capable; at the second a tree was cut off, or turned
   Fallen : ℕ → ℕ → Past
+  TurnedTree : ℕ → ℕ → Past
   -- from the first on its ports are capable; from the second on those without a link aren't; from the third on what is
   -- held is right; and by the fourth what was in flight is gone
   Cleared : ℕ → ℕ → ℕ → ℕ → Past
@@ -231,6 +234,12 @@ pub record FallsCalm (n : NetworkState) (before : List Timed) (event : Timed) : 
   pub calm : IsCalm n before
   pub off : NothingLapses n.params
 
+-- a link goes down by which a tree so turns, in such a network
+pub record TurnsTreeCalm (n : NetworkState) (before : List Timed) (event : Timed) : Type 0 where
+  pub turns : TurnsTreeLink n before event
+  pub calm : IsCalm n before
+  pub off : NothingLapses n.params
+
 -- a system fails that is the far end of each of its links, in such a network
 pub record FailsCalm (n : NetworkState) (before : List Timed) (event : Timed) : Type 0 where
   pub fails : FailsFarEnd n before event
@@ -344,6 +353,7 @@ LeadsToGain n before (Heard start) event next = AreCapableStill n before start e
 LeadsToGain n before (Left silent) event next = ⊥
 LeadsToGain n before (Turned silent time) event next = ⊥
 LeadsToGain n before (Fallen silent time) event next = ⊥
+LeadsToGain n before (TurnedTree silent time) event next = ⊥
 LeadsToGain n before (Cleared since silent right old) event next = ⊥
 LeadsToGain n before (Aging ago aged silent) event next = ⊥
 LeadsToGain n before (Lost since most silent) event next = ⊥
@@ -369,6 +379,7 @@ LeadsToHeard n before (Heard start) event next =
 LeadsToHeard n before (Left silent) event next = ⊥
 LeadsToHeard n before (Turned silent time) event next = ⊥
 LeadsToHeard n before (Fallen silent time) event next = ⊥
+LeadsToHeard n before (TurnedTree silent time) event next = ⊥
 LeadsToHeard n before (Cleared since silent right old) event next = ⊥
 LeadsToHeard n before (Aging ago aged silent) event next = ⊥
 LeadsToHeard n before (Lost since most silent) event next = ⊥
@@ -386,6 +397,7 @@ LeadsToLeft n before (Heard start) event next =
 LeadsToLeft n before (Left silent) event next = LowersUnusedCalm n before event × (next ≡ silent)
 LeadsToLeft n before (Turned silent time) event next = ⊥
 LeadsToLeft n before (Fallen silent time) event next = ⊥
+LeadsToLeft n before (TurnedTree silent time) event next = ⊥
 LeadsToLeft n before (Cleared since silent right old) event next = ⊥
 LeadsToLeft n before (Aging ago aged silent) event next = ⊥
 LeadsToLeft n before (Lost since most silent) event next = ⊥
@@ -406,31 +418,26 @@ LeadsToTurned n before (Heard start) event silent time =
 LeadsToTurned n before (Left start) event silent time = ⊥
 LeadsToTurned n before (Turned start now) event silent time = ⊥
 LeadsToTurned n before (Fallen start now) event silent time = ⊥
+LeadsToTurned n before (TurnedTree start now) event silent time = ⊥
 LeadsToTurned n before (Cleared since start right old) event silent time = ⊥
 LeadsToTurned n before (Aging ago aged start) event silent time = ⊥
 LeadsToTurned n before (Lost since most start) event silent time = ⊥
 
--- in a network whose choice had stood for an announce interval a tree is cut off by it now
-abbrev pub FallsNow : NetworkState → List Timed → Timed → ℕ → ℕ → ℕ → ℕ → Type 0
-FallsNow n before event start stood silent time =
+-- in a network whose choice had stood for an announce interval a tree is so moved by it now
+abbrev pub TreeNow : NetworkState → List Timed → Timed → Type 0 → ℕ → ℕ → ℕ → ℕ → Type 0
+TreeNow n before event Moves start stood silent time =
     (last_change before < stood) × (stood + largest_interval (pace_of n) ≤ event.at)
-    × FallsCalm n before event × (silent ≡ start) × (time ≡ event.at)
+    × Moves × (silent ≡ start) × (time ≡ event.at)
 
-abbrev pub LeadsToFallen : NetworkState → List Timed → Past → Timed → ℕ → ℕ → Type 0
-LeadsToFallen n before AnyPast event silent time =
+abbrev pub LeadsByTree : NetworkState → List Timed → Past → Timed → Type 0 → ℕ → ℕ → Type 0
+LeadsByTree n before AnyPast event Moves silent time =
     (stood : ℕ) × HasSettledAnyhow n before stood
-    × FallsNow n before event (last_change before + capability_span (pace_of n)) stood silent time
-LeadsToFallen n before Starting event silent time = ⊥
-LeadsToFallen n before (Gained start) event silent time =
-    (stood : ℕ) × HasSettledSince n before start stood × FallsNow n before event start stood silent time
-LeadsToFallen n before (Heard start) event silent time =
-    (stood : ℕ) × HasSettledHeard n before start stood × FallsNow n before event start stood silent time
-LeadsToFallen n before (Left start) event silent time = ⊥
-LeadsToFallen n before (Turned start now) event silent time = ⊥
-LeadsToFallen n before (Fallen start now) event silent time = ⊥
-LeadsToFallen n before (Cleared since start right old) event silent time = ⊥
-LeadsToFallen n before (Aging ago aged start) event silent time = ⊥
-LeadsToFallen n before (Lost since most start) event silent time = ⊥
+    × TreeNow n before event Moves (last_change before + capability_span (pace_of n)) stood silent time
+LeadsByTree n before (Gained start) event Moves silent time =
+    (stood : ℕ) × HasSettledSince n before start stood × TreeNow n before event Moves start stood silent time
+LeadsByTree n before (Heard start) event Moves silent time =
+    (stood : ℕ) × HasSettledHeard n before start stood × TreeNow n before event Moves start stood silent time
+LeadsByTree n before past event Moves silent time = ⊥
 
 -- A network that had settled is cleared, and one that is so stays so. One in which something ages is cleared as the
 -- last link goes down of which an end has failed.
@@ -446,6 +453,7 @@ LeadsToCleared n before (Heard start) event since silent right old =
 LeadsToCleared n before (Left start) event since silent right old = ⊥
 LeadsToCleared n before (Turned start now) event since silent right old = ⊥
 LeadsToCleared n before (Fallen start now) event since silent right old = ⊥
+LeadsToCleared n before (TurnedTree start now) event since silent right old = ⊥
 LeadsToCleared n before (Cleared start dark clean last) event since silent right old =
     LowersUnusedCalm n before event × (clean ≤ event.at)
     × ((since ≡ start) × (silent ≡ dark) × (right ≡ clean) × (old ≡ last))
@@ -473,6 +481,7 @@ LeadsToAging n before (Heard start) event ago aged silent =
 LeadsToAging n before (Left start) event ago aged silent = ⊥
 LeadsToAging n before (Turned start now) event ago aged silent = ⊥
 LeadsToAging n before (Fallen start now) event ago aged silent = ⊥
+LeadsToAging n before (TurnedTree start now) event ago aged silent = ⊥
 LeadsToAging n before (Cleared since start right old) event ago aged silent = ⊥
 LeadsToAging n before (Aging old gone start) event ago aged silent =
     LowersUnusedCalm n before event × (ago ≡ old) × (silent ≡ start)
@@ -505,6 +514,7 @@ LeadsToLost n before (Heard start) event since most silent =
 LeadsToLost n before (Left start) event since most silent = ⊥
 LeadsToLost n before (Turned start now) event since most silent = ⊥
 LeadsToLost n before (Fallen start now) event since most silent = ⊥
+LeadsToLost n before (TurnedTree start now) event since most silent = ⊥
 LeadsToLost n before (Cleared begun start right old) event since most silent = ⊥
 LeadsToLost n before (Aging ago aged start) event since most silent = ⊥
 LeadsToLost n before (Lost begun delay start) event since most silent =
@@ -519,6 +529,7 @@ StaysFrom (Heard start) next = next ≡ start
 StaysFrom (Left silent) next = ⊥
 StaysFrom (Turned silent time) next = ⊥
 StaysFrom (Fallen silent time) next = ⊥
+StaysFrom (TurnedTree silent time) next = ⊥
 StaysFrom (Cleared since silent right old) next = ⊥
 StaysFrom (Aging ago aged silent) next = ⊥
 StaysFrom (Lost since most silent) next = ⊥
@@ -532,6 +543,7 @@ StartsFrom n before (Heard start) event next = ⊥
 StartsFrom n before (Left silent) event next = ⊥
 StartsFrom n before (Turned silent time) event next = ⊥
 StartsFrom n before (Fallen silent time) event next = ⊥
+StartsFrom n before (TurnedTree silent time) event next = ⊥
 StartsFrom n before (Cleared since silent right old) event next = ⊥
 StartsFrom n before (Aging ago aged silent) event next = ⊥
 StartsFrom n before (Lost since most silent) event next = ⊥
@@ -545,6 +557,7 @@ StartsStill (Heard start) event = ⊥
 StartsStill (Left silent) event = ⊥
 StartsStill (Turned silent time) event = ⊥
 StartsStill (Fallen silent time) event = ⊥
+StartsStill (TurnedTree silent time) event = ⊥
 StartsStill (Cleared since silent right old) event = ⊥
 StartsStill (Aging ago aged silent) event = ⊥
 StartsStill (Lost since most silent) event = ⊥
@@ -558,7 +571,10 @@ EventLeads n before past event (Gained next) =
 EventLeads n before past event (Heard next) = LeadsToHeard n before past event next
 EventLeads n before past event (Left next) = LeadsToLeft n before past event next
 EventLeads n before past event (Turned silent time) = LeadsToTurned n before past event silent time
-EventLeads n before past event (Fallen silent time) = LeadsToFallen n before past event silent time
+EventLeads n before past event (Fallen silent time) =
+    LeadsByTree n before past event (FallsCalm n before event) silent time
+EventLeads n before past event (TurnedTree silent time) =
+    LeadsByTree n before past event (TurnsTreeCalm n before event) silent time
 EventLeads n before past event (Cleared since silent right old) = LeadsToCleared n before past event since silent right
     old
 EventLeads n before past event (Aging ago aged silent) = LeadsToAging n before past event ago aged silent
@@ -666,6 +682,7 @@ BeginsBy n (Heard start) = UsedVaryLittle n [] × AreCapableSoon n [] start
 BeginsBy n (Left silent) = ⊥
 BeginsBy n (Turned silent time) = ⊥
 BeginsBy n (Fallen silent time) = ⊥
+BeginsBy n (TurnedTree silent time) = ⊥
 BeginsBy n (Cleared since silent right old) = ⊥
 BeginsBy n (Aging ago aged silent) = ⊥
 BeginsBy n (Lost since most silent) = ⊥
@@ -692,6 +709,9 @@ SettlesAfter n events (Turned silent time) settled =
 SettlesAfter n events (Fallen silent time) settled =
     NothingLapses n.params
     × (time + 1 + 2 * way_span (sync_paths n events) ≤ settled)
+SettlesAfter n events (TurnedTree silent time) settled =
+    NothingLapses n.params
+    × (time + 1 + 2 * way_span (sync_paths n events) ≤ settled)
 SettlesAfter n events (Cleared since silent right old) settled = NothingLapses n.params ×
     ((silent ≤ settled) ⊎ UpIsUsed n events)
 SettlesAfter n events (Aging ago aged silent) settled =
@@ -711,6 +731,7 @@ ChoosesAfter n events (Heard start) settled = SettlesAfter n events (Heard start
 ChoosesAfter n events (Left silent) settled = NothingLapses n.params
 ChoosesAfter n events (Turned silent time) settled = SettlesAfter n events (Turned silent time) settled
 ChoosesAfter n events (Fallen silent time) settled = SettlesAfter n events (Fallen silent time) settled
+ChoosesAfter n events (TurnedTree silent time) settled = SettlesAfter n events (TurnedTree silent time) settled
 ChoosesAfter n events (Cleared since silent right old) settled = NothingLapses n.params
 ChoosesAfter n events (Aging ago aged silent) settled =
     NothingLapses n.params × ((aged ≤ settled) ⊎ ((silent ≤ settled) ⊎ UpIsUsed n events))

@@ -1,4 +1,5 @@
--- Events by which a link goes down that cuts off a tree of systems from the best.
+-- Events by which a link goes down that moves a tree of systems: it cuts the tree off from the best, or the tree turns
+-- to its one way out.
 use Rattle.std.specs.Prelude.{◌≡◌, ◌⊎◌, ◌<◌, ◌≤◌, ◌+◌, ℕ, suc, List, [], ◌∷◌, ◌++◌, Some, slice_get}
 use Rattle.gptp_lists.specs.Members.{In}
 use Rattle.gptp_graph.specs.Best.{IsBest}
@@ -57,6 +58,64 @@ pub record LowersTree (n : NetworkState) (before : List Timed) (event : Timed) :
       → (((link_after before v).a.clock ≡ top) × ((link_after before v).b.clock ≡ other))
       ⊎ (((link_after before v).b.clock ≡ top) × ((link_after before v).a.clock ≡ other))
   pub cuts : CutsTreeFrom n before event top other
+  pub delay : (sync_paths n (before ++ event ∷ [])).delay ≤ (sync_paths n before).delay
+  pub paths : (sync_paths n (before ++ event ∷ [])).systems ≤ (sync_paths n before).systems
+  pub few : (sync_paths n before).systems ≤ 255
+
+-- From the first snapshot to the second these systems are moved, and all others are unmoved. They have the best that
+-- they had, and each is farther from it. Before, each was as far as its depth says, from `base` on. The one at the top
+-- lost its link to a system that was nearer; no other link was lost. Within the tree a link leads one deeper or less
+-- deep by one, and each system has one link at most to such as are less deep. One link leads out of it, from `last` to
+-- `out`.
+pub record IsTurnedTree (g g' : Snapshot) (tree : List ℕ) (top other last out : ℕ) (best : System) (base : ℕ)
+    (depth : ℕ → ℕ) : Type 0 where
+  pub in_top : In top tree
+  pub lives : (v : ℕ) → In v tree → In v (clocks g')
+  pub others : (v : ℕ) → In v (clocks g') → (In v tree → ⊥) → IsUnmoved g g' v
+  pub was_best : (v : ℕ) → In v tree → IsBest g v best
+  pub is_best : (v : ℕ) → In v tree → IsBest g' v best
+  pub was : (v : ℕ) → In v tree → IsDistance g v (base + depth v)
+  pub farther : (v far : ℕ) → In v tree → IsDistance g' v far → base + depth v < far
+  pub first : depth top ≡ 0
+  pub nearer : (far : ℕ) → IsDistance g other far → far < base
+  pub lost : (v u : ℕ) → In v tree → Adjacent g v u → Adjacent g' v u ⊎ ((v ≡ top) × (u ≡ other))
+  pub kept : (v u : ℕ) → (In v tree → ⊥) → (In u tree → ⊥) → Adjacent g v u → Adjacent g' v u
+  pub steps : (v u : ℕ) → In v tree → In u tree → Adjacent g' v u
+      → (depth u ≡ suc (depth v)) ⊎ (depth v ≡ suc (depth u))
+  pub single : (v p q : ℕ) (t u : PortIdentity) → In v tree → In t.clock tree → In u.clock tree
+      → Joins g' (port_of v p) t → Joins g' (port_of v q) u
+      → depth v ≡ suc (depth t.clock) → depth v ≡ suc (depth u.clock)
+      → p ≡ q
+  pub leaves : (v u : ℕ) → In v tree → Adjacent g' v u → In u tree ⊎ ((v ≡ last) × (u ≡ out))
+  pub in_last : In last tree
+  pub outside : In out tree → ⊥
+  pub joined : Adjacent g' last out
+  pub one_way : (p q k m : ℕ) → Joins g' (port_of last p) (port_of out k) → Joins g' (port_of last q) (port_of out m)
+      → p ≡ q
+
+-- after these events this one so turns a tree with this system at its top, which loses its link to the other
+abbrev pub TurnsTreeFrom : NetworkState → List Timed → Timed → ℕ → ℕ → Type 0
+TurnsTreeFrom n before event top other = (g g' : Snapshot) → StandsAfter n before g
+    → StandsAfter n (before ++ event ∷ []) g'
+    → (tree : List ℕ) × (last : ℕ) × (out : ℕ) × (best : System) × (base : ℕ) × (depth : ℕ → ℕ)
+    × IsTurnedTree g g' tree top other last out best base depth
+
+-- After these events this one takes down a link in use and so turns a tree, the top of which is at one of its ends. The
+-- greatest delay of a link in use gets no greater, and no path longer. None had more than 255 systems.
+pub record TurnsTreeLink (n : NetworkState) (before : List Timed) (event : Timed) : Type 0 where
+  pub clock : ℕ
+  pub port : ℕ
+  pub act : event.act ≡ Changing (LinkDown clock port)
+  pub used : (place : ℕ) (v : LinkSpec) → slice_get n.links place ≡ Some v
+      → IsEnd (port_id clock port) (link_after before v)
+      → IsUsed n.systems before (link_after before v)
+  pub top : ℕ
+  pub other : ℕ
+  pub ends : (place : ℕ) (v : LinkSpec) → slice_get n.links place ≡ Some v
+      → IsEnd (port_id clock port) (link_after before v)
+      → (((link_after before v).a.clock ≡ top) × ((link_after before v).b.clock ≡ other))
+      ⊎ (((link_after before v).b.clock ≡ top) × ((link_after before v).a.clock ≡ other))
+  pub turns : TurnsTreeFrom n before event top other
   pub delay : (sync_paths n (before ++ event ∷ [])).delay ≤ (sync_paths n before).delay
   pub paths : (sync_paths n (before ++ event ∷ [])).systems ≤ (sync_paths n before).systems
   pub few : (sync_paths n before).systems ≤ 255
