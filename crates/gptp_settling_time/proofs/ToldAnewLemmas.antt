@@ -32,12 +32,12 @@ use Rattle.gptp_bmca_machine.proofs.SoundLemmas.{received_fits}
 use Rattle.gptp_invariants.specs.ChoiceCalm.{HaveQuietLinks, delay_in}
 use Rattle.gptp_invariants.specs.ChoiceSettlesAsMachine.{IsWorld}
 use Rattle.gptp_invariants.specs.ChoiceView.{says_announce, view}
-use Rattle.gptp_invariants.specs.WorldNews.{AreSilentBy}
 use Rattle.gptp_invariants.specs.WorldSound.{IsSoundWorld}
 use Rattle.gptp_invariants.specs.WorldStanding.{snapshot_of}
 use Rattle.gptp_invariants.proofs.ChoiceCalmKeptLemmas.{KeepsNetwork, links_quiet, same_paths}
 use Rattle.gptp_invariants.proofs.ChoiceCalmLemmas.{linked_interval}
 use Rattle.gptp_invariants.proofs.ChoiceSettlesAsMachineLemmas.{kept_back}
+use Rattle.gptp_invariants.proofs.WorldNewsLemmas.{silent_from_now}
 use Rattle.gptp_settling_time.proofs.AlwaysClaimedLemmas.{IsClaimedAlways, IsStanding}
 use Rattle.gptp_settling_time.proofs.AtRestLemmas.{facts_of}
 use Rattle.gptp_settling_time.proofs.BecomesSoundLemmas.{nearer_echo, same_time, sound_claimed}
@@ -324,5 +324,7 @@ module _ (p : SettlingParams) (g : Snapshot) (silent start settled : ℕ) (w : W
       let long = once.long in settled_in p w n refl net_w x.calm invariant (omega (arith, long, over))
 
   -- claims are made of all links always
-  pub once_claimed : (begin : ℕ) → start ≤ begin → AreSilentBy p begin w → IsClaimedAlways p begin w
-  once_claimed = sound_claimed p start silent w once.standing once.asked asked sound seen off
+  pub once_claimed : (begin : ℕ) → start ≤ begin → IsClaimedAlways p begin w
+  once_claimed begin later =
+      sound_claimed p start silent w once.standing once.asked asked sound seen off begin later
+      (silent_from_now p begin silent w once.standing.world once.standing.silent once.past)

@@ -23,7 +23,6 @@ use Rattle.gptp_invariants.specs.ChoiceSeenLaws.{IsNoChange}
 use Rattle.gptp_invariants.specs.ChoiceSettlesAsMachine.{IsWorld}
 use Rattle.gptp_invariants.specs.ChoiceView.{says_announce, view}
 use Rattle.gptp_invariants.specs.WorldEncodableLaws.{SetsAnOctet}
-use Rattle.gptp_invariants.specs.WorldNews.{AreSilentBy}
 use Rattle.gptp_invariants.specs.WorldStanding.{snapshot_of}
 use Rattle.gptp_invariants.proofs.ChoiceCalmKeptLemmas.{KeepsNetwork, acts_keep}
 use Rattle.gptp_invariants.proofs.ChoiceSeenActLemmas.{acts_seen}
@@ -178,7 +177,7 @@ anew_begins p g silent start w moved now last = record {
 pub turned_claimed : (p : SettlingParams) (g : Snapshot) (silent start : ℕ) (w : WorldState)
     → IsTurnedAlways p g silent start w → HaveQuietLinks p.params w → NothingLapses p.params
     → start + way_in w + pred (path_bound (snapshot_of w)) * (largest_interval p + delay_in w) < w.time
-    → (begin : ℕ) → start ≤ begin → AreSilentBy p begin w → IsClaimedAlways p begin w
-turned_claimed p g silent start w is quiet off over begin later silent_by =
+    → (begin : ℕ) → start ≤ begin → IsClaimedAlways p begin w
+turned_claimed p g silent start w is quiet off over =
     once_claimed p g silent start (start + way_in w) w (moved_once p g silent start w is.moved) is.asked is.tells
-    (several p g silent start w is.moved) quiet off over begin later silent_by
+    (several p g silent start w is.moved) quiet off over

@@ -25,7 +25,6 @@ use Rattle.gptp_invariants.specs.ChoiceCalm.{HaveQuietLinks, delay_in}
 use Rattle.gptp_invariants.specs.ChoiceSeenLaws.{IsNoChange}
 use Rattle.gptp_invariants.specs.ChoiceView.{says_announce, view}
 use Rattle.gptp_invariants.specs.WorldEncodableLaws.{SetsAnOctet}
-use Rattle.gptp_invariants.specs.WorldNews.{AreSilentBy}
 use Rattle.gptp_invariants.specs.WorldStanding.{snapshot_of}
 use Rattle.gptp_invariants.proofs.ChoiceCalmKeptLemmas.{KeepsNetwork, acts_keep}
 use Rattle.gptp_invariants.proofs.ChoiceSeenActLemmas.{acts_seen}
@@ -37,16 +36,16 @@ use Rattle.gptp_settling_time.proofs.NamesItselfLemmas.{AllNameItself, sound_its
 use Rattle.gptp_settling_time.proofs.TellsRightLemmas.{IsSettledState}
 use Rattle.gptp_settling_time.proofs.ToldAnewLemmas.{SettlesOnce, TellsOnce, once_claimed, same_way, tells_begins, tells_on, way_in}
 use Rattle.gptp_settling_time.proofs.TurnedRestLemmas.{turned_state}
-use Rattle.gptp_settling_time.proofs.TurnedTreeLemmas.{IsTurnedTree, by_now, turn_times, turned_tree_acts, turned_tree_later}
+use Rattle.gptp_settling_time.proofs.TurnedTreeLemmas.{IsTurnedTreeAlways, by_now, turn_times, turned_tree_acts, turned_tree_later}
 
 -- What is claimed of it: the tree has turned two ways later, and then traces are told anew.
-pub record TurnsTreeAnew (p : SettlingParams) (g : Snapshot) (silent start : ℕ) (w : WorldState) : Type 0 where
-  pub tree : IsTurnedTree p g silent start w
+pub record IsTurnedTreeAnew (p : SettlingParams) (g : Snapshot) (silent start : ℕ) (w : WorldState) : Type 0 where
+  pub tree : IsTurnedTreeAlways p g silent start w
   pub asked : HaveAskedBy start w
   pub tells : TellsOnce p silent (start + 2 * way_in w) w
 
 module _ (p : SettlingParams) (g : Snapshot) (silent start : ℕ) (w : WorldState)
-    (is : IsTurnedTree p g silent start w) where
+    (is : IsTurnedTreeAlways p g silent start w) where
   near : AllAreNear is.n.graph
   near v known =
       let (d, here) = distance_exists is.n.graph v is.turns.well known in
@@ -110,9 +109,9 @@ module _ (p : SettlingParams) (g : Snapshot) (silent start : ℕ) (w : WorldStat
 -- ---- it goes on
 
 module _ (p : SettlingParams) (g : Snapshot) (silent start : ℕ) (w w' : WorldState)
-    (is : TurnsTreeAnew p g silent start w) (tree' : IsTurnedTree p g silent start w') (asked' : HaveAskedBy start w')
+    (is : IsTurnedTreeAnew p g silent start w) (tree' : IsTurnedTreeAlways p g silent start w') (asked' : HaveAskedBy start w')
     (keeps : KeepsNetwork w w') (step : MachineSteps says_announce (view w) (view w')) where
-  anew_step : TurnsTreeAnew p g silent start w'
+  anew_step : IsTurnedTreeAnew p g silent start w'
   anew_step =
       let same = same_way w w' keeps in
       record {
@@ -125,8 +124,8 @@ module _ (p : SettlingParams) (g : Snapshot) (silent start : ℕ) (w w' : WorldS
       }
 
 pub tree_anew_later : (p : SettlingParams) (g : Snapshot) (silent start time : ℕ) (w : WorldState) → w.time ≤ time
-    → NothingBefore time w.net.pending → TurnsTreeAnew p g silent start w
-    → TurnsTreeAnew p g silent start (at_time time w)
+    → NothingBefore time w.net.pending → IsTurnedTreeAnew p g silent start w
+    → IsTurnedTreeAnew p g silent start (at_time time w)
 tree_anew_later p g silent start time w later first is =
     anew_step p g silent start w (at_time time w) is (turned_tree_later p g silent start time w later first is.tree)
     (asked_later p start time w is.tree.standing.world later first is.asked) (later_keeps time w)
@@ -134,7 +133,7 @@ tree_anew_later p g silent start time w later first is =
 
 pub tree_anew_acts : (p : SettlingParams) (g : Snapshot) (silent start : ℕ) (act : Act) (w : WorldState)
     (draws : List Draw) (done : Done) (w' : WorldState) → IsNoChange act → SetsAnOctet act → Acts act w draws done w'
-    → TurnsTreeAnew p g silent start w → TurnsTreeAnew p g silent start w'
+    → IsTurnedTreeAnew p g silent start w → IsTurnedTreeAnew p g silent start w'
 tree_anew_acts p g silent start act w draws done w' none octet acts is =
     let world = is.tree.standing.world in
     let tree' = turned_tree_acts p g silent start act w draws done w' none octet acts is.tree in
@@ -147,7 +146,7 @@ tree_anew_acts p g silent start act w draws done w' none octet acts is =
 
 -- as the link goes down
 pub tree_anew_begins : (p : SettlingParams) (g : Snapshot) (silent start : ℕ) (w : WorldState)
-    → IsTurnedTree p g silent start w → w.time ≡ start → w.last_change ≡ start → TurnsTreeAnew p g silent start w
+    → IsTurnedTreeAlways p g silent start w → w.time ≡ start → w.last_change ≡ start → IsTurnedTreeAnew p g silent start w
 tree_anew_begins p g silent start w tree now last = record {
   tree = tree;
   asked = subst (λ t. HaveAskedBy t w) last tree.asked;
@@ -158,9 +157,9 @@ tree_anew_begins p g silent start w tree now last = record {
 
 -- Two ways later, and then an announce interval and a delay for each system of a path but one, traces are told anew.
 pub tree_anew_claimed : (p : SettlingParams) (g : Snapshot) (silent start : ℕ) (w : WorldState)
-    → TurnsTreeAnew p g silent start w → HaveQuietLinks p.params w → NothingLapses p.params
+    → IsTurnedTreeAnew p g silent start w → HaveQuietLinks p.params w → NothingLapses p.params
     → start + 2 * way_in w + pred (path_bound (snapshot_of w)) * (largest_interval p + delay_in w) < w.time
-    → (begin : ℕ) → start ≤ begin → AreSilentBy p begin w → IsClaimedAlways p begin w
-tree_anew_claimed p g silent start w is quiet off over begin later silent_by =
+    → (begin : ℕ) → start ≤ begin → IsClaimedAlways p begin w
+tree_anew_claimed p g silent start w is quiet off over =
     once_claimed p g silent start (start + 2 * way_in w) w (tree_once p g silent start w is.tree) is.asked is.tells
-    (several p g silent start w is.tree) quiet off over begin later silent_by
+    (several p g silent start w is.tree) quiet off over

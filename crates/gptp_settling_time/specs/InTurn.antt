@@ -600,14 +600,13 @@ turned_echo_span n events =
     2 * way_span (sync_paths n events) + echo_span (pace_of n) (sync_paths n events)
 
 -- A network in which a system turned at a time has come to rest by another, as one whose ports are capable from a later
--- start on. Traces are told anew, and what was in flight is gone by then. Ports without a link aren't capable from the
--- start on. And the greatest delay has passed since the start for each system of a path but one.
-pub record HasToldAnew (n : NetworkState) (events : List Timed) (silent turned start time : ℕ) : Type 0 where
+-- start on. Traces are told anew, and what was in flight is gone by then. And the greatest delay has passed since the
+-- start for each system of a path but one.
+pub record HasToldAnew (n : NetworkState) (events : List Timed) (turned start time : ℕ) : Type 0 where
   pub calm : IsCalm n events
   pub off : NothingLapses n.params
   pub told : turned + turned_echo_span n events < time
   pub later : turned < start
-  pub unlinked : silent ≤ start
   pub over : HasSettledHeard n events start time
 
 -- A network in which a system failed that others heard has come to rest by a time, as one whose ports are capable from
@@ -650,8 +649,9 @@ pub record HasToldAll (n : NetworkState) (events : List Timed) (since most silen
 
 -- by this time it has come to rest, as one whose ports are capable from this start on
 abbrev pub RestsFrom : NetworkState → List Timed → Past → ℕ → ℕ → Type 0
-RestsFrom n events (Turned silent turned) time start = HasToldAnew n events silent turned start time
+RestsFrom n events (Turned silent turned) time start = HasToldAnew n events turned start time
 RestsFrom n events (Fallen silent fallen) time start = HasFallenBack n events fallen start time
+RestsFrom n events (TurnedTree silent turned) time start = HasToldAnew n events turned start time
 RestsFrom n events (Cleared since silent right old) time start = HasCleared n events since silent old start time
 RestsFrom n events (Aging ago aged silent) time start = HasAged n events aged silent start time
 RestsFrom n events (Lost since most silent) time start = HasToldAll n events since most silent start time
