@@ -130,7 +130,7 @@ module _ (d : DocumentState) (playable : IsPlayable d) (events : List Timed) (w 
   rests_from (Left silent) start none so = absurd none
   rests_from (Turned silent now) start rest so = turned_to_claimed d events silent now w start so playable rest
   rests_from (Fallen silent now) start rest so = fallen_to_claimed d events silent now w start so playable rest
-  rests_from (TurnedTree silent now) start rest so =
+  rests_from (TurnedTree silent now) start (rest, later) so =
       turned_tree_to_claimed d events silent now w start so playable rest
   rests_from (Cleared since silent right old) start rest so =
       cleared_to_claimed d events since silent right old w start so playable rest

@@ -301,4 +301,5 @@ module _ (p : SettlingParams) (g : Snapshot) (since silent right old : ℕ) (w :
   -- so claims are made of all links always
   pub becomes_claimed : (start : ℕ) → since ≤ start → AreSilentBy p start w → IsClaimedAlways p start w
   becomes_claimed =
-      sound_claimed p since silent w is.standing is.asked asked becomes_sound (settled_now p g silent w is quiet off) off
+      sound_claimed p since silent w is.standing is.asked asked becomes_sound (settled_now p g silent w is quiet off)
+      off

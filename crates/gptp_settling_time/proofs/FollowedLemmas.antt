@@ -306,16 +306,17 @@ module _ (n : NetworkState) (network : IsNetwork n) (off : NothingLapses n.param
         → IsFollowedTo n (events_by time all) time rest
     turn_followed then rest calm_then calm before soon turns is =
         let (silent, lead) = turns_on then calm_then before soon turns in
-        let over : suc time + way_span (sync_paths n (events_by time all)) ≤ suc (time + rest) = omega (arith, is) in
+        let start : ℕ = suc (time + way_span (sync_paths n (events_by time all))) in
+        let over : start + way_span (sync_paths n (events_by time all)) ≤ suc (time + rest) = omega (arith, is) in
         record {
           first = before.first;
           begins = before.begins;
           last = TurnedTree silent time;
           lead = lead;
           settles = (
-            Heard (suc time),
+            Heard start,
             inr (
-              suc time,
+              start,
               refl,
               record {
                 calm = calm;
@@ -324,6 +325,7 @@ module _ (n : NetworkState) (network : IsNetwork n) (off : NothingLapses n.param
                 later = omega arith;
                 over = over;
               },
+              omega arith,
             ),
             over,
           );

@@ -1,5 +1,5 @@
 -- A link goes down by which a tree turns to its one way out, in a world of a document whose choice had stood.
-use Rattle.std.proofs.Common.{List, [], arith, inl, inr, subst, ℕ, ◌++◌, ◌+◌, ◌∷◌, ◌≡◌, ◌≤◌, ◌⊎◌, slice_get, Some}
+use Rattle.std.proofs.Common.{List, [], arith, inl, inr, subst, sym, ℕ, ◌++◌, ◌∙◌, ◌+◌, ◌∷◌, ◌≡◌, ◌≤◌, ◌⊎◌, slice_get, Some}
 use Rattle.gptp_graph.specs.PathBound.{path_bound}
 use Rattle.gptp_graph.specs.Snapshot.{Snapshot, System, port_of}
 use Rattle.gptp_links.specs.Fate.{Draw}

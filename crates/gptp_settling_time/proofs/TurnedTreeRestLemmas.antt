@@ -109,8 +109,8 @@ module _ (p : SettlingParams) (g : Snapshot) (silent start : ℕ) (w : WorldStat
 -- ---- it goes on
 
 module _ (p : SettlingParams) (g : Snapshot) (silent start : ℕ) (w w' : WorldState)
-    (is : IsTurnedTreeAnew p g silent start w) (tree' : IsTurnedTreeAlways p g silent start w') (asked' : HaveAskedBy start w')
-    (keeps : KeepsNetwork w w') (step : MachineSteps says_announce (view w) (view w')) where
+    (is : IsTurnedTreeAnew p g silent start w) (tree' : IsTurnedTreeAlways p g silent start w')
+    (asked' : HaveAskedBy start w') (keeps : KeepsNetwork w w') (step : MachineSteps says_announce (view w) (view w')) where
   anew_step : IsTurnedTreeAnew p g silent start w'
   anew_step =
       let same = same_way w w' keeps in
@@ -118,7 +118,8 @@ module _ (p : SettlingParams) (g : Snapshot) (silent start : ℕ) (w w' : WorldS
         tree = tree';
         asked = asked';
         tells = tells_on p g silent (start + 2 * way_in w') w w'
-            (subst (λ way. SettlesOnce p g silent (start + 2 * way) w) (sym same) (tree_once p g silent start w is.tree))
+            (subst (λ way. SettlesOnce p g silent (start + 2 * way) w) (sym same)
+            (tree_once p g silent start w is.tree))
             (tree_once p g silent start w' tree')
             (subst (λ way. TellsOnce p silent (start + 2 * way) w) (sym same) is.tells) keeps step;
       }
@@ -146,7 +147,8 @@ tree_anew_acts p g silent start act w draws done w' none octet acts is =
 
 -- as the link goes down
 pub tree_anew_begins : (p : SettlingParams) (g : Snapshot) (silent start : ℕ) (w : WorldState)
-    → IsTurnedTreeAlways p g silent start w → w.time ≡ start → w.last_change ≡ start → IsTurnedTreeAnew p g silent start w
+    → IsTurnedTreeAlways p g silent start w → w.time ≡ start → w.last_change ≡ start
+    → IsTurnedTreeAnew p g silent start w
 tree_anew_begins p g silent start w tree now last = record {
   tree = tree;
   asked = subst (λ t. HaveAskedBy t w) last tree.asked;

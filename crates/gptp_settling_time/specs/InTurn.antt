@@ -647,11 +647,13 @@ pub record HasToldAll (n : NetworkState) (events : List Timed) (since most silen
   pub unlinked : (silent ≤ time) ⊎ UpIsUsed n events
   pub over : HasSettledHeard n events start time
 
--- by this time it has come to rest, as one whose ports are capable from this start on
+-- By this time it has come to rest, as one whose ports are capable from this start on. A tree that turned had dropped
+-- what it told before by then.
 abbrev pub RestsFrom : NetworkState → List Timed → Past → ℕ → ℕ → Type 0
 RestsFrom n events (Turned silent turned) time start = HasToldAnew n events turned start time
 RestsFrom n events (Fallen silent fallen) time start = HasFallenBack n events fallen start time
-RestsFrom n events (TurnedTree silent turned) time start = HasToldAnew n events turned start time
+RestsFrom n events (TurnedTree silent turned) time start =
+    HasToldAnew n events turned start time × (turned + way_span (sync_paths n events) < start)
 RestsFrom n events (Cleared since silent right old) time start = HasCleared n events since silent old start time
 RestsFrom n events (Aging ago aged silent) time start = HasAged n events aged silent start time
 RestsFrom n events (Lost since most silent) time start = HasToldAll n events since most silent start time
