@@ -318,14 +318,13 @@ module _ (n : NetworkState) (network : IsNetwork n) (off : NothingLapses n.param
             inr (
               start,
               refl,
-              record {
+              (record {
                 calm = calm;
                 off = off;
                 told = omega (arith, is);
                 later = omega arith;
                 over = over;
-              },
-              omega arith,
+              }, omega arith),
             ),
             over,
           );

@@ -110,7 +110,8 @@ module _ (p : SettlingParams) (g : Snapshot) (silent start : ℕ) (w : WorldStat
 
 module _ (p : SettlingParams) (g : Snapshot) (silent start : ℕ) (w w' : WorldState)
     (is : IsTurnedTreeAnew p g silent start w) (tree' : IsTurnedTreeAlways p g silent start w')
-    (asked' : HaveAskedBy start w') (keeps : KeepsNetwork w w') (step : MachineSteps says_announce (view w) (view w')) where
+    (asked' : HaveAskedBy start w') (keeps : KeepsNetwork w w')
+    (step : MachineSteps says_announce (view w) (view w')) where
   anew_step : IsTurnedTreeAnew p g silent start w'
   anew_step =
       let same = same_way w w' keeps in
