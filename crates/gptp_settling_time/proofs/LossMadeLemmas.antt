@@ -48,7 +48,6 @@ use Rattle.gptp_settling_time.proofs.LostPowerLemmas.{told_anew}
 use Rattle.gptp_settling_time.proofs.LoweredLemmas.{act_left, ends, less as lowered_reduced, ready_on as lowered_ready, stay}
 use Rattle.gptp_settling_time.proofs.SettledSeenLemmas.{HasSettledSeen, IsSettledSeen}
 use Rattle.gptp_settling_time.proofs.SilentLinksLemmas.{AgesOver, over_within}
-use Rattle.gptp_settling_time.proofs.TakenDownLemmas.{told_lives}
 use Rattle.gptp_settling_time.proofs.TurnedAlwaysLemmas.{IsTurnedAlways, anew_begins}
 use Rattle.gptp_settling_time.proofs.TurnedToLemmas.{IsTurnedTo}
 use Rattle.gptp_settling_time.proofs.TurnsBeginLemmas.{act_turned}

@@ -1,13 +1,13 @@
 -- A world since a loss after which it settles: once links are at rest traces are told anew, by distance. All that is
 -- held becomes sound then, and what was in flight before is gone. So claims are made of it as of one since news.
 use Rattle.std.proofs.Common.{◌≡◌, ◌⊎◌, ◌<◌, ◌≤◌, ◌+◌, ◌*◌, ℕ, zero, suc, pred, true, List, Some, slice_get, refl, sym, ap, subst, ◌∙◌, inl, inr, arith}
-use native.Mathlib.Decide.{dec_le, dec_lt}
+use native.Mathlib.Decide.{dec_lt}
 use Rattle.gptp_lists.specs.Members.{In}
 use Rattle.gptp_lists.proofs.SystemSpecLemmas.{In-parts}
 use Rattle.gptp_graph.specs.Best.{IsBest}
 use Rattle.gptp_graph.specs.Distance.{IsDistance}
 use Rattle.gptp_graph.specs.PathBound.{path_bound}
-use Rattle.gptp_graph.specs.Snapshot.{Adjacent, Snapshot, System, clocks, port_of}
+use Rattle.gptp_graph.specs.Snapshot.{Adjacent, Snapshot, System, port_of}
 use Rattle.gptp_graph.proofs.DistanceLemmas.{IsDistance-unique}
 use Rattle.gptp_graph.proofs.ExistenceLemmas.{distance_exists}
 use Rattle.gptp_graph.proofs.PathBoundLemmas.{IsDistance-within}
@@ -41,7 +41,7 @@ use Rattle.gptp_invariants.proofs.WorldNewsLemmas.{silent_from_now}
 use Rattle.gptp_settling_time.proofs.AlwaysClaimedLemmas.{IsClaimedAlways, IsStanding}
 use Rattle.gptp_settling_time.proofs.AtRestLemmas.{facts_of}
 use Rattle.gptp_settling_time.proofs.BecomesSoundLemmas.{nearer_echo, same_time, sound_claimed}
-use Rattle.gptp_settling_time.proofs.DueLemmas.{AreDueBy, due_by_interval}
+use Rattle.gptp_settling_time.proofs.DueLemmas.{due_by_interval}
 use Rattle.gptp_settling_time.proofs.LeftClaimedLemmas.{HaveAskedBy, HaveAskedLong, left_net, left_network, same_left}
 use Rattle.gptp_settling_time.proofs.MovedAlwaysLemmas.{calm_now}
 use Rattle.gptp_settling_time.proofs.NamesItselfLemmas.{AllNameItself}

@@ -4,7 +4,7 @@ use Rattle.std.proofs.Common.{◌≡◌, ◌<◌, ◌≤◌, ◌+◌, ◌*◌, �
 use Rattle.gptp_graph.specs.Best.{IsBest}
 use Rattle.gptp_graph.specs.Distance.{IsDistance}
 use Rattle.gptp_graph.specs.PathBound.{path_bound}
-use Rattle.gptp_graph.specs.Snapshot.{Snapshot, clocks}
+use Rattle.gptp_graph.specs.Snapshot.{Snapshot}
 use Rattle.gptp_graph.proofs.PathBoundLemmas.{IsDistance-within}
 use Rattle.gptp_links.specs.Fate.{Draw}
 use Rattle.gptp_scenario.specs.Calm.{NothingLapses}

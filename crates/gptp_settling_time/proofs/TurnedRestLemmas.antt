@@ -1,6 +1,6 @@
 -- Once a tree has turned by its one way out each link that leads farther is at rest, and so are those outside. What is
 -- held may name the tree by the way of before, until traces are told anew.
-use Rattle.std.proofs.Common.{◌≡◌, ◌≢◌, ◌⊎◌, ◌<◌, ◌≤◌, ◌+◌, ℕ, zero, suc, true, List, Some, slice_get, refl, sym, ap, subst, ◌∙◌, inl, inr, arith}
+use Rattle.std.proofs.Common.{◌≡◌, ◌⊎◌, ◌<◌, ◌≤◌, ◌+◌, ℕ, zero, suc, true, List, Some, slice_get, sym, subst, ◌∙◌, inl, inr, arith}
 use Rattle.gptp_lists.specs.Members.{In}
 use Rattle.gptp_graph.specs.Best.{IsBest}
 use Rattle.gptp_graph.specs.Distance.{IsDistance}
@@ -8,9 +8,9 @@ use Rattle.gptp_graph.specs.Snapshot.{Joins, PortIdentity, Snapshot, System, clo
 use Rattle.gptp_graph.proofs.BestLemmas.{IsBest-neighbour, IsBest-unique}
 use Rattle.gptp_graph.proofs.DecisionLemmas.{in_dec}
 use Rattle.gptp_graph.proofs.DistanceLemmas.{IsDistance-unique}
-use Rattle.gptp_graph.proofs.LinkLemmas.{Adjacent-sym, Joins-clock, Joins-sym}
+use Rattle.gptp_graph.proofs.LinkLemmas.{Joins-clock, Joins-sym}
 use Rattle.gptp_graph.proofs.PathBoundLemmas.{IsDistance-within}
-use Rattle.gptp_bmca_machine.specs.Frame.{AnnounceFrame, Lane, Spelling}
+use Rattle.gptp_bmca_machine.specs.Frame.{Lane, Spelling}
 use Rattle.gptp_bmca_machine.specs.Levels.{LeadsFarther}
 use Rattle.gptp_bmca_machine.specs.Link.{Ends, IsTeller, LinkSettles, Stand, TellerIsReady, TellerIsSettled}
 use Rattle.gptp_bmca_machine.specs.LinkStage.{FinalAnnounceStays, Wiring}
@@ -26,10 +26,10 @@ use Rattle.gptp_bmca_machine.proofs.RestLemmas.{Chooses, is_master}
 use Rattle.gptp_bmca_machine.proofs.StillLemmas.{LeadsOn, best_was, capable_at, chooses_still, ends, far_was, port_there, station_of, still}
 use Rattle.gptp_bmca_machine.proofs.TurnEndLemmas.{system_clear}
 use Rattle.gptp_bmca_machine.proofs.TurnLemmas.{OutIsAt, TurnsBack, out_is_at}
-use Rattle.gptp_bmca_machine.proofs.TurnLevelLemmas.{Times, TreeChooses, TurnSettles, choose_by, delay, has_left, way_leads}
+use Rattle.gptp_bmca_machine.proofs.TurnLevelLemmas.{Times, TurnSettles, choose_by, delay, has_left, way_leads}
 use Rattle.gptp_bmca_machine.proofs.TurnOutLemmas.{back, show_out, turned}
 use Rattle.gptp_bmca_machine.proofs.TurnTreeLemmas.{IsOf, LeadsOut, beyond_out, out_unmoved, out_was_best, turns_moves}
-use Rattle.gptp_settling_time.proofs.AtRestLemmas.{LinkAtRest, LinksAreAtRest, few}
+use Rattle.gptp_settling_time.proofs.AtRestLemmas.{LinkAtRest, few}
 use Rattle.gptp_settling_time.proofs.FitsLemmas.{UnlinkedHoldNothing}
 use Rattle.gptp_settling_time.proofs.TellsRightLemmas.{IsSettledState}
 
