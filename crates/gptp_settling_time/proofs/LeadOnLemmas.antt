@@ -14,7 +14,7 @@ use Rattle.gptp_scenario.specs.declared.change.Change.TheVariants.{LinkDown, Lin
 use Rattle.gptp_scenario.specs.declared.change.Timed.{Timed}
 use Rattle.gptp_scenario.specs.declared.sync_wait.SyncPaths.{SyncPaths}
 use Rattle.gptp_settling_time.specs.HowSoon.{AfterIdleEvents, AreGainEvents, AreHeardEvents, AreWiderEvents, EachEvent, IsGainEvent, IsGainToo, IsHeardEvent, IsHeardToo, IsIdleEvent, IsStillEvent, TurnsUnused}
-use Rattle.gptp_settling_time.specs.InTurn.{Aging, AnyPast, Cleared, EventLeads, Fallen, Gained, HasSettledAnyhow, HasSettledHeard, HasSettledSince, Heard, IsTakenAs, LeadOn, LeavesSettled, Left, Lost, MakesNothing, Past, RestsFrom, SettlesAfter, Split, Starting, Turned, TurnedTree, TurnsInVain, WidensLink}
+use Rattle.gptp_settling_time.specs.InTurn.{Aging, AnyPast, Cleared, EventLeads, Fallen, Gained, HasSettledAnyhow, HasSettledHeard, HasSettledSince, HasToldAnew, Heard, IsTakenAs, LeadOn, LeavesSettled, Left, Lost, MakesNothing, Past, RestsFrom, SettlesAfter, Split, Starting, Turned, TurnedTree, TurnsInVain, WidensLink}
 use Rattle.gptp_settling_time.specs.Losses.{LeavesChoice}
 use Rattle.gptp_settling_time.proofs.MadeLemmas.{adds_later}
 use Rattle.gptp_settling_time.proofs.SamePathsLemmas.{idle_paths, priority_paths, turned_paths}
@@ -82,22 +82,24 @@ pub taken_later : (n : NetworkState) (events : List Timed) (past seen : Past) (t
 taken_later n events past seen time later less (inl same) = inl same
 taken_later n events past seen time later less (inr (start, same, rests)) = inr (start, same, by past rests)
   where
-    by : (past : Past) → RestsFrom n events past time start → RestsFrom n events past later start
-    by AnyPast none = absurd none
-    by Starting none = absurd none
-    by (Gained since) none = absurd none
-    by (Heard since) none = absurd none
-    by (Left silent) none = absurd none
-    by (Turned silent now) is =
+    anew : (turned : ℕ) → HasToldAnew n events turned start time → HasToldAnew n events turned start later
+    anew turned is =
         let over = is.over in
         record {
           calm = is.calm;
           off = is.off;
           told = let told = is.told in omega (arith, told, less);
           later = is.later;
-          unlinked = is.unlinked;
           over = omega (arith, over, less);
         }
+
+    by : (past : Past) → RestsFrom n events past time start → RestsFrom n events past later start
+    by AnyPast none = absurd none
+    by Starting none = absurd none
+    by (Gained since) none = absurd none
+    by (Heard since) none = absurd none
+    by (Left silent) none = absurd none
+    by (Turned silent now) is = anew now is
     by (Fallen silent now) is =
         let gone = is.gone in
         let over = is.over in
@@ -110,7 +112,7 @@ taken_later n events past seen time later less (inr (start, same, rests)) = inr 
           gone = omega (arith, gone, less);
           over = omega (arith, over, less);
         }
-    by (TurnedTree silent now) none = absurd none
+    by (TurnedTree silent now) (is, later) = (anew now is, later)
     by (Cleared begun silent right old) is =
         let gone = is.gone in
         let over = is.over in
@@ -190,7 +192,7 @@ rested_so n events past time off (seen, inr (start, same, rests), is) = by past 
         let later = rest.later in
         let over = rest.over in
         (off, omega (arith, later, over))
-    by (TurnedTree silent now) none = absurd none
+    by (TurnedTree silent now) (rest, later) = let told = rest.told in (off, omega (arith, told))
     by (Cleared begun silent right old) rest = (off, rest.unlinked)
     by (Aging ago aged silent) rest = (off, inl rest.unlinked)
     by (Split ago gone silent) none = absurd none

@@ -120,6 +120,7 @@ pub mod NamedAfterLemmas
 pub mod TurnsDownLemmas
 pub mod TurnedToLemmas
 pub mod AtRestLemmas
+pub mod SettledRestLemmas
 pub mod BecomesSoundLemmas
 pub mod AgedLemmas
 pub mod GoesToLemmas
@@ -169,9 +170,9 @@ pub mod LostMadeLemmas
 pub mod LosesVainLemmas
 pub mod CalmStillLemmas
 pub mod LosesLeadLemmas
-pub mod MovedFlightLemmas
 pub mod RightBeginLemmas
 pub mod ToldAnewLemmas
+pub mod TurnedAlwaysLemmas
 pub mod NamesItselfLemmas
 pub mod LinkBetweenLemmas
 pub mod TreeTurnsLemmas
@@ -189,3 +190,5 @@ pub mod SplitSettlesLemmas
 pub mod SplitFailLemmas
 pub mod SplitToLemmas
 pub mod SplitMadeLemmas
+pub mod TurnedRestLemmas
+pub mod TurnedTreeRestLemmas

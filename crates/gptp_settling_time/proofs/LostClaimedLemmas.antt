@@ -19,7 +19,7 @@ use Rattle.gptp_bmca_machine.specs.Calm.{Calm}
 use Rattle.gptp_bmca_machine.specs.CleanLaws.{HeldIsWhole}
 use Rattle.gptp_bmca_machine.specs.Facts.{NetworkSetting, StationFacts}
 use Rattle.gptp_bmca_machine.specs.Levels.{Invariant}
-use Rattle.gptp_bmca_machine.specs.Network.{IsSettlingNetwork, Network, network_setting, settled_from}
+use Rattle.gptp_bmca_machine.specs.Network.{IsSettlingNetwork, Network, settled_from}
 use Rattle.gptp_bmca_machine.specs.Sound.{RunIsSound}
 use Rattle.gptp_bmca_machine.proofs.LevelLemmas.{good_whole, invariant_begins, invariant_kept}
 use Rattle.gptp_bmca_machine.proofs.NearestLemmas.{came_fits}
@@ -148,9 +148,6 @@ module _ (p : SettlingParams) (since most silent : ℕ) (w : WorldState) (standi
   started : Calm (start_network p (path_bound (snapshot_of w)) silent w) (view w)
   started =
       start_calm p silent w standing (asked_are_heard p since silent w asked) quiet (path_bound (snapshot_of w))
-
-  pub lost_facts : StationFacts (network_setting n_of) (view w)
-  lost_facts = started.facts
 
   pub loss_facts : delay_in w ≤ most → StationFacts k_of (view w)
   loss_facts short =

@@ -1,8 +1,7 @@
 -- A link is taken down, and its ends are told: what stands elsewhere stood before, and ports beside failed systems stay
 -- silent.
-use Rattle.std.proofs.Common.{Bool, List, Some, [], ap, false, inl, inr, map, refl, slice_get, slice_set, subst, sym, true, ℕ, ◌∙◌, ◌≡◌, ◌≢◌}
+use Rattle.std.proofs.Common.{Bool, List, Some, ap, false, inl, inr, map, refl, slice_get, slice_set, subst, sym, true, ℕ, ◌∙◌, ◌≡◌, ◌≢◌}
 use Rattle.std.proofs.lemmas.Option.{same_Some}
-use Rattle.gptp_lists.specs.Members.{In}
 use Rattle.gptp_lists.proofs.MappedLemmas.{alike}
 use Rattle.gptp_lists.proofs.PlaceLemmas.{get-set_other, get-set_same, map-set_same}
 use Rattle.gptp_graph.specs.Snapshot.{clocks}
@@ -22,7 +21,6 @@ use Rattle.gptp_invariants.specs.DelayLinkView.{LinkPlace}
 use Rattle.gptp_invariants.specs.DelayMeasured.{LinkStandsAt, StationIsLiveAt}
 use Rattle.gptp_invariants.specs.FailedUnanswered.{IsFailedAmong, IsLastAnswered, IsOff, IsUnansweredAt, StandsUnanswered}
 use Rattle.gptp_invariants.specs.WorldNews.{AreSilentBy}
-use Rattle.gptp_invariants.specs.WorldStanding.{snapshot_of}
 use Rattle.gptp_invariants.proofs.ChoiceCalmKeptLemmas.{KeepsNetwork, calls_keep, keeps_on, net_keeps}
 use Rattle.gptp_invariants.proofs.PortInputLemmas.{of_down}
 use Rattle.gptp_settling_time.proofs.LinkStoodLemmas.{stood_in, stood_untold}
@@ -57,13 +55,6 @@ pub told_keeps : (channel : Channel) (w : WorldState) (draws : List Draw) (w' : 
 told_keeps channel w draws w' k =
     keeps_on w k.between w' (if_live_keeps k.place_a channel.a.port w k.first k.between k.at_a)
     (if_live_keeps k.place_b channel.b.port k.between k.second w' k.at_b)
-
--- who lived lives on
-pub told_lives : (channel : Channel) (w : WorldState) (draws : List Draw) (w' : WorldState)
-    → TellsEnds PortDown channel w draws w' → (v : ℕ) → In v (clocks (snapshot_of w)) → In v (clocks (snapshot_of w'))
-told_lives channel w draws w' k v =
-    subst (λ systems. In v (clocks (record { systems = systems; links = [] })))
-    (sym (told_keeps channel w draws w' k).systems)
 
 -- all systems live and are named as they were
 pub if_live_stand : (place port : ℕ) (w : WorldState) (draws : List Draw) (w' : WorldState)
