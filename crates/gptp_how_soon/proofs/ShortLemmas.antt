@@ -178,7 +178,7 @@ module _ (n : NetworkState) (network : IsNetwork n) (paths : SyncPaths) (few : p
         by FailureCutsOff = let w = way in let a = aged in omega (arith, w, held, a)
         by OneTurned = let w = way in let e = echo in omega (arith, w, e)
         by TreeCutOff = let w = way in let g = gone paths short in omega (arith, w, g)
-        by TreeTurned = at_once
+        by TreeTurned = let w = way in let e = echo in omega (arith, w, e)
         by AnyLosses = roles_lost
         by Gained = early
 

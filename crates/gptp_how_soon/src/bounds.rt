@@ -360,7 +360,7 @@ fn sound_by(network: &Network, loss: Loss, paths: SyncPaths, row: Row, gained: u
     let gone = gone_by(network, paths, loss.used_before);
     let gone_before = gone_by(network, loss.paths_before, loss.used_before);
     match row {
-        Row::AnyPast | Row::TreeTurned => settling_span_at_once(network, paths),
+        Row::AnyPast => settling_span_at_once(network, paths),
         Row::Unchanged => 0,
         Row::Lowered => echo_span(network, paths).max(gone),
         Row::CutOff | Row::TreeCutOff => (2 * way_span(paths)).max(gone),
@@ -373,7 +373,7 @@ fn sound_by(network: &Network, loss: Loss, paths: SyncPaths, row: Row, gained: u
             let aged = loss.held + 2 * way_span(paths);
             aged.max(aged_echo_span(network, loss, paths))
         }
-        Row::OneTurned => 2 * way_span(paths) + echo_span(network, paths),
+        Row::OneTurned | Row::TreeTurned => 2 * way_span(paths) + echo_span(network, paths),
         Row::AnyLosses => roles_after_losses(network, loss, paths),
         Row::Gained => gained,
     }

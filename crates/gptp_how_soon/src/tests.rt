@@ -414,7 +414,7 @@ fn a_tree_that_a_link_moves_turns_by_its_one_way_out(rt: HostRuntime) -> Result<
                 ("d", "2", "a", "2"),
                 ("c", "3", "e", "1"),
             ] as &[(&str, &str, &str, &str)],
-            (15_000_002_870, 2_460),
+            (3_000_004_100, 2_460),
         ),
         (
             "half of a ring",
@@ -426,7 +426,7 @@ fn a_tree_that_a_link_moves_turns_by_its_one_way_out(rt: HostRuntime) -> Result<
                 ("d", "2", "e", "1"),
                 ("e", "2", "a", "2"),
             ] as &[(&str, &str, &str, &str)],
-            (18_000_003_690, 3_280),
+            (4_000_005_330, 3_280),
         ),
         (
             "with an end station",
@@ -439,7 +439,7 @@ fn a_tree_that_a_link_moves_turns_by_its_one_way_out(rt: HostRuntime) -> Result<
                 ("e", "2", "a", "2"),
                 ("b", "3", "f", "1"),
             ] as &[(&str, &str, &str, &str)],
-            (21_000_004_510, 4_100),
+            (5_000_006_560, 4_100),
         ),
         (
             "two ways out",
