@@ -16,6 +16,7 @@ mod LostLinkLemmas
 mod OneLostLemmas
 mod TreeTestLemmas
 mod TreeLemmas
+mod TurnedTreeTestLemmas
 mod TurnedTreeLemmas
 mod TreeEventLemmas
 mod TurnedLemmas
