@@ -38,7 +38,8 @@ use Rattle.gptp_settling_time.specs.Losses.{IsUnmoved}
 use Rattle.gptp_settling_time.specs.TreeLosses.{CutsTreesFrom, IsTreeCutOff, IsUnmovedOrInTree}
 use Rattle.gptp_how_soon_laws.proofs.FailedLemmas.{Fails, clock_before, each_is, fails, first_behind, first_delay, first_paths, others, parts, stands_on}
 use Rattle.gptp_how_soon_laws.proofs.ToldLemmas.{loss_fails}
-use Rattle.gptp_how_soon_laws.proofs.TreeBelowLemmas.{Is, IsTop, below_same, best, best_so, cut_off, is_at, is_of, tree}
+use Rattle.gptp_how_soon_laws.proofs.TreeBelowLemmas.{IsTop, below_same, best, best_so, cut_off, tree}
+use Rattle.gptp_how_soon_laws.proofs.LivesOnLemmas.{on_at, on_of}
 use Rattle.gptp_how_soon_laws.proofs.TreeTestLemmas.{same_so}
 use Rattle.gptp_how_soon_laws.proofs.UnmovedLemmas.{AreWell, asked_of, unmoved_at}
 use Rattle.gptp_how_soon_laws.proofs.WorseningLemmas.{same_system}
@@ -311,8 +312,8 @@ module _ (n : NetworkState) (network : IsNetwork n) (made events : List Timed) w
       one_best t u =
           let x = top_is t in
           let y = top_is u in
-          let a = is_at n network made events g h stands stands' well well' lived t.top t.clock x.at x.known in
-          let b = is_at n network made events g h stands stands' well well' lived u.top u.clock y.at y.known in
+          let a = on_at n network made events g h stands stands' well well' lived t.top t.clock x.at x.known in
+          let b = on_at n network made events g h stands stands' well well' lived u.top u.clock y.at y.known in
           let same =
           same_so before t.top u.top a.was b.was a.was_there b.was_there
           (moved_agree t.top u.top t.lost_end u.lost_end t.moved u.moved).root in
@@ -336,7 +337,7 @@ module _ (n : NetworkState) (network : IsNetwork n) (made events : List Timed) w
                 (tree n network made events g h stands stands' well well' lived own.top own.clock x)) (one_best own t)
                 (cut_off n network made events g h stands stands' well well' lived own.top own.clock x),
             best_so n network made events g h stands stands' well well' lived own.top own.clock x i v
-                (is_at n network made events g h stands stands' well well' lived i v at known)
+                (on_at n network made events g h stands stands' well well' lived i v at known)
                 (below_same n network made events g h stands stands' well well' lived own.top i u.below),
           )
 
@@ -345,7 +346,7 @@ module _ (n : NetworkState) (network : IsNetwork n) (made events : List Timed) w
           → TopOf ⊎ ((v : ℕ) → In v vs → (i : ℕ) → IsAt n i v → is_moved_there i ≡ false)
       first_top [] within = inr (λ v none. absurd none)
       first_top (v ∷ vs) within =
-          let (i, s) = is_of n network made events g h stands stands' well well' lived v (within v (inl refl)) in
+          let (i, s) = on_of n network made events g h stands stands' well well' lived v (within v (inl refl)) in
           by i s.at (is_moved_there i) refl (first_top vs (λ u member. within u (inr member)))
         where
           by : (i : ℕ) (at : IsAt n i v) (moved : Bool) → is_moved_there i ≡ moved
@@ -355,12 +356,12 @@ module _ (n : NetworkState) (network : IsNetwork n) (made events : List Timed) w
           by i at false is (inl t) = inl t
           by i at false is (inr none) = inr (λ u member j there. elim member [
               | inl same ↦
-                  let one : j ≡ i = one_place j i (subst (IsAt n j) same there) at in ap is_moved_there one ∙ is
+                  let own = subst (IsAt n j) same there in
+                  let one : j ≡ i =
+                  network.clocks j i own.system at.system own.there at.there (own.clock ∙ sym at.clock) in
+                  ap is_moved_there one ∙ is
               | inr behind ↦ none u behind j there
             ])
-
-          one_place : (j i : ℕ) → IsAt n j v → IsAt n i v → j ≡ i
-          one_place j i a b = network.clocks j i a.system b.system a.there b.there (a.clock ∙ sym b.clock)
 
       pub split_so : (b : System) × ((v : ℕ) → In v (clocks h) → IsUnmovedOrInTree g h b v)
       split_so = by (first_top (clocks h) (λ v member. member))
@@ -375,7 +376,7 @@ module _ (n : NetworkState) (network : IsNetwork n) (made events : List Timed) w
             where
               each : (v : ℕ) → In v (clocks h) → IsUnmovedOrInTree g h (best_of t) v
               each v known =
-                  let (i, s) = is_of n network made events g h stands stands' well well' lived v known in
+                  let (i, s) = on_of n network made events g h stands stands' well well' lived v known in
                   is i s.at (is_moved_there i) refl
                 where
                   is : (i : ℕ) (at : IsAt n i v) (moved : Bool) → is_moved_there i ≡ moved
@@ -385,7 +386,7 @@ module _ (n : NetworkState) (network : IsNetwork n) (made events : List Timed) w
           by (inr none) = (
             record { clock = 0; identity = 0; ports = 0 },
             λ v known.
-                let (i, s) = is_of n network made events g h stands stands' well well' lived v known in
+                let (i, s) = on_of n network made events g h stands stands' well well' lived v known in
                 inl (unmoved v known i s.at (none v known i s.at)),
           )
 

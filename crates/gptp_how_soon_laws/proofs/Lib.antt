@@ -15,7 +15,9 @@ mod LivesOnLemmas
 mod LostLinkLemmas
 mod OneLostLemmas
 mod TreeTestLemmas
+mod TreeBelowLemmas
 mod TreeLemmas
+mod CutTreesLemmas
 mod TurnedTreeTestLemmas
 mod TurnedTreeLemmas
 mod TreeEventLemmas
