@@ -17,7 +17,7 @@ use Rattle.gptp_how_soon.specs.Silent.{held_among, own_intervals}
 use Rattle.gptp_how_soon.specs.Times.{settling_time}
 use Rattle.gptp_how_soon.specs.Walk.{moves_seen, view_seen}
 use Rattle.gptp_how_soon.specs.declared.bounds.Row.{Row}
-use Rattle.gptp_how_soon.specs.declared.bounds.Row.TheVariants.{AnyLosses, AnyPast, CutOff, Gained, Lowered, OneTurned, TreeCutOff, TreeTurned, Unchanged}
+use Rattle.gptp_how_soon.specs.declared.bounds.Row.TheVariants.{AnyLosses, AnyPast, CutOff, FailureCutsTrees, Gained, Lowered, OneTurned, PowerCutsTrees, TreeCutOff, TreeTurned, Unchanged}
 use Rattle.gptp_how_soon.specs.declared.bounds.SettlingTime.{SettlingTime}
 use Rattle.gptp_how_soon.specs.declared.kinds.Told.{Told}
 use Rattle.gptp_how_soon.specs.declared.rest.Moves.{Moves}
@@ -50,6 +50,8 @@ same_row from_rest first before paths told moves used =
         else if failing && not (asked_of moves (rest && (followed || lowering || failing))).moved
         then failed_row (asked_of moves (rest && (followed || lowering || failing))).far
         (asked_of moves (rest && (followed || lowering || failing))).any used
+        else if failing && (asked_of moves (rest && (followed || lowering || failing))).trees_fall
+        then if used then PowerCutsTrees else FailureCutsTrees
         else if list_any is_loss told then if list_all brings_nothing told then AnyLosses else AnyPast
         else Gained)
         ≡ (if not rest then AnyPast else if first then Gained else if idle then Unchanged
@@ -59,6 +61,7 @@ same_row from_rest first before paths told moves used =
         else if lowering && moves.falls then TreeCutOff
         else if lowering && moves.tree_turns then TreeTurned
         else if failing && not moves.moved then failed_row moves.far moves.any used
+        else if failing && moves.trees_fall then if used then PowerCutsTrees else FailureCutsTrees
         else if list_any is_loss told then if list_all brings_nothing told then AnyLosses else AnyPast
         else Gained)
     by false idle followed lowering failing = refl

@@ -40,7 +40,7 @@ use Rattle.gptp_how_soon.specs.Silent.{own_intervals}
 use Rattle.gptp_how_soon.specs.Times.{IsWatchedShortly, View, events_at, events_before, gained_at, heard_at, last_set, loss_at, row_at, settling_time, settling_times, settling_times_from, time_at, view_at}
 use Rattle.gptp_how_soon.specs.declared.bounds.Loss.{Loss}
 use Rattle.gptp_how_soon.specs.declared.bounds.Row.{Row}
-use Rattle.gptp_how_soon.specs.declared.bounds.Row.TheVariants.{AnyLosses, AnyPast, CutOff, FailedEnd, FailedHeard, FailureCutsOff, Gained, LostEnd, LostPower, Lowered, OneTurned, PowerCutsOff, TreeCutOff, TreeTurned, Unchanged}
+use Rattle.gptp_how_soon.specs.declared.bounds.Row.TheVariants.{AnyLosses, AnyPast, CutOff, FailedEnd, FailedHeard, FailureCutsOff, FailureCutsTrees, Gained, LostEnd, LostPower, Lowered, OneTurned, PowerCutsOff, PowerCutsTrees, TreeCutOff, TreeTurned, Unchanged}
 use Rattle.gptp_how_soon.specs.declared.bounds.SettlingTime.{SettlingTime}
 use Rattle.gptp_how_soon.specs.declared.kinds.Told.{Told}
 use Rattle.gptp_how_soon.proofs.SilentLemmas.{held_within}
@@ -153,6 +153,8 @@ module _ (n : NetworkState) (network : IsNetwork n) (paths : SyncPaths) (few : p
         by OneTurned = let w = way in omega (arith, w)
         by TreeCutOff = let w = way in omega (arith, w)
         by TreeTurned = let w = way in omega (arith, w)
+        by PowerCutsTrees = let w = way in omega (arith, w)
+        by FailureCutsTrees = let w = way in let most = silence_most in omega (arith, w, most, held)
         by AnyLosses = roles_lost
         by Gained = early
 
@@ -178,7 +180,9 @@ module _ (n : NetworkState) (network : IsNetwork n) (paths : SyncPaths) (few : p
         by FailureCutsOff = let w = way in let a = aged in omega (arith, w, held, a)
         by OneTurned = let w = way in let e = echo in omega (arith, w, e)
         by TreeCutOff = let w = way in let g = gone paths short in omega (arith, w, g)
-        by TreeTurned = at_once
+        by TreeTurned = let w = way in let e = echo in omega (arith, w, e)
+        by PowerCutsTrees = at_once
+        by FailureCutsTrees = at_once
         by AnyLosses = roles_lost
         by Gained = early
 
@@ -204,6 +208,8 @@ module _ (n : NetworkState) (network : IsNetwork n) (paths : SyncPaths) (few : p
         by true OneTurned = let w = way in let e = echo in omega (arith, w, e)
         by true TreeCutOff = let w = way in omega (arith, w)
         by true TreeTurned = let w = way in let e = echo in omega (arith, w, e)
+        by true PowerCutsTrees = let w = way in let e = echo in omega (arith, w, e)
+        by true FailureCutsTrees = let w = way in let e = echo in omega (arith, w, e, held)
         by true AnyLosses = let l = losses loss soon in omega (arith, l)
         by true Gained = omega (arith, early)
 

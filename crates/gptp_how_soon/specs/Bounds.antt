@@ -13,7 +13,7 @@ use Rattle.gptp_how_soon.specs.Kinds.{recovers}
 use Rattle.gptp_how_soon.specs.Links.{varies}
 use Rattle.gptp_how_soon.specs.declared.bounds.Loss.{Loss}
 use Rattle.gptp_how_soon.specs.declared.bounds.Row.{Row}
-use Rattle.gptp_how_soon.specs.declared.bounds.Row.TheVariants.{AnyLosses, AnyPast, CutOff, FailedEnd, FailedHeard, FailureCutsOff, Gained, LostEnd, LostPower, Lowered, OneTurned, PowerCutsOff, TreeCutOff, TreeTurned, Unchanged}
+use Rattle.gptp_how_soon.specs.declared.bounds.Row.TheVariants.{AnyLosses, AnyPast, CutOff, FailedEnd, FailedHeard, FailureCutsOff, FailureCutsTrees, Gained, LostEnd, LostPower, Lowered, OneTurned, PowerCutsOff, PowerCutsTrees, TreeCutOff, TreeTurned, Unchanged}
 use Rattle.gptp_how_soon.specs.declared.bounds.Settling.{Settling}
 use Rattle.gptp_how_soon.specs.declared.bounds.SettlingTime.{SettlingTime}
 use Rattle.gptp_how_soon.specs.declared.kinds.Told.{Told}
@@ -74,6 +74,8 @@ choice_of_row n loss paths FailureCutsOff gained = loss.held + 2 * way_span path
 choice_of_row n loss paths OneTurned gained = 2 * way_span paths
 choice_of_row n loss paths TreeCutOff gained = 2 * way_span paths
 choice_of_row n loss paths TreeTurned gained = 2 * way_span paths
+choice_of_row n loss paths PowerCutsTrees gained = 2 * way_span paths
+choice_of_row n loss paths FailureCutsTrees gained = loss.held + 2 * way_span paths
 choice_of_row n loss paths AnyLosses gained = any_loss_span n loss paths
 choice_of_row n loss paths Gained gained = gained
 
@@ -105,6 +107,9 @@ roles_of_row n loss paths FailureCutsOff gained =
 roles_of_row n loss paths OneTurned gained = choice_of_row n loss paths OneTurned gained
 roles_of_row n loss paths TreeCutOff gained = choice_of_row n loss paths TreeCutOff gained
 roles_of_row n loss paths TreeTurned gained = choice_of_row n loss paths TreeTurned gained
+roles_of_row n loss paths PowerCutsTrees gained = choice_of_row n loss paths PowerCutsTrees gained
+roles_of_row n loss paths FailureCutsTrees gained =
+    max (choice_of_row n loss paths FailureCutsTrees gained) (silence_span (pace_of n))
 roles_of_row n loss paths AnyLosses gained = roles_after_losses n loss paths
 roles_of_row n loss paths Gained gained = gained
 
@@ -130,8 +135,8 @@ aged_echo_span n loss paths =
 -- gone. After a far end or a tree is cut off, or a far end fails, only what was in flight does; of one that fails by
 -- links of before too. Where ports beside it may still be capable roles have to stand too. After a link goes down by
 -- which no system is moved, or a system that others heard loses its power, traces have to be told anew first. So they
--- do once the choice stands where one system turns, or one fails that others heard. After losses without a row of
--- their own all is sound once roles stand. After others it is as soon as the choice stands from any past.
+-- do once the choice stands where one system or a tree turns, or one fails that others heard. After losses without a
+-- row of their own all is sound once roles stand. After others it is as soon as the choice stands from any past.
 abbrev pub sound_of_row : NetworkState → Loss → SyncPaths → Row → ℕ → ℕ
 sound_of_row n loss paths AnyPast gained = settling_span_at_once (pace_of n) paths
 sound_of_row n loss paths Unchanged gained = 0
@@ -147,7 +152,9 @@ sound_of_row n loss paths FailedHeard gained = aged_echo_span n loss paths
 sound_of_row n loss paths FailureCutsOff gained = max (loss.held + 2 * way_span paths) (aged_echo_span n loss paths)
 sound_of_row n loss paths OneTurned gained = 2 * way_span paths + echo_span (pace_of n) paths
 sound_of_row n loss paths TreeCutOff gained = max (2 * way_span paths) (gone_by n paths loss.used_before)
-sound_of_row n loss paths TreeTurned gained = settling_span_at_once (pace_of n) paths
+sound_of_row n loss paths TreeTurned gained = 2 * way_span paths + echo_span (pace_of n) paths
+sound_of_row n loss paths PowerCutsTrees gained = settling_span_at_once (pace_of n) paths
+sound_of_row n loss paths FailureCutsTrees gained = settling_span_at_once (pace_of n) paths
 sound_of_row n loss paths AnyLosses gained = roles_after_losses n loss paths
 sound_of_row n loss paths Gained gained = gained
 
@@ -166,6 +173,8 @@ echo_of_row n paths FailedHeard = echo_span (pace_of n) paths
 echo_of_row n paths FailureCutsOff = echo_span (pace_of n) paths
 echo_of_row n paths OneTurned = echo_span (pace_of n) paths
 echo_of_row n paths TreeTurned = echo_span (pace_of n) paths
+echo_of_row n paths PowerCutsTrees = echo_span (pace_of n) paths
+echo_of_row n paths FailureCutsTrees = echo_span (pace_of n) paths
 echo_of_row n paths row = 0
 
 abbrev pub echo_by : NetworkState → SyncPaths → Row → ℕ

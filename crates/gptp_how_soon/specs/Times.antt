@@ -24,6 +24,7 @@ use Rattle.gptp_topology.specs.declared.course.Cable.{Cable}
 use Rattle.gptp_topology.specs.declared.course.Standing.{Standing}
 use Rattle.gptp_how_soon.specs.Bounds.{heard_by, ready, times_by}
 use Rattle.gptp_how_soon.specs.Chosen.{moves_counted, moves_some}
+use Rattle.gptp_how_soon.specs.CutTrees.{cuts_trees_after}
 use Rattle.gptp_how_soon.specs.Far.{are_far_after, cut_far_ends_after, up_is_used}
 use Rattle.gptp_how_soon.specs.Kinds.{sets_bounds, sets_link, takes_one, told_by}
 use Rattle.gptp_how_soon.specs.Links.{longest_delay, new_links}
@@ -122,6 +123,7 @@ moves_at n made now before at = record {
   turned = turns_one_after n made (made ++ now);
   falls = has_rested_for (largest_interval (pace_of n)) before at && cuts_tree_after n made (made ++ now);
   tree_turns = has_rested_for (largest_interval (pace_of n)) before at && turns_tree_after n made (made ++ now);
+  trees_fall = has_rested_for (largest_interval (pace_of n)) before at && cuts_trees_after n made (made ++ now);
   far = are_far_after n made (told_of n made now);
 }
 

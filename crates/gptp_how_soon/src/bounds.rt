@@ -85,6 +85,11 @@ pub enum Row {
     TreeCutOff,
     /// By its one event a link goes down that moves a tree. Its systems keep their root, and get it by one other link.
     TreeTurned,
+    /// A system fails, and all that are moved are trees that it cuts off. Each link that is up then is in use, as where
+    /// it loses its power.
+    PowerCutsTrees,
+    /// So it is, but a link is up then that isn't in use.
+    FailureCutsTrees,
     /// Some of its events are losses, the others make nothing of what stands, and no other row of a loss is so.
     AnyLosses,
     /// None of its events is a loss.
@@ -256,9 +261,13 @@ fn choice_by(network: &Network, loss: Loss, paths: SyncPaths, row: Row, gained: 
         Row::AnyPast => settling_span_at_once(network, paths),
         Row::Unchanged | Row::Lowered | Row::LostEnd | Row::FailedEnd | Row::LostPower => 0,
         Row::FailedHeard => loss.held,
-        Row::FailureCutsOff => loss.held + 2 * way_span(paths),
-        Row::CutOff | Row::PowerCutsOff | Row::OneTurned | Row::TreeCutOff | Row::TreeTurned => 2
-            * way_span(paths),
+        Row::FailureCutsOff | Row::FailureCutsTrees => loss.held + 2 * way_span(paths),
+        Row::CutOff
+        | Row::PowerCutsOff
+        | Row::OneTurned
+        | Row::TreeCutOff
+        | Row::TreeTurned
+        | Row::PowerCutsTrees => 2 * way_span(paths),
         Row::AnyLosses => any_loss_span(network, loss, paths),
         Row::Gained => gained,
     }
@@ -297,9 +306,15 @@ fn roles_by(network: &Network, loss: Loss, paths: SyncPaths, row: Row, gained: u
         Row::AnyPast => settling_span_at_once(network, paths),
         Row::Unchanged | Row::Lowered | Row::LostEnd | Row::LostPower => 0,
         Row::FailedEnd | Row::FailedHeard => silence_span(network),
-        Row::FailureCutsOff => (loss.held + 2 * way_span(paths)).max(silence_span(network)),
-        Row::CutOff | Row::PowerCutsOff | Row::OneTurned | Row::TreeCutOff | Row::TreeTurned => 2
-            * way_span(paths),
+        Row::FailureCutsOff | Row::FailureCutsTrees => {
+            (loss.held + 2 * way_span(paths)).max(silence_span(network))
+        }
+        Row::CutOff
+        | Row::PowerCutsOff
+        | Row::OneTurned
+        | Row::TreeCutOff
+        | Row::TreeTurned
+        | Row::PowerCutsTrees => 2 * way_span(paths),
         Row::AnyLosses => roles_after_losses(network, loss, paths),
         Row::Gained => gained,
     }
@@ -360,7 +375,9 @@ fn sound_by(network: &Network, loss: Loss, paths: SyncPaths, row: Row, gained: u
     let gone = gone_by(network, paths, loss.used_before);
     let gone_before = gone_by(network, loss.paths_before, loss.used_before);
     match row {
-        Row::AnyPast | Row::TreeTurned => settling_span_at_once(network, paths),
+        Row::AnyPast | Row::PowerCutsTrees | Row::FailureCutsTrees => {
+            settling_span_at_once(network, paths)
+        }
         Row::Unchanged => 0,
         Row::Lowered => echo_span(network, paths).max(gone),
         Row::CutOff | Row::TreeCutOff => (2 * way_span(paths)).max(gone),
@@ -373,7 +390,7 @@ fn sound_by(network: &Network, loss: Loss, paths: SyncPaths, row: Row, gained: u
             let aged = loss.held + 2 * way_span(paths);
             aged.max(aged_echo_span(network, loss, paths))
         }
-        Row::OneTurned => 2 * way_span(paths) + echo_span(network, paths),
+        Row::OneTurned | Row::TreeTurned => 2 * way_span(paths) + echo_span(network, paths),
         Row::AnyLosses => roles_after_losses(network, loss, paths),
         Row::Gained => gained,
     }
@@ -397,8 +414,10 @@ fn retold_by(network: &Network, loss: Loss, paths: SyncPaths, row: Row, gained: 
         Row::Unchanged | Row::LostEnd | Row::FailedEnd => 0,
         Row::Lowered | Row::LostPower => echo_span(network, paths),
         Row::FailedHeard => loss.held + echo_span(network, paths),
-        Row::FailureCutsOff => loss.held + 2 * way_span(paths) + echo_span(network, paths),
-        Row::PowerCutsOff | Row::OneTurned | Row::TreeTurned => {
+        Row::FailureCutsOff | Row::FailureCutsTrees => {
+            loss.held + 2 * way_span(paths) + echo_span(network, paths)
+        }
+        Row::PowerCutsOff | Row::OneTurned | Row::TreeTurned | Row::PowerCutsTrees => {
             2 * way_span(paths) + echo_span(network, paths)
         }
         Row::CutOff | Row::TreeCutOff => 2 * way_span(paths),

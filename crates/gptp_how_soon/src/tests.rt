@@ -414,7 +414,7 @@ fn a_tree_that_a_link_moves_turns_by_its_one_way_out(rt: HostRuntime) -> Result<
                 ("d", "2", "a", "2"),
                 ("c", "3", "e", "1"),
             ] as &[(&str, &str, &str, &str)],
-            (15_000_002_870, 2_460),
+            (3_000_004_100, 2_460),
         ),
         (
             "half of a ring",
@@ -426,7 +426,7 @@ fn a_tree_that_a_link_moves_turns_by_its_one_way_out(rt: HostRuntime) -> Result<
                 ("d", "2", "e", "1"),
                 ("e", "2", "a", "2"),
             ] as &[(&str, &str, &str, &str)],
-            (18_000_003_690, 3_280),
+            (4_000_005_330, 3_280),
         ),
         (
             "with an end station",
@@ -439,7 +439,7 @@ fn a_tree_that_a_link_moves_turns_by_its_one_way_out(rt: HostRuntime) -> Result<
                 ("e", "2", "a", "2"),
                 ("b", "3", "f", "1"),
             ] as &[(&str, &str, &str, &str)],
-            (21_000_004_510, 4_100),
+            (5_000_006_560, 4_100),
         ),
         (
             "two ways out",
@@ -657,15 +657,17 @@ fn bounds(times: &[SettlingTime], at: u64) -> Option<(u64, u64)>
 }
 
 #[test]
-fn a_system_that_a_failure_cuts_off_costs_two_ways(rt: HostRuntime) -> Result<(), Fail> {
-    // c hears the root over b alone, and d has it from a. Where b and c go on to d another is moved that isn't cut off.
+fn what_a_failure_cuts_off_costs_two_ways(rt: HostRuntime) -> Result<(), Fail> {
     const HANGS: &str =
         "[[event]]\nat = 30000000000\nkind = \"fail\"\nclock = \"000000000000000b\"\n";
     const DOWN: &str =
         "[[event]]\nat = 30000000000\nkind = \"link_down\"\nclock = \"000000000000000b\"\nport = ";
-    for (case, links, hang, power) in [
+    // In each row b fails, or loses its power and so many links. The second moves another that isn't cut off, the last
+    // two that are joined beside it.
+    for (case, ports, links, hang, power) in [
         (
             "one is cut off",
+            2,
             &[
                 ("a", "1", "b", "1"),
                 ("b", "2", "c", "1"),
@@ -676,6 +678,7 @@ fn a_system_that_a_failure_cuts_off_costs_two_ways(rt: HostRuntime) -> Result<()
         ),
         (
             "one goes over another",
+            2,
             &[
                 ("a", "1", "b", "1"),
                 ("b", "2", "c", "1"),
@@ -686,12 +689,43 @@ fn a_system_that_a_failure_cuts_off_costs_two_ways(rt: HostRuntime) -> Result<()
             (13_000_002_870, 13_000_002_870),
             (13_000_002_870, 13_000_002_870),
         ),
+        (
+            "a line and an end station",
+            3,
+            &[
+                ("a", "1", "b", "1"),
+                ("b", "2", "c", "1"),
+                ("c", "2", "d", "1"),
+                ("b", "3", "e", "1"),
+            ] as &[(&str, &str, &str, &str)],
+            (3_000_001_230, 11_000_000_000),
+            (820, 820),
+        ),
+        (
+            "a triangle and an end station",
+            4,
+            &[
+                ("a", "1", "b", "1"),
+                ("b", "2", "c", "1"),
+                ("c", "2", "d", "1"),
+                ("b", "3", "e", "1"),
+                ("b", "4", "d", "2"),
+            ] as &[(&str, &str, &str, &str)],
+            (7_000_001_230, 11_000_000_000),
+            (7_000_001_230, 7_000_001_230),
+        ),
     ] {
         let clocks = &["a", "b", "c", "d", "e"];
         let hangs = joined(rt.alloc(), clocks, links, HANGS)?;
         assert_eq!(rt; bounds(&hangs, 30_000_000_000), Some(hang), "{case}");
         let mut off = String::new(rt.alloc());
         write!(off, "{HANGS}{DOWN}1\n{DOWN}2\n")?;
+        if ports > 2 {
+            write!(off, "{DOWN}3\n")?;
+        }
+        if ports > 3 {
+            write!(off, "{DOWN}4\n")?;
+        }
         let loses = joined(rt.alloc(), clocks, links, off.as_str())?;
         assert_eq!(rt; bounds(&loses, 30_000_000_000), Some(power), "{case}");
     }

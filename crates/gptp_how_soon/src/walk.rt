@@ -11,6 +11,7 @@ use crate::bounds::{Loss, SettlingTime, announce_interval, heard, ready, times_b
 use crate::chosen::{
     Chosen, Ends, any_counted, any_moved, choose, copy_systems, ends_in_use, ends_of,
 };
+use crate::cut_trees::cuts_trees;
 use crate::far::{all_cut_far_ends, are_far, up_is_used};
 use crate::kinds::{Told, sets_bounds, sets_link, takes_one, tell};
 use crate::links::{delay_set, longest_among, lost_among, mark_used, new_links};
@@ -130,6 +131,7 @@ impl Walk {
             turned,
             falls: rested && cuts_tree(&systems, &lost, &links, &before, &now),
             tree_turns: rested && turns_tree(&systems, &lost, &links, &before, &now),
+            trees_fall: rested && cuts_trees(&systems, &lost, &links, &before, &now),
             far: are_far(&self.systems_before, &before, &links_before, &self.told),
         })
     }
@@ -154,6 +156,7 @@ impl Walk {
                 turned: false,
                 falls: false,
                 tree_turns: false,
+                trees_fall: false,
                 far: false,
             })
         }
