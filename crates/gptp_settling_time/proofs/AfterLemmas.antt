@@ -41,7 +41,7 @@ use Rattle.gptp_settling_time.proofs.KeptToLemmas.{IsNewsTo, KeepsTo, keeps_act,
 use Rattle.gptp_settling_time.proofs.LeftToLemmas.{IsLeftTo, left_to_act, left_to_chooses, left_to_later, left_to_settled}
 use Rattle.gptp_settling_time.proofs.FallenToLemmas.{IsFallenTo, fallen_to_act, fallen_to_claimed, fallen_to_later, fallen_to_settled}
 use Rattle.gptp_settling_time.proofs.LostToLemmas.{IsLostTo, lost_to_act, lost_to_chooses, lost_to_claimed, lost_to_later, lost_to_settled}
-use Rattle.gptp_settling_time.proofs.TurnedTreeToLemmas.{IsTurnedTreeTo, turned_tree_to_act, turned_tree_to_later, turned_tree_to_settled}
+use Rattle.gptp_settling_time.proofs.TurnedTreeToLemmas.{IsTurnedTreeTo, turned_tree_to_act, turned_tree_to_claimed, turned_tree_to_later, turned_tree_to_settled}
 use Rattle.gptp_settling_time.proofs.TurnedToLemmas.{IsTurnedTo, turned_to_act, turned_to_claimed, turned_to_later, turned_to_settled}
 use Rattle.gptp_settling_time.proofs.StartEventLemmas.{IsStartingTo, begun_soon_claimed, begun_soon_news, starting_act, starting_begins, starting_later}
 use Rattle.gptp_settling_time.proofs.TimedNewsLemmas.{CanSettle, has_settled}
@@ -130,7 +130,8 @@ module _ (d : DocumentState) (playable : IsPlayable d) (events : List Timed) (w 
   rests_from (Left silent) start none so = absurd none
   rests_from (Turned silent now) start rest so = turned_to_claimed d events silent now w start so playable rest
   rests_from (Fallen silent now) start rest so = fallen_to_claimed d events silent now w start so playable rest
-  rests_from (TurnedTree silent now) start none so = absurd none
+  rests_from (TurnedTree silent now) start rest so =
+      turned_tree_to_claimed d events silent now w start so playable rest
   rests_from (Cleared since silent right old) start rest so =
       cleared_to_claimed d events since silent right old w start so playable rest
   rests_from (Aging ago aged silent) start rest so =

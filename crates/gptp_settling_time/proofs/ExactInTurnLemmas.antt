@@ -106,7 +106,7 @@ module _ (d : DocumentState) (playable : IsPlayable d) (all : List Timed) (calm 
       fallen_measured p so.before silent time w so.since links (omega (arith, behind, on, change))
   have_measured (TurnedTree silent time) w so settles links on =
       let change = (after_keeps d all (TurnedTree silent time) w so).stands.last in
-      turned_tree_measured p so.before silent time w so.since links (omega (arith, behind, on, change))
+      turned_tree_measured p so.before silent time w so.since.tree links (omega (arith, behind, on, change))
   have_measured (Aging ago aged silent) w so settles links on =
       let change = (after_keeps d all (Aging ago aged silent) w so).stands.last in
       aging_measured p so.before aged silent w so.since links (omega (arith, behind, on, change))

@@ -14,7 +14,7 @@ use Rattle.gptp_network.specs.Document.{DocumentState}
 use Rattle.gptp_network.specs.Events.{AreInOrder}
 use Rattle.gptp_network.specs.Snapshot.{events_by}
 use Rattle.gptp_settling_time.specs.HowSoon.{AreGainEvents, AreHeardEvents, AreReadyAtStart, AreStartEvents, BoundsAging, BoundsAnyLoss, BoundsEvents, BoundsLoss, BoundsStart, IsChoiceAloneBound, IsChoiceBound, IsChoiceBoundAfter, IsLossBoundAfter, IsRestBoundAfter, EachEvent, NoneBetween, OneEvent, RestsAfterLoss, events_at}
-use Rattle.gptp_settling_time.specs.InTurn.{Aging, AnyPast, AreCapableSoon, BeginsBy, ChoosesAfter, ChoosesByEvents, ComesByEvents, EventLeads, Fallen, FallsCalm, FlightIsGone, Gained, Heard, LeadOn, LeadsByTree, Left, Lost, Past, SettlesAfter, SettlesByEvents, Starting, StartsWith, TellsNothing, Turned, TurnedTree, TurnsTreeCalm, UsedVaryLittle}
+use Rattle.gptp_settling_time.specs.InTurn.{Aging, AnyPast, AreCapableSoon, BeginsBy, ChoosesAfter, ChoosesByEvents, ComesByEvents, EventLeads, Fallen, FallsCalm, FlightIsGone, Gained, Heard, LeadOn, LeadsByTree, Left, Lost, Past, SettlesAfter, SettlesByEvents, Starting, StartsWith, TellsNothing, Turned, TurnedTree, TurnsTreeCalm, UsedVaryLittle, turned_echo_span}
 use Rattle.gptp_settling_time.specs.TreeLosses.{LowersTree, TurnsTreeLink}
 use Rattle.gptp_settling_time.specs.Losses.{AgesWithin, FailsHeard, LowersLink, LowersUnused, TurnsLink, UpIsUsed}
 use Rattle.gptp_settling_time.proofs.CalmLessLemmas.{fails_calm}
@@ -299,12 +299,43 @@ module _ (n : NetworkState) (network : IsNetwork n) (off : NothingLapses n.param
           );
         }
 
+    -- or once the tree has turned and traces are told anew
+    turn_followed : (then rest : ℕ) → IsCalm n before_now → IsCalm n (events_by time all)
+        → IsFollowedTo n before_now last then → last + then + largest_interval (pace_of n) < time
+        → OneEvent (TurnsTreeLink n) before_now at_now → rest ≡ turned_echo_span n (events_by time all)
+        → IsFollowedTo n (events_by time all) time rest
+    turn_followed then rest calm_then calm before soon turns is =
+        let (silent, lead) = turns_on then calm_then before soon turns in
+        let over : suc time + way_span (sync_paths n (events_by time all)) ≤ suc (time + rest) = omega (arith, is) in
+        record {
+          first = before.first;
+          begins = before.begins;
+          last = TurnedTree silent time;
+          lead = lead;
+          settles = (
+            Heard (suc time),
+            inr (
+              suc time,
+              refl,
+              record {
+                calm = calm;
+                off = off;
+                told = omega (arith, is);
+                later = omega arith;
+                over = over;
+              },
+            ),
+            over,
+          );
+        }
+
   bound_calm : (earlier : List ℕ) (time rest : ℕ) → IsRestBoundAfter n all earlier time rest
       → IsCalm n (events_by time all)
   bound_calm [] time rest (start, (calm, is)) = calm
   bound_calm (last ∷ earlier) time rest (inl (later, between, (calm, is))) = calm
   bound_calm (last ∷ earlier) time rest (inr (inl (later, between, calm, nothing, before, loses))) = calm
-  bound_calm (last ∷ earlier) time rest (inr (inr (later, between, calm, nothing, before, falls, asks))) = calm
+  bound_calm (last ∷ earlier) time rest (inr (inr (inl (later, between, calm, nothing, before, falls, asks)))) = calm
+  bound_calm (last ∷ earlier) time rest (inr (inr (inr (later, between, calm, nothing, before, turns, asks)))) = calm
 
   followed : (earlier : List ℕ) (time rest : ℕ) → IsRestBoundAfter n all earlier time rest
       → IsFollowedTo n (events_by time all) time rest
@@ -324,9 +355,13 @@ module _ (n : NetworkState) (network : IsNetwork n) (off : NothingLapses n.param
       loss_followed last time later between then rest (bound_calm earlier last then bound)
       (followed earlier last then bound) soon calm loses
   followed (last ∷ earlier) time rest
-      (inr (inr (later, between, calm, nothing, (then, bound, soon), lowers, (gone, flight, is)))) =
+      (inr (inr (inl (later, between, calm, nothing, (then, bound, soon), lowers, (gone, flight, is))))) =
       fall_followed last time later between then rest gone (bound_calm earlier last then bound) calm
       (followed earlier last then bound) soon lowers flight is
+  followed (last ∷ earlier) time rest
+      (inr (inr (inr (later, between, calm, nothing, (then, bound, soon), turns, is)))) =
+      turn_followed last time later between then rest (bound_calm earlier last then bound) calm
+      (followed earlier last then bound) soon turns is
 
   -- a choice bound is one by which the network has come to rest
   choice_rests : (earlier : List ℕ) (time choice : ℕ) → IsChoiceBoundAfter n all earlier time choice
@@ -418,16 +453,16 @@ module _ (d : DocumentState) (network : IsNetwork d.network) (order : AreInOrder
             → choice ≡ 2 * way_span (sync_paths n (earlier ++ event ∷ now)) → roles ≡ choice → IsLost
         turned (other ∷ rest) same none is_choice roles_same = absurd none
         turned [] same turns is_choice roles_same =
-            let x = turn_leads n earlier event seen then
+            let (silent, leads) = turn_leads n earlier event seen then
             (record { turns = turns; calm = calm_then; off = off }) in
             let paths : choice ≡ 2 * way_span (sync_paths n (events_by time d.events)) =
             is_choice ∙ ap (λ es. 2 * way_span (sync_paths n es)) (sym parts) in
-            let past : Past = Turned x.silent event.at in
+            let past : Past = Turned silent event.at in
             record {
               first = before.first;
               begins = before.begins;
               last = past;
-              lead = led past past x.leads
+              lead = led past past leads
                   (subst (λ es. LeadOn n (earlier ++ event ∷ []) past es past) (sym same) refl);
               calm = calm;
               settles = λ settled late. (off, omega (arith, here, paths, roles_same, late));

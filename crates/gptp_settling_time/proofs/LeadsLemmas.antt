@@ -824,7 +824,7 @@ module _ {F : Type 0} (answers : Bounds → ℕ → F → Option ℕ → F → T
         leads_by_tree (TurnsTreeCalm n made event) (λ x. x.calm) (λ x. x.off) (λ x. x.turns.few)
         (λ silent now. IsTurnedTreeTo d more silent now w') (λ start stood rest named since turns.
         turned_tree_to d playable made event then k.draws done w' k.acts refl time_now keeps_then after start rest stood
-        named since turns)
+        named since turns last_now)
 
     pub leads_to : (past next : Past) → EventLeads n made past event next → NamesAfter d made past w
         → IsAfter d made past w → IsAfter d more next w'

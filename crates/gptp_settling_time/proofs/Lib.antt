@@ -121,6 +121,7 @@ pub mod NamedAfterLemmas
 pub mod TurnsDownLemmas
 pub mod TurnedToLemmas
 pub mod AtRestLemmas
+pub mod SettledRestLemmas
 pub mod BecomesSoundLemmas
 pub mod AgedLemmas
 pub mod GoesToLemmas
@@ -168,9 +169,9 @@ pub mod LostMadeLemmas
 pub mod LosesVainLemmas
 pub mod CalmStillLemmas
 pub mod LosesLeadLemmas
-pub mod MovedFlightLemmas
 pub mod RightBeginLemmas
 pub mod ToldAnewLemmas
+pub mod TurnedAlwaysLemmas
 pub mod NamesItselfLemmas
 pub mod TreeTurnsLemmas
 pub mod TurnedTreeLemmas
@@ -178,3 +179,5 @@ pub mod TreeEndLemmas
 pub mod TurnedTreeActLemmas
 pub mod TurnedTreeToLemmas
 pub mod TurnedTreeMadeLemmas
+pub mod TurnedRestLemmas
+pub mod TurnedTreeRestLemmas

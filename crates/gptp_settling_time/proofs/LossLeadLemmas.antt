@@ -84,26 +84,12 @@ module _ (n : NetworkState) (made : List Timed) (event : Timed) (stood : ℕ) (l
 
 -- after one by which a system turns it has turned
 module _ (n : NetworkState) (made : List Timed) (event : Timed) where
-  pub record IsTurnedBy (past : Past) : Type 0 where
-    pub silent : ℕ
-    pub leads : EventLeads n made past event (Turned silent event.at)
-    pub early : silent ≤ event.at
-
-  pub turn_leads : (past : Past) → HasSettled n made past event.at → TurnsCalm n made event → IsTurnedBy past
-  turn_leads AnyPast settled turns =
-      let passed = settled.passed in
-      let over = le-max_left (capability_span (pace_of n)) (2 * largest_interval (pace_of n)
-      + (sync_paths n made).systems * (longest_span (pace_of n) + (sync_paths n made).delay)) in
-      record {
-        silent = last_change made + capability_span (pace_of n);
-        leads = (settled, (turns, refl, refl));
-        early = omega (arith, passed, over);
-      }
+  pub turn_leads : (past : Past) → HasSettled n made past event.at → TurnsCalm n made event
+      → (silent : ℕ) × EventLeads n made past event (Turned silent event.at)
+  turn_leads AnyPast settled turns = (last_change made + capability_span (pace_of n), (settled, (turns, refl, refl)))
   turn_leads Starting settled turns = absurd settled
-  turn_leads (Gained start) settled turns =
-      record { silent = start; leads = (settled, (turns, refl, refl)); early = omega (arith, settled) }
-  turn_leads (Heard start) settled turns =
-      record { silent = start; leads = (settled, (turns, refl, refl)); early = omega (arith, settled) }
+  turn_leads (Gained start) settled turns = (start, (settled, (turns, refl, refl)))
+  turn_leads (Heard start) settled turns = (start, (settled, (turns, refl, refl)))
   turn_leads (Left silent) settled turns = absurd settled
   turn_leads (Turned silent now) settled turns = absurd settled
   turn_leads (Fallen silent now) settled turns = absurd settled

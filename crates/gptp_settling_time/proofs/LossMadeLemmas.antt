@@ -49,7 +49,7 @@ use Rattle.gptp_settling_time.proofs.LoweredLemmas.{act_left, ends, less as lowe
 use Rattle.gptp_settling_time.proofs.SettledSeenLemmas.{HasSettledSeen, IsSettledSeen}
 use Rattle.gptp_settling_time.proofs.SilentLinksLemmas.{AgesOver, over_within}
 use Rattle.gptp_settling_time.proofs.TakenDownLemmas.{told_lives}
-use Rattle.gptp_settling_time.proofs.ToldAnewLemmas.{IsTurnedAlways, anew_begins}
+use Rattle.gptp_settling_time.proofs.TurnedAlwaysLemmas.{IsTurnedAlways, anew_begins}
 use Rattle.gptp_settling_time.proofs.TurnedToLemmas.{IsTurnedTo}
 use Rattle.gptp_settling_time.proofs.TurnsBeginLemmas.{act_turned}
 use Rattle.gptp_settling_time.proofs.WorldMovesLemmas.{cut_off_so, far_end_so, near_so, stays_joined, turns_so}
@@ -391,10 +391,7 @@ module _ (d : DocumentState) (playable : IsPlayable d) (made : List Timed) (even
               (live_ends channel used) x.moved was far best turns
               (near_so d playable more w' after (omega (arith, few, fewer)))
               (end_of channel x.moved moved) (way_over x.delay x.paths) rest.sound)
-              (time ∙ sym at_time) (last ∙ time ∙ sym at_time)
-              (told_lives channel _ draws w'
-              (ends p start x.clock x.port then draws done w' keeps.claim.pace world_then after.claim.world
-              keeps.claim.measured after.claim.measured came up)));
+              (time ∙ sym at_time) (last ∙ time ∙ sym at_time));
         }
       where
         link_wired : LinkSpec → LinkSpec

@@ -362,16 +362,16 @@ module _ (n : NetworkState) (off : NothingLapses n.params) (time : ℕ) (made no
     turned_led : TurnsLink n made event → others ≡ [] → rest ≡ turned_echo_span n (made ++ now)
         → IsLed n made now past (suc (time + rest))
     turned_led turns alone is =
-        let x = turn_leads n made event past settled_then (record { turns = turns; calm = calm_then; off = off }) in
-        let last : Past = Turned x.silent event.at in
+        let (silent, leads) = turn_leads n made event past settled_then
+        (record { turns = turns; calm = calm_then; off = off }) in
+        let last : Past = Turned silent event.at in
         let before = here in
-        let early = x.early in
         let over : suc event.at + way_span (sync_paths n (made ++ now)) ≤ suc (time + rest) =
         omega (arith, before, is) in
         record {
           last = last;
           lead = subst (λ es. LeadOn n made past es last) (sym (same ∙ ap (λ es. event ∷ es) alone))
-              (past, inl refl, last, x.leads, refl);
+              (past, inl refl, last, leads, refl);
           settles = (
             Heard (suc event.at),
             inr (
@@ -382,7 +382,6 @@ module _ (n : NetworkState) (off : NothingLapses n.params) (time : ℕ) (made no
                 off = off;
                 told = omega (arith, before, is);
                 later = omega arith;
-                unlinked = omega (arith, early);
                 over = over;
               },
             ),

@@ -435,14 +435,17 @@ RestsTree n rest events =
     (gone : ℕ) × FlightIsGone n events gone × (rest ≡ max (2 * way_span (sync_paths n events)) gone)
 
 -- By so much later than a time the network has come to rest, by the times before it, the latest first: it has settled,
--- and nothing that is held, or in flight, names what is gone. The first time of all is 0.
+-- and nothing that is held, or in flight, names what is gone. The first time of all is 0. After a tree has turned right
+-- traces have to be told anew, as where one system is moved.
 abbrev pub IsRestBoundAfter : NetworkState → List Timed → List ℕ → ℕ → ℕ → Type 0
 IsRestBoundAfter n events [] time rest = BoundsFirst n events time rest
 IsRestBoundAfter n events (last ∷ earlier) time rest =
     BoundsNext n events (λ then. IsRestBoundAfter n events earlier last then) last time rest
     ⊎ (LosesNext n events (λ then. IsRestBoundAfter n events earlier last then) last time
     (λ made now. RestsAfterLoss n made now rest)
-    ⊎ FallsNext n events (λ then. IsRestBoundAfter n events earlier last then) last time (RestsTree n rest))
+    ⊎ (FallsNext n events (λ then. IsRestBoundAfter n events earlier last then) last time (RestsTree n rest)
+    ⊎ TurnsNext n events (λ then. IsRestBoundAfter n events earlier last then) last time
+    (λ all. rest ≡ turned_echo_span n all)))
 
 -- ---- bounds
 

@@ -15,7 +15,7 @@
 --   distance since. When what was in flight is gone, and ports without a link aren't capable, the network has come to
 --   rest as if all had been heard.
 -- - TurnedTree: a link went down, by which a tree turned to its one way out. The network settles 1 ns and twice the
---   greatest delay for each system of a path but one later.
+--   greatest delay for each system of a path but one later. It comes to rest as one in which a system turned.
 -- - Fallen: a link went down and so cut a tree off. The network settles 1 ns and twice the greatest delay for each
 --   system of a path but one later. When what was in flight is gone too, it has come to rest as if all had been heard.
 -- - Aging: a system failed that others heard. What they hold of it ages, and the choice stands once that is gone. The
@@ -593,21 +593,20 @@ pub record HasCleared (n : NetworkState) (events : List Timed) (since silent old
   pub unlinked : (silent ≤ time) ⊎ UpIsUsed n events
   pub over : HasSettledHeard n events start time
 
--- So much later than a system turned traces are told anew: the network has settled within two ways, each the greatest
--- delay for each system of a path but one, and then they are by distance.
+-- So much later than a system or a tree turned traces are told anew: the network has settled within two ways, each the
+-- greatest delay for each system of a path but one, and then they are by distance.
 abbrev pub turned_echo_span : NetworkState → List Timed → ℕ
 turned_echo_span n events =
     2 * way_span (sync_paths n events) + echo_span (pace_of n) (sync_paths n events)
 
--- A network in which a system turned at a time has come to rest by another, as one whose ports are capable from a later
--- start on. Traces are told anew, and what was in flight is gone by then. Ports without a link aren't capable from the
--- start on. And the greatest delay has passed since the start for each system of a path but one.
-pub record HasToldAnew (n : NetworkState) (events : List Timed) (silent turned start time : ℕ) : Type 0 where
+-- A network in which a system or a tree turned at a time has come to rest by another, as one whose ports are capable
+-- from a later start on. Traces are told anew, and what was in flight is gone by then. And the greatest delay has
+-- passed since the start for each system of a path but one.
+pub record HasToldAnew (n : NetworkState) (events : List Timed) (turned start time : ℕ) : Type 0 where
   pub calm : IsCalm n events
   pub off : NothingLapses n.params
   pub told : turned + turned_echo_span n events < time
   pub later : turned < start
-  pub unlinked : silent ≤ start
   pub over : HasSettledHeard n events start time
 
 -- A network in which a system failed that others heard has come to rest by a time, as one whose ports are capable from
@@ -650,8 +649,9 @@ pub record HasToldAll (n : NetworkState) (events : List Timed) (since most silen
 
 -- by this time it has come to rest, as one whose ports are capable from this start on
 abbrev pub RestsFrom : NetworkState → List Timed → Past → ℕ → ℕ → Type 0
-RestsFrom n events (Turned silent turned) time start = HasToldAnew n events silent turned start time
+RestsFrom n events (Turned silent turned) time start = HasToldAnew n events turned start time
 RestsFrom n events (Fallen silent fallen) time start = HasFallenBack n events fallen start time
+RestsFrom n events (TurnedTree silent turned) time start = HasToldAnew n events turned start time
 RestsFrom n events (Cleared since silent right old) time start = HasCleared n events since silent old start time
 RestsFrom n events (Aging ago aged silent) time start = HasAged n events aged silent start time
 RestsFrom n events (Lost since most silent) time start = HasToldAll n events since most silent start time
