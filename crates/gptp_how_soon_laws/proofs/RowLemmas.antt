@@ -22,6 +22,7 @@ use Rattle.gptp_network.specs.Snapshot.{events_by}
 use Rattle.gptp_topology.specs.Course.{cable_of}
 use Rattle.gptp_how_soon.specs.Bounds.{is_hard_to_hear, gone_by}
 use Rattle.gptp_how_soon.specs.Chosen.{moves_counted, moves_joined, moves_some}
+use Rattle.gptp_how_soon.specs.CutTrees.{cuts_trees_after}
 use Rattle.gptp_how_soon.specs.Kinds.{are_heard, brings_nothing, fails_and_recovers, fails_first, is_better, is_failing, is_gain, is_idle, is_loss, is_lowering, is_other, is_recovery, leaves_links, lowers_one, lowers_unused, makes_nothing, recovers, takes_one, begins_wider, first_wider_by, is_wider}
 use Rattle.gptp_how_soon.specs.Links.{delay_set, longest_among, longest_delay, longest_set}
 use Rattle.gptp_how_soon.specs.Rest.{are_events_followed, are_losses_followed, are_recoveries_followed, are_turns_followed, has_rested_for, heard_at_once, is_failing_followed, is_from_rest, is_lowering_followed, keeps_paths, leaves_silent, rested, rested_by, rested_for_by, is_wider_followed, settles_wider_by}
@@ -29,7 +30,7 @@ use Rattle.gptp_how_soon.specs.Times.{View, events_at, gained_at, ready_at, row_
 use Rattle.gptp_how_soon.specs.Tree.{cuts_tree_after}
 use Rattle.gptp_how_soon.specs.TurnedTree.{turns_tree_after}
 use Rattle.gptp_how_soon.specs.declared.bounds.Row.{Row}
-use Rattle.gptp_how_soon.specs.declared.bounds.Row.TheVariants.{AnyLosses, CutOff, FailedEnd, FailedHeard, FailureCutsOff, Gained, LostEnd, LostPower, Lowered, OneTurned, PowerCutsOff, TreeCutOff, TreeTurned, Unchanged}
+use Rattle.gptp_how_soon.specs.declared.bounds.Row.TheVariants.{AnyLosses, CutOff, FailedEnd, FailedHeard, FailureCutsOff, FailureCutsTrees, Gained, LostEnd, LostPower, Lowered, OneTurned, PowerCutsOff, PowerCutsTrees, TreeCutOff, TreeTurned, Unchanged}
 use Rattle.gptp_how_soon.specs.declared.bounds.Settling.{Settling}
 use Rattle.gptp_how_soon.specs.declared.bounds.SettlingTime.{SettlingTime}
 use Rattle.gptp_how_soon.specs.declared.kinds.Kind.{Kind}
@@ -38,7 +39,7 @@ use Rattle.gptp_how_soon.specs.declared.kinds.Told.{Told}
 use Rattle.gptp_how_soon.specs.declared.kinds.What.{What}
 use Rattle.gptp_how_soon.specs.declared.kinds.What.TheVariants as whats
 use Rattle.gptp_settling_time.specs.Gains.{HasDelaysWithin}
-use Rattle.gptp_settling_time.specs.HowSoon.{AreWiderEvents, BoundsGains, CutsOneEnd, EachEvent, FailsEndFirst, FailsHeardFirst, IsStillEvent, LosesEvents, LowersOneLink, OneEvent, RolesAfterLoss, TurnsOneLink}
+use Rattle.gptp_settling_time.specs.HowSoon.{AreWiderEvents, BoundsGains, CutsOneEnd, EachEvent, FailsEndFirst, FailsHeardFirst, FailsTreesFirst, IsStillEvent, LosesEvents, LowersOneLink, OneEvent, RolesAfterLoss, TurnsOneLink}
 use Rattle.gptp_settling_time.specs.InTurn.{FlightIsGone}
 use Rattle.gptp_settling_time.specs.Losses.{LowersLink, UpIsUsed}
 use Rattle.gptp_settling_time.specs.TreeLosses.{LowersTree, TurnsTreeLink}
@@ -51,11 +52,12 @@ use Rattle.gptp_how_soon_laws.proofs.GainedLemmas.{all_gained, all_heard, all_id
 use Rattle.gptp_how_soon_laws.proofs.KindLemmas.{told}
 use Rattle.gptp_how_soon_laws.proofs.FailedLemmas.{fails_end_first, fails_heard_first, used_up}
 use Rattle.gptp_how_soon_laws.proofs.CutOffLemmas.{cuts_one_end}
+use Rattle.gptp_how_soon_laws.proofs.CutTreesLemmas.{fails_trees_first}
 use Rattle.gptp_how_soon_laws.proofs.LoweredLemmas.{GoesDown, lowers_one_link, one_as, used_on}
 use Rattle.gptp_how_soon_laws.proofs.TreeEventLemmas.{lowers_tree, turns_tree_by}
 use Rattle.gptp_how_soon_laws.proofs.TurnedLemmas.{turns_one_link}
 use Rattle.gptp_how_soon_laws.proofs.UnmovedLemmas.{AreWell, all_still_unmoved}
-use Rattle.gptp_how_soon_laws.proofs.RowReasonLemmas.{ReasonOf, reason_of}
+use Rattle.gptp_how_soon_laws.proofs.RowReasonLemmas.{ReasonOf, Tests, reason_of}
 
 -- ---- who counts as moved
 
@@ -186,30 +188,27 @@ module _ (n : NetworkState) (network : IsNetwork n) (events : List Timed) (b : S
   abbrev v : View
   v = view_at n made now (Some b) at
 
-  -- what its tests said
-  abbrev Why : Row → Type 0
-  Why =
-      ReasonOf (is_from_rest v.longest at v.paths_before v.paths v.told (Some b))
-      (list_all makes_nothing v.told || begins_wider v.told)
-      (are_losses_followed v.paths_before v.told && not v.moves.moved)
-      (is_lowering_followed v.paths_before v.paths v.told && not v.moves.moved) v.moves.cut
-      (is_lowering_followed v.paths_before v.paths v.told && v.moves.turned)
-      (is_lowering_followed v.paths_before v.paths v.told && v.moves.falls)
-      (is_lowering_followed v.paths_before v.paths v.told && v.moves.tree_turns)
-      (is_failing_followed v.paths_before v.paths v.told && not v.moves.moved) v.moves.far v.moves.any v.used
-      (list_any is_loss v.told) (list_all brings_nothing v.told)
+  abbrev tests : Tests
+  tests = record {
+    rest = is_from_rest v.longest at v.paths_before v.paths v.told (Some b);
+    idle = list_all makes_nothing v.told || begins_wider v.told;
+    left = are_losses_followed v.paths_before v.told && not v.moves.moved;
+    lowers = is_lowering_followed v.paths_before v.paths v.told && not v.moves.moved;
+    cut = v.moves.cut;
+    turns = is_lowering_followed v.paths_before v.paths v.told && v.moves.turned;
+    falls = is_lowering_followed v.paths_before v.paths v.told && v.moves.falls;
+    branch = is_lowering_followed v.paths_before v.paths v.told && v.moves.tree_turns;
+    fails = is_failing_followed v.paths_before v.paths v.told && not v.moves.moved;
+    far = v.moves.far;
+    any = v.moves.any;
+    trees = is_failing_followed v.paths_before v.paths v.told && v.moves.trees_fall;
+    used = v.used;
+    loss = list_any is_loss v.told;
+    only = list_all brings_nothing v.told;
+  }
 
-  why : (row : Row) → row_at v ≡ row → Why row
-  why row is =
-      reason_of (is_from_rest v.longest at v.paths_before v.paths v.told (Some b))
-      (list_all makes_nothing v.told || begins_wider v.told)
-      (are_losses_followed v.paths_before v.told && not v.moves.moved)
-      (is_lowering_followed v.paths_before v.paths v.told && not v.moves.moved) v.moves.cut
-      (is_lowering_followed v.paths_before v.paths v.told && v.moves.turned)
-      (is_lowering_followed v.paths_before v.paths v.told && v.moves.falls)
-      (is_lowering_followed v.paths_before v.paths v.told && v.moves.tree_turns)
-      (is_failing_followed v.paths_before v.paths v.told && not v.moves.moved) v.moves.far v.moves.any v.used
-      (list_any is_loss v.told) (list_all brings_nothing v.told) row is
+  why : (row : Row) → row_at v ≡ row → ReasonOf tests row
+  why row is = reason_of tests row is
 
   -- it is from rest
   record IsFromRest : Type 0 where
@@ -490,7 +489,7 @@ module _ (n : NetworkState) (network : IsNetwork n) (events : List Timed) (b : S
       let (from, fails, used) = by which in
       ((from_rest from).rested, failing_heard well fails, used_up n network (made ++ now) used)
     where
-      by : (row_at v ≡ LostPower) ⊎ (row_at v ≡ PowerCutsOff) → Why LostPower
+      by : (row_at v ≡ LostPower) ⊎ (row_at v ≡ PowerCutsOff) → ReasonOf tests LostPower
       by (inl row) = why LostPower row
       by (inr row) = why PowerCutsOff row
 
@@ -548,18 +547,19 @@ module _ (n : NetworkState) (network : IsNetwork n) (events : List Timed) (b : S
     pub comes : ComesLate (LowersTree n) rest
     pub flight : FlightIsGone n (made ++ now) (gone_by n v.paths v.used_before)
 
-  -- the event tests hold of what goes down by it
-  late_by : (test : Bool) → (is_lowering_followed v.paths_before v.paths v.told
+  -- an event of this kind comes an announce interval after all came to rest, and paths get no longer
+  late_by : (kind : List Told → Bool) (test : Bool) → (keeps_paths v.paths_before v.paths && kind v.told
       && (has_rested_for (largest_interval (pace_of n)) (Some b) at && test)) ≡ true
-      → KeepsPaths × (lowers_one v.told ≡ true) × (test ≡ true)
+      → KeepsPaths × (kind v.told ≡ true) × (test ≡ true)
       × ((rest : HasComeToRest b at) → b.at + (rest.settling.rest + largest_interval (pace_of n)) < at)
-  late_by test is =
+  late_by kind test is =
       let late_test : Bool = has_rested_for (largest_interval (pace_of n)) (Some b) at in
-      let (followed, both) = and_parts (is_lowering_followed v.paths_before v.paths v.told) (late_test && test) is in
-      let (keeps, lowers) = and_parts (keeps_paths v.paths_before v.paths) (lowers_one v.told) followed in
+      let (followed, both) =
+      and_parts (keeps_paths v.paths_before v.paths && kind v.told) (late_test && test) is in
+      let (keeps, one) = and_parts (keeps_paths v.paths_before v.paths) (kind v.told) followed in
       let (late_is, so) = and_parts late_test test both in (
         keeps_so keeps,
-        lowers,
+        one,
         so,
         λ rest. rested_for_so (largest_interval (pace_of n)) b at rest.settling rest.is late_is,
       )
@@ -567,7 +567,7 @@ module _ (n : NetworkState) (network : IsNetwork n) (events : List Timed) (b : S
   pub tree_cut : AreWell n (made ++ now) → row_at v ≡ TreeCutOff → (rest : HasComeToRest b at) × CutsLate rest
   tree_cut well row =
       let (from, falls) = why TreeCutOff row in
-      let (x, lowers, tree, longer) = late_by (cuts_tree_after n made (made ++ now)) falls in
+      let (x, lowers, tree, longer) = late_by lowers_one (cuts_tree_after n made (made ++ now)) falls in
       let rest = (from_rest from).rested in
       let one = lowers_tree n network made now well x.delay x.paths x.few lowers tree in (
         rest,
@@ -582,7 +582,7 @@ module _ (n : NetworkState) (network : IsNetwork n) (events : List Timed) (b : S
       → (rest : HasComeToRest b at) × ComesLate (TurnsTreeLink n) rest
   tree_turned well row =
       let (from, turns) = why TreeTurned row in
-      let (x, lowers, tree, longer) = late_by (turns_tree_after n made (made ++ now)) turns in
+      let (x, lowers, tree, longer) = late_by lowers_one (turns_tree_after n made (made ++ now)) turns in
       let rest = (from_rest from).rested in (
         rest,
         record {
@@ -590,6 +590,33 @@ module _ (n : NetworkState) (network : IsNetwork n) (events : List Timed) (b : S
           longer = longer rest;
         },
       )
+
+  -- or a system fails and cuts trees off
+  pub record FailsLate : Type 0 where
+    pub rest : HasComeToRest b at
+    pub longer : b.at + (rest.settling.rest + largest_interval (pace_of n)) < at
+    pub fails : FailsTreesFirst n made now
+
+  fails_late : is_from_rest v.longest at v.paths_before v.paths v.told (Some b) ≡ true → AreWell n (made ++ now)
+      → (is_failing_followed v.paths_before v.paths v.told && v.moves.trees_fall) ≡ true → FailsLate
+  fails_late from well trees =
+      let (x, one, cut, longer) = late_by fails_first (cuts_trees_after n made (made ++ now)) trees in
+      let rest = (from_rest from).rested in
+      record {
+        rest = rest;
+        longer = longer rest;
+        fails = fails_trees_first n network made now well cut x.delay x.paths x.few one;
+      }
+
+  -- and loses its power
+  pub power_cuts : AreWell n (made ++ now) → row_at v ≡ PowerCutsTrees → FailsLate × UpIsUsed n (made ++ now)
+  power_cuts well row =
+      let (from, trees, used) = why PowerCutsTrees row in
+      (fails_late from well trees, used_up n network (made ++ now) used)
+
+  -- or hangs
+  pub failure_cuts : AreWell n (made ++ now) → row_at v ≡ FailureCutsTrees → FailsLate
+  failure_cuts well row = let (from, trees) = why FailureCutsTrees row in fails_late from well trees
 
   -- or a far end hangs
   pub failed : AreWell n (made ++ now) → row_at v ≡ FailedEnd
@@ -605,7 +632,7 @@ module _ (n : NetworkState) (network : IsNetwork n) (events : List Timed) (b : S
       let (from, fails) = by which in
       ((from_rest from).rested, failing_heard well fails)
     where
-      by : (row_at v ≡ FailedHeard) ⊎ (row_at v ≡ FailureCutsOff) → Why FailedHeard
+      by : (row_at v ≡ FailedHeard) ⊎ (row_at v ≡ FailureCutsOff) → ReasonOf tests FailedHeard
       by (inl row) = why FailedHeard row
       by (inr row) = why FailureCutsOff row
 

@@ -131,12 +131,14 @@ module _ (n : NetworkState) (network : IsNetwork n) (made events : List Timed) w
 
     others : (v : ℕ) → In v (clocks h) → (IsBest h v last → ⊥) → IsUnmoved g h v
     others v known out =
-        let (i, s) = on_of n network made events g h stands stands' well well' lived v known in by i s (is_moved_there i) refl
+        let (i, s) = on_of n network made events g h stands stands' well well' lived v known in
+        by i s (is_moved_there i) refl
       where
         by : (i : ℕ) (s : LivesOn n network made events g h stands stands' well well' lived i v) (moved : Bool)
             → is_moved_there i ≡ moved → IsUnmoved g h v
         by i s true moved =
-            absurd (out (best_so n network made events g h stands stands' well well' lived top t.one.top_clock is_top i v s
+            absurd (out (best_so n network made events g h stands stands' well well' lived top t.one.top_clock is_top
+            i v s
             (below_same n network made events g h stands stands' well well' lived top i (told_by i v s.at true moved))))
         by i s false moved =
             unmoved_at n network made events g h stands stands' well well' v (lived v known) known i s.at moved
@@ -145,7 +147,8 @@ module _ (n : NetworkState) (network : IsNetwork n) (made events : List Timed) w
     outside in_other =
         let s = on_at n network made events g h stands stands' well well' lived t.one.other t.one.other_clock
         (at_other n network made events t.one g stands well) in_other.reached.1.begins in
-        let inside = inside_so n network made events g h stands stands' well well' lived top t.one.top_clock is_top t.one.other
+        let inside =
+        inside_so n network made events g h stands stands' well well' lived top t.one.top_clock is_top t.one.other
         t.one.other_clock s in_other in
         let no : false ≡ true = ap not (sym (moved_below t.one.other t.one.other_clock s.at inside).0) ∙ t.stays in
         absurd cc
