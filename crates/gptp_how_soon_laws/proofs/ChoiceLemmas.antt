@@ -198,13 +198,15 @@ module _ (d : DocumentState) (playable : IsPlayable d) where
             let passed = below (b.at + largest_interval (pace_of n) + longest_span (pace_of n)) at own in
             omega (arith, last, moment, passed)
 
-    heard_some : (events : List Timed) → FailsHeardFirst n made events → events ≡ [] → ⊥
-    heard_some [] none same = none
-    heard_some (event ∷ events) fails same = absurd cc
+    -- it has an event where this isn't so of none
+    some_now : (Are : List Timed → Type 0) → (Are [] → ⊥) → Are now → now ≡ [] → ⊥
+    some_now Are none are same = none (subst Are same are)
 
-    trees_some : (events : List Timed) → FailsTreesFirst n made events → events ≡ [] → ⊥
-    trees_some [] none same = none
-    trees_some (event ∷ events) fails same = absurd cc
+    held_heard : FailsHeardFirst n made now → HeldFor n made now v.held
+    held_heard fails = held (some_now (FailsHeardFirst n made) (λ none. none) fails)
+
+    held_trees : FailsTreesFirst n made now → HeldFor n made now v.held
+    held_trees fails = held (some_now (FailsTreesFirst n made) (λ none. none) fails)
 
     -- an event of this kind comes an announce interval after the time before has come to rest, and all ask for this
     tree_next : (Is : List Timed → Timed → Type 0) (Asks : List Timed → Type 0) → IsCalm n (events_by at all)
@@ -281,7 +283,7 @@ module _ (d : DocumentState) (playable : IsPlayable d) where
           rest,
           inl (inr (inr (inr (inr (
             fails,
-            inr (largest_interval (pace_of n), inr refl, (v.held, held (heard_some now fails), late)),
+            inr (largest_interval (pace_of n), inr refl, (v.held, held_heard fails, late)),
           ))))),
         )
     rests_by sound told (inr (inr (inr (inr (inr (inr (inr (inl (row, is))))))))) =
@@ -414,7 +416,7 @@ module _ (d : DocumentState) (playable : IsPlayable d) where
           rest,
           inr (inr (inr (inl (
             fails,
-            (v.held, silence_span (pace_of n), inr (held (heard_some now fails), refl), inl (refl, refl)),
+            (v.held, silence_span (pace_of n), inr (held_heard fails, refl), inl (refl, refl)),
           )))),
         )
     asks_by FailureCutsOff row own =
@@ -423,7 +425,7 @@ module _ (d : DocumentState) (playable : IsPlayable d) where
           rest,
           inr (inr (inr (inl (
             fails,
-            (v.held, silence_span (pace_of n), inr (held (heard_some now fails), refl), inr (refl, refl)),
+            (v.held, silence_span (pace_of n), inr (held_heard fails, refl), inr (refl, refl)),
           )))),
         )
     asks_by PowerCutsTrees row own =
@@ -433,7 +435,7 @@ module _ (d : DocumentState) (playable : IsPlayable d) where
         let x = failure_cuts n playable.network all b at late well row in
         inr (inr (
           x,
-          (v.held, silence_span (pace_of n), inr (held (trees_some now x.fails), refl), refl, refl),
+          (v.held, silence_span (pace_of n), inr (held_trees x.fails, refl), refl, refl),
         ))
     asks_by AnyLosses row own =
         let (rest, loses, roles) = any_losses n playable.network all b at late row in

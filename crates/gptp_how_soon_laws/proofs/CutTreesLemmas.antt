@@ -328,6 +328,7 @@ module _ (n : NetworkState) (network : IsNetwork n) (made events : List Timed) w
 
       in_tree : (i v : ℕ) (at : IsAt n i v) (known : In v (clocks h)) → is_moved_there i ≡ true → (t : TopOf)
           → (s : Tree) × IsTreeCutOff g h (best_of t) s × IsBest h v s.next
+      unfolding best_of top_at
       in_tree i v at known moved t =
           let u = under i v at moved in
           let own = top_at i v at moved in

@@ -59,7 +59,8 @@ module _ (n : NetworkState) (network : IsNetwork n) (made events : List Timed) w
   -- ---- between two snapshots
 
   module _ (t : Turns n network made events) (g h : Snapshot) (stands : StandsAfter n made g)
-      (stands' : StandsAfter n events h) (well : IsWellFormed g) (well' : IsWellFormed h) (lived : (v : ℕ) → In v (clocks h) → In v (clocks g))
+      (stands' : StandsAfter n events h) (well : IsWellFormed g) (well' : IsWellFormed h)
+      (lived : (v : ℕ) → In v (clocks h) → In v (clocks g))
       (lives : (v : ℕ) → In v (clocks g) → In v (clocks h)) where
     abbrev top : ℕ
     top = t.one.top
