@@ -20,7 +20,6 @@ use Rattle.gptp_scenario.specs.InUse.{lives}
 use Rattle.gptp_scenario.specs.Network.{IsNetwork, NetworkState}
 use Rattle.gptp_scenario.specs.SyncWait.{sync_paths}
 use Rattle.gptp_scenario.specs.declared.change.Timed.{Timed}
-use Rattle.gptp_scenario.specs.declared.network.LinkSpec.{LinkSpec}
 use Rattle.gptp_scenario.specs.declared.network.SystemSpec.{SystemSpec}
 use Rattle.gptp_topology.specs.After.{system_then, systems_after}
 use Rattle.gptp_topology.specs.declared.nodes.System as ours
@@ -36,7 +35,7 @@ use Rattle.gptp_how_soon.proofs.ChosenLemmas.{IsAt, at_port, chosen_there}
 use Rattle.gptp_settling_time.specs.HowSoon.{FailsTreesFirst}
 use Rattle.gptp_settling_time.specs.Losses.{IsUnmoved}
 use Rattle.gptp_settling_time.specs.TreeLosses.{CutsTreesFrom, IsTreeCutOff, IsUnmovedOrInTree}
-use Rattle.gptp_how_soon_laws.proofs.FailedLemmas.{Fails, clock_before, each_is, fails, first_behind, first_delay, first_paths, others, parts, stands_on}
+use Rattle.gptp_how_soon_laws.proofs.FailedLemmas.{Fails, clock_before, each_is, fails, first_delay, first_paths, others, parts, stands_on}
 use Rattle.gptp_how_soon_laws.proofs.ToldLemmas.{loss_fails}
 use Rattle.gptp_how_soon_laws.proofs.TreeBelowLemmas.{IsTop, below_same, best, best_so, cut_off, tree}
 use Rattle.gptp_how_soon_laws.proofs.LivesOnLemmas.{on_at, on_of}
@@ -156,9 +155,9 @@ module _ (n : NetworkState) (network : IsNetwork n) (made events : List Timed) w
               record {
                 root = root;
                 one = λ same. elim (or_cases (not same_test) (i == j) single) [
-                    | inl apart ↦ let no : false ≡ true = ap not (sym same) ∙ apart in absurd cc
-                    | inr equal ↦ eqb-true i j equal
-                  ];
+                  | inl apart ↦ let no : false ≡ true = ap not (sym same) ∙ apart in absurd cc
+                  | inr equal ↦ eqb-true i j equal
+                ];
               }
         ]
       where
@@ -356,13 +355,13 @@ module _ (n : NetworkState) (network : IsNetwork n) (made events : List Timed) w
           by i at true is rest = inl (top_at i v at is)
           by i at false is (inl t) = inl t
           by i at false is (inr none) = inr (λ u member j there. elim member [
-              | inl same ↦
-                  let own = subst (IsAt n j) same there in
-                  let one : j ≡ i =
-                  network.clocks j i own.system at.system own.there at.there (own.clock ∙ sym at.clock) in
-                  ap is_moved_there one ∙ is
-              | inr behind ↦ none u behind j there
-            ])
+            | inl same ↦
+                let own = subst (IsAt n j) same there in
+                let one : j ≡ i =
+                network.clocks j i own.system at.system own.there at.there (own.clock ∙ sym at.clock) in
+                ap is_moved_there one ∙ is
+            | inr behind ↦ none u behind j there
+          ])
 
       pub split_so : (b : System) × ((v : ℕ) → In v (clocks h) → IsUnmovedOrInTree g h b v)
       split_so = by (first_top (clocks h) (λ v member. member))
