@@ -26,6 +26,7 @@ mod SilentLemmas
 mod RowBoundLemmas
 mod RowReasonLemmas
 mod StartRowLemmas
+mod RowTestLemmas
 mod RowLemmas
 mod AnyLossLemmas
 pub mod ChoiceLemmas
