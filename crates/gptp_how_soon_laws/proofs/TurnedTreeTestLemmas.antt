@@ -1,11 +1,10 @@
 -- What the tests of a tree that turns say.
-use Rattle.std.proofs.Common.{◌≡◌, ◌<◌, ◌≤◌, inl, inr, ◌-◌, ◌+◌, ℕ, Bool, true, false, List, [], ◌∷◌, length, slice_get, refl, ap, arith, cond}
+use Rattle.std.proofs.Common.{◌≡◌, ◌<◌, ◌≤◌, inl, inr, ◌+◌, ℕ, Bool, true, false, List, [], ◌∷◌, length, slice_get, refl, ap, arith, cond}
 use Rattle.std.specs.Prelude.{◌&&◌, nat_le, not, ◌==◌, nat_lt}
 use Rattle.std.specs.List.{count_by, list_all, range_with_len}
 use Rattle.std.proofs.lemmas.Bool.{and_parts}
 use Rattle.std.proofs.lemmas.Bool.Decides.{nat_tests}
 use Rattle.gptp_lists.specs.Members.{In}
-use Rattle.gptp_graph.specs.Snapshot.{System}
 use Rattle.gptp_scenario.specs.Network.{IsNetwork, NetworkState}
 use Rattle.gptp_scenario.specs.declared.change.Timed.{Timed}
 use Rattle.gptp_topology.specs.After.{systems_after}
