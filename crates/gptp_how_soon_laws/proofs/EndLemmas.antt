@@ -8,7 +8,6 @@ use Rattle.gptp_model.specs.World.{WorldState}
 use Rattle.gptp_network.specs.Document.{DocumentState}
 use Rattle.gptp_network.specs.Snapshot.{events_by}
 use Rattle.gptp_report.specs.Transitions.{ActTrace, Courses, Unfolds}
-use Rattle.gptp_invariants.specs.ChoiceSettled.{}
 use Rattle.gptp_theorem.specs.HeadlineLaws.{HasSnapshotOf}
 use Rattle.gptp_theorem.specs.PlayedLaws.{IsMade, IsPlayable}
 use Rattle.gptp_theorem.proofs.HeadlineLemmas.{is_settled}

@@ -17,7 +17,7 @@ use Rattle.gptp_how_soon.specs.Kinds.{sets_link}
 use Rattle.gptp_how_soon.specs.Times.{View, gained_at, loss_at, row_at, settling_time}
 use Rattle.gptp_how_soon.specs.declared.bounds.Loss.{Loss}
 use Rattle.gptp_how_soon.specs.declared.bounds.Row.{Row}
-use Rattle.gptp_how_soon.specs.declared.bounds.Row.TheVariants.{AnyLosses, AnyPast, CutOff, FailedEnd, FailedHeard, FailureCutsOff, Gained, LostEnd, LostPower, Lowered, OneTurned, PowerCutsOff, TreeCutOff, TreeTurned, Unchanged}
+use Rattle.gptp_how_soon.specs.declared.bounds.Row.TheVariants.{AnyLosses, AnyPast, CutOff, FailedEnd, FailedHeard, FailureCutsOff, FailureCutsTrees, Gained, LostEnd, LostPower, Lowered, OneTurned, PowerCutsOff, PowerCutsTrees, TreeCutOff, TreeTurned, Unchanged}
 use Rattle.gptp_how_soon.specs.declared.bounds.Settling.{Settling}
 use Rattle.gptp_settling_time.specs.HowSoon.{BoundsChoice}
 use Rattle.gptp_topology.proofs.RestLemmas.{calm_from}
@@ -37,6 +37,8 @@ past_row FailureCutsOff = AnyPast
 past_row OneTurned = AnyPast
 past_row TreeCutOff = AnyPast
 past_row TreeTurned = AnyPast
+past_row PowerCutsTrees = AnyPast
+past_row FailureCutsTrees = AnyPast
 past_row AnyLosses = AnyPast
 past_row Gained = Gained
 
@@ -70,6 +72,8 @@ bounds_choice n Sharp loss events row gained calm unchanged is_gained =
     by_row off OneTurned is = inl refl
     by_row off TreeCutOff is = inl refl
     by_row off TreeTurned is = inl refl
+    by_row off PowerCutsTrees is = inl refl
+    by_row off FailureCutsTrees is = inl refl
     by_row off AnyLosses is = inl refl
     by_row off Unchanged is = inr (unchanged is)
     by_row off Gained is = inr (is_gained is off)
@@ -125,6 +129,8 @@ choice_or_own n loss paths row gained = by (n.params.sync_timeout == 0) refl row
     by true is OneTurned = inr (eqb-true n.params.sync_timeout 0 is, tt, refl, refl)
     by true is TreeCutOff = inr (eqb-true n.params.sync_timeout 0 is, tt, refl, refl)
     by true is TreeTurned = inr (eqb-true n.params.sync_timeout 0 is, tt, refl, refl)
+    by true is PowerCutsTrees = inr (eqb-true n.params.sync_timeout 0 is, tt, refl, refl)
+    by true is FailureCutsTrees = inr (eqb-true n.params.sync_timeout 0 is, tt, refl, refl)
     by true is AnyLosses = inr (eqb-true n.params.sync_timeout 0 is, tt, refl, refl)
 
 -- All is sound by that bound. Or nothing lapses, and it is sooner after a loss.
@@ -134,7 +140,7 @@ IsSoundSooner n loss paths row sound =
     ⊎ (((row ≡ FailedEnd) × (sound ≡ max (silence_span (pace_of n)) (gone_by n loss.paths_before loss.used_before)))
     ⊎ (((row ≡ Lowered) × (sound ≡ max (echo_span (pace_of n) paths) (gone_by n paths loss.used_before)))
     ⊎ (((row ≡ CutOff) × (sound ≡ max (2 * way_span paths) (gone_by n paths loss.used_before)))
-    ⊎ (((row ≡ OneTurned) × (sound ≡ 2 * way_span paths + echo_span (pace_of n) paths))
+    ⊎ ((((row ≡ OneTurned) ⊎ (row ≡ TreeTurned)) × (sound ≡ 2 * way_span paths + echo_span (pace_of n) paths))
     ⊎ ((((row ≡ LostPower) ⊎ (row ≡ PowerCutsOff)) × (max (echo_span (pace_of n) paths) paths.delay ≤ sound))
     ⊎ ((((row ≡ FailedHeard) ⊎ (row ≡ FailureCutsOff)) × (aged_echo_span n loss paths ≤ sound))
     ⊎ (((row ≡ AnyLosses) × (sound ≡ roles_after_losses n loss paths))
@@ -160,12 +166,16 @@ sound_or_sooner n loss paths row gained = by (n.params.sync_timeout == 0) refl r
     by true is AnyPast = inl refl
     by true is Unchanged = inl refl
     by true is Gained = inl refl
-    by true is TreeTurned = inl refl
+    by true is PowerCutsTrees = inl refl
+    by true is FailureCutsTrees = inl refl
     by true is LostEnd = inr (eqb-true n.params.sync_timeout 0 is, inl (refl, refl))
     by true is FailedEnd = inr (eqb-true n.params.sync_timeout 0 is, inr (inl (refl, refl)))
     by true is Lowered = inr (eqb-true n.params.sync_timeout 0 is, inr (inr (inl (refl, refl))))
     by true is CutOff = inr (eqb-true n.params.sync_timeout 0 is, inr (inr (inr (inl (refl, refl)))))
-    by true is OneTurned = inr (eqb-true n.params.sync_timeout 0 is, inr (inr (inr (inr (inl (refl, refl))))))
+    by true is OneTurned =
+        inr (eqb-true n.params.sync_timeout 0 is, inr (inr (inr (inr (inl (inl refl, refl))))))
+    by true is TreeTurned =
+        inr (eqb-true n.params.sync_timeout 0 is, inr (inr (inr (inr (inl (inr refl, refl))))))
     by true is LostPower =
         inr (eqb-true n.params.sync_timeout 0 is, inr (inr (inr (inr (inr (inl (inl refl, omega arith)))))))
     by true is PowerCutsOff =

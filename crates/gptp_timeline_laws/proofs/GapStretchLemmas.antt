@@ -200,7 +200,15 @@ choice_is d at choice above ((last ∷ earlier), inr (alone, inl (late, between,
     absurd (omega (arith, off, above))
 choice_is d at choice above ((last ∷ earlier), inr (alone, inr (inl (late, between, calm, off, before, one, asks)))) =
     absurd (omega (arith, off, above))
-choice_is d at choice above ((last ∷ earlier), inr (alone, inr (inr (late, between, calm, off, before, one, asks)))) =
+choice_is d at choice above (
+  (last ∷ earlier),
+  inr (alone, inr (inr (inl (late, between, calm, off, before, one, asks)))),
+) =
+    absurd (omega (arith, off, above))
+choice_is d at choice above (
+  (last ∷ earlier),
+  inr (alone, inr (inr (inr (late, between, calm, off, before, one, asks)))),
+) =
     absurd (omega (arith, off, above))
 
 pub over_by : (d : DocumentState) (at from : ℕ) → IsTold d at from → 0 < d.network.params.sync_timeout
