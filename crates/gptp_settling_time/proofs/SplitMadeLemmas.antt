@@ -3,6 +3,7 @@
 use Rattle.std.proofs.Common.{◌≡◌, ◌⊎◌, ◌<◌, ◌≤◌, ◌+◌, ◌∷◌, ◌++◌, ℕ, suc, List, [], sym, subst, inl, inr, arith}
 use native.Mathlib.Decide.{dec_le}
 use Rattle.gptp_lists.specs.Members.{In}
+use Rattle.gptp_graph.specs.Best.{IsBest}
 use Rattle.gptp_graph.specs.PathBound.{path_bound}
 use Rattle.gptp_graph.specs.Snapshot.{PortIdentity, Snapshot, System, clocks, port_of}
 use Rattle.gptp_links.specs.Fate.{Draw}

@@ -12,7 +12,7 @@ use Rattle.gptp_bmca_machine.specs.Levels.{Invariant}
 use Rattle.gptp_bmca_machine.specs.Network.{IsSettlingNetwork, Network, settled_from}
 use Rattle.gptp_bmca_machine.proofs.SettledLemmas.{systems_bounded}
 use Rattle.gptp_invariants.specs.ChoiceCalm.{HaveQuietLinks, delay_in}
-use Rattle.gptp_invariants.specs.ChoiceSettled.{Settled}
+use Rattle.gptp_invariants.specs.ChoiceSettled.{ChoiceStands, Settled}
 use Rattle.gptp_invariants.specs.ChoiceSettlesAsMachine.{IsWorld}
 use Rattle.gptp_invariants.specs.ChoiceView.{says_announce, station_view, view}
 use Rattle.gptp_invariants.specs.DelayMeasuredLinks.{HaveMeasuredLinks}
@@ -21,7 +21,6 @@ use Rattle.gptp_invariants.specs.WorldNews.{AreSilentBy}
 use Rattle.gptp_invariants.specs.WorldStanding.{snapshot_of}
 use Rattle.gptp_invariants.proofs.ChoicePlaceLemmas.{station_there}
 use Rattle.gptp_invariants.proofs.WorldBoundedLemmas.{bounded_by}
-use Rattle.gptp_settling_time.specs.ChoiceAlone.{ChoiceStands}
 use Rattle.gptp_settling_time.proofs.AlwaysClaimedLemmas.{IsStanding, calm_timed}
 use Rattle.gptp_settling_time.proofs.EmptiedLemmas.{older_calm}
 use Rattle.gptp_settling_time.proofs.FallAlwaysLemmas.{fallen_by}

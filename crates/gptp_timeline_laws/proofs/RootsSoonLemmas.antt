@@ -9,7 +9,6 @@ use Rattle.gptp_how_soon.specs.Times.{settling_times}
 use Rattle.gptp_how_soon.specs.declared.bounds.Settling.{Settling}
 use Rattle.gptp_how_soon_laws.proofs.ChoiceLemmas.{settlings_are_choice_bounds}
 use Rattle.gptp_how_soon_laws.proofs.EndLemmas.{bound_ends_chosen}
-use Rattle.gptp_invariants.specs.ChoiceSettled.{}
 use Rattle.gptp_invariants.specs.WorldStanding.{snapshot_of}
 use Rattle.gptp_links.specs.declared.bounds.Bounds.{Bounds}
 use Rattle.gptp_lists.specs.Members.{In}
