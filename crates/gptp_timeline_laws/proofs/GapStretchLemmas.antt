@@ -195,19 +195,19 @@ choice_is d at choice above ([], inl (first, bounds)) =
     choice_of d.network _ (events_by at d.events) choice above bounds
 choice_is d at choice above ((last ∷ earlier), inl (late, between, bounds)) =
     choice_of d.network _ (events_by at d.events) choice above bounds
-choice_is d at choice above ([], inr (alone, none)) = absurd none
-choice_is d at choice above ((last ∷ earlier), inr (alone, inl (late, between, calm, off, before, loses))) =
+choice_is d at choice above ([], inr (roles, none)) = absurd none
+choice_is d at choice above ((last ∷ earlier), inr (roles, inl (late, between, calm, off, before, loses))) =
     absurd (omega (arith, off, above))
-choice_is d at choice above ((last ∷ earlier), inr (alone, inr (inl (late, between, calm, off, before, one, asks)))) =
+choice_is d at choice above ((last ∷ earlier), inr (roles, inr (inl (late, between, calm, off, before, one, asks)))) =
     absurd (omega (arith, off, above))
 choice_is d at choice above (
   (last ∷ earlier),
-  inr (alone, inr (inr (inl (late, between, calm, off, before, one, asks)))),
+  inr (roles, inr (inr (inl (late, between, calm, off, before, one, asks)))),
 ) =
     absurd (omega (arith, off, above))
 choice_is d at choice above (
   (last ∷ earlier),
-  inr (alone, inr (inr (inr (late, between, calm, off, before, one, asks)))),
+  inr (roles, inr (inr (inr (late, between, calm, off, before, one, asks)))),
 ) =
     absurd (omega (arith, off, above))
 
