@@ -255,8 +255,8 @@ module _ (says : Spelling) (n0 n : Network) (tree : List ℕ) (top other last ou
         let near = (as_far says g n tree top other last out best base depth t w.time p k joins leads).0 in
         let root = rest.facts.stays.final.root in
         let steps = rest.facts.stays.final.steps in
-        elim (worse_out says g n tree top other last out best base depth t w.time p k joins leads rest.facts.stays.what.said
-        whole) [
+        elim (worse_out says g n tree top other last out best base depth t w.time p k joins leads
+        rest.facts.stays.what.said whole) [
           | inl over ↦ omega (arith, over, root)
           | inr (same_root, more) ↦ omega (arith, more, steps, near)
         ]

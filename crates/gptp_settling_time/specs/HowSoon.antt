@@ -285,8 +285,8 @@ RolesAfterLoss n made now choice roles =
     ((NoneFails n made now ⊎ UpIsUsed n (made ++ now)) × (roles ≡ choice))
     ⊎ (roles ≡ max choice (silence_span (pace_of n)))
 
--- By the first of them a system fails, which so cuts trees off. By the others links go down that are up, and of which an
--- end has failed.
+-- By the first of them a system fails, which so cuts trees off. By the others links go down that are up, and of which
+-- an end has failed.
 abbrev pub FailsTreesFirst : NetworkState → List Timed → List Timed → Type 0
 FailsTreesFirst n made [] = ⊥
 FailsTreesFirst n made (event ∷ events) =

@@ -123,10 +123,10 @@ pub record TurnsTreeLink (n : NetworkState) (before : List Timed) (event : Timed
 
 -- ---- failures
 
--- From the first snapshot to the second a tree of systems is cut off, those whose best is that of the tree then. Before,
--- its systems had another best, with the lower identity. Each was as far from it as its depth says, from the base on.
--- The one at the top lost its links to others; each link that the others had they have still. A link leads one deeper or
--- less deep by one, and each system has one link at most to such as are less deep.
+-- From the first snapshot to the second a tree of systems is cut off, those whose best is that of the tree then.
+-- Before, its systems had another best, with the lower identity. Each was as far from it as its depth says, from the
+-- base on. The one at the top lost its links to others; each link that the others had they have still. A link leads one
+-- deeper or less deep by one, and each system has one link at most to such as are less deep.
 pub record IsTreeCutOff (g g' : Snapshot) (best : System) (t : Tree) : Type 0 where
   pub in_top : IsBest g' t.top t.next
   pub worse : best.identity < t.next.identity
