@@ -23,7 +23,7 @@ use Rattle.gptp_bmca_machine.proofs.LinkEndsLemmas.{ends_by, telling}
 use Rattle.gptp_bmca_machine.proofs.LinkStageLemmas.{settled}
 use Rattle.gptp_bmca_machine.proofs.MovedTreeLemmas.{LeadsDown, MovesTree}
 use Rattle.gptp_bmca_machine.proofs.RestLemmas.{Chooses, is_master}
-use Rattle.gptp_bmca_machine.proofs.StillLemmas.{LeadsOn, best_was, capable_at, chooses_still, ends, far_was, port_there, station_of, still}
+use Rattle.gptp_bmca_machine.proofs.StillLemmas.{LeadsOn, best_was, capable_at, chooses_still, ends, far_was, port_there, station_of}
 use Rattle.gptp_bmca_machine.proofs.TurnEndLemmas.{system_clear}
 use Rattle.gptp_bmca_machine.proofs.TurnLemmas.{OutIsAt, TurnsBack, out_is_at}
 use Rattle.gptp_bmca_machine.proofs.TurnLevelLemmas.{Times, TurnSettles, choose_by, delay, has_left, way_leads}
