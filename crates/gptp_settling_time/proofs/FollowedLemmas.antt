@@ -318,13 +318,16 @@ module _ (n : NetworkState) (network : IsNetwork n) (off : NothingLapses n.param
             inr (
               start,
               refl,
-              (record {
-                calm = calm;
-                off = off;
-                told = omega (arith, is);
-                later = omega arith;
-                over = over;
-              }, omega arith),
+              (
+                record {
+                  calm = calm;
+                  off = off;
+                  told = omega (arith, is);
+                  later = omega arith;
+                  over = over;
+                },
+                omega arith,
+              ),
             ),
             over,
           );

@@ -4,7 +4,6 @@ use Rattle.std.proofs.Common.{Bool, List, Some, ap, false, inl, inr, map, refl, 
 use Rattle.std.proofs.lemmas.Option.{same_Some}
 use Rattle.gptp_lists.proofs.MappedLemmas.{alike}
 use Rattle.gptp_lists.proofs.PlaceLemmas.{get-set_other, get-set_same, map-set_same}
-use Rattle.gptp_graph.specs.Snapshot.{clocks}
 use Rattle.gptp_vector.specs.declared.port.PortId.{PortId}
 use Rattle.gptp_links.specs.declared.link.Direction.{Direction}
 use Rattle.gptp_links.specs.declared.link.Direction.TheVariants.{FromA, FromB}

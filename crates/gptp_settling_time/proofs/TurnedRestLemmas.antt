@@ -23,7 +23,7 @@ use Rattle.gptp_bmca_machine.proofs.LinkEndsLemmas.{ends_by, telling}
 use Rattle.gptp_bmca_machine.proofs.LinkStageLemmas.{settled}
 use Rattle.gptp_bmca_machine.proofs.MovedTreeLemmas.{LeadsDown, MovesTree}
 use Rattle.gptp_bmca_machine.proofs.RestLemmas.{Chooses, is_master}
-use Rattle.gptp_bmca_machine.proofs.StillLemmas.{LeadsOn, best_was, capable_at, chooses_still, ends, far_was, port_there, station_of, still}
+use Rattle.gptp_bmca_machine.proofs.StillLemmas.{LeadsOn, best_was, capable_at, chooses_still, ends, far_was, port_there, station_of}
 use Rattle.gptp_bmca_machine.proofs.TurnEndLemmas.{system_clear}
 use Rattle.gptp_bmca_machine.proofs.TurnLemmas.{OutIsAt, TurnsBack, out_is_at}
 use Rattle.gptp_bmca_machine.proofs.TurnLevelLemmas.{Times, TurnSettles, choose_by, delay, has_left, way_leads}
@@ -184,9 +184,10 @@ module _ (says : Spelling) (g : Snapshot) (n : Network) (tree : List ℕ) (top o
           hearer = at_u;
           hearer_port = there_u;
           lane = has.there;
-        })
-        ((chose.root, chose.steps),
-        capable_at g n t.well t.left w kept fits v p (port_of u (suc q)) sv pv known joins at_v there_v)
+        }) (
+          (chose.root, chose.steps),
+          capable_at g n t.well t.left w kept fits v p (port_of u (suc q)) sv pv known joins at_v there_v,
+        )
 
   -- between systems that aren't moved
   still_link : (d : ℕ) (c : System) (v p u q : ℕ) → d < 255 → (on : LeadsOn g n d c v p u q)
@@ -215,9 +216,11 @@ module _ (says : Spelling) (g : Snapshot) (n : Network) (tree : List ℕ) (top o
       leads wait w is.back.after is.back.falling (λ s pv at there not.
       let chose = tree_chooses d v s at in_v leads.here in
       let known_v = t.lives v in_v in
-      absurd (not ((chose.root, chose.steps),
-      capable_at g n t.well t.left w is.back.after.kept is.back.after.fits.stations v p (port_of u (suc q)) s pv known_v
-      leads.joins at there)))
+      absurd (not (
+        (chose.root, chose.steps),
+        capable_at g n t.well t.left w is.back.after.kept is.back.after.fits.stations v p (port_of u (suc q)) s pv known_v
+            leads.joins at there,
+      )))
       (inr (has_left says g n tree top other last out best base depth t start over before times w is u d in_u by_now))))
       (settles.levels d v p u q close in_v in_u leads) by_now
 
