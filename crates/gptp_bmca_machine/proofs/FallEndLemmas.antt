@@ -33,6 +33,7 @@ use Rattle.gptp_bmca_machine.proofs.LossLemmas.{fits_kept}
 use Rattle.gptp_bmca_machine.proofs.PlaceLemmas.{same_there}
 use Rattle.gptp_bmca_machine.proofs.StillLemmas.{LeadsOn, StillSettles, best_was, far_was, levels_below}
 use Rattle.gptp_bmca_machine.proofs.TimedLinkLemmas.{timed_link}
+use Rattle.gptp_bmca_machine.proofs.UnmovedFitsLemmas.{unmoved_fits}
 
 module _ (says : Spelling) (g : Snapshot) (n : Network) (Tree : ℕ → Type 0) (Out : ℕ → ℕ → Type 0) (top : ℕ)
     (best next : System) (base : ℕ) (depth : ℕ → ℕ) (t : MovesTree g n Tree Out top best next base depth) (start : ℕ)
@@ -104,38 +105,16 @@ module _ (says : Spelling) (g : Snapshot) (n : Network) (top : ℕ) (best next :
       (k, i, Joins-sym n.graph (port_of v i) (port_of u k) joins) in_u)
 
   -- what one of them holds fits what is left
-  out_fits : (c place : ℕ) (r : Reception) → (IsBest n.graph c next → ⊥) → CameFits g c (suc place) r
-      → CameFits n.graph c (suc place) r
-  out_fits c place r out was = record {
-    over = over_link;
-    fits = record {
-      root = λ b is. was.fits.root b (best_before c b out is);
-      here = λ b far is root there. was.fits.here b far (best_before c b out is) root (far_before c far out there);
-      members = λ b v far is root among is_v there.
-          let out_v : IsBest n.graph v next → ⊥ =
-          λ in_v. out (subst (IsBest n.graph c) (IsBest-unique n.graph v b next t.well is_v in_v) is) in
-          was.fits.members b v far (best_before c b out is) root among (best_before v b out_v is_v)
-          (far_before v far out_v there);
-      long = λ b is. was.fits.long b (best_before c b out is);
-    };
-  }
-    where
-      over_link : IsLinked n.graph (port_of c (suc place)) → CameOverLink n.graph c (suc place) r.said
-      over_link (u, joined) =
-          let was_joined = t.left.links (port_of c (suc place)) u joined in
-          let came = was.over (u, was_joined) in
-          let one : came.from ≡ u =
-          t.left.graph.one_link (port_of c (suc place)) came.from u
-          (Joins-sym g came.from (port_of c (suc place)) came.joins) was_joined in
-          record {
-            from = u;
-            joins = Joins-sym n.graph (port_of c (suc place)) u joined;
-            source = came.source ∙ one;
-            sender = λ b far is root there.
-                came.sender b far (best_before c b out is) root
-                (subst (λ (k : PortIdentity). IsDistance g k.clock far) (sym one)
-                (far_before u.clock far (out_beside c u.clock (suc place) u.port out joined) there));
-          }
+  out_fits : (c place : ℕ) (r : Reception) → In c (clocks n.graph) → (IsBest n.graph c next → ⊥)
+      → CameFits g c (suc place) r → CameFits n.graph c (suc place) r
+  out_fits c place r known out =
+      unmoved_fits g n t.well t.left c place r (t.others c known out)
+      (λ u i k joins.
+      t.others u (Joins-clock n.graph (port_of u k) (port_of c i) t.well
+      (Joins-sym n.graph (port_of c i) (port_of u k) joins)) (out_beside c u i k out joins))
+      (λ v b is_c is_v.
+      t.others v is_v.reached.1.begins
+      (λ in_v. out (subst (IsBest n.graph c) (IsBest-unique n.graph v b next t.well is_v in_v) is_c)))
 
   -- ---- once that time is over
 
@@ -162,7 +141,7 @@ module _ (says : Spelling) (g : Snapshot) (n : Network) (top : ℕ) (best next :
         there = subst (λ k. slice_get w.stations k ≡ Some s) (is.after.kept.calm.placed i s at) at
 
         by : Dec (IsBest n.graph s.clock next) → CameFits n.graph s.clock (suc place) r
-        by (no out) = out_fits s.clock place r out (is.after.fits.stations i s place r at live holds)
+        by (no out) = out_fits s.clock place r known out (is.after.fits.stations i s place r at live holds)
         by (yes in_s) =
             (free_fits says g n (IsCutOff n next) LeadsNowhere top best next base depth m start w is.after s.clock in_s
             s there

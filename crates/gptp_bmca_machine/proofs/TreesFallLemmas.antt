@@ -28,8 +28,9 @@ use Rattle.gptp_bmca_machine.proofs.CutTreeLemmas.{IsCutOff, LeadsNowhere, moves
 use Rattle.gptp_bmca_machine.proofs.FallLevelLemmas.{TreeSettles}
 use Rattle.gptp_bmca_machine.proofs.LossLemmas.{fits_kept}
 use Rattle.gptp_bmca_machine.proofs.PlaceLemmas.{same_there}
-use Rattle.gptp_bmca_machine.proofs.StillLemmas.{LeadsOn, StillSettles, levels_below, live_before}
+use Rattle.gptp_bmca_machine.proofs.StillLemmas.{LeadsOn, StillSettles, best_was, far_was, levels_below}
 use Rattle.gptp_bmca_machine.proofs.TimedLinkLemmas.{timed_link}
+use Rattle.gptp_bmca_machine.proofs.UnmovedFitsLemmas.{unmoved_fits}
 
 module _ (says : Spelling) (g : Snapshot) (n : Network) (best : System) (IsCut : Tree → Type 0)
     (cuts : CutsTrees g n best IsCut) (start : ℕ) where
@@ -65,17 +66,6 @@ module _ (says : Spelling) (g : Snapshot) (n : Network) (best : System) (IsCut :
 
   -- ---- systems that are in no tree
 
-  best_before : (v : ℕ) (c : System) → Unmoved g n v → IsBest n.graph v c → IsBest g v c
-  best_before v c u is =
-      let (f, was) = best_exists g v cuts.left.graph (live_before g n cuts.well cuts.left v is.reached.1.begins) in
-      subst (IsBest g v) (IsBest-unique n.graph v f c cuts.well (u.best f was) is) was
-
-  far_before : (v far : ℕ) → Unmoved g n v → IsDistance n.graph v far → IsDistance g v far
-  far_before v far u is =
-      let known = IsDistance-clock n.graph v far cuts.well is in
-      let (f, was) = distance_exists g v cuts.left.graph (live_before g n cuts.well cuts.left v known) in
-      subst (IsDistance g v) (IsDistance-unique n.graph v f far cuts.well (u.far f was) is) was
-
   -- what such a system is joined to is unmoved too
   out_beside : (v u : ℕ) (i k : ℕ) → Unmoved g n v → Joins n.graph (port_of v i) (port_of u k) → Unmoved g n u
   out_beside v u i k unmoved joins = elim (cuts.all u (Joins-clock n.graph (port_of u k) (port_of v i) cuts.well
@@ -105,35 +95,9 @@ module _ (says : Spelling) (g : Snapshot) (n : Network) (best : System) (IsCut :
   -- what one of them holds fits what is left
   out_fits : (c place : ℕ) (r : Reception) → Unmoved g n c → CameFits g c (suc place) r
       → CameFits n.graph c (suc place) r
-  out_fits c place r out was = record {
-    over = over_link;
-    fits = record {
-      root = λ b is. was.fits.root b (best_before c b out is);
-      here = λ b far is root there. was.fits.here b far (best_before c b out is) root (far_before c far out there);
-      members = λ b v far is root among is_v there.
-          let out_v = out_alike c v b out is is_v in
-          was.fits.members b v far (best_before c b out is) root among (best_before v b out_v is_v)
-          (far_before v far out_v there);
-      long = λ b is. was.fits.long b (best_before c b out is);
-    };
-  }
-    where
-      over_link : IsLinked n.graph (port_of c (suc place)) → CameOverLink n.graph c (suc place) r.said
-      over_link (u, joined) =
-          let was_joined = cuts.left.links (port_of c (suc place)) u joined in
-          let came = was.over (u, was_joined) in
-          let one : came.from ≡ u =
-          cuts.left.graph.one_link (port_of c (suc place)) came.from u
-          (Joins-sym g came.from (port_of c (suc place)) came.joins) was_joined in
-          record {
-            from = u;
-            joins = Joins-sym n.graph (port_of c (suc place)) u joined;
-            source = came.source ∙ one;
-            sender = λ b far is root there.
-                came.sender b far (best_before c b out is) root
-                (subst (λ (k : PortIdentity). IsDistance g k.clock far) (sym one)
-                (far_before u.clock far (out_beside c u.clock (suc place) u.port out joined) there));
-          }
+  out_fits c place r out =
+      unmoved_fits g n cuts.well cuts.left c place r out (λ u i k joins. out_beside c u i k out joins)
+      (λ v b is_c is_v. out_alike c v b out is_c is_v)
 
   -- ---- once that time is over
 
@@ -197,11 +161,11 @@ module _ (says : Spelling) (g : Snapshot) (n : Network) (best : System) (IsCut :
               let leads_on : LeadsOn g n f c v p u q =
               record {
                 unmoved = out;
-                is_best = best_before v c out leads.is_best;
-                here = far_before v f out leads.here;
+                is_best = best_was g n cuts.well cuts.left v c out leads.is_best;
+                here = far_was g n cuts.well cuts.left v f out leads.here;
                 joins = leads.joins;
                 far = leads.far;
-                there = far_before u leads.far (out_beside v u (suc p) (suc q) out leads.joins) leads.there;
+                there = far_was g n cuts.well cuts.left u leads.far (out_beside v u (suc p) (suc q) out leads.joins) leads.there;
                 farther = leads.farther;
               } in
               timed_link says n slack n.most f c v p u q (delay f) w (is.still f c v p u q close leads_on)
