@@ -1,4 +1,5 @@
 pub mod LinksLemmas
+pub mod SilentLemmas
 pub mod TurnedLemmas
 pub mod WalkLemmas
 pub mod RisingLemmas

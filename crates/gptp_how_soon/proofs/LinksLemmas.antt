@@ -54,7 +54,7 @@ pub new_are : (n : NetworkState) (made events : List Timed) (first : Bool)
 new_are n made events first = new_by first (standing_then n events) (standing_then n made) n.links
 
 -- one link more is looked at
-drop_none : (place : ℕ) → drop {A = Bool} place [] ≡ []
+drop_none : {X : Type 0} (place : ℕ) → drop {A = X} place [] ≡ []
 drop_none zero = refl
 drop_none (suc place) = refl
 
@@ -65,7 +65,7 @@ drop_at (y ∷ ys) (suc i) x is =
     let step : suc i + 1 ≡ suc (i + 1) = omega arith in
     drop_at ys i x is ∙ ap (λ k. x ∷ drop k (y ∷ ys)) (sym step)
 
-pub gone_at : (us : List Bool) (i : ℕ) → slice_get us i ≡ None → (drop i us ≡ []) × (drop (i + 1) us ≡ [])
+pub gone_at : {X : Type 0} (us : List X) (i : ℕ) → slice_get us i ≡ None → (drop i us ≡ []) × (drop (i + 1) us ≡ [])
 gone_at [] i is = (drop_none i, drop_none (i + 1))
 gone_at (u ∷ us) zero is = absurd cc
 gone_at (u ∷ us) (suc i) is =

@@ -1,5 +1,5 @@
 -- Each time of a document is watched shortly.
-use Rattle.std.proofs.Common.{◌≡◌, ◌≤◌, ◌+◌, ◌-◌, ◌*◌, ◌++◌, ◌==◌, max, not, pred, ℕ, zero, suc, Bool, true, false, if◌then◌else◌, List, [], ◌∷◌, length, nat_le, filter, Option, Some, None, IfSome, refl, inl, inr, arith}
+use Rattle.std.proofs.Common.{◌≡◌, ◌≤◌, ◌+◌, ◌-◌, ◌*◌, ◌++◌, ◌==◌, max, not, pred, ℕ, zero, suc, Bool, true, false, if◌then◌else◌, List, [], ◌∷◌, length, map, nat_le, filter, Option, Some, None, IfSome, refl, inl, inr, arith}
 use Rattle.std.specs.Prelude.{⊤}
 use Rattle.std.specs.List.{AllByRecursion, list_any}
 use Rattle.std.proofs.lemmas.Bool.Decides.{nat_tests}
@@ -16,7 +16,7 @@ use Rattle.gptp_scenario.specs.Calm.{last_change}
 use Rattle.gptp_scenario.specs.InUse.{count_live, path_systems}
 use Rattle.gptp_scenario.specs.Network.{IsNetwork, NetworkState, pace_of}
 use Rattle.gptp_scenario.specs.SettlingAtOnce.{settling_span_at_once}
-use Rattle.gptp_scenario.specs.SettlingTime.{capability_span, settling_span_with}
+use Rattle.gptp_scenario.specs.SettlingTime.{capability_span, echo_span, settling_span_with, silence_span, way_span}
 use Rattle.gptp_scenario.specs.SyncWait.{sync_paths}
 use Rattle.gptp_scenario.specs.declared.change.Timed.{Timed}
 use Rattle.gptp_scenario.specs.declared.network.LinkSpec.{LinkSpec}
@@ -30,16 +30,20 @@ use Rattle.gptp_network.specs.declared.keys.TheConstants.{LATEST_EVENT}
 use Rattle.gptp_setup.specs.Intervals.{interval_of}
 use Rattle.gptp_setup.specs.SettlingParams.{largest_interval, longest_span}
 use Rattle.gptp_setup.proofs.IntervalLemmas.{interval_most}
+use Rattle.gptp_topology.specs.After.{standings_after}
+use Rattle.gptp_topology.specs.Course.{cable_is_used}
 use Rattle.gptp_topology.specs.Times.{times_from, times_of}
 use Rattle.gptp_topology.specs.declared.course.Cable.{Cable}
-use Rattle.gptp_how_soon.specs.Bounds.{aged_echo_span, asked_again, echo_span, exact_span, gone_by, is_again, loss_span, needed_watch, ready, roles_after_losses, roles_by, roles_of_row, set_span, settling_by, silence_span, sound_by, sound_of_row, two_exchanges, watch, way_span}
+use Rattle.gptp_how_soon.specs.Bounds.{aged_echo_span, any_loss_span, asked_again, choice_of_row, echo_of_row, exact_span, gone_by, is_again, needed_watch, ready, retold_by, roles_after_losses, roles_by, roles_of_row, set_span, settling_by, sound_by, sound_of_row, two_exchanges, watch}
 use Rattle.gptp_how_soon.specs.Kinds.{sets_bounds, sets_link}
-use Rattle.gptp_how_soon.specs.Rest.{leaves_silent}
-use Rattle.gptp_how_soon.specs.Times.{IsWatchedShortly, View, events_at, events_before, gained_at, heard_at, last_set, row_at, settling_time, settling_times, settling_times_from, time_at, view_at}
+use Rattle.gptp_how_soon.specs.Silent.{own_intervals}
+use Rattle.gptp_how_soon.specs.Times.{IsWatchedShortly, View, events_at, events_before, gained_at, heard_at, last_set, loss_at, row_at, settling_time, settling_times, settling_times_from, time_at, view_at}
+use Rattle.gptp_how_soon.specs.declared.bounds.Loss.{Loss}
 use Rattle.gptp_how_soon.specs.declared.bounds.Row.{Row}
-use Rattle.gptp_how_soon.specs.declared.bounds.Row.TheVariants.{AnyLosses, AnyPast, CutOff, FailedEnd, FailedHeard, FailureCutsOff, Gained, LostEnd, LostPower, Lowered, OneTurned, PowerCutsOff, Unchanged}
+use Rattle.gptp_how_soon.specs.declared.bounds.Row.TheVariants.{AnyLosses, AnyPast, CutOff, FailedEnd, FailedHeard, FailureCutsOff, FailureCutsTrees, Gained, LostEnd, LostPower, Lowered, OneTurned, PowerCutsOff, PowerCutsTrees, TreeCutOff, TreeTurned, Unchanged}
 use Rattle.gptp_how_soon.specs.declared.bounds.SettlingTime.{SettlingTime}
 use Rattle.gptp_how_soon.specs.declared.kinds.Told.{Told}
+use Rattle.gptp_how_soon.proofs.SilentLemmas.{held_within}
 
 either_most : (test : Bool) (x y most : ℕ) → x ≤ most → y ≤ most → (if test then x else y) ≤ most
 either_most true x y most a b = a
@@ -50,6 +54,12 @@ pred_few zero most few = omega arith
 pred_few (suc n) most few = omega (arith, few)
 
 -- ---- spans
+
+silence_short : (n : NetworkState) → IsNetwork n → silence_span (pace_of n) ≤ 4112000000000
+silence_short n network =
+    let lost = network.params.ranges.params.lost in
+    mul-le (n.params.lost + 2) (interval_of n.params.pdelay) 257 16000000000 (omega (arith, lost))
+    (interval_most n.params.pdelay network.params.ranges.params.pdelay)
 
 module _ (n : NetworkState) (network : IsNetwork n) (paths : SyncPaths) (few : paths.systems ≤ 512)
     (short : paths.delay ≤ 16000000000) where
@@ -83,11 +93,8 @@ module _ (n : NetworkState) (network : IsNetwork n) (paths : SyncPaths) (few : p
       let lost = network.params.ranges.params.lost in
       mul-le (n.params.lost + 5) (largest_interval (pace_of n)) 260 16000000000 (omega (arith, lost)) largest
 
-  silence_most : silence_span n.params ≤ 4112000000000
-  silence_most =
-      let lost = network.params.ranges.params.lost in
-      let p = pdelay in
-      mul-le (n.params.lost + 2) (interval_of n.params.pdelay) 257 16000000000 (omega (arith, lost)) p
+  silence_most : silence_span (pace_of n) ≤ 4112000000000
+  silence_most = silence_short n network
 
   at_once : settling_span_at_once (pace_of n) paths ≤ 195000000000000
   at_once =
@@ -103,76 +110,108 @@ module _ (n : NetworkState) (network : IsNetwork n) (paths : SyncPaths) (few : p
   span : settling_span_with (pace_of n) paths paths.systems ≤ 195000000000000
   span = short_time (pace_of n) paths paths.systems network.params (largest_log n network) few short
 
-  losses : (before : SyncPaths) → before.delay ≤ 16000000000 → loss_span n before paths ≤ 110000000000000
-  losses before soon =
+  losses : (loss : Loss) → loss.paths_before.delay ≤ 16000000000 → any_loss_span n loss paths ≤ 110000000000000
+  losses loss soon =
       let l = largest in let w = way in
       let turn : n.params.timeout * largest_interval (pace_of n) ≤ 160000000000 =
       few_spans n.params.timeout (largest_interval (pace_of n)) network.params.ranges.params.timeout l in
-      let turns : paths.systems * (longest_span (pace_of n) + max before.delay paths.delay) ≤ 90112000000000 =
-      few_steps paths.systems (longest_span (pace_of n) + max before.delay paths.delay) few
+      let turns : paths.systems * (longest_span (pace_of n) + max loss.paths_before.delay paths.delay)
+      ≤ 90112000000000 =
+      few_steps paths.systems (longest_span (pace_of n) + max loss.paths_before.delay paths.delay) few
       (omega (arith, turn, short, soon)) in
       omega (arith, l, w, turns)
 
-  roles_lost : (before : SyncPaths) (silent : Bool) → before.delay ≤ 16000000000
-      → roles_after_losses n before paths silent ≤ 195000000000000
-  roles_lost before silent soon =
-      let l = losses before soon in let most = silence_most in
-      either_most silent (max (loss_span n before paths) (silence_span n.params)) (loss_span n before paths)
-      195000000000000 (omega (arith, l, most)) (omega (arith, l))
+  echo : echo_span (pace_of n) paths ≤ 16384000000000
+  echo =
+      let l = largest in
+      mul-le (pred paths.systems) (largest_interval (pace_of n) + paths.delay) 512 32000000000
+      (pred_few paths.systems 512 few) (omega (arith, l, short))
 
-  roles_most : (before : SyncPaths) (silent : Bool) (row : Row) (gained : ℕ) → before.delay ≤ 16000000000
-      → gained ≤ 195000000000000
-      → roles_by n before paths silent row gained ≤ 195000000000000
-  roles_most before silent row gained soon early =
-      either_most (not (n.params.sync_timeout == 0)) _ _ 195000000000000 span (by row)
-    where
-      by : (r : Row) → roles_of_row n before paths silent r gained ≤ 195000000000000
-      by AnyPast = at_once
-      by Unchanged = omega arith
-      by Lowered = omega arith
-      by CutOff = let w = way in omega (arith, w)
-      by LostEnd = omega arith
-      by LostPower = omega arith
-      by FailedEnd = let most = silence_most in omega (arith, most)
-      by PowerCutsOff = let w = way in omega (arith, w)
-      by FailedHeard = let most = silence_most in omega (arith, most)
-      by FailureCutsOff = let w = way in let most = silence_most in omega (arith, w, most)
-      by OneTurned = let w = way in omega (arith, w)
-      by AnyLosses = roles_lost before silent soon
-      by Gained = early
+  -- what a loss leaves of before is bounded, and so is what gains ask for
+  module _ (loss : Loss) (soon : loss.paths_before.delay ≤ 16000000000) (held : loss.held ≤ 4112000000000)
+      (gained : ℕ) (early : gained ≤ 195000000000000) where
+    roles_lost : roles_after_losses n loss paths ≤ 195000000000000
+    roles_lost =
+        let l = losses loss soon in let most = silence_most in
+        either_most loss.silent (max (any_loss_span n loss paths) (silence_span (pace_of n)))
+        (any_loss_span n loss paths) 195000000000000 (omega (arith, l, most)) (omega (arith, l))
 
-  sound_most : (before : SyncPaths) (silent used : Bool) (row : Row) (gained : ℕ) → before.delay ≤ 16000000000
-      → gained ≤ 195000000000000
-      → sound_by n before paths silent used row gained ≤ 195000000000000
-  sound_most before silent used row gained soon early =
-      either_most (not (n.params.sync_timeout == 0)) _ _ 195000000000000 span (by row)
-    where
-      gone : (x : SyncPaths) → x.delay ≤ 16000000000 → gone_by n x used ≤ 16000000000
-      gone x most = either_most used x.delay (largest_interval (pace_of n)) 16000000000 most largest
+    roles_most : (row : Row) → roles_by n loss paths row gained ≤ 195000000000000
+    roles_most row = either_most (not (n.params.sync_timeout == 0)) _ _ 195000000000000 span (by row)
+      where
+        by : (r : Row) → roles_of_row n loss paths r gained ≤ 195000000000000
+        by AnyPast = at_once
+        by Unchanged = omega arith
+        by Lowered = omega arith
+        by CutOff = let w = way in omega (arith, w)
+        by LostEnd = omega arith
+        by LostPower = omega arith
+        by FailedEnd = let most = silence_most in omega (arith, most)
+        by PowerCutsOff = let w = way in omega (arith, w)
+        by FailedHeard = let most = silence_most in omega (arith, most)
+        by FailureCutsOff = let w = way in let most = silence_most in omega (arith, w, most, held)
+        by OneTurned = let w = way in omega (arith, w)
+        by TreeCutOff = let w = way in omega (arith, w)
+        by TreeTurned = let w = way in omega (arith, w)
+        by PowerCutsTrees = let w = way in omega (arith, w)
+        by FailureCutsTrees = let w = way in let most = silence_most in omega (arith, w, most, held)
+        by AnyLosses = roles_lost
+        by Gained = early
 
-      echo : echo_span n paths ≤ 16384000000000
-      echo =
-          let l = largest in
-          mul-le (pred paths.systems) (largest_interval (pace_of n) + paths.delay) 512 32000000000
-          (pred_few paths.systems 512 few) (omega (arith, l, short))
+    sound_most : (row : Row) → sound_by n loss paths row gained ≤ 195000000000000
+    sound_most row = either_most (not (n.params.sync_timeout == 0)) _ _ 195000000000000 span (by row)
+      where
+        gone : (x : SyncPaths) → x.delay ≤ 16000000000 → gone_by n x loss.used_before ≤ 16000000000
+        gone x most = either_most loss.used_before x.delay (largest_interval (pace_of n)) 16000000000 most largest
 
-      aged : aged_echo_span n before paths ≤ 195000000000000
-      aged = let s = silence_most in let e = echo in let l = largest in omega (arith, s, e, l)
+        aged : aged_echo_span n loss paths ≤ 195000000000000
+        aged = let s = silence_most in let e = echo in let l = largest in omega (arith, s, e, l, held)
 
-      by : (r : Row) → sound_of_row n before paths silent used r gained ≤ 195000000000000
-      by AnyPast = at_once
-      by Unchanged = omega arith
-      by Lowered = let e = echo in let g = gone paths short in omega (arith, e, g)
-      by CutOff = let w = way in let g = gone paths short in omega (arith, w, g)
-      by LostEnd = let g = gone before soon in omega (arith, g)
-      by FailedEnd = let s = silence_most in let g = gone before soon in omega (arith, s, g)
-      by LostPower = let e = echo in omega (arith, e, short)
-      by PowerCutsOff = let w = way in let e = echo in omega (arith, w, e, short)
-      by FailedHeard = aged
-      by FailureCutsOff = let w = way in let s = silence_most in let a = aged in omega (arith, w, s, a)
-      by OneTurned = let w = way in let e = echo in omega (arith, w, e)
-      by AnyLosses = roles_lost before silent soon
-      by Gained = early
+        by : (r : Row) → sound_of_row n loss paths r gained ≤ 195000000000000
+        by AnyPast = at_once
+        by Unchanged = omega arith
+        by Lowered = let e = echo in let g = gone paths short in omega (arith, e, g)
+        by CutOff = let w = way in let g = gone paths short in omega (arith, w, g)
+        by LostEnd = let g = gone loss.paths_before soon in omega (arith, g)
+        by FailedEnd = let s = silence_most in let g = gone loss.paths_before soon in omega (arith, s, g)
+        by LostPower = let e = echo in omega (arith, e, short)
+        by PowerCutsOff = let w = way in let e = echo in omega (arith, w, e, short)
+        by FailedHeard = aged
+        by FailureCutsOff = let w = way in let a = aged in omega (arith, w, held, a)
+        by OneTurned = let w = way in let e = echo in omega (arith, w, e)
+        by TreeCutOff = let w = way in let g = gone paths short in omega (arith, w, g)
+        by TreeTurned = at_once
+        by PowerCutsTrees = at_once
+        by FailureCutsTrees = at_once
+        by AnyLosses = roles_lost
+        by Gained = early
+
+    retold_most : (row : Row) → retold_by n loss paths row gained ≤ 195000000000000
+    retold_most row = by (n.params.sync_timeout == 0) row
+      where
+        by : (off : Bool) (r : Row)
+            → (if not off then settling_span_with (pace_of n) paths paths.systems
+            else choice_of_row n loss paths r gained)
+            + (if not off then 0 else echo_of_row n paths r)
+            ≤ 195000000000000
+        by false r = let s = span in omega (arith, s)
+        by true AnyPast = let s = at_once in omega (arith, s)
+        by true Unchanged = omega arith
+        by true Lowered = let e = echo in omega (arith, e)
+        by true CutOff = let w = way in omega (arith, w)
+        by true LostEnd = omega arith
+        by true LostPower = let e = echo in omega (arith, e)
+        by true FailedEnd = omega arith
+        by true PowerCutsOff = let w = way in let e = echo in omega (arith, w, e)
+        by true FailedHeard = let e = echo in omega (arith, e, held)
+        by true FailureCutsOff = let w = way in let e = echo in omega (arith, w, e, held)
+        by true OneTurned = let w = way in let e = echo in omega (arith, w, e)
+        by true TreeCutOff = let w = way in omega (arith, w)
+        by true TreeTurned = let w = way in let e = echo in omega (arith, w, e)
+        by true PowerCutsTrees = let w = way in let e = echo in omega (arith, w, e)
+        by true FailureCutsTrees = let w = way in let e = echo in omega (arith, w, e, held)
+        by true AnyLosses = let l = losses loss soon in omega (arith, l)
+        by true Gained = omega (arith, early)
 
   set_most : (sets : Bool) → set_span n.params paths sets ≤ 65000000000
   set_most sets = either_most sets (asked_again n.params paths) 0 65000000000 again (omega arith)
@@ -187,20 +226,21 @@ module _ (n : NetworkState) (network : IsNetwork n) (paths : SyncPaths) (few : p
       mul-le (n.params.window - 1) (interval_of n.params.pdelay) 15 16000000000 (omega (arith, v)) pdelay in
       omega (arith, tree, window)
 
-  module _ (before : SyncPaths) (short_before : before.delay ≤ 16000000000) (at set : ℕ) (soon : set ≤ at)
-      (sets used_before silent : Bool) (row : Row) (gained : ℕ) (early : gained ≤ 195000000000000) where
+  module _ (loss : Loss) (soon : loss.paths_before.delay ≤ 16000000000) (held : loss.held ≤ 4112000000000)
+      (at last_set : ℕ) (no_later : last_set ≤ at) (sets : Bool) (row : Row) (gained : ℕ)
+      (early : gained ≤ 195000000000000) where
     needed_most : (calm : Bool)
-        → needed_watch n at paths (settling_by n at set before paths calm sets used_before silent row gained)
-        ≤ 197000000000000
+        → needed_watch n at paths (settling_by n at last_set loss paths calm sets row gained) ≤ 197000000000000
     needed_most false = let s = span in let e = exact_most in omega (arith, s, e)
     needed_most true =
-        let r = roles_most before silent row gained short_before early in
-        let h = sound_most before silent used_before row gained short_before early in
-        let s = set_most sets in let l = largest in let e = exact_most in omega (arith, soon, r, h, s, l, e, short)
+        let r = roles_most loss soon held gained early row in
+        let h = sound_most loss soon held gained early row in
+        let t = retold_most loss soon held gained early row in
+        let s = set_most sets in let l = largest in let e = exact_most in
+        omega (arith, no_later, r, h, t, s, l, e, short)
 
     watch_most : (calm : Bool)
-        → watch n at paths (settling_by n at set before paths calm sets used_before silent row gained)
-        ≤ 200000000000000
+        → watch n at paths (settling_by n at last_set loss paths calm sets row gained) ≤ 200000000000000
     watch_most calm = let needed = needed_most calm in let i = sync in omega (arith, needed, i)
 
 -- ---- paths
@@ -316,9 +356,13 @@ module _ (d : DocumentState) (network : IsNetwork d.network) (events : AreEvents
       let set : last_set all ≤ at =
       last_change_most at (filter (λ (t : Timed). sets_bounds t.act) all)
       (λ t member. (there_then before at t is (from_filter (λ (e : Timed). sets_bounds e.act) t all member).0).1) in
+      let held = held_within n (own_intervals n before at) (map cable_is_used
+      (standings_after n (events_before before d.events))) (standings_after n all) in
+      let silence = silence_short n network in
       let most : (settling_time n v).watch ≤ 200000000000000 =
-      watch_most n network paths few short v.paths_before (short_before before at is) at (last_set all) set
-      (sets_link v.told) v.used_before (leaves_silent v.used v.told) (row_at v) (gained_at n v) (omega (arith, r, h, w)) v.calm in
+      watch_most n network paths few short (loss_at v) (short_before before at is)
+      (omega (arith, held, silence)) at (last_set all) set (sets_link v.told) (row_at v)
+      (gained_at n v) (omega (arith, r, h, w)) v.calm in
       record { span = most; until = omega (arith, most, early) }
 
   all_shortly : (before : Option SettlingTime) (last : ℕ) (ats : List ℕ) → IsBefore last before → InTurn last ats

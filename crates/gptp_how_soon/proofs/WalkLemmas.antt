@@ -1,12 +1,11 @@
 -- A walk stands as the events so far leave a document.
-use Rattle.std.proofs.Common.{◌≡◌, max, ℕ, List, [], ◌∷◌, ◌++◌, Bool, true, false, cond, filter, map, not, ◌&&◌, ◌||◌, append_assoc, refl, sym, ap, ap₂, subst, ◌∙◌, arith}
+use Rattle.std.proofs.Common.{◌≡◌, max, ℕ, List, [], ◌∷◌, ◌++◌, Bool, true, false, cond, filter, map, not, ◌&&◌, append_assoc, refl, sym, ap, ap₂, subst, ◌∙◌, arith}
 use Rattle.std.specs.List.{find}
 use Rattle.std.specs.Option.{is_some}
 use Rattle.std.proofs.lemmas.List.{append-nil}
 use Rattle.std.proofs.lemmas.List.Elements.{filter-append}
 use Rattle.gptp_scenario.specs.Calm.{last_change}
-use Rattle.gptp_setup.specs.SettlingParams.{largest_interval}
-use Rattle.gptp_scenario.specs.Network.{IsNetwork, NetworkState, pace_of}
+use Rattle.gptp_scenario.specs.Network.{IsNetwork, NetworkState}
 use Rattle.gptp_scenario.specs.SyncWait.{sync_paths}
 use Rattle.gptp_scenario.specs.declared.change.Timed.{Timed}
 use Rattle.gptp_scenario.specs.declared.network.LinkSpec.{LinkSpec}
@@ -16,14 +15,12 @@ use Rattle.gptp_topology.specs.Tables.{cables_of, has_clock}
 use Rattle.gptp_topology.specs.declared.course.Standing.{Standing}
 use Rattle.gptp_topology.proofs.BoundLemmas.{calm_is, crossed_is}
 use Rattle.gptp_topology.proofs.StandingLemmas.{maps_twice, stand_more, systems_are}
-use Rattle.gptp_how_soon.specs.Chosen.{ends_among, ends_in_use, ends_of, lost_ends, moves_counted, moves_some, used_ends}
-use Rattle.gptp_how_soon.specs.Far.{are_far_after, cut_far_ends_after, up_is_used}
-use Rattle.gptp_how_soon.specs.Kinds.{sets_bounds, takes_one, told_by}
+use Rattle.gptp_how_soon.specs.Chosen.{ends_among, ends_in_use, ends_of, lost_ends, used_ends}
+use Rattle.gptp_how_soon.specs.Far.{up_is_used}
+use Rattle.gptp_how_soon.specs.Kinds.{sets_bounds, told_by}
 use Rattle.gptp_how_soon.specs.Links.{delay_set, longest_delay, longest_set, lost_among, new_among}
 use Rattle.gptp_how_soon.specs.Times.{last_set, moves_at, told_at, told_of, view_at}
-use Rattle.gptp_how_soon.specs.Rest.{has_rested_for}
-use Rattle.gptp_how_soon.specs.Tree.{cuts_tree_after}
-use Rattle.gptp_how_soon.specs.Turned.{turns_one_after}
+use Rattle.gptp_how_soon.specs.Silent.{held_among, own_intervals}
 use Rattle.gptp_how_soon.specs.Walk.{IsFirstWalk, WalkGoesOn, WalkPasses, moves_seen, view_seen}
 use Rattle.gptp_how_soon.specs.declared.bounds.SettlingTime.{SettlingTime}
 use Rattle.gptp_how_soon.specs.declared.chosen.Ends.{Ends}
@@ -157,6 +154,7 @@ module _ (n : NetworkState) (network : IsNetwork n) where
         before = w.before;
         paths_before = so.paths i;
         used_before = so.all_used i;
+        held = held_among n (own_intervals n w.before at) (so.used i) (so.tables.standings i);
         new = new i;
         told = so.told i;
         moves = moves_are made now w at so i;

@@ -1,36 +1,40 @@
 -- A time is watched for longer than its choice.
 use Rattle.std.proofs.Common.{◌≡◌, ◌<◌, ◌≤◌, ℕ, Bool, true, false, cond, List, [], ◌∷◌, Option, Some, sym, subst, inl, inr, arith}
-use Rattle.std.specs.Prelude.{◌==◌, not}
+use Rattle.std.specs.Prelude.{◌==◌, max, not, if◌then◌else◌}
 use Rattle.std.proofs.lemmas.Option.{same_Some}
 use Rattle.gptp_setup.proofs.IntervalLemmas.{interval_positive}
 use Rattle.gptp_lists.specs.Members.{In}
 use Rattle.gptp_network.specs.Document.{DocumentState}
 use Rattle.gptp_scenario.specs.Network.{IsNetwork, NetworkState, pace_of}
-use Rattle.gptp_scenario.specs.SettlingTime.{settling_span_with}
+use Rattle.gptp_scenario.specs.SettlingTime.{settling_span_with, silence_span}
 use Rattle.gptp_scenario.specs.declared.sync_wait.SyncPaths.{SyncPaths}
-use Rattle.gptp_how_soon.specs.Bounds.{choice_by, choice_of_row, loss_span, roles_after_losses, roles_by, roles_of_row, settled, settling_by, sound_by, watch}
+use Rattle.gptp_how_soon.specs.Bounds.{any_loss_span, choice_by, choice_of_row, roles_by, roles_of_row, settled, settling_by, watch}
 use Rattle.gptp_how_soon.specs.Kinds.{sets_link}
-use Rattle.gptp_how_soon.specs.Rest.{leaves_silent}
-use Rattle.gptp_how_soon.specs.Times.{View, events_at, events_before, gained_at, row_at, settling_times, settling_times_from, time_at, view_at}
+use Rattle.gptp_how_soon.specs.Silent.{own_intervals}
+use Rattle.gptp_how_soon.specs.Times.{View, events_at, events_before, gained_at, loss_at, row_at, settling_times, settling_times_from, time_at, view_at}
+use Rattle.gptp_how_soon.specs.declared.bounds.Loss.{Loss}
 use Rattle.gptp_how_soon.specs.declared.bounds.Row.{Row}
-use Rattle.gptp_how_soon.specs.declared.bounds.Row.TheVariants.{AnyLosses, AnyPast, CutOff, FailedEnd, FailedHeard, FailureCutsOff, Gained, LostEnd, LostPower, Lowered, OneTurned, PowerCutsOff, Unchanged}
+use Rattle.gptp_how_soon.specs.declared.bounds.Row.TheVariants.{AnyLosses, AnyPast, CutOff, FailedEnd, FailedHeard, FailureCutsOff, FailureCutsTrees, Gained, LostEnd, LostPower, Lowered, OneTurned, PowerCutsOff, PowerCutsTrees, TreeCutOff, TreeTurned, Unchanged}
 use Rattle.gptp_how_soon.specs.declared.bounds.Settling.{Settling}
 use Rattle.gptp_how_soon.specs.declared.bounds.SettlingTime.{SettlingTime}
+use Rattle.gptp_how_soon.proofs.SilentLemmas.{held_within}
 
 -- the roles stand no sooner than the choice
-roles_later : (n : NetworkState) (before paths : SyncPaths) (silent : Bool) (row : Row) (gained : ℕ)
-    → choice_by n before paths row gained ≤ roles_by n before paths silent row gained
-roles_later n before paths silent row gained = by (n.params.sync_timeout == 0) row
+roles_later : (n : NetworkState) (loss : Loss) (paths : SyncPaths) (row : Row) (gained : ℕ)
+    → loss.held ≤ silence_span (pace_of n)
+    → choice_by n loss paths row gained ≤ roles_by n loss paths row gained
+roles_later n loss paths row gained held = by (n.params.sync_timeout == 0) row
   where
     span : ℕ
     span = settling_span_with (pace_of n) paths paths.systems
 
-    lost : (any : Bool) → loss_span n before paths ≤ roles_after_losses n before paths any
+    lost : (silent : Bool) → any_loss_span n loss paths
+        ≤ (if silent then max (any_loss_span n loss paths) (silence_span (pace_of n)) else any_loss_span n loss paths)
     lost true = omega arith
     lost false = omega arith
 
-    by : (off : Bool) (r : Row) → cond (not off) span (choice_of_row n before paths r gained)
-        ≤ cond (not off) span (roles_of_row n before paths silent r gained)
+    by : (off : Bool) (r : Row) → cond (not off) span (choice_of_row n loss paths r gained)
+        ≤ cond (not off) span (roles_of_row n loss paths r gained)
     by false r = omega arith
     by true AnyPast = omega arith
     by true Unchanged = omega arith
@@ -40,23 +44,25 @@ roles_later n before paths silent row gained = by (n.params.sync_timeout == 0) r
     by true LostPower = omega arith
     by true FailedEnd = omega arith
     by true PowerCutsOff = omega arith
-    by true FailedHeard = omega arith
+    by true FailedHeard = held
     by true FailureCutsOff = omega arith
     by true OneTurned = omega arith
-    by true AnyLosses = lost silent
+    by true TreeCutOff = omega arith
+    by true TreeTurned = omega arith
+    by true PowerCutsTrees = omega arith
+    by true FailureCutsTrees = omega arith
+    by true AnyLosses = lost loss.silent
     by true Gained = omega arith
 
-watched_longer : (n : NetworkState) → IsNetwork n → (at last_set : ℕ) (before paths : SyncPaths)
-    (calm sets used_before silent : Bool) (row : Row) (gained : ℕ) (s : Settling)
-    → settling_by n at last_set before paths calm sets used_before silent row gained ≡ Some s
-    → s.choice < watch n at paths (settling_by n at last_set before paths calm sets used_before silent row gained)
-watched_longer n network at last_set before paths false sets used_before silent row gained s is = absurd cc
-watched_longer n network at last_set before paths true sets used_before silent row gained s is =
-    let later = roles_later n before paths silent row gained in
+watched_longer : (n : NetworkState) → IsNetwork n → (at last_set : ℕ) (loss : Loss) (paths : SyncPaths)
+    (calm sets : Bool) (row : Row) (gained : ℕ) (s : Settling) → loss.held ≤ silence_span (pace_of n)
+    → settling_by n at last_set loss paths calm sets row gained ≡ Some s
+    → s.choice < watch n at paths (settling_by n at last_set loss paths calm sets row gained)
+watched_longer n network at last_set loss paths false sets row gained s held is = absurd cc
+watched_longer n network at last_set loss paths true sets row gained s held is =
+    let later = roles_later n loss paths row gained held in
     let some = interval_positive n.params.sync network.params.ranges.params.sync in
-    let told : Settling =
-    settled n at last_set paths sets (choice_by n before paths row gained) (roles_by n before paths silent row gained)
-    (sound_by n before paths silent used_before row gained) in
+    let told : Settling = settled n at last_set loss paths sets row gained in
     let same : told ≡ s = same_Some told s is in
     subst (λ (x : Settling). x.choice < watch n at paths (Some told)) same (omega (arith, later, some))
 
@@ -65,8 +71,8 @@ watched_longer_then : (d : DocumentState) → IsNetwork d.network → (before : 
 watched_longer_then d network before at s is =
     let n = d.network in
     let v : View = view_at n (events_before before d.events) (events_at at d.events) before at in
-    watched_longer n network at v.last_set v.paths_before v.paths v.calm (sets_link v.told) v.used_before
-    (leaves_silent v.used v.told) (row_at v) (gained_at n v) s is
+    watched_longer n network at v.last_set (loss_at v) v.paths v.calm (sets_link v.told) (row_at v) (gained_at n v) s
+    (held_within n (own_intervals n before at) _ _) is
 
 watched_longer_from : (d : DocumentState) → IsNetwork d.network → (before : Option SettlingTime) (ats : List ℕ)
     (t : SettlingTime)

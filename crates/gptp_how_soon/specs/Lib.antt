@@ -4,6 +4,9 @@ pub mod Chosen
 pub mod Far
 pub mod Turned
 pub mod Tree
+pub mod TurnedTree
+pub mod CutTrees
+pub mod Silent
 pub mod Bounds
 pub mod Rest
 pub mod Times

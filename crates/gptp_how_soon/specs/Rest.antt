@@ -4,11 +4,11 @@
 -- past.
 use Rattle.std.specs.Prelude.{ℕ, ◌+◌, ◌*◌, ◌&&◌, ◌||◌, nat_le, nat_lt, not, Bool, false, if◌then◌else◌, List, Option, Some, None}
 use Rattle.std.specs.List.{list_all, list_any}
+use Rattle.gptp_scenario.specs.SettlingTime.{way_span}
 use Rattle.gptp_scenario.specs.declared.sync_wait.SyncPaths.{SyncPaths}
-use Rattle.gptp_how_soon.specs.Bounds.{way_span}
 use Rattle.gptp_how_soon.specs.Kinds.{are_heard, begins_wider, brings_nothing, fails_and_recovers, fails_first, first_wider_by, is_better, is_gain, is_failing, is_loss, is_other, is_recovery, is_wider, leaves_links, lowers_one, lowers_unused, makes_nothing, tells_nothing}
 use Rattle.gptp_how_soon.specs.declared.bounds.Row.{Row}
-use Rattle.gptp_how_soon.specs.declared.bounds.Row.TheVariants.{AnyLosses, AnyPast, CutOff, FailedEnd, FailedHeard, FailureCutsOff, Gained, LostEnd, LostPower, Lowered, OneTurned, PowerCutsOff, TreeCutOff, Unchanged}
+use Rattle.gptp_how_soon.specs.declared.bounds.Row.TheVariants.{AnyLosses, AnyPast, CutOff, FailedEnd, FailedHeard, FailureCutsOff, FailureCutsTrees, Gained, LostEnd, LostPower, Lowered, OneTurned, PowerCutsOff, PowerCutsTrees, TreeCutOff, TreeTurned, Unchanged}
 use Rattle.gptp_how_soon.specs.declared.bounds.Settling.{Settling}
 use Rattle.gptp_how_soon.specs.declared.bounds.SettlingTime.{SettlingTime}
 use Rattle.gptp_how_soon.specs.declared.kinds.Told.{Told}
@@ -101,13 +101,13 @@ failed_row far any used =
     else if any then if used then PowerCutsOff else FailureCutsOff
     else if used then LostPower else FailedHeard
 
--- What is known of a time, by what was seen of it. Not from rest, or where it both gains and loses, the network may come
--- from any past. The first time has no loss: nothing was there to be lost. Events that make nothing of what stands leave
--- it as it was. So does a link that gets wider, and so do losses that are followed, where no system is moved. Where one
--- link or one system is taken away such as are cut off don't count as moved. There it matters whether the link that goes
--- down cuts off a far end, and whether the one system that it moves turns, or a tree falls off. Of a system that fails
--- it matters whether it was a far end, so that no other heard it, whether it cuts off another, and whether each link
--- that is up then is in use. All other losses have one row.
+-- What is known of a time, by what was seen of it. Not from rest, or where it both gains and loses, the network may
+-- come from any past. The first time has no loss: nothing was there to be lost. Events that make nothing of what stands
+-- leave it as it was. So does a link that gets wider, and so do losses that are followed, where no system is moved.
+-- Where one link or one system is taken away such as are cut off don't count as moved. There it matters whether the link
+-- that goes down cuts off a far end, and whether the one system that it moves turns, or a tree falls off or turns. Of a
+-- system that fails it matters whether it was a far end, so that no other heard it, whether it cuts off another, or
+-- trees, and whether each link that is up then is in use. All other losses have one row.
 abbrev pub row_of : Bool → Bool → SyncPaths → SyncPaths → List Told → Moves → Bool → Row
 row_of from_rest first paths_before paths told moves used =
     if not from_rest then AnyPast
@@ -117,8 +117,11 @@ row_of from_rest first paths_before paths told moves used =
     else if is_lowering_followed paths_before paths told && not moves.moved then if moves.cut then CutOff else Lowered
     else if is_lowering_followed paths_before paths told && moves.turned then OneTurned
     else if is_lowering_followed paths_before paths told && moves.falls then TreeCutOff
+    else if is_lowering_followed paths_before paths told && moves.tree_turns then TreeTurned
     else if is_failing_followed paths_before paths told && not moves.moved
     then failed_row moves.far moves.any used
+    else if is_failing_followed paths_before paths told && moves.trees_fall
+    then if used then PowerCutsTrees else FailureCutsTrees
     else if list_any is_loss told then if list_all brings_nothing told then AnyLosses else AnyPast
     else Gained
 
@@ -131,7 +134,16 @@ asks_who_is_moved from_rest paths_before paths told =
 
 -- no system is moved, nor a far end
 abbrev pub no_moves : Moves
-no_moves = record { moved = false; any = false; cut = false; turned = false; falls = false; far = false }
+no_moves = record {
+  moved = false;
+  any = false;
+  cut = false;
+  turned = false;
+  falls = false;
+  tree_turns = false;
+  trees_fall = false;
+  far = false;
+}
 
 -- All is heard at once at the start, and later where what each event tells is heard so. Of a system that gets better
 -- that is followed where no path had more than 255 systems before.

@@ -2,13 +2,14 @@
 --
 -- What stands *before* a time stands after the events up to the time before, at 0 before all events; what stands *at*
 -- it after its own too.
-use Rattle.std.specs.Prelude.{ℕ, ◌+◌, ◌≤◌, ◌<◌, ⊤, ◌==◌, ◌&&◌, ◌||◌, not, Bool, List, [], ◌∷◌, ◌++◌, filter, Option, Some, None}
+use Rattle.std.specs.Prelude.{ℕ, ◌+◌, ◌≤◌, ◌<◌, ⊤, ◌==◌, ◌&&◌, not, Bool, List, [], ◌∷◌, ◌++◌, filter, Option, Some, None}
 use Rattle.std.specs.List.{AllByRecursion, find}
 use Rattle.std.specs.Option.{is_some}
 use Rattle.gptp_setup.specs.Intervals.{IsMoment}
 use Rattle.gptp_setup.specs.SettlingParams.{largest_interval}
 use Rattle.gptp_scenario.specs.Calm.{last_change}
 use Rattle.gptp_scenario.specs.Network.{NetworkState, pace_of}
+use Rattle.gptp_scenario.specs.SettlingTime.{way_span}
 use Rattle.gptp_scenario.specs.SyncWait.{sync_paths}
 use Rattle.gptp_scenario.specs.declared.change.Act.{Act}
 use Rattle.gptp_scenario.specs.declared.change.Timed.{Timed}
@@ -21,14 +22,18 @@ use Rattle.gptp_topology.specs.Tables.{has_clock}
 use Rattle.gptp_topology.specs.Times.{times_of}
 use Rattle.gptp_topology.specs.declared.course.Cable.{Cable}
 use Rattle.gptp_topology.specs.declared.course.Standing.{Standing}
-use Rattle.gptp_how_soon.specs.Bounds.{heard_by, ready, times_by, way_span}
+use Rattle.gptp_how_soon.specs.Bounds.{heard_by, ready, times_by}
 use Rattle.gptp_how_soon.specs.Chosen.{moves_counted, moves_some}
+use Rattle.gptp_how_soon.specs.CutTrees.{cuts_trees_after}
 use Rattle.gptp_how_soon.specs.Far.{are_far_after, cut_far_ends_after, up_is_used}
 use Rattle.gptp_how_soon.specs.Kinds.{sets_bounds, sets_link, takes_one, told_by}
 use Rattle.gptp_how_soon.specs.Links.{longest_delay, new_links}
 use Rattle.gptp_how_soon.specs.Rest.{has_rested_for, heard_at_once, is_from_rest, leaves_silent, row_of}
+use Rattle.gptp_how_soon.specs.Silent.{held_after, own_intervals}
 use Rattle.gptp_how_soon.specs.Tree.{cuts_tree_after}
 use Rattle.gptp_how_soon.specs.Turned.{turns_one_after}
+use Rattle.gptp_how_soon.specs.TurnedTree.{turns_tree_after}
+use Rattle.gptp_how_soon.specs.declared.bounds.Loss.{Loss}
 use Rattle.gptp_how_soon.specs.declared.bounds.SettlingTime.{SettlingTime}
 use Rattle.gptp_how_soon.specs.declared.bounds.Row.{Row}
 use Rattle.gptp_how_soon.specs.declared.kinds.Told.{Told}
@@ -44,6 +49,8 @@ pub record View : Type 0 where
   pub before : Option SettlingTime
   pub paths_before : SyncPaths
   pub used_before : Bool
+  -- for how long it counts what others hold that came over silent links
+  pub held : ℕ
   -- the links that are new at this time, and its events
   pub new : List Cable
   pub told : List Told
@@ -75,10 +82,18 @@ row_at v =
     row_of (is_from_rest v.longest v.at v.paths_before v.paths v.told v.before) (is_first v) v.paths_before v.paths
     v.told v.moves v.used
 
+-- what a loss at the time leaves of before
+abbrev pub loss_at : View → Loss
+loss_at v = record {
+  paths_before = v.paths_before;
+  used_before = v.used_before;
+  silent = leaves_silent v.used v.told;
+  held = v.held;
+}
+
 abbrev pub settling_time : NetworkState → View → SettlingTime
 settling_time n v =
-    times_by n v.at v.last_set v.paths_before v.paths v.calm (sets_link v.told) v.used_before
-    (leaves_silent v.used v.told) (row_at v) (gained_at n v)
+    times_by n v.at v.last_set (loss_at v) v.paths v.calm (sets_link v.told) (row_at v) (gained_at n v)
 
 -- ---- what is seen
 
@@ -107,6 +122,8 @@ moves_at n made now before at = record {
   cut = cut_far_ends_after n made (made ++ now);
   turned = turns_one_after n made (made ++ now);
   falls = has_rested_for (largest_interval (pace_of n)) before at && cuts_tree_after n made (made ++ now);
+  tree_turns = has_rested_for (largest_interval (pace_of n)) before at && turns_tree_after n made (made ++ now);
+  trees_fall = has_rested_for (largest_interval (pace_of n)) before at && cuts_trees_after n made (made ++ now);
   far = are_far_after n made (told_of n made now);
 }
 
@@ -118,6 +135,7 @@ view_at n made now before at = record {
   before = before;
   paths_before = sync_paths n made;
   used_before = up_is_used (standings_after n made);
+  held = held_after n (own_intervals n before at) made (made ++ now);
   new = new_links n made (made ++ now) (not (is_some before));
   told = told_of n made now;
   moves = moves_at n made now before at;

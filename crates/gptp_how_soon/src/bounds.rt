@@ -6,8 +6,8 @@ ghost use Rattle.gptp_network.specs.declared.keys.TheConstants.{LATEST_EVENT};
 ghost use Rattle.gptp_setup.specs.SettlingParams.{largest_interval};
 ghost use Rattle.gptp_scenario.specs.Network.{pace_of};
 ghost use Rattle.gptp_scenario.specs.SettlingAtOnce.{settling_span_at_once};
-ghost use Rattle.gptp_scenario.specs.SettlingTime.{capability_span};
-ghost use Rattle.gptp_how_soon.specs.Bounds.{aged_echo_span, aging_span, asked_again, choice_by, echo_span, exact_from, exact_span, gone_by, heard_by, held_span, is_again, is_hard_to_hear, loss_span, ready, roles_after_losses, roles_by, set_span, settled, silence_span, sound_by, times_by, two_exchanges, watch, way_span};
+ghost use Rattle.gptp_scenario.specs.SettlingTime.{capability_span, echo_span, silence_span, way_span};
+ghost use Rattle.gptp_how_soon.specs.Bounds.{aged_echo_span, any_loss_span, asked_again, choice_by, exact_from, exact_span, gone_by, heard_by, is_again, is_hard_to_hear, ready, retold_by, roles_after_losses, roles_by, set_span, settled, sound_by, times_by, two_exchanges, watch};
 
 use crate::kinds::{Told, recovers};
 use crate::links::varies;
@@ -41,6 +41,19 @@ pub struct SettlingTime {
     pub watch: u64,
 }
 
+/// What a loss at a time leaves of before.
+#[derive(Clone, Copy)]
+pub struct Loss {
+    /// What Sync had to cross just before.
+    pub paths_before: SyncPaths,
+    /// Whether each link that was up just before was in use.
+    pub used_before: bool,
+    /// Whether a link may be left silent: a live system fails, and a link is up that isn't in use.
+    pub silent: bool,
+    /// For how long it counts what others hold of a system that fails, in ns; 0 where no link is left silent.
+    pub held: u64,
+}
+
 /// What is known of a time. All rows but the first are from rest: what was before has come to rest.
 #[derive(Clone, Copy)]
 pub enum Row {
@@ -70,6 +83,13 @@ pub enum Row {
     OneTurned,
     /// By its one event a link goes down that cuts off a tree, whose systems have a worse root then.
     TreeCutOff,
+    /// By its one event a link goes down that moves a tree. Its systems keep their root, and get it by one other link.
+    TreeTurned,
+    /// A system fails, and all that are moved are trees that it cuts off. Each link that is up then is in use, as where
+    /// it loses its power.
+    PowerCutsTrees,
+    /// So it is, but a link is up then that isn't in use.
+    FailureCutsTrees,
     /// Some of its events are losses, the others make nothing of what stands, and no other row of a loss is so.
     AnyLosses,
     /// None of its events is a loss.
@@ -181,33 +201,13 @@ fn capability_span(network: &Network) -> u64
 }
 
 /// By how much later than a system fails the ports beside it aren't capable any more, in ns.
-fn silence_span(network: &Network) -> u64
-    ensures is { result ≡ silence_span network.now.params }
+pub(crate) fn silence_span(network: &Network) -> u64
+    ensures is { result ≡ silence_span (pace_of network.now) }
     ensures bound { result ≤ 4112000000000 }
 {
     network.well_formed();
     let params = network.params();
     (u64::from(params.lost) + 2) * interval_of(params.pdelay)
-}
-
-/// By how much later than a system fails others don't hold any more what they heard of it, in ns.
-#[tactic(auto, using(gptp_scenario::proofs::SpanLemmas::few_spans))]
-fn aging_span(network: &Network, before: SyncPaths) -> u64
-    requires { before.delay ≤ 16000000000 }
-    ensures is { result ≡ aging_span network.now before }
-    ensures bound { result ≤ 176000000000 }
-{
-    network.well_formed();
-    u64::from(network.params().timeout) * interval_of(network.largest()) + before.delay
-}
-
-/// By how much later than a system fails what others heard of it doesn't count any more, in ns.
-fn held_span(network: &Network, before: SyncPaths) -> u64
-    requires { before.delay ≤ 16000000000 }
-    ensures is { result ≡ held_span network.now before }
-    ensures bound { result ≤ 176000000000 }
-{
-    aging_span(network, before).min(silence_span(network))
 }
 
 /// How long the network takes at most to settle from any past where nothing lapses for want of Sync, in ns.
@@ -228,29 +228,30 @@ fn settling_span_at_once(network: &Network, paths: SyncPaths) -> u64
     capable.max(clean) + interval + further * paths.delay
 }
 
-/// How long a network that had come to rest takes at most to settle after losses, in ns, where Sync had to cross that
-/// before them, and has to cross this.
+/// How long a network that had come to rest takes at most to settle after losses, in ns.
 #[tactic(auto, using(gptp_scenario::proofs::SpanLemmas::few_spans, gptp_scenario::proofs::SpanLemmas::few_steps))]
-fn loss_span(network: &Network, before: SyncPaths, paths: SyncPaths) -> u64
+fn any_loss_span(network: &Network, loss: Loss, paths: SyncPaths) -> u64
     requires few { paths.systems ≤ 512 }
     requires short { paths.delay ≤ 16000000000 }
-    requires short_before { before.delay ≤ 16000000000 }
-    ensures is { result ≡ loss_span network.now before paths }
+    requires short_before { loss.paths_before.delay ≤ 16000000000 }
+    ensures is { result ≡ any_loss_span network.now loss paths }
     ensures bound { result ≤ 110000000000000 }
 {
     network.well_formed();
     let interval = interval_of(network.largest());
-    let turn = u64::from(network.params().timeout) * interval + before.delay.max(paths.delay);
+    let delay = loss.paths_before.delay.max(paths.delay);
+    let turn = u64::from(network.params().timeout) * interval + delay;
     paths.systems as u64 * turn + interval + way_span(paths)
 }
 
 /// The bound of the choice, in ns, where that from rest after gains is so much.
-fn choice_by(network: &Network, before: SyncPaths, paths: SyncPaths, row: Row, gained: u64) -> u64
+fn choice_by(network: &Network, loss: Loss, paths: SyncPaths, row: Row, gained: u64) -> u64
     requires few { paths.systems ≤ 512 }
     requires short { paths.delay ≤ 16000000000 }
-    requires short_before { before.delay ≤ 16000000000 }
+    requires short_before { loss.paths_before.delay ≤ 16000000000 }
+    requires held { loss.held ≤ 4112000000000 }
     requires gained { gained ≤ 195000000000000 }
-    ensures is { result ≡ choice_by network.now before paths row gained }
+    ensures is { result ≡ choice_by network.now loss paths row gained }
     ensures bound { result ≤ 195000000000000 }
 {
     if network.params().sync_timeout != 0 {
@@ -259,24 +260,29 @@ fn choice_by(network: &Network, before: SyncPaths, paths: SyncPaths, row: Row, g
     match row {
         Row::AnyPast => settling_span_at_once(network, paths),
         Row::Unchanged | Row::Lowered | Row::LostEnd | Row::FailedEnd | Row::LostPower => 0,
-        Row::FailedHeard => held_span(network, before),
-        Row::FailureCutsOff => held_span(network, before) + 2 * way_span(paths),
-        Row::CutOff | Row::PowerCutsOff | Row::OneTurned | Row::TreeCutOff => 2 * way_span(paths),
-        Row::AnyLosses => loss_span(network, before, paths),
+        Row::FailedHeard => loss.held,
+        Row::FailureCutsOff | Row::FailureCutsTrees => loss.held + 2 * way_span(paths),
+        Row::CutOff
+        | Row::PowerCutsOff
+        | Row::OneTurned
+        | Row::TreeCutOff
+        | Row::TreeTurned
+        | Row::PowerCutsTrees => 2 * way_span(paths),
+        Row::AnyLosses => any_loss_span(network, loss, paths),
         Row::Gained => gained,
     }
 }
 
-/// How long roles take after losses without a row of their own, in ns, where a link may be left silent or none is.
-fn roles_after_losses(network: &Network, before: SyncPaths, paths: SyncPaths, silent: bool) -> u64
+/// How long roles take after losses without a row of their own, in ns.
+fn roles_after_losses(network: &Network, loss: Loss, paths: SyncPaths) -> u64
     requires few { paths.systems ≤ 512 }
     requires short { paths.delay ≤ 16000000000 }
-    requires short_before { before.delay ≤ 16000000000 }
-    ensures is { result ≡ roles_after_losses network.now before paths silent }
+    requires short_before { loss.paths_before.delay ≤ 16000000000 }
+    ensures is { result ≡ roles_after_losses network.now loss paths }
     ensures bound { result ≤ 110000000000000 }
 {
-    let choice = loss_span(network, before, paths);
-    if silent {
+    let choice = any_loss_span(network, loss, paths);
+    if loss.silent {
         choice.max(silence_span(network))
     } else {
         choice
@@ -284,19 +290,13 @@ fn roles_after_losses(network: &Network, before: SyncPaths, paths: SyncPaths, si
 }
 
 /// The bound of the roles, in ns.
-fn roles_by(
-    network: &Network,
-    before: SyncPaths,
-    paths: SyncPaths,
-    silent: bool,
-    row: Row,
-    gained: u64,
-) -> u64
+fn roles_by(network: &Network, loss: Loss, paths: SyncPaths, row: Row, gained: u64) -> u64
     requires few { paths.systems ≤ 512 }
     requires short { paths.delay ≤ 16000000000 }
-    requires short_before { before.delay ≤ 16000000000 }
+    requires short_before { loss.paths_before.delay ≤ 16000000000 }
+    requires held { loss.held ≤ 4112000000000 }
     requires gained { gained ≤ 195000000000000 }
-    ensures is { result ≡ roles_by network.now before paths silent row gained }
+    ensures is { result ≡ roles_by network.now loss paths row gained }
     ensures bound { result ≤ 195000000000000 }
 {
     if network.params().sync_timeout != 0 {
@@ -306,11 +306,16 @@ fn roles_by(
         Row::AnyPast => settling_span_at_once(network, paths),
         Row::Unchanged | Row::Lowered | Row::LostEnd | Row::LostPower => 0,
         Row::FailedEnd | Row::FailedHeard => silence_span(network),
-        Row::FailureCutsOff => {
-            (held_span(network, before) + 2 * way_span(paths)).max(silence_span(network))
+        Row::FailureCutsOff | Row::FailureCutsTrees => {
+            (loss.held + 2 * way_span(paths)).max(silence_span(network))
         }
-        Row::CutOff | Row::PowerCutsOff | Row::OneTurned | Row::TreeCutOff => 2 * way_span(paths),
-        Row::AnyLosses => roles_after_losses(network, before, paths, silent),
+        Row::CutOff
+        | Row::PowerCutsOff
+        | Row::OneTurned
+        | Row::TreeCutOff
+        | Row::TreeTurned
+        | Row::PowerCutsTrees => 2 * way_span(paths),
+        Row::AnyLosses => roles_after_losses(network, loss, paths),
         Row::Gained => gained,
     }
 }
@@ -319,7 +324,7 @@ fn roles_by(
 fn echo_span(network: &Network, paths: SyncPaths) -> u64
     requires few { paths.systems ≤ 512 }
     requires short { paths.delay ≤ 16000000000 }
-    ensures is { result ≡ echo_span network.now paths }
+    ensures is { result ≡ echo_span (pace_of network.now) paths }
     ensures bound { result ≤ 16384000000000 }
 {
     network.well_formed();
@@ -340,56 +345,83 @@ fn gone_by(network: &Network, paths: SyncPaths, used_before: bool) -> u64
     }
 }
 
-/// By how much later than a system fails that others heard each tells a trace without it, in ns, where a link may be left
-/// silent.
-fn aged_echo_span(network: &Network, before: SyncPaths, paths: SyncPaths) -> u64
+/// By how much later than a system fails that others heard each tells a trace without it, in ns, where a link may be
+/// left silent.
+fn aged_echo_span(network: &Network, loss: Loss, paths: SyncPaths) -> u64
     requires few { paths.systems ≤ 512 }
     requires short { paths.delay ≤ 16000000000 }
-    requires short_before { before.delay ≤ 16000000000 }
-    ensures is { result ≡ aged_echo_span network.now before paths }
-    ensures bound { result ≤ 18000000000000 }
+    requires held { loss.held ≤ 4112000000000 }
+    ensures is { result ≡ aged_echo_span network.now loss paths }
+    ensures bound { result ≤ 21000000000000 }
 {
     network.well_formed();
     let echo = echo_span(network, paths).max(interval_of(network.largest()));
-    silence_span(network).max(held_span(network, before) + 1 + echo)
+    silence_span(network).max(loss.held + 1 + echo)
 }
 
 /// The bound of what is held and in flight, in ns.
-fn sound_by(
-    network: &Network,
-    before: SyncPaths,
-    paths: SyncPaths,
-    silent: bool,
-    used_before: bool,
-    row: Row,
-    gained: u64,
-) -> u64
+fn sound_by(network: &Network, loss: Loss, paths: SyncPaths, row: Row, gained: u64) -> u64
     requires few { paths.systems ≤ 512 }
     requires short { paths.delay ≤ 16000000000 }
-    requires short_before { before.delay ≤ 16000000000 }
+    requires short_before { loss.paths_before.delay ≤ 16000000000 }
+    requires held { loss.held ≤ 4112000000000 }
     requires gained { gained ≤ 195000000000000 }
-    ensures is { result ≡ sound_by network.now before paths silent used_before row gained }
+    ensures is { result ≡ sound_by network.now loss paths row gained }
+    ensures bound { result ≤ 195000000000000 }
+{
+    if network.params().sync_timeout != 0 {
+        return network.settling_span_with(paths);
+    }
+    let gone = gone_by(network, paths, loss.used_before);
+    let gone_before = gone_by(network, loss.paths_before, loss.used_before);
+    match row {
+        Row::AnyPast | Row::TreeTurned | Row::PowerCutsTrees | Row::FailureCutsTrees => {
+            settling_span_at_once(network, paths)
+        }
+        Row::Unchanged => 0,
+        Row::Lowered => echo_span(network, paths).max(gone),
+        Row::CutOff | Row::TreeCutOff => (2 * way_span(paths)).max(gone),
+        Row::LostEnd => gone_before,
+        Row::FailedEnd => silence_span(network).max(gone_before),
+        Row::LostPower => echo_span(network, paths).max(paths.delay),
+        Row::PowerCutsOff => (2 * way_span(paths)).max(echo_span(network, paths).max(paths.delay)),
+        Row::FailedHeard => aged_echo_span(network, loss, paths),
+        Row::FailureCutsOff => {
+            let aged = loss.held + 2 * way_span(paths);
+            aged.max(aged_echo_span(network, loss, paths))
+        }
+        Row::OneTurned => 2 * way_span(paths) + echo_span(network, paths),
+        Row::AnyLosses => roles_after_losses(network, loss, paths),
+        Row::Gained => gained,
+    }
+}
+
+/// By when each system tells a right trace, in ns: no sooner than the choice stands.
+fn retold_by(network: &Network, loss: Loss, paths: SyncPaths, row: Row, gained: u64) -> u64
+    requires few { paths.systems ≤ 512 }
+    requires short { paths.delay ≤ 16000000000 }
+    requires short_before { loss.paths_before.delay ≤ 16000000000 }
+    requires held { loss.held ≤ 4112000000000 }
+    requires gained { gained ≤ 195000000000000 }
+    ensures is { result ≡ retold_by network.now loss paths row gained }
     ensures bound { result ≤ 195000000000000 }
 {
     if network.params().sync_timeout != 0 {
         return network.settling_span_with(paths);
     }
     match row {
-        Row::AnyPast | Row::TreeCutOff => settling_span_at_once(network, paths),
-        Row::Unchanged => 0,
-        Row::Lowered => echo_span(network, paths).max(gone_by(network, paths, used_before)),
-        Row::CutOff => (2 * way_span(paths)).max(gone_by(network, paths, used_before)),
-        Row::LostEnd => gone_by(network, before, used_before),
-        Row::FailedEnd => silence_span(network).max(gone_by(network, before, used_before)),
-        Row::LostPower => echo_span(network, paths).max(paths.delay),
-        Row::PowerCutsOff => (2 * way_span(paths)).max(echo_span(network, paths).max(paths.delay)),
-        Row::FailedHeard => aged_echo_span(network, before, paths),
-        Row::FailureCutsOff => {
-            let aged = held_span(network, before) + 2 * way_span(paths);
-            aged.max(aged_echo_span(network, before, paths))
+        Row::AnyPast => settling_span_at_once(network, paths),
+        Row::Unchanged | Row::LostEnd | Row::FailedEnd => 0,
+        Row::Lowered | Row::LostPower => echo_span(network, paths),
+        Row::FailedHeard => loss.held + echo_span(network, paths),
+        Row::FailureCutsOff | Row::FailureCutsTrees => {
+            loss.held + 2 * way_span(paths) + echo_span(network, paths)
         }
-        Row::OneTurned => 2 * way_span(paths) + echo_span(network, paths),
-        Row::AnyLosses => roles_after_losses(network, before, paths, silent),
+        Row::PowerCutsOff | Row::OneTurned | Row::TreeTurned | Row::PowerCutsTrees => {
+            2 * way_span(paths) + echo_span(network, paths)
+        }
+        Row::CutOff | Row::TreeCutOff => 2 * way_span(paths),
+        Row::AnyLosses => any_loss_span(network, loss, paths),
         Row::Gained => gained,
     }
 }
@@ -415,35 +447,39 @@ fn exact_span(network: &Network, paths: SyncPaths) -> u64
     window + paths.systems as u64 * (params.threshold + params.residence)
 }
 
-/// The bounds at a time, by those of the choice, the roles and what is held, where a link was last set at another.
+/// The bounds at a time, where a link was last set at another.
 fn settled(
     network: &Network,
     at: u64,
     last_set: u64,
+    loss: Loss,
     paths: SyncPaths,
     sets: bool,
-    choice: u64,
-    roles: u64,
-    sound: u64,
+    row: Row,
+    gained: u64,
 ) -> Settling
     requires few { paths.systems ≤ 512 }
     requires short { paths.delay ≤ 16000000000 }
+    requires short_before { loss.paths_before.delay ≤ 16000000000 }
+    requires held { loss.held ≤ 4112000000000 }
     requires early { at ≤ LATEST_EVENT }
     requires set { last_set ≤ at }
-    requires roles { roles ≤ 195000000000000 }
-    requires sound { sound ≤ 195000000000000 }
-    ensures is { result ≡ settled network.now at last_set paths sets choice roles sound }
+    requires gained { gained ≤ 195000000000000 }
+    ensures is { result ≡ settled network.now at last_set loss paths sets row gained }
     ensures rest { result.rest ≤ 195016000000000 }
     ensures exact { result.exact_from ≤ at + 196264000000000 }
 {
     network.well_formed();
     let set = set_span(network, paths, sets);
     let interval = interval_of(network.largest());
+    let roles = roles_by(network, loss, paths, row, gained);
+    let sound = sound_by(network, loss, paths, row, gained);
+    let retold = retold_by(network, loss, paths, row, gained);
     Settling {
-        choice,
+        choice: choice_by(network, loss, paths, row, gained),
         roles,
         sound,
-        rest: (sound + paths.delay).max(set),
+        rest: roles.max(sound).max((retold + paths.delay).max(set)),
         exact_from: (at + roles.max(set)).max(last_set + interval) + exact_span(network, paths),
     }
 }
@@ -470,29 +506,25 @@ pub(crate) fn times_by(
     network: &Network,
     at: u64,
     last_set: u64,
-    before: SyncPaths,
+    loss: Loss,
     paths: SyncPaths,
     calm: bool,
     sets: bool,
-    used_before: bool,
-    silent: bool,
     row: Row,
     gained: u64,
 ) -> SettlingTime
     requires few { paths.systems ≤ 512 }
     requires short { paths.delay ≤ 16000000000 }
-    requires short_before { before.delay ≤ 16000000000 }
+    requires short_before { loss.paths_before.delay ≤ 16000000000 }
+    requires held { loss.held ≤ 4112000000000 }
     requires early { at ≤ LATEST_EVENT }
     requires set { last_set ≤ at }
     requires gained { gained ≤ 195000000000000 }
-    ensures is { result ≡ times_by network.now at last_set before paths calm sets used_before silent row gained }
+    ensures is { result ≡ times_by network.now at last_set loss paths calm sets row gained }
     ensures bound { result.watch ≤ 200000000000000 }
 {
     let settling = if calm {
-        let choice = choice_by(network, before, paths, row, gained);
-        let roles = roles_by(network, before, paths, silent, row, gained);
-        let sound = sound_by(network, before, paths, silent, used_before, row, gained);
-        Some(settled(network, at, last_set, paths, sets, choice, roles, sound))
+        Some(settled(network, at, last_set, loss, paths, sets, row, gained))
     } else {
         None
     };

@@ -6,18 +6,22 @@
 
 mod bounds;
 mod chosen;
+mod cut_trees;
 mod far;
 mod kinds;
 mod links;
 mod rest;
+mod silent;
 #[cfg(test)]
 mod tests;
 mod times;
 mod tree;
 mod turned;
+mod turned_tree;
 mod walk;
 
-pub use bounds::{Row, Settling, SettlingTime};
+pub use bounds::{Loss, Row, Settling, SettlingTime};
 pub use chosen::{Chosen, Ends};
 pub use kinds::{Kind, Told, What};
+pub use rest::Moves;
 pub use times::{settling_at, settling_times};

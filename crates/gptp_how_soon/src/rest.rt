@@ -1,7 +1,7 @@
 //! Whether a time is from rest, so that what its events do says how soon the choice stands.
 
 ghost use Rattle.std.specs.Prelude.{◌≡◌, ◌≤◌, ◌+◌, ◌*◌, nat_lt};
-ghost use Rattle.gptp_how_soon.specs.Bounds.{way_span};
+ghost use Rattle.gptp_scenario.specs.SettlingTime.{way_span};
 ghost use Rattle.gptp_how_soon.specs.Rest.{are_events_followed, are_losses_followed, are_recoveries_followed, are_turns_followed, asks_who_is_moved, heard_at_once, is_failing_followed, failed_row, has_rested_for, is_from_rest, is_lowering_followed, is_wider_followed, keeps_paths, leaves_silent, rested, row_of, settles_wider_by};
 
 use crate::bounds::{Row, SettlingTime, way_span};
@@ -14,7 +14,7 @@ use gptp_scenario::SyncPaths;
 
 /// Whom the events of a time move.
 #[derive(Clone, Copy)]
-pub(crate) struct Moves {
+pub struct Moves {
     /// Whether they move a system that counts: one that is cut off doesn't where one link or one system is taken away.
     pub moved: bool,
     /// Whether they move any, also one that is cut off.
@@ -25,6 +25,10 @@ pub(crate) struct Moves {
     pub turned: bool,
     /// Whether they cut off a tree, an announce interval after all came to rest.
     pub falls: bool,
+    /// Whether then a tree turns by one other link.
+    pub tree_turns: bool,
+    /// Whether then all that they move are trees that are cut off.
+    pub trees_fall: bool,
     /// Whether those that they name were far ends.
     pub far: bool,
 }
@@ -168,7 +172,8 @@ fn are_losses_followed(paths_before: SyncPaths, told: &[Told]) -> bool
     paths_before.systems <= 255 && all_leave_links(told)
 }
 
-/// Whether no path had more than 255 systems, none gets longer, and the greatest delay of a link in use gets no greater.
+/// Whether no path had more than 255 systems, none gets longer, and the greatest delay of a link in use gets no
+/// greater.
 fn keeps_paths(paths_before: SyncPaths, paths: SyncPaths) -> bool
     ensures { result ≡ keeps_paths paths_before paths }
 {
@@ -236,8 +241,8 @@ fn failed_row(far: bool, any: bool, used: bool) -> Row
 }
 
 /// What is known of a time, by whether it is from rest, whether it is the first, and what its events do: whether they
-/// What is known of a time, by whether it is from rest, whether it is the first, what its events do, whom they move, and
-/// whether each link that is up then is in use.
+/// What is known of a time, by whether it is from rest, whether it is the first, what its events do, whom they move,
+/// and whether each link that is up then is in use.
 pub(crate) fn row_of(
     from_rest: bool,
     first: bool,
@@ -263,8 +268,16 @@ pub(crate) fn row_of(
         Row::OneTurned
     } else if is_lowering_followed(paths_before, paths, told) && moves.falls {
         Row::TreeCutOff
+    } else if is_lowering_followed(paths_before, paths, told) && moves.tree_turns {
+        Row::TreeTurned
     } else if is_failing_followed(paths_before, paths, told) && !moves.moved {
         failed_row(moves.far, moves.any, used)
+    } else if is_failing_followed(paths_before, paths, told) && moves.trees_fall {
+        if used {
+            Row::PowerCutsTrees
+        } else {
+            Row::FailureCutsTrees
+        }
     } else if any_loss(told) {
         if all_bring_nothing(told) {
             Row::AnyLosses

@@ -473,7 +473,7 @@ fn a_tree_that_a_link_cuts_off_settles_within_two_ways(rt: HostRuntime) -> Resul
                 ("b", "3", "d", "1"),
                 ("c", "2", "d", "2"),
             ] as &[(&str, &str, &str, &str)],
-            15_000_000_820,
+            13_000_002_870,
         ),
     ] {
         let times = cut(rt.alloc(), clocks, links)?;
@@ -489,7 +489,7 @@ fn a_tree_that_a_link_cuts_off_settles_within_two_ways(rt: HostRuntime) -> Resul
 #[test]
 fn a_tree_falls_off_an_announce_interval_after_rest(rt: HostRuntime) -> Result<(), Fail> {
     // The line rests 1000003460 ns after its start.
-    for (at, choice) in [(2_000_003_460, 15_000_000_820), (2_000_003_461, 1_640)] {
+    for (at, choice) in [(2_000_003_460, 10_000_002_050), (2_000_003_461, 1_640)] {
         let mut event = String::new(rt.alloc());
         writeln!(
             event,
@@ -525,7 +525,7 @@ fn a_far_end_that_fails_costs_the_choice_nothing(rt: HostRuntime) -> Result<(), 
                 choice: 0,
                 roles: 11_000_000_000,
                 sound: 11_000_000_000,
-                rest: 11_000_000_410,
+                rest: 11_000_000_000,
                 exact_from: 41_000_005_400,
             }),
             watch: 12_000_005_400,
@@ -562,6 +562,44 @@ fn a_system_that_others_hear_costs_the_choice_what_they_hold_it_for(
         events.push_str(network)?;
         let times = ring(rt.alloc(), events.as_str())?;
         assert_eq!(rt; soon(&times, 30_000_000_000), Some(bound), "{case}");
+    }
+    Ok(())
+}
+
+#[test]
+fn what_is_held_ages_by_the_interval_of_its_port(rt: HostRuntime) -> Result<(), Fail> {
+    // d announces twice a second, the others once. Its interval counts once an announce interval and the longest
+    // receipt timeout have passed since the start.
+    for (case, at, choice) in [
+        ("its own interval", 4_000_000_001, 1_500_000_410),
+        ("too soon for it", 4_000_000_000, 3_000_000_410),
+    ] {
+        let mut text = String::new(rt.alloc());
+        text.push_str("version = 2\n[network]\npdelay = -1\n")?;
+        for (clock, more) in [
+            ("a", "priority1 = 128"),
+            ("b", ""),
+            ("c", ""),
+            ("d", "announce = [-1, -1]"),
+        ] {
+            writeln!(
+                text,
+                "[[system]]\nclock = \"000000000000000{clock}\"\nports = 2\n{more}"
+            )?;
+        }
+        for (a, b) in [("a", "b"), ("b", "c"), ("c", "d"), ("d", "a")] {
+            writeln!(
+                text,
+                "[[link]]\na = \"000000000000000{a}\"\na_port = 1\nb = \"000000000000000{b}\"\nb_port = 2"
+            )?;
+            text.push_str("min = 390\nmax = 410\n")?;
+        }
+        writeln!(
+            text,
+            "[[event]]\nat = {at}\nkind = \"fail\"\nclock = \"000000000000000d\""
+        )?;
+        let times = times_of(rt.alloc(), text.as_str())?;
+        assert_eq!(rt; bounds(&times, at), Some((choice, 5_500_000_000)), "{case}");
     }
     Ok(())
 }
@@ -730,7 +768,7 @@ fn a_far_end_that_loses_its_power_costs_nothing(rt: HostRuntime) -> Result<(), F
                 choice: 0,
                 roles: 0,
                 sound: 410,
-                rest: 820,
+                rest: 410,
                 exact_from: 30_000_005_400,
             }),
             watch: 1_000_005_400,
@@ -775,36 +813,43 @@ fn events_come_from_rest_soon_after_a_loss(rt: HostRuntime) -> Result<(), Fail> 
         (
             "b loses its power",
             "[[event]]\nat = 100000000000\nkind = \"fail\"\nclock = \"000000000000000b\"\n[[event]]\nat = 100000000000\nkind = \"link_down\"\nclock = \"000000000000000b\"\nport = 1\n[[event]]\nat = 101000000000\nkind = \"recover\"\nclock = \"000000000000000b\"\n",
-            820,
+            410,
             101_000_000_000,
             820,
         ),
         (
             "d loses its power, and cuts c off",
             "[[event]]\nat = 100000000000\nkind = \"fail\"\nclock = \"000000000000000d\"\n[[event]]\nat = 100000000000\nkind = \"link_down\"\nclock = \"000000000000000d\"\nport = 1\n[[event]]\nat = 100000000000\nkind = \"link_down\"\nclock = \"000000000000000d\"\nport = 2\n[[event]]\nat = 102000000000\nkind = \"recover\"\nclock = \"000000000000000d\"\n",
-            1_000_000_820,
+            1_000_001_640,
             102_000_000_000,
             410,
         ),
         (
             "b hangs",
             "[[event]]\nat = 100000000000\nkind = \"fail\"\nclock = \"000000000000000b\"\n[[event]]\nat = 111500000000\nkind = \"recover\"\nclock = \"000000000000000b\"\n",
-            11_000_000_410,
+            11_000_000_000,
             111_500_000_000,
             3_000_003_050,
         ),
         (
-            "d is left behind its link, which was nearer",
-            "[[event]]\nat = 100000000000\nkind = \"link_down\"\nclock = \"000000000000000d\"\nport = 2\n[[event]]\nat = 101000000000\nkind = \"link_up\"\nclock = \"000000000000000d\"\nport = 2\n",
-            7_000_001_640,
+            "d falls off with c, and comes back",
+            "[[event]]\nat = 100000000000\nkind = \"link_down\"\nclock = \"000000000000000d\"\nport = 2\n[[event]]\nat = 100000001231\nkind = \"link_up\"\nclock = \"000000000000000d\"\nport = 2\n",
+            1_230,
+            100_000_001_231,
+            1_000_003_050,
+        ),
+        (
+            "the root gets worse",
+            "[[event]]\nat = 100000000000\nkind = \"priority1\"\nclock = \"000000000000000a\"\nvalue = 250\n[[event]]\nat = 101000000000\nkind = \"link_up\"\nclock = \"000000000000000b\"\nport = 2\n",
+            13_000_003_280,
             101_000_000_000,
             15_000_002_870,
         ),
         (
-            "d is left behind its link, and then comes back",
-            "[[event]]\nat = 100000000000\nkind = \"link_down\"\nclock = \"000000000000000d\"\nport = 2\n[[event]]\nat = 107000001641\nkind = \"link_up\"\nclock = \"000000000000000d\"\nport = 2\n",
-            7_000_001_640,
-            107_000_001_641,
+            "the root gets worse, and then a link comes up",
+            "[[event]]\nat = 100000000000\nkind = \"priority1\"\nclock = \"000000000000000a\"\nvalue = 250\n[[event]]\nat = 113000003281\nkind = \"link_up\"\nclock = \"000000000000000b\"\nport = 2\n",
+            13_000_003_280,
+            113_000_003_281,
             1_000_003_050,
         ),
     ] {
@@ -840,8 +885,8 @@ fn events_come_from_rest_soon_after_lost_power(rt: HostRuntime) -> Result<(), Fa
 fn events_come_from_rest_once_nobody_holds_who_hangs(rt: HostRuntime) -> Result<(), Fail> {
     // It is noticed soon, and traces are told anew then. d recovers as the network rests, or 1 ns later.
     for (case, again, choice) in [
-        ("too soon", 32_375_001_231, 15_000_002_870),
-        ("from rest", 32_375_001_232, 1_250_003_050),
+        ("too soon", 32_375_001_230, 15_000_002_870),
+        ("from rest", 32_375_001_231, 1_250_003_050),
     ] {
         let mut text = String::new(rt.alloc());
         writeln!(
@@ -851,7 +896,7 @@ fn events_come_from_rest_once_nobody_holds_who_hangs(rt: HostRuntime) -> Result<
         let times = ring(rt.alloc(), text.as_str())?;
         assert_eq!(rt;
             rests(&times, 30_000_000_000, again),
-            Some((2_375_001_231, choice)),
+            Some((2_375_001_230, choice)),
             "{case}"
         );
     }

@@ -9,7 +9,7 @@ use crate::turned::leads_nearer;
 use gptp_topology::System;
 
 /// Whether the systems at two places have one root.
-fn has_same_root(chosen: &[Chosen], one: usize, other: usize) -> bool
+pub(crate) fn has_same_root(chosen: &[Chosen], one: usize, other: usize) -> bool
     ensures { result ≡ has_same_root (slice_get chosen.now one) (slice_get chosen.now other) }
 {
     match chosen.get(one) {
@@ -22,7 +22,7 @@ fn has_same_root(chosen: &[Chosen], one: usize, other: usize) -> bool
 }
 
 /// Whether the system at a place had a better root than it has now.
-fn had_better_root(before: &[Chosen], now: &[Chosen], place: usize) -> bool
+pub(crate) fn had_better_root(before: &[Chosen], now: &[Chosen], place: usize) -> bool
     ensures { result ≡ has_better_root (slice_get before.now place) (slice_get now.now place) }
 {
     match before.get(place) {
@@ -35,7 +35,7 @@ fn had_better_root(before: &[Chosen], now: &[Chosen], place: usize) -> bool
 }
 
 /// Whether the system at the one place has chosen no more steps than that at the other.
-fn has_no_more_steps(chosen: &[Chosen], near: usize, far: usize) -> bool
+pub(crate) fn has_no_more_steps(chosen: &[Chosen], near: usize, far: usize) -> bool
     ensures { result ≡ has_no_more_steps (slice_get chosen.now near) (slice_get chosen.now far) }
 {
     match chosen.get(near) {
@@ -48,7 +48,7 @@ fn has_no_more_steps(chosen: &[Chosen], near: usize, far: usize) -> bool
 }
 
 /// Whether the systems at two places are one step apart.
-fn is_one_apart(chosen: &[Chosen], one: usize, other: usize) -> bool
+pub(crate) fn is_one_apart(chosen: &[Chosen], one: usize, other: usize) -> bool
     ensures { result ≡ is_one_apart (slice_get chosen.now one) (slice_get chosen.now other) }
 {
     match chosen.get(one) {
@@ -90,7 +90,13 @@ fn all_lead_one_on(chosen: &[Chosen], links: &[Ends], place: usize) -> bool
 }
 
 /// Whether the system at a place is one of a tree below the top.
-fn is_below(links: &[Ends], before: &[Chosen], now: &[Chosen], top: usize, place: usize) -> bool
+pub(crate) fn is_below(
+    links: &[Ends],
+    before: &[Chosen],
+    now: &[Chosen],
+    top: usize,
+    place: usize,
+) -> bool
     ensures { result ≡ is_below links.now before.now now.now top place }
 {
     has_same_root(before, top, place)

@@ -36,7 +36,7 @@ fn moved_places(
 }
 
 /// Whether the system at a place keeps its root, and is farther from it than before.
-fn goes_farther(before: &[Chosen], now: &[Chosen], place: usize) -> bool
+pub(crate) fn goes_farther(before: &[Chosen], now: &[Chosen], place: usize) -> bool
     ensures { result ≡ goes_farther (slice_get before.now place) (slice_get now.now place) }
 {
     match before.get(place) {
@@ -62,7 +62,7 @@ fn goes_one_farther(before: &[Chosen], now: &[Chosen], place: usize) -> bool
 }
 
 /// Whether the system at the one place has chosen fewer steps than that at the other.
-fn has_fewer_steps(chosen: &[Chosen], near: usize, far: usize) -> bool
+pub(crate) fn has_fewer_steps(chosen: &[Chosen], near: usize, far: usize) -> bool
     ensures { result ≡ has_fewer_steps (slice_get chosen.now near) (slice_get chosen.now far) }
 {
     match chosen.get(near) {

@@ -7,18 +7,21 @@ ghost use Rattle.gptp_how_soon.specs.Times.{settling_time};
 ghost use Rattle.gptp_how_soon.specs.Rest.{no_moves};
 ghost use Rattle.gptp_how_soon.specs.Walk.{IsFirstWalk, WalkGoesOn, WalkPasses, moves_seen, view_seen};
 
-use crate::bounds::{SettlingTime, announce_interval, heard, ready, times_by, way_span};
+use crate::bounds::{Loss, SettlingTime, announce_interval, heard, ready, times_by, way_span};
 use crate::chosen::{
     Chosen, Ends, any_counted, any_moved, choose, copy_systems, ends_in_use, ends_of,
 };
+use crate::cut_trees::cuts_trees;
 use crate::far::{all_cut_far_ends, are_far, up_is_used};
 use crate::kinds::{Told, sets_bounds, sets_link, takes_one, tell};
 use crate::links::{delay_set, longest_among, lost_among, mark_used, new_links};
 use crate::rest::{
     Moves, asks_who_is_moved, has_rested_for, heard_at_once, is_from_rest, leaves_silent, row_of,
 };
+use crate::silent::{held_among, own_intervals};
 use crate::tree::cuts_tree;
 use crate::turned::turns_one;
+use crate::turned_tree::turns_tree;
 use gptp_scenario::{Act, Network, SyncPaths};
 use gptp_topology::{System, Tables, cables_of};
 use std::alloc::{AllocError, Global};
@@ -127,6 +130,8 @@ impl Walk {
             cut: all_cut_far_ends(&systems, &before, &links_before, &links, &lost),
             turned,
             falls: rested && cuts_tree(&systems, &lost, &links, &before, &now),
+            tree_turns: rested && turns_tree(&systems, &lost, &links, &before, &now),
+            trees_fall: rested && cuts_trees(&systems, &lost, &links, &before, &now),
             far: are_far(&self.systems_before, &before, &links_before, &self.told),
         })
     }
@@ -150,6 +155,8 @@ impl Walk {
                 cut: false,
                 turned: false,
                 falls: false,
+                tree_turns: false,
+                trees_fall: false,
                 far: false,
             })
         }
@@ -186,16 +193,21 @@ impl Walk {
         let asked = asks_who_is_moved(from_rest, paths_before, paths, told);
         let moves = self.moves_if(alloc, network, at, asked)?;
         let all_used = up_is_used(standings);
+        let own = own_intervals(network, self.before, at);
+        let loss = Loss {
+            paths_before,
+            used_before: self.all_used_before,
+            silent: leaves_silent(all_used, told),
+            held: held_among(network, own, used, standings),
+        };
         Ok(times_by(
             network,
             at,
             self.last_set,
-            paths_before,
+            loss,
             paths,
             self.tables.is_calm(network, paths),
             sets_link(told),
-            self.all_used_before,
-            leaves_silent(all_used, told),
             row_of(from_rest, first, paths_before, paths, told, moves, all_used),
             gained,
         ))

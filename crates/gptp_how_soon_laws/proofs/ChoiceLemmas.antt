@@ -1,41 +1,41 @@
 -- What is told of each time of a document is so: its choice and roles are choice bounds or loss bounds. The network has
 -- come to rest by a rest bound.
-use Rattle.std.proofs.Common.{◌≡◌, ◌<◌, ◌≤◌, ◌⊎◌, inl, inr, ◌+◌, ◌*◌, max, pred, ℕ, Bool, true, false, cond, List, [], ◌∷◌, ◌++◌, Some, None, refl, sym, ap, subst, ◌∙◌, arith}
-use Rattle.std.specs.Prelude.{◌==◌, min, nat_le}
+use Rattle.std.proofs.Common.{◌≡◌, ◌<◌, ◌≤◌, ◌⊎◌, inl, inr, ◌+◌, ◌*◌, max, ℕ, Bool, true, false, cond, List, [], ◌∷◌, ◌++◌, Some, None, refl, sym, ap, subst, ◌∙◌, arith}
+use Rattle.std.specs.Prelude.{◌==◌, min, nat_le, nat_lt}
+use Rattle.std.specs.List.{AllByRecursion}
 use Rattle.std.proofs.lemmas.Bool.{eqb-false, eqb-true}
 use Rattle.std.proofs.lemmas.Bool.Decides.{nat_tests}
 use Rattle.gptp_lists.specs.Members.{In}
 use Rattle.gptp_lists.proofs.SystemSpecLemmas.{In-left, In-parts}
-use Rattle.gptp_setup.specs.SettlingParams.{largest_interval}
-use Rattle.gptp_scenario.specs.Calm.{NothingLapses}
+use Rattle.gptp_setup.specs.SettlingParams.{largest_interval, longest_span}
+use Rattle.gptp_scenario.specs.Calm.{IsCalm, NothingLapses, last_change}
 use Rattle.gptp_scenario.specs.Network.{NetworkState, pace_of}
-use Rattle.gptp_scenario.specs.SettlingTime.{window_span}
+use Rattle.gptp_scenario.specs.SettlingTime.{echo_span, silence_span, way_span, window_span}
 use Rattle.gptp_scenario.specs.SyncWait.{sync_paths}
 use Rattle.gptp_scenario.specs.declared.change.Timed.{Timed}
 use Rattle.gptp_network.specs.Document.{DocumentState}
 use Rattle.gptp_network.specs.Snapshot.{events_by}
 use Rattle.gptp_network.proofs.SnapshotLemmas.{from_filter}
 use Rattle.gptp_theorem.specs.PlayedLaws.{IsPlayable}
-use Rattle.gptp_how_soon.specs.Bounds.{aged_echo_span, choice_by, choice_of_row, echo_span, gone_by, held_span, loss_span, roles_of_row, sound_by, way_span}
-use Rattle.gptp_how_soon.specs.Rest.{leaves_silent}
-use Rattle.gptp_how_soon.specs.Times.{View, events_at, gained_at, last_set, ready_at, row_at, settling_time, settling_times, settling_times_from, time_at, view_at}
+use Rattle.gptp_how_soon.specs.Bounds.{aged_echo_span, any_loss_span, choice_by, choice_of_row, gone_by, roles_of_row, sound_by}
+use Rattle.gptp_how_soon.specs.Silent.{own_intervals}
+use Rattle.gptp_how_soon.specs.Times.{View, events_at, gained_at, last_set, loss_at, ready_at, row_at, settling_time, settling_times, settling_times_from, time_at, view_at}
+use Rattle.gptp_how_soon.specs.declared.bounds.Loss.{Loss}
 use Rattle.gptp_how_soon.specs.declared.bounds.Row.{Row}
 use Rattle.gptp_how_soon.specs.declared.bounds.Row.TheVariants.{AnyLosses, AnyPast, CutOff, FailedEnd, FailedHeard, FailureCutsOff, Gained, LostEnd, LostPower, Lowered, OneTurned, PowerCutsOff, TreeCutOff, Unchanged}
 use Rattle.gptp_how_soon.specs.declared.bounds.Settling.{Settling}
 use Rattle.gptp_how_soon.specs.declared.bounds.SettlingTime.{SettlingTime}
-use Rattle.gptp_settling_time.specs.HowSoon.{BoundsAging, BoundsAnyLoss, BoundsChoice, BoundsEvents, BoundsLoss, BoundsStart, FailsHeardFirst, HeldFor, IsChoiceBoundAfter, IsLossBoundAfter, IsRestBoundAfter, NoneBetween, RestsAfterLoss}
+use Rattle.gptp_settling_time.specs.HowSoon.{BoundsAging, BoundsAnyLoss, BoundsChoice, BoundsEvents, BoundsLoss, BoundsStart, BoundsTree, FailsHeardFirst, FallsNext, HeldFor, IsChoiceBoundAfter, IsLossBoundAfter, IsRestBoundAfter, NoneBetween, RestsAfterLoss, RestsTree}
 use Rattle.gptp_settling_time.specs.InTurn.{FlightIsGone}
-use Rattle.gptp_settling_time.specs.Losses.{aging_span}
-use Rattle.gptp_settling_time.proofs.MomentLemmas.{parted}
-use Rattle.gptp_settling_time.proofs.SilentSpanLemmas.{failures_within}
+use Rattle.gptp_settling_time.proofs.MomentLemmas.{all_at, last_by, parted}
 use Rattle.gptp_settling_time.proofs.WellFormedLemmas.{after_well}
 use Rattle.gptp_how_soon_laws.specs.Choice.{SettlingsAreChoiceBounds}
 use Rattle.gptp_how_soon_laws.proofs.RowBoundLemmas.{HasOwnBounds, IsSoundSooner, IsTelling, bounds_choice, choice_or_own, past_row, sound_or_sooner, tells}
 use Rattle.gptp_how_soon_laws.proofs.RowLemmas.{CutsLate, HasComeToRest, any_losses, cut_off, failed, gained, heard, lost_end, lost_power, lowered, tree_cut, turned, unchanged}
+use Rattle.gptp_how_soon_laws.proofs.SilentLemmas.{held_for, last_now}
 use Rattle.gptp_how_soon_laws.proofs.StartRowLemmas.{first_past, first_roles, first_sound, never_unchanged, started}
 use Rattle.gptp_how_soon_laws.proofs.UnmovedLemmas.{AreWell}
 use Rattle.gptp_how_soon_laws.proofs.TimesLemmas.{AreTimes, later_times, times_after, times_parts}
-use Rattle.gptp_invariants.specs.FailedUnanswered.{silence_span}
 
 -- the events up to time 0 are those at it
 begin_at : (events : List Timed) → events_by 0 events ≡ events_at 0 events
@@ -58,6 +58,9 @@ begin_at (event ∷ events) = by (nat_le event.at 0) (event.at == 0) refl refl (
 
 lesser : (choice roles a b : ℕ) → choice ≡ min a b → roles ≡ b → choice ≤ roles
 lesser choice roles a b is same = omega (arith, is, same)
+
+below : (a b : ℕ) → nat_lt a b ≡ true → a < b
+below a b is = grind (arith, nat_tests)
 
 greater : (choice roles a : ℕ) → roles ≡ max choice a → choice ≤ roles
 greater choice roles a same = omega (arith, same)
@@ -91,20 +94,19 @@ module _ (d : DocumentState) (playable : IsPlayable d) where
       let v : View = view_at n [] now None 0 in
       let it = tells n v s is in
       let bound =
-      bounds_choice n (λ choice. BoundsStart n now choice) v.paths_before now (row_at v) (gained_at n v) it.calm
+      bounds_choice n (λ choice. BoundsStart n now choice) (loss_at v) now (row_at v) (gained_at n v) it.calm
       (λ row. absurd (never_unchanged n now row)) (λ row off. started n now row) in
-      let same : s.choice ≡ choice_by n v.paths_before v.paths (past_row (row_at v)) (gained_at n v) =
-      it.choice ∙ ap (λ row. choice_by n v.paths_before v.paths row (gained_at n v)) (first_past n now) in
+      let same : s.choice ≡ choice_by n (loss_at v) v.paths (past_row (row_at v)) (gained_at n v) =
+      it.choice ∙ ap (λ row. choice_by n (loss_at v) v.paths row (gained_at n v)) (first_past n now) in
       let chosen : IsChoiceBoundAfter n all [] 0 s.choice = (
         refl,
         subst (λ es. BoundsChoice n (BoundsStart n es s.choice) es s.choice) (sym (begin_at all))
             (subst (λ choice. BoundsChoice n (BoundsStart n now choice) now choice) (sym same) bound),
       ) in
       let sound_same : s.choice ≡ s.sound =
-      it.choice ∙ sym (first_sound n now v.paths_before v.paths (leaves_silent v.used v.told) v.used_before
-      (gained_at n v)) ∙ sym it.sound in
+      it.choice ∙ sym (first_sound n now (loss_at v) v.paths (gained_at n v)) ∙ sym it.sound in
       let roles_same : s.choice ≡ s.roles =
-      it.choice ∙ sym (first_roles n now v.paths_before v.paths (leaves_silent v.used v.told) (gained_at n v))
+      it.choice ∙ sym (first_roles n now (loss_at v) v.paths (gained_at n v))
       ∙ sym it.roles in
       record {
         bounds = inl (subst (IsChoiceBoundAfter n all [] 0) roles_same chosen);
@@ -128,8 +130,8 @@ module _ (d : DocumentState) (playable : IsPlayable d) where
     abbrev v : View
     v = view_at n made now (Some b) at
 
-    abbrev silent : Bool
-    silent = leaves_silent v.used v.told
+    abbrev loss : Loss
+    loss = loss_at v
 
     abbrev Sharp : ℕ → Type 0
     Sharp choice = (choice_then : ℕ) × IsRestBoundAfter n all earlier b.at choice_then × (b.at + choice_then < at)
@@ -162,14 +164,14 @@ module _ (d : DocumentState) (playable : IsPlayable d) where
 
     -- it settles by this, whatever it loses
     abbrev settled_by : ℕ
-    settled_by = choice_by n v.paths_before v.paths (past_row (row_at v)) (gained_at n v)
+    settled_by = choice_by n (loss_at v) v.paths (past_row (row_at v)) (gained_at n v)
 
     settles_so : (s : Settling) → (settling_time n v).settling ≡ Some s
         → IsChoiceBoundAfter n all (b.at ∷ earlier) at settled_by
     settles_so s is =
         let it = tells n v s is in
         let bound =
-        bounds_choice n Sharp v.paths_before (made ++ now) (row_at v) (gained_at n v) it.calm
+        bounds_choice n Sharp loss (made ++ now) (row_at v) (gained_at n v) it.calm
         (λ row. let (rest, still) = unchanged n playable.network all b at late well row in
         sharp 0 rest (elim still [ inl each ↦ inl (each, refl) | inr wider ↦ inr (inl (wider, refl)) ]))
         (λ row off. let (rest, gains) = gained n playable.network all b at late row off in
@@ -180,69 +182,110 @@ module _ (d : DocumentState) (playable : IsPlayable d) where
               (sym (parted all b.at at playable.events.in_order late between)) bound,
         )
 
-    -- what is heard is held for no longer by the delay of before
-    held_for : FailsHeardFirst n made now → HeldFor n made now (held_span n v.paths_before)
-    held_for fails = (
-      aging_span (pace_of n) (sync_paths n made),
-      failures_within n made now fails,
-      ap (λ d. min (longest_span (pace_of n) + d) (silence_span (pace_of n))) delay,
-    )
+    -- what others hold of a system that fails has aged so much later
+    held : FailsHeardFirst n made now → HeldFor n made now v.held
+    held fails = held_for n playable.network made now (own_intervals n (Some b) at) (late_so now fails (all_at at all))
+      where
+        late_so : (events : List Timed) → FailsHeardFirst n made events
+            → AllByRecursion (λ (t : Timed). t.at ≡ at) events → own_intervals n (Some b) at ≡ true
+            → last_change made + largest_interval (pace_of n) + longest_span (pace_of n)
+            < last_change (made ++ events)
+        late_so [] none at_all own = absurd none
+        late_so (event ∷ events) fails at_all own =
+            let last = last_by b.at all in
+            let moment = last_now at made event events at_all in
+            let passed = below (b.at + largest_interval (pace_of n) + longest_span (pace_of n)) at own in
+            omega (arith, last, moment, passed)
 
-    -- it has come to rest by that, or sooner after a loss by which no system is moved
+    -- a tree is cut off, an announce interval after the time before has come to rest, and all events ask for this
+    falls : (Asks : List Timed → Type 0) → IsCalm n (events_by at all) → NothingLapses n.params
+        → (rest : HasComeToRest b at) → CutsLate n playable.network all b at late rest → Asks (made ++ now)
+        → FallsNext n all (λ then. IsRestBoundAfter n all earlier b.at then) b.at at Asks
+    falls Asks calm off rest tree asks =
+        let bound = (sound_before rest).0 in
+        let then = so rest.settling rest.is in
+        let less = then.rest in
+        let passed = tree.longer in (
+          late,
+          between,
+          calm,
+          off,
+          (rest.settling.sound, bound, omega (arith, less, passed)),
+          tree.lowers,
+          subst Asks (sym (parted all b.at at playable.events.in_order late between)) asks,
+        )
+
+    -- it comes to rest so after a loss, or after a tree is cut off
+    abbrev Rests : ℕ → Type 0
+    Rests sound =
+        (HasComeToRest b at × RestsAfterLoss n made now sound)
+        ⊎ ((rest : HasComeToRest b at) × CutsLate n playable.network all b at late rest
+        × (sound ≡ max (2 * way_span v.paths) (gone_by n v.paths v.used_before)))
+
+    rests : (sound : ℕ) → IsCalm n (events_by at all) → NothingLapses n.params → Rests sound
+        → IsRestBoundAfter n all (b.at ∷ earlier) at sound
+    rests sound calm off (inl (rest, loses)) =
+        let (bound, past) = sound_before rest in
+        inr (inl (late, between, calm, off, (rest.settling.sound, bound, past), loses))
+    rests sound calm off (inr (rest, tree, is)) =
+        inr (inr (falls (RestsTree n sound) calm off rest tree (gone_by n v.paths v.used_before, tree.flight, is)))
+
+    -- it has come to rest by what the row of this loss says
+    rests_by : (sound : ℕ) → sound ≡ sound_by n loss v.paths (row_at v) (gained_at n v)
+        → IsSoundSooner n loss v.paths (row_at v) (sound_by n loss v.paths (row_at v) (gained_at n v)) → Rests sound
+    rests_by sound told (inl (row, is)) =
+        let x = lost_end n playable.network all b at late well row in
+        let flight = subst (FlightIsGone n made) (sym (told ∙ is)) x.flight in
+        inl (x.rested, inl (inr (inl (x.fails, inl (x.used, flight)))))
+    rests_by sound told (inr (inl (row, is))) =
+        let (rest, fails, flight) = failed n playable.network all b at late well row in
+        inl (rest, inl (inr (inl (fails, inr (gone_by n v.paths_before v.used_before, flight, told ∙ is)))))
+    rests_by sound told (inr (inr (inl (row, is)))) =
+        let (rest, lowers, flight) = lowered n playable.network all b at late well row in
+        inl (rest, inl (inr (inr (inl (lowers, (gone_by n v.paths v.used_before, flight, told ∙ is))))))
+    rests_by sound told (inr (inr (inr (inl (row, is))))) =
+        let x = cut_off n playable.network all b at late well row in
+        inl (x.rested, inl (inl (x.cuts, (gone_by n v.paths v.used_before, x.flight, told ∙ is))))
+    rests_by sound told (inr (inr (inr (inr (inl (row, is)))))) =
+        let (rest, turns) = turned n playable.network all b at late well row in
+        inl (rest, inl (inr (inr (inr (inl (turns, told ∙ is))))))
+    rests_by sound told (inr (inr (inr (inr (inr (inl (row, long))))))) =
+        let (rest, fails, used) = lost_power n playable.network all b at late well row in
+        let late : max (echo_span (pace_of n) v.paths) v.paths.delay ≤ sound =
+        subst (λ t. max (echo_span (pace_of n) v.paths) v.paths.delay ≤ t) (sym told) long in
+        inl (rest, inl (inr (inr (inr (inr (fails, inl (used, late)))))))
+    rests_by sound told (inr (inr (inr (inr (inr (inr (inl (row, long)))))))) =
+        let (rest, fails) = heard n playable.network all b at late well row in
+        let late : aged_echo_span n loss v.paths ≤ sound =
+        subst (λ t. aged_echo_span n loss v.paths ≤ t) (sym told) long in
+        inl (
+          rest,
+          inl (inr (inr (inr (inr (
+            fails,
+            inr (largest_interval (pace_of n), inr refl, (v.held, held fails, late)),
+          ))))),
+        )
+    rests_by sound told (inr (inr (inr (inr (inr (inr (inr (inl (row, is))))))))) =
+        let (rest, loses, roles) = any_losses n playable.network all b at late row in
+        inl (
+          rest,
+          inr (
+            any_loss_span n loss v.paths,
+            subst (λ t. BoundsAnyLoss n made now (any_loss_span n loss v.paths) t) (sym (told ∙ is))
+                (loses, refl, roles (any_loss_span n loss v.paths)),
+          ),
+        )
+    rests_by sound told (inr (inr (inr (inr (inr (inr (inr (inr (row, is))))))))) =
+        let (rest, tree) = tree_cut n playable.network all b at late well row in inr (rest, tree, told ∙ is)
+
+    -- it has come to rest as soon as it settles from any past, or sooner after a loss
     rest_so : (s : Settling) → IsTelling n v s → IsChoiceBoundAfter n all (b.at ∷ earlier) at settled_by
         → IsRestBoundAfter n all (b.at ∷ earlier) at s.sound
     rest_so s it settles =
-        elim (sound_or_sooner n v.paths_before v.paths silent v.used_before (row_at v) (gained_at n v)) [
+        elim (sound_or_sooner n loss v.paths (row_at v) (gained_at n v)) [
           | inl same ↦ inl (subst (IsChoiceBoundAfter n all (b.at ∷ earlier) at) (sym (it.sound ∙ same)) settles)
-          | inr (off, which) ↦
-              let (rest, loses) = by which in
-              let (bound, past) = sound_before rest in
-              inr (late, between, settles.2.0, off, (rest.settling.sound, bound, past), loses)
+          | inr (off, which) ↦ rests s.sound settles.2.0 off (rests_by s.sound it.sound which)
         ]
-      where
-        by : IsSoundSooner n v.paths_before v.paths silent v.used_before (row_at v)
-            (sound_by n v.paths_before v.paths silent v.used_before (row_at v) (gained_at n v))
-            → HasComeToRest b at × RestsAfterLoss n made now s.sound
-        by (inl (row, is)) =
-            let x = lost_end n playable.network all b at late well row in
-            let flight = subst (FlightIsGone n made) (sym (it.sound ∙ is)) x.flight in
-            (x.rested, inl (inr (inl (x.fails, inl (x.used, flight)))))
-        by (inr (inl (row, is))) =
-            let (rest, fails, flight) = failed n playable.network all b at late well row in
-            (rest, inl (inr (inl (fails, inr (gone_by n v.paths_before v.used_before, flight, it.sound ∙ is)))))
-        by (inr (inr (inl (row, is)))) =
-            let (rest, lowers, flight) = lowered n playable.network all b at late well row in
-            (rest, inl (inr (inr (inl (lowers, (gone_by n v.paths v.used_before, flight, it.sound ∙ is))))))
-        by (inr (inr (inr (inl (row, is))))) =
-            let x = cut_off n playable.network all b at late well row in
-            (x.rested, inl (inl (x.cuts, (gone_by n v.paths v.used_before, x.flight, it.sound ∙ is))))
-        by (inr (inr (inr (inr (inl (row, is)))))) =
-            let (rest, turns) = turned n playable.network all b at late well row in
-            (rest, inl (inr (inr (inr (inl (turns, it.sound ∙ is))))))
-        by (inr (inr (inr (inr (inr (inl (row, long))))))) =
-            let (rest, fails, used) = lost_power n playable.network all b at late well row in
-            let late : max (echo_span n v.paths) v.paths.delay ≤ s.sound =
-            subst (λ t. max (echo_span n v.paths) v.paths.delay ≤ t) (sym it.sound) long in
-            (rest, inl (inr (inr (inr (inr (fails, inl (used, late)))))))
-        by (inr (inr (inr (inr (inr (inr (inl (row, long)))))))) =
-            let (rest, fails) = heard n playable.network all b at late well row in
-            let late : aged_echo_span n v.paths_before v.paths ≤ s.sound =
-            subst (λ t. aged_echo_span n v.paths_before v.paths ≤ t) (sym it.sound) long in (
-              rest,
-              inl (inr (inr (inr (inr (
-                fails,
-                inr (largest_interval (pace_of n), inr refl, (held_span n v.paths_before, held_for fails, late)),
-              ))))),
-            )
-        by (inr (inr (inr (inr (inr (inr (inr (row, is)))))))) =
-            let (rest, loses, roles) = any_losses n playable.network all b at late row in (
-              rest,
-              inr (
-                loss_span n v.paths_before v.paths,
-                subst (λ t. BoundsAnyLoss n made now (loss_span n v.paths_before v.paths) t) (sym (it.sound ∙ is))
-                    (loses, refl, roles (loss_span n v.paths_before v.paths)),
-              ),
-            )
 
     -- the choice and the roles stand by then, or sooner after a loss
     record IsSooner (s : Settling) : Type 0 where
@@ -266,22 +309,7 @@ module _ (d : DocumentState) (playable : IsPlayable d) where
         let (bound, past) = sound_before rest in
         inl (late, between, settles.2.0, off, (rest.settling.sound, bound, past), loses)
     lost s settles off (inr (rest, tree, choice, roles)) =
-        let bound = (sound_before rest).0 in
-        let then = so rest.settling rest.is in
-        let less = then.rest in
-        let passed = tree.longer in
-        inr (
-          late,
-          between,
-          settles.2.0,
-          off,
-          (rest.settling.sound, bound, omega (arith, less, passed)),
-          tree.lowers,
-          choice
-              ∙ ap (λ es. 2 * way_span (sync_paths n es))
-              (sym (parted all b.at at playable.events.in_order late between)),
-          roles,
-        )
+        inr (falls (BoundsTree n s.choice s.roles) settles.2.0 off rest tree (choice, roles))
 
     -- what ages does no later than ports beside a failed system are off
     ages_first : (aged quiet : ℕ) → BoundsAging n made now aged quiet → aged ≤ quiet
@@ -307,8 +335,8 @@ module _ (d : DocumentState) (playable : IsPlayable d) where
 
     -- what is lost at this time asks for what its row says
     asks_by : (r : Row) → row_at v ≡ r → HasOwnBounds r
-        → Asks (choice_of_row n v.paths_before v.paths r (gained_at n v))
-        (roles_of_row n v.paths_before v.paths silent r (gained_at n v))
+        → Asks (choice_of_row n loss v.paths r (gained_at n v))
+        (roles_of_row n loss v.paths r (gained_at n v))
     asks_by AnyPast row own = absurd own
     asks_by Unchanged row own = absurd own
     asks_by Gained row own = absurd own
@@ -342,7 +370,7 @@ module _ (d : DocumentState) (playable : IsPlayable d) where
           rest,
           inr (inr (inr (inl (
             fails,
-            (held_span n v.paths_before, silence_span (pace_of n), inr (held_for fails, refl), inl (refl, refl)),
+            (v.held, silence_span (pace_of n), inr (held fails, refl), inl (refl, refl)),
           )))),
         )
     asks_by FailureCutsOff row own =
@@ -351,15 +379,15 @@ module _ (d : DocumentState) (playable : IsPlayable d) where
           rest,
           inr (inr (inr (inl (
             fails,
-            (held_span n v.paths_before, silence_span (pace_of n), inr (held_for fails, refl), inr (refl, refl)),
+            (v.held, silence_span (pace_of n), inr (held fails, refl), inr (refl, refl)),
           )))),
         )
     asks_by AnyLosses row own =
         let (rest, loses, roles) = any_losses n playable.network all b at late row in
-        inl (rest, inr (inr (inr (inr (loses, refl, roles (loss_span n v.paths_before v.paths))))))
+        inl (rest, inr (inr (inr (inr (loses, refl, roles (any_loss_span n loss v.paths))))))
 
     sooner_so : (s : Settling) → IsTelling n v s → IsChoiceBoundAfter n all (b.at ∷ earlier) at settled_by → IsSooner s
-    sooner_so s it settles = elim (choice_or_own n v.paths_before v.paths silent (row_at v) (gained_at n v)) [
+    sooner_so s it settles = elim (choice_or_own n loss v.paths (row_at v) (gained_at n v)) [
       | inl (choice_same, roles_same) ↦
           let choice : settled_by ≡ s.choice = sym choice_same ∙ sym it.choice in
           let roles : settled_by ≡ s.roles = sym roles_same ∙ sym it.roles in
@@ -372,7 +400,7 @@ module _ (d : DocumentState) (playable : IsPlayable d) where
           let asks =
           subst (λ roles. Asks s.choice roles) (sym (it.roles ∙ roles_is))
           (subst (λ choice. Asks choice
-          (roles_of_row n v.paths_before v.paths silent (row_at v) (gained_at n v))) (sym (it.choice ∙ choice_is))
+          (roles_of_row n loss v.paths (row_at v) (gained_at n v))) (sym (it.choice ∙ choice_is))
           (asks_by (row_at v) refl own)) in
           let bound = lost s settles off asks in
           record {

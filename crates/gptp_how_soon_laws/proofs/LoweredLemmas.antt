@@ -29,11 +29,12 @@ use Rattle.gptp_how_soon.proofs.RoundsLemmas.{Touches}
 use Rattle.gptp_how_soon.specs.Kinds.{is_link_down, is_loss, is_lowering, lowers_one}
 use Rattle.gptp_how_soon.specs.Links.{is_lost}
 use Rattle.gptp_how_soon.specs.Times.{told_at, told_of}
-use Rattle.gptp_settling_time.specs.HowSoon.{LowersOneLink}
+use Rattle.gptp_settling_time.specs.HowSoon.{LowersOneLink, OneEvent}
 use Rattle.gptp_settling_time.specs.Losses.{IsCutOff, IsUnmoved, IsUnmovedOrCutOff, LowersLink, MovesNoneJoined, UpIsUsed}
 use Rattle.gptp_settling_time.proofs.EventStillLemmas.{at_end}
 use Rattle.gptp_how_soon_laws.proofs.ToldLemmas.{link_down_is, loss_lowers}
-use Rattle.gptp_how_soon_laws.proofs.UnmovedLemmas.{AreWell, clock_over, none_joined_there, unmoved_at}
+use Rattle.gptp_how_soon_laws.proofs.UnmovedLemmas.{AreWell, none_joined_there, unmoved_at}
+use Rattle.gptp_how_soon_laws.proofs.WorseningLemmas.{clock_over}
 
 -- a link that touches a place ends there
 pub joined_by : (n : NetworkState) (events : List Timed) (place i : ℕ) → Touches (used_ends n events) place i
@@ -166,17 +167,27 @@ lowers_one_link n network made (event ∷ []) well unmoved delay paths few is =
     lowers_link n network made event well unmoved delay paths few is
 lowers_one_link n network made (event ∷ other ∷ events) well unmoved delay paths few is = absurd cc
 
+-- by it a link goes down
+abbrev pub GoesDown : List Timed → Timed → Type 0
+GoesDown made event = (clock : ℕ) × (port : ℕ) × (event.act ≡ acts.Change (changes.LinkDown clock port))
+
+-- what is so of the one event is so by another word
+pub one_as : (P Q : List Timed → Timed → Type 0) (made now : List Timed)
+    → ((event : Timed) → P made event → Q made event) → OneEvent P made now → OneEvent Q made now
+one_as P Q made [] each is = is
+one_as P Q made (event ∷ []) each is = each event is
+one_as P Q made (event ∷ other ∷ events) each is = is
+
 -- where each link that is up was in use, each is after such an event
-pub used_on : (n : NetworkState) (made now : List Timed) → LowersOneLink n made now → UpIsUsed n made
+pub used_on : (n : NetworkState) (made now : List Timed) → OneEvent GoesDown made now → UpIsUsed n made
     → UpIsUsed n (made ++ now)
-used_on n made [] lowers used place v there up = absurd lowers
-used_on n made (event ∷ other ∷ events) lowers used place v there up = absurd lowers
-used_on n made (event ∷ []) lowers used place v there up = by (is_at lowers.clock lowers.port (link_after made v)) refl
+used_on n made [] down used place v there up = absurd down
+used_on n made (event ∷ other ∷ events) down used place v there up = absurd down
+used_on n made (event ∷ []) (clock, port, act) used place v there up = by (is_at clock port (link_after made v)) refl
   where
     now_is : link_after (made ++ event ∷ []) v
-        ≡ (if is_at lowers.clock lowers.port (link_after made v) then with_up false (link_after made v)
-        else link_after made v)
-    now_is = link_behind made event v ∙ ap (λ act. link_acted act (link_after made v)) lowers.act
+        ≡ (if is_at clock port (link_after made v) then with_up false (link_after made v) else link_after made v)
+    now_is = link_behind made event v ∙ ap (λ a. link_acted a (link_after made v)) act
 
     lives_on : (name : ℕ) → IsLive n.systems made name → IsLive n.systems (made ++ event ∷ []) name
     lives_on name live = record {
@@ -185,12 +196,11 @@ used_on n made (event ∷ []) lowers used place v there up = by (is_at lowers.cl
       there = live.there;
       clock = live.clock;
       live = ap (λ s. s.live) (system_behind made event (clock_of live.system.identity) (standing live.system))
-          ∙ ap (λ act. (system_acted act (clock_of live.system.identity) (system_after made live.system)).live)
-          lowers.act
+          ∙ ap (λ a. (system_acted a (clock_of live.system.identity) (system_after made live.system)).live) act
           ∙ live.live;
     }
 
-    by : (at : Bool) → is_at lowers.clock lowers.port (link_after made v) ≡ at
+    by : (at : Bool) → is_at clock port (link_after made v) ≡ at
         → IsUsed n.systems (made ++ event ∷ []) (link_after (made ++ event ∷ []) v)
     by true is =
         let down : (link_after (made ++ event ∷ []) v).up ≡ false =
@@ -205,6 +215,5 @@ used_on n made (event ∷ []) lowers used place v there up = by (is_at lowers.cl
         (record {
           up = was.up;
           a = lives_on (link_after made v).a.clock was.a;
-          b = lives_on (link_after made v).b.clock
-              was.b;
+          b = lives_on (link_after made v).b.clock was.b;
         })

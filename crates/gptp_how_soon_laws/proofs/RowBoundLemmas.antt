@@ -8,21 +8,20 @@ use Rattle.gptp_setup.specs.SettlingParams.{largest_interval}
 use Rattle.gptp_scenario.specs.Calm.{NothingLapses}
 use Rattle.gptp_scenario.specs.Network.{NetworkState, pace_of}
 use Rattle.gptp_scenario.specs.SettlingAtOnce.{settling_span_at_once}
-use Rattle.gptp_scenario.specs.SettlingTime.{settling_span_with, window_span}
+use Rattle.gptp_scenario.specs.SettlingTime.{echo_span, settling_span_with, silence_span, way_span, window_span}
 use Rattle.gptp_scenario.specs.SyncWait.{sync_paths}
 use Rattle.gptp_scenario.specs.declared.change.Timed.{Timed}
 use Rattle.gptp_scenario.specs.declared.sync_wait.SyncPaths.{SyncPaths}
 use Rattle.gptp_topology.specs.After.{is_calm}
-use Rattle.gptp_how_soon.specs.Bounds.{aged_echo_span, choice_by, choice_of_row, echo_span, gone_by, roles_after_losses, roles_by, roles_of_row, settled, sound_by, sound_of_row}
+use Rattle.gptp_how_soon.specs.Bounds.{aged_echo_span, choice_by, choice_of_row, gone_by, roles_after_losses, roles_by, roles_of_row, settled, sound_by, sound_of_row}
 use Rattle.gptp_how_soon.specs.Kinds.{sets_link}
-use Rattle.gptp_how_soon.specs.Rest.{leaves_silent}
-use Rattle.gptp_how_soon.specs.Times.{View, gained_at, row_at, settling_time}
+use Rattle.gptp_how_soon.specs.Times.{View, gained_at, loss_at, row_at, settling_time}
+use Rattle.gptp_how_soon.specs.declared.bounds.Loss.{Loss}
 use Rattle.gptp_how_soon.specs.declared.bounds.Row.{Row}
 use Rattle.gptp_how_soon.specs.declared.bounds.Row.TheVariants.{AnyLosses, AnyPast, CutOff, FailedEnd, FailedHeard, FailureCutsOff, Gained, LostEnd, LostPower, Lowered, OneTurned, PowerCutsOff, TreeCutOff, Unchanged}
 use Rattle.gptp_how_soon.specs.declared.bounds.Settling.{Settling}
-use Rattle.gptp_settling_time.specs.HowSoon.{BoundsChoice, way_span}
+use Rattle.gptp_settling_time.specs.HowSoon.{BoundsChoice}
 use Rattle.gptp_topology.proofs.RestLemmas.{calm_from}
-use Rattle.gptp_invariants.specs.FailedUnanswered.{silence_span}
 
 -- what bounds the choice where no loss has a bound of its own
 abbrev pub past_row : Row → Row
@@ -42,12 +41,12 @@ past_row AnyLosses = AnyPast
 past_row Gained = Gained
 
 -- by its row it is bounded how soon a calm network settles
-pub bounds_choice : (n : NetworkState) (Sharp : ℕ → Type 0) (before : SyncPaths) (events : List Timed) (row : Row)
+pub bounds_choice : (n : NetworkState) (Sharp : ℕ → Type 0) (loss : Loss) (events : List Timed) (row : Row)
     (gained : ℕ) → is_calm n events ≡ true → (row ≡ Unchanged → Sharp 0)
     → (row ≡ Gained → NothingLapses n.params → Sharp gained)
-    → BoundsChoice n (Sharp (choice_by n before (sync_paths n events) (past_row row) gained)) events
-    (choice_by n before (sync_paths n events) (past_row row) gained)
-bounds_choice n Sharp before events row gained calm unchanged is_gained =
+    → BoundsChoice n (Sharp (choice_by n loss (sync_paths n events) (past_row row) gained)) events
+    (choice_by n loss (sync_paths n events) (past_row row) gained)
+bounds_choice n Sharp loss events row gained calm unchanged is_gained =
     (calm_from n events calm, by (n.params.sync_timeout == 0) refl)
   where
     span : ℕ
@@ -55,7 +54,7 @@ bounds_choice n Sharp before events row gained calm unchanged is_gained =
 
     -- as the row says
     past : Row → ℕ
-    past r = choice_of_row n before (sync_paths n events) (past_row r) gained
+    past r = choice_of_row n loss (sync_paths n events) (past_row r) gained
 
     by_row : NothingLapses n.params → (r : Row) → row ≡ r
         → (past r ≡ settling_span_at_once (pace_of n) (sync_paths n events)) ⊎ Sharp (past r)
@@ -90,26 +89,26 @@ HasOwnBounds Gained = ⊥
 HasOwnBounds row = ⊤
 
 -- The choice and the roles stand by the same bound. Or nothing lapses, and they have what the row of a loss says.
-pub choice_or_own : (n : NetworkState) (before paths : SyncPaths) (silent : Bool) (row : Row) (gained : ℕ)
-    → ((choice_by n before paths row gained ≡ choice_by n before paths (past_row row) gained)
-    × (roles_by n before paths silent row gained ≡ choice_by n before paths (past_row row) gained))
+pub choice_or_own : (n : NetworkState) (loss : Loss) (paths : SyncPaths) (row : Row) (gained : ℕ)
+    → ((choice_by n loss paths row gained ≡ choice_by n loss paths (past_row row) gained)
+    × (roles_by n loss paths row gained ≡ choice_by n loss paths (past_row row) gained))
     ⊎ (NothingLapses n.params × HasOwnBounds row
-    × (choice_by n before paths row gained ≡ choice_of_row n before paths row gained)
-    × (roles_by n before paths silent row gained ≡ roles_of_row n before paths silent row gained))
-choice_or_own n before paths silent row gained = by (n.params.sync_timeout == 0) refl row
+    × (choice_by n loss paths row gained ≡ choice_of_row n loss paths row gained)
+    × (roles_by n loss paths row gained ≡ roles_of_row n loss paths row gained))
+choice_or_own n loss paths row gained = by (n.params.sync_timeout == 0) refl row
   where
     span : ℕ
     span = settling_span_with (pace_of n) paths paths.systems
 
     by : (off : Bool) → (n.params.sync_timeout == 0) ≡ off → (r : Row)
-        → ((cond (not off) span (choice_of_row n before paths r gained)
-        ≡ cond (not off) span (choice_of_row n before paths (past_row r) gained))
-        × (cond (not off) span (roles_of_row n before paths silent r gained)
-        ≡ cond (not off) span (choice_of_row n before paths (past_row r) gained)))
+        → ((cond (not off) span (choice_of_row n loss paths r gained)
+        ≡ cond (not off) span (choice_of_row n loss paths (past_row r) gained))
+        × (cond (not off) span (roles_of_row n loss paths r gained)
+        ≡ cond (not off) span (choice_of_row n loss paths (past_row r) gained)))
         ⊎ (NothingLapses n.params × HasOwnBounds r
-        × (cond (not off) span (choice_of_row n before paths r gained) ≡ choice_of_row n before paths r gained)
-        × (cond (not off) span (roles_of_row n before paths silent r gained)
-        ≡ roles_of_row n before paths silent r gained))
+        × (cond (not off) span (choice_of_row n loss paths r gained) ≡ choice_of_row n loss paths r gained)
+        × (cond (not off) span (roles_of_row n loss paths r gained)
+        ≡ roles_of_row n loss paths r gained))
     by false is r = inl (refl, refl)
     by true is AnyPast = inl (refl, refl)
     by true is Unchanged = inl (refl, refl)
@@ -127,38 +126,38 @@ choice_or_own n before paths silent row gained = by (n.params.sync_timeout == 0)
     by true is AnyLosses = inr (eqb-true n.params.sync_timeout 0 is, tt, refl, refl)
 
 -- All is sound by that bound. Or nothing lapses, and it is sooner after a loss.
-abbrev pub IsSoundSooner : NetworkState → SyncPaths → SyncPaths → Bool → Bool → Row → ℕ → Type 0
-IsSoundSooner n before paths silent used_before row sound =
-    ((row ≡ LostEnd) × (sound ≡ gone_by n before used_before))
-    ⊎ (((row ≡ FailedEnd) × (sound ≡ max (silence_span (pace_of n)) (gone_by n before used_before)))
-    ⊎ (((row ≡ Lowered) × (sound ≡ max (echo_span n paths) (gone_by n paths used_before)))
-    ⊎ (((row ≡ CutOff) × (sound ≡ max (2 * way_span paths) (gone_by n paths used_before)))
-    ⊎ (((row ≡ OneTurned) × (sound ≡ 2 * way_span paths + echo_span n paths))
-    ⊎ ((((row ≡ LostPower) ⊎ (row ≡ PowerCutsOff)) × (max (echo_span n paths) paths.delay ≤ sound))
-    ⊎ ((((row ≡ FailedHeard) ⊎ (row ≡ FailureCutsOff)) × (aged_echo_span n before paths ≤ sound))
-    ⊎ ((row ≡ AnyLosses) × (sound ≡ roles_after_losses n before paths silent))))))))
+abbrev pub IsSoundSooner : NetworkState → Loss → SyncPaths → Row → ℕ → Type 0
+IsSoundSooner n loss paths row sound =
+    ((row ≡ LostEnd) × (sound ≡ gone_by n loss.paths_before loss.used_before))
+    ⊎ (((row ≡ FailedEnd) × (sound ≡ max (silence_span (pace_of n)) (gone_by n loss.paths_before loss.used_before)))
+    ⊎ (((row ≡ Lowered) × (sound ≡ max (echo_span (pace_of n) paths) (gone_by n paths loss.used_before)))
+    ⊎ (((row ≡ CutOff) × (sound ≡ max (2 * way_span paths) (gone_by n paths loss.used_before)))
+    ⊎ (((row ≡ OneTurned) × (sound ≡ 2 * way_span paths + echo_span (pace_of n) paths))
+    ⊎ ((((row ≡ LostPower) ⊎ (row ≡ PowerCutsOff)) × (max (echo_span (pace_of n) paths) paths.delay ≤ sound))
+    ⊎ ((((row ≡ FailedHeard) ⊎ (row ≡ FailureCutsOff)) × (aged_echo_span n loss paths ≤ sound))
+    ⊎ (((row ≡ AnyLosses) × (sound ≡ roles_after_losses n loss paths))
+    ⊎ ((row ≡ TreeCutOff) × (sound ≡ max (2 * way_span paths) (gone_by n paths loss.used_before))))))))))
 
-pub sound_or_sooner : (n : NetworkState) (before paths : SyncPaths) (silent used_before : Bool) (row : Row)
+pub sound_or_sooner : (n : NetworkState) (loss : Loss) (paths : SyncPaths) (row : Row)
     (gained : ℕ)
-    → (sound_by n before paths silent used_before row gained ≡ choice_by n before paths (past_row row) gained)
+    → (sound_by n loss paths row gained ≡ choice_by n loss paths (past_row row) gained)
     ⊎ (NothingLapses n.params
-    × IsSoundSooner n before paths silent used_before row (sound_by n before paths silent used_before row gained))
-sound_or_sooner n before paths silent used_before row gained = by (n.params.sync_timeout == 0) refl row
+    × IsSoundSooner n loss paths row (sound_by n loss paths row gained))
+sound_or_sooner n loss paths row gained = by (n.params.sync_timeout == 0) refl row
   where
     span : ℕ
     span = settling_span_with (pace_of n) paths paths.systems
 
     by : (off : Bool) → (n.params.sync_timeout == 0) ≡ off → (r : Row)
-        → (cond (not off) span (sound_of_row n before paths silent used_before r gained)
-        ≡ cond (not off) span (choice_of_row n before paths (past_row r) gained))
+        → (cond (not off) span (sound_of_row n loss paths r gained)
+        ≡ cond (not off) span (choice_of_row n loss paths (past_row r) gained))
         ⊎ (NothingLapses n.params
-        × IsSoundSooner n before paths silent used_before r
-        (cond (not off) span (sound_of_row n before paths silent used_before r gained)))
+        × IsSoundSooner n loss paths r
+        (cond (not off) span (sound_of_row n loss paths r gained)))
     by false is r = inl refl
     by true is AnyPast = inl refl
     by true is Unchanged = inl refl
     by true is Gained = inl refl
-    by true is TreeCutOff = inl refl
     by true is LostEnd = inr (eqb-true n.params.sync_timeout 0 is, inl (refl, refl))
     by true is FailedEnd = inr (eqb-true n.params.sync_timeout 0 is, inr (inl (refl, refl)))
     by true is Lowered = inr (eqb-true n.params.sync_timeout 0 is, inr (inr (inl (refl, refl))))
@@ -173,15 +172,16 @@ sound_or_sooner n before paths silent used_before row gained = by (n.params.sync
     by true is FailureCutsOff =
         inr (eqb-true n.params.sync_timeout 0 is, inr (inr (inr (inr (inr (inr (inl (inr refl, omega arith))))))))
     by true is AnyLosses =
-        inr (eqb-true n.params.sync_timeout 0 is, inr (inr (inr (inr (inr (inr (inr (refl, refl))))))))
+        inr (eqb-true n.params.sync_timeout 0 is, inr (inr (inr (inr (inr (inr (inr (inl (refl, refl)))))))))
+    by true is TreeCutOff =
+        inr (eqb-true n.params.sync_timeout 0 is, inr (inr (inr (inr (inr (inr (inr (inr (refl, refl)))))))))
 
 -- what is told of a calm network
 pub record IsTelling (n : NetworkState) (v : View) (s : Settling) : Type 0 where
   pub calm : v.calm ≡ true
-  pub choice : s.choice ≡ choice_by n v.paths_before v.paths (row_at v) (gained_at n v)
-  pub sound : s.sound
-      ≡ sound_by n v.paths_before v.paths (leaves_silent v.used v.told) v.used_before (row_at v) (gained_at n v)
-  pub roles : s.roles ≡ roles_by n v.paths_before v.paths (leaves_silent v.used v.told) (row_at v) (gained_at n v)
+  pub choice : s.choice ≡ choice_by n (loss_at v) v.paths (row_at v) (gained_at n v)
+  pub sound : s.sound ≡ sound_by n (loss_at v) v.paths (row_at v) (gained_at n v)
+  pub roles : s.roles ≡ roles_by n (loss_at v) v.paths (row_at v) (gained_at n v)
   pub rest : s.sound ≤ s.rest
   pub exact : max (v.at + s.roles) (v.last_set + largest_interval (pace_of n)) + window_span n.params
       + v.paths.systems * (n.params.threshold + n.params.residence)
@@ -191,11 +191,7 @@ pub tells : (n : NetworkState) (v : View) (s : Settling) → (settling_time n v)
 tells n v s is = by v.calm refl is
   where
     it : Settling
-    it =
-        settled n v.at v.last_set v.paths (sets_link v.told)
-        (choice_by n v.paths_before v.paths (row_at v) (gained_at n v))
-        (roles_by n v.paths_before v.paths (leaves_silent v.used v.told) (row_at v) (gained_at n v))
-        (sound_by n v.paths_before v.paths (leaves_silent v.used v.told) v.used_before (row_at v) (gained_at n v))
+    it = settled n v.at v.last_set (loss_at v) v.paths (sets_link v.told) (row_at v) (gained_at n v)
 
     by : (calm : Bool) → v.calm ≡ calm → (if calm then Some it else None) ≡ Some s → IsTelling n v s
     by true calm told =

@@ -11,6 +11,7 @@ use Rattle.gptp_setup.specs.SettlingParams.{largest_interval}
 use Rattle.gptp_scenario.specs.Calm.{NothingLapses}
 use Rattle.gptp_scenario.specs.Network.{IsNetwork, NetworkState, pace_of}
 use Rattle.gptp_scenario.specs.Prompt.{DelayFitsInterval}
+use Rattle.gptp_scenario.specs.SettlingTime.{silence_span, way_span}
 use Rattle.gptp_scenario.specs.SyncWait.{sync_paths}
 use Rattle.gptp_scenario.specs.declared.change.Act.{Act}
 use Rattle.gptp_scenario.specs.declared.change.Act.TheVariants as acts
@@ -36,21 +37,21 @@ use Rattle.gptp_how_soon.specs.declared.kinds.Told.{Told}
 use Rattle.gptp_how_soon.specs.declared.kinds.What.{What}
 use Rattle.gptp_how_soon.specs.declared.kinds.What.TheVariants as whats
 use Rattle.gptp_settling_time.specs.Gains.{HasDelaysWithin}
-use Rattle.gptp_settling_time.specs.HowSoon.{AreWiderEvents, BoundsGains, CutsOneEnd, EachEvent, FailsEndFirst, FailsHeardFirst, IsStillEvent, LosesEvents, LowersOneLink, OneEvent, RolesAfterLoss, TurnsOneLink, way_span}
+use Rattle.gptp_settling_time.specs.HowSoon.{AreWiderEvents, BoundsGains, CutsOneEnd, EachEvent, FailsEndFirst, FailsHeardFirst, IsStillEvent, LosesEvents, LowersOneLink, OneEvent, RolesAfterLoss, TurnsOneLink}
 use Rattle.gptp_settling_time.specs.InTurn.{FlightIsGone}
-use Rattle.gptp_invariants.specs.FailedUnanswered.{silence_span}
-use Rattle.gptp_settling_time.specs.Losses.{UpIsUsed}
+use Rattle.gptp_settling_time.specs.Losses.{LowersLink, UpIsUsed}
 use Rattle.gptp_settling_time.specs.TreeLosses.{LowersTree}
 use Rattle.gptp_settling_time.proofs.CutLemmas.{IsBy, all_by}
 use Rattle.gptp_settling_time.proofs.LeadOnLemmas.{all_still}
 use Rattle.gptp_settling_time.proofs.MomentLemmas.{all_at}
 use Rattle.gptp_how_soon_laws.proofs.AnyLossLemmas.{all_losses, none_fails}
-use Rattle.gptp_how_soon_laws.proofs.GainedLemmas.{AreFollowed, AreTurnsFollowed, all_gained, all_heard, all_idle, all_wider}
+use Rattle.gptp_how_soon_laws.proofs.GainLemmas.{AreFollowed, AreTurnsFollowed}
+use Rattle.gptp_how_soon_laws.proofs.GainedLemmas.{all_gained, all_heard, all_idle, all_wider}
 use Rattle.gptp_how_soon_laws.proofs.KindLemmas.{told}
 use Rattle.gptp_how_soon_laws.proofs.FailedLemmas.{fails_end_first, fails_heard_first, used_up}
 use Rattle.gptp_how_soon_laws.proofs.CutOffLemmas.{cuts_one_end}
-use Rattle.gptp_how_soon_laws.proofs.LoweredLemmas.{lowers_one_link, used_on}
-use Rattle.gptp_how_soon_laws.proofs.TreeLemmas.{lowers_tree}
+use Rattle.gptp_how_soon_laws.proofs.LoweredLemmas.{GoesDown, lowers_one_link, one_as, used_on}
+use Rattle.gptp_how_soon_laws.proofs.TreeEventLemmas.{lowers_tree}
 use Rattle.gptp_how_soon_laws.proofs.TurnedLemmas.{turns_one_link}
 use Rattle.gptp_how_soon_laws.proofs.UnmovedLemmas.{AreWell, all_still_unmoved}
 use Rattle.gptp_how_soon_laws.proofs.RowReasonLemmas.{ReasonOf, reason_of}
@@ -188,7 +189,8 @@ module _ (n : NetworkState) (network : IsNetwork n) (events : List Timed) (b : S
   abbrev Why : Row → Type 0
   Why =
       ReasonOf (is_from_rest v.longest at v.paths_before v.paths v.told (Some b))
-      (list_all makes_nothing v.told || begins_wider v.told) (are_losses_followed v.paths_before v.told && not v.moves.moved)
+      (list_all makes_nothing v.told || begins_wider v.told)
+      (are_losses_followed v.paths_before v.told && not v.moves.moved)
       (is_lowering_followed v.paths_before v.paths v.told && not v.moves.moved) v.moves.cut
       (is_lowering_followed v.paths_before v.paths v.told && v.moves.turned)
       (is_lowering_followed v.paths_before v.paths v.told && v.moves.falls)
@@ -198,7 +200,8 @@ module _ (n : NetworkState) (network : IsNetwork n) (events : List Timed) (b : S
   why : (row : Row) → row_at v ≡ row → Why row
   why row is =
       reason_of (is_from_rest v.longest at v.paths_before v.paths v.told (Some b))
-      (list_all makes_nothing v.told || begins_wider v.told) (are_losses_followed v.paths_before v.told && not v.moves.moved)
+      (list_all makes_nothing v.told || begins_wider v.told)
+      (are_losses_followed v.paths_before v.told && not v.moves.moved)
       (is_lowering_followed v.paths_before v.paths v.told && not v.moves.moved) v.moves.cut
       (is_lowering_followed v.paths_before v.paths v.told && v.moves.turned)
       (is_lowering_followed v.paths_before v.paths v.told && v.moves.falls)
@@ -409,7 +412,8 @@ module _ (n : NetworkState) (network : IsNetwork n) (events : List Timed) (b : S
       let (keeps, one) = and_parts (keeps_paths v.paths_before v.paths) (kind v.told) followed in
       record {
         one = one;
-        unmoved = counts_joined (takes_one v.told) n made (made ++ now) (takes v.told one) (not-true v.moves.moved none);
+        unmoved = counts_joined (takes_one v.told) n made (made ++ now) (takes v.told one)
+            (not-true v.moves.moved none);
         keeps = keeps_so keeps;
       }
 
@@ -457,12 +461,16 @@ module _ (n : NetworkState) (network : IsNetwork n) (events : List Timed) (b : S
       by false is = inr refl
 
   -- so it is after a link goes down
-  flight_on : LowersOneLink n made now → FlightIsGone n (made ++ now) (gone_by n v.paths v.used_before)
-  flight_on lowers = by v.used_before refl
+  flight_on : OneEvent GoesDown made now → FlightIsGone n (made ++ now) (gone_by n v.paths v.used_before)
+  flight_on down = by v.used_before refl
     where
       by : (used : Bool) → v.used_before ≡ used → FlightIsGone n (made ++ now) (gone_by n v.paths used)
-      by true is = inl (used_on n made now lowers (used_up n network made is), refl)
+      by true is = inl (used_on n made now down (used_up n network made is), refl)
       by false is = inr refl
+
+  flight_lowered : LowersOneLink n made now → FlightIsGone n (made ++ now) (gone_by n v.paths v.used_before)
+  flight_lowered lowers =
+      flight_on (one_as (LowersLink n) GoesDown made now (λ event l. (l.clock, l.port, l.act)) lowers)
 
   -- what stands goes on, as a link goes down by the one event and no system is moved
   pub lowered : AreWell n (made ++ now) → row_at v ≡ Lowered
@@ -470,7 +478,7 @@ module _ (n : NetworkState) (network : IsNetwork n) (events : List Timed) (b : S
   lowered well row =
       let (from, lowers) = why Lowered row in
       let one = lowers_so well lowers in
-      ((from_rest from).rested, one, flight_on one)
+      ((from_rest from).rested, one, flight_lowered one)
 
   -- or a system loses its power that others heard
   pub lost_power : AreWell n (made ++ now) → (row_at v ≡ LostPower) ⊎ (row_at v ≡ PowerCutsOff)
@@ -498,7 +506,7 @@ module _ (n : NetworkState) (network : IsNetwork n) (events : List Timed) (b : S
         rested = (from_rest from).rested;
         cuts = cuts_so well lowers cut;
         lowers = one;
-        flight = flight_on one;
+        flight = flight_lowered one;
       }
 
   -- or a far end loses its power
@@ -531,6 +539,7 @@ module _ (n : NetworkState) (network : IsNetwork n) (events : List Timed) (b : S
   pub record CutsLate (rest : HasComeToRest b at) : Type 0 where
     pub lowers : OneEvent (LowersTree n) made now
     pub longer : b.at + (rest.settling.rest + largest_interval (pace_of n)) < at
+    pub flight : FlightIsGone n (made ++ now) (gone_by n v.paths v.used_before)
 
   pub tree_cut : AreWell n (made ++ now) → row_at v ≡ TreeCutOff → (rest : HasComeToRest b at) × CutsLate rest
   tree_cut well row =
@@ -541,11 +550,13 @@ module _ (n : NetworkState) (network : IsNetwork n) (events : List Timed) (b : S
       and_parts (has_rested_for (largest_interval (pace_of n)) (Some b) at) (cuts_tree_after n made (made ++ now))
       both in
       let x = keeps_so keeps in
-      let rest = (from_rest from).rested in (
+      let rest = (from_rest from).rested in
+      let one = lowers_tree n network made now well tree x.delay x.paths x.few lowers in (
         rest,
         record {
-          lowers = lowers_tree n network made now well tree x.delay x.paths x.few lowers;
+          lowers = one;
           longer = rested_for_so (largest_interval (pace_of n)) b at rest.settling rest.is late;
+          flight = flight_on (one_as (LowersTree n) GoesDown made now (λ event l. (l.clock, l.port, l.act)) one);
         },
       )
 

@@ -6,8 +6,8 @@ use Rattle.gptp_how_soon.specs.declared.bounds.Row.{Row}
 use Rattle.gptp_how_soon.specs.declared.bounds.Row.TheVariants.{AnyLosses, AnyPast, CutOff, FailedEnd, FailedHeard, FailureCutsOff, Gained, LostEnd, LostPower, Lowered, OneTurned, PowerCutsOff, TreeCutOff, Unchanged}
 
 -- It is from rest or isn't; its events change nothing; they are losses that leave what stands; a link goes down, and it
--- cuts off a far end; one system turns; a tree falls off; a system fails, it was a far end, another is cut off, and each
--- link that is up is in use; an event is a loss, and none brings anything.
+-- cuts off a far end; one system turns; a tree falls off; a system fails, it was a far end, another is cut off, and
+-- each link that is up is in use; an event is a loss, and none brings anything.
 abbrev pub RowBy : Bool → Bool → Bool → Bool → Bool → Bool → Bool → Bool → Bool → Bool → Bool → Bool → Bool → Row
 RowBy rest idle left lowers cut turns falls fails far any used loss only =
     if not rest then AnyPast else if idle then Unchanged else if left then Unchanged

@@ -10,6 +10,7 @@ use Rattle.gptp_setup.specs.SettlingParams.{largest_interval}
 use Rattle.gptp_scenario.specs.Calm.{IsUsed}
 use Rattle.gptp_scenario.specs.Change.{link_after}
 use Rattle.gptp_scenario.specs.Network.{NetworkState, pace_of}
+use Rattle.gptp_scenario.specs.SettlingTime.{way_span}
 use Rattle.gptp_scenario.specs.SyncWait.{sync_paths}
 use Rattle.gptp_scenario.specs.declared.change.Act.{Act}
 use Rattle.gptp_scenario.specs.declared.change.Act.TheVariants as acts
@@ -25,15 +26,16 @@ use Rattle.gptp_how_soon.specs.Kinds.{is_idle, is_recover, is_recovery, is_recov
 use Rattle.gptp_how_soon.specs.Links.{is_new, new_links, varies}
 use Rattle.gptp_how_soon.specs.Rest.{is_from_rest}
 use Rattle.gptp_how_soon.specs.Times.{gained_at, row_at, told_at, told_of, view_at}
+use Rattle.gptp_how_soon.specs.declared.bounds.Loss.{Loss}
 use Rattle.gptp_how_soon.specs.declared.bounds.Row.TheVariants.{AnyPast, Gained, Unchanged}
 use Rattle.gptp_how_soon.specs.declared.kinds.Kind.{Kind}
 use Rattle.gptp_how_soon.specs.declared.kinds.Told.{Told}
 use Rattle.gptp_how_soon.specs.declared.kinds.What.{What}
 use Rattle.gptp_how_soon.specs.declared.kinds.What.TheVariants as whats
-use Rattle.gptp_settling_time.specs.HowSoon.{AreReadyAtStart, AreStartEvents, BoundsStart, way_span}
+use Rattle.gptp_settling_time.specs.HowSoon.{AreReadyAtStart, AreStartEvents, BoundsStart}
 use Rattle.gptp_settling_time.specs.InTurn.{NoneUsed, TellsNothing, UsedVaryLittle}
 use Rattle.gptp_topology.proofs.RestLemmas.{used_cable}
-use Rattle.gptp_how_soon_laws.proofs.GainedLemmas.{none_any, not_none}
+use Rattle.gptp_how_soon_laws.proofs.ReadyLemmas.{none_any, not_none}
 use Rattle.gptp_how_soon_laws.proofs.KindLemmas.{told}
 use Rattle.gptp_how_soon_laws.proofs.RowBoundLemmas.{past_row}
 
@@ -187,31 +189,31 @@ first_past n now =
     begun_past (is_from_rest v.longest v.at v.paths_before v.paths v.told v.before)
 
 -- all is sound as soon as the choice stands
-begun_sound : (n : NetworkState) (before paths : SyncPaths) (silent used_before : Bool) (gained : ℕ) (rest : Bool)
-    → sound_by n before paths silent used_before (if not rest then AnyPast else Gained) gained
-    ≡ choice_by n before paths (if not rest then AnyPast else Gained) gained
-begun_sound n before paths silent used_before gained true = refl
-begun_sound n before paths silent used_before gained false = refl
+begun_sound : (n : NetworkState) (loss : Loss) (paths : SyncPaths) (gained : ℕ) (rest : Bool)
+    → sound_by n loss paths (if not rest then AnyPast else Gained) gained
+    ≡ choice_by n loss paths (if not rest then AnyPast else Gained) gained
+begun_sound n loss paths gained true = refl
+begun_sound n loss paths gained false = refl
 
-pub first_sound : (n : NetworkState) (now : List Timed) (before paths : SyncPaths) (silent used_before : Bool)
+pub first_sound : (n : NetworkState) (now : List Timed) (loss : Loss) (paths : SyncPaths)
     (gained : ℕ)
-    → sound_by n before paths silent used_before (row_at (view_at n [] now None 0)) gained
-    ≡ choice_by n before paths (row_at (view_at n [] now None 0)) gained
-first_sound n now before paths silent used_before gained =
+    → sound_by n loss paths (row_at (view_at n [] now None 0)) gained
+    ≡ choice_by n loss paths (row_at (view_at n [] now None 0)) gained
+first_sound n now loss paths gained =
     let v = view_at n [] now None 0 in
-    begun_sound n before paths silent used_before gained
+    begun_sound n loss paths gained
     (is_from_rest v.longest v.at v.paths_before v.paths v.told v.before)
 
 -- and roles do then
-begun_roles : (n : NetworkState) (before paths : SyncPaths) (silent : Bool) (gained : ℕ) (rest : Bool)
-    → roles_by n before paths silent (if not rest then AnyPast else Gained) gained
-    ≡ choice_by n before paths (if not rest then AnyPast else Gained) gained
-begun_roles n before paths silent gained true = refl
-begun_roles n before paths silent gained false = refl
+begun_roles : (n : NetworkState) (loss : Loss) (paths : SyncPaths) (gained : ℕ) (rest : Bool)
+    → roles_by n loss paths (if not rest then AnyPast else Gained) gained
+    ≡ choice_by n loss paths (if not rest then AnyPast else Gained) gained
+begun_roles n loss paths gained true = refl
+begun_roles n loss paths gained false = refl
 
-pub first_roles : (n : NetworkState) (now : List Timed) (before paths : SyncPaths) (silent : Bool) (gained : ℕ)
-    → roles_by n before paths silent (row_at (view_at n [] now None 0)) gained
-    ≡ choice_by n before paths (row_at (view_at n [] now None 0)) gained
-first_roles n now before paths silent gained =
+pub first_roles : (n : NetworkState) (now : List Timed) (loss : Loss) (paths : SyncPaths) (gained : ℕ)
+    → roles_by n loss paths (row_at (view_at n [] now None 0)) gained
+    ≡ choice_by n loss paths (row_at (view_at n [] now None 0)) gained
+first_roles n now loss paths gained =
     let v = view_at n [] now None 0 in
-    begun_roles n before paths silent gained (is_from_rest v.longest v.at v.paths_before v.paths v.told v.before)
+    begun_roles n loss paths gained (is_from_rest v.longest v.at v.paths_before v.paths v.told v.before)

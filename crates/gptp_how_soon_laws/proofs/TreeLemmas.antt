@@ -1,10 +1,9 @@
--- A link that goes down by the one event of a time, and so cuts off a tree, does so as its event is told.
-use Rattle.std.proofs.Common.{◌≡◌, ◌<◌, ◌≤◌, ◌⊎◌, inl, inr, ◌-◌, ◌+◌, ℕ, suc, Bool, true, false, cond, List, [], ◌∷◌, ◌++◌, map, filter, Option, Some, None, length, slice_get, refl, sym, ap, subst, ◌∙◌, append-nil, arith}
-use Rattle.std.specs.Prelude.{◌==◌, ◌&&◌, ◌||◌, nat_le, nat_lt, not, if◌then◌else◌}
+-- Where the tests of a tree that falls off hold, it does from one snapshot to the other.
+use Rattle.std.proofs.Common.{◌≡◌, ◌<◌, ◌≤◌, ◌⊎◌, inl, inr, ◌-◌, ◌+◌, ℕ, suc, Bool, true, false, List, [], ◌∷◌, filter, Option, Some, None, length, slice_get, refl, sym, ap, subst, ◌∙◌, arith}
+use Rattle.std.specs.Prelude.{◌&&◌, ◌||◌, nat_le, not, if◌then◌else◌}
 use Rattle.std.specs.List.{count_by, list_all, range_with_len}
-use Rattle.std.proofs.lemmas.Bool.{and_from, and_parts, eq-eqb, eqb-true, or_cases, or_left, or_right}
+use Rattle.std.proofs.lemmas.Bool.{and_from, and_parts, or_cases}
 use Rattle.std.proofs.lemmas.Bool.Decides.{nat_tests}
-use Rattle.std.proofs.lemmas.List.Sums.{sum_by-cons}
 use Rattle.gptp_lists.specs.Members.{In}
 use Rattle.gptp_lists.proofs.SystemSpecLemmas.{In-map, from_map}
 use Rattle.gptp_graph.specs.Best.{IsBest}
@@ -13,146 +12,30 @@ use Rattle.gptp_graph.specs.Snapshot.{Adjacent, IsWellFormed, Joins, Link, PortI
 use Rattle.gptp_graph.proofs.BestLemmas.{IsBest-neighbour, IsBest-unique}
 use Rattle.gptp_graph.proofs.LinkLemmas.{Adjacent-clock, Joins-clock, Joins-sym}
 use Rattle.gptp_network.specs.Snapshot.{StandsAfter, link_of}
-use Rattle.gptp_network.proofs.ExistenceLemmas.{stands_after}
 use Rattle.gptp_network.proofs.InUseLemmas.{runs}
 use Rattle.gptp_network.proofs.PassLemmas.{kept}
 use Rattle.gptp_network.proofs.SnapshotLemmas.{from_filter}
 use Rattle.gptp_lists.proofs.SystemSpecLemmas.{slice_get-In}
-use Rattle.gptp_scenario.specs.Change.{link_after, system_after}
-use Rattle.gptp_scenario.specs.Network.{IsEnd, IsNetwork, NetworkState}
-use Rattle.gptp_scenario.specs.SyncWait.{sync_paths}
+use Rattle.gptp_scenario.specs.Change.{system_after}
+use Rattle.gptp_scenario.specs.Network.{IsNetwork, NetworkState}
 use Rattle.gptp_scenario.specs.declared.change.Timed.{Timed}
 use Rattle.gptp_scenario.specs.declared.network.LinkSpec.{LinkSpec}
 use Rattle.gptp_scenario.specs.declared.network.SystemSpec.{SystemSpec}
-use Rattle.gptp_scenario.proofs.AfterLemmas.{after_keeps}
-use Rattle.gptp_model.specs.World.{port_id}
 use Rattle.gptp_topology.specs.After.{systems_after}
 use Rattle.gptp_topology.specs.declared.nodes.System as ours
 use Rattle.gptp_how_soon.specs.Chosen.{chosen_after, ends_of, is_moved_at, is_used_then, lost_ends, place_of, used_ends}
-use Rattle.gptp_how_soon.specs.Kinds.{is_lowering, lowers_one}
 use Rattle.gptp_how_soon.specs.Links.{is_lost}
-use Rattle.gptp_how_soon.specs.Times.{told_at, told_of}
 use Rattle.gptp_how_soon.specs.Tree.{cuts_below, cuts_tree, cuts_tree_after, has_better_root, has_no_more_steps, has_one_nearer, has_same_root, is_below, is_below_or_apart, is_one_apart, leads_one_on}
 use Rattle.gptp_how_soon.specs.Turned.{has_fewer_steps, leads_nearer}
 use Rattle.gptp_how_soon.specs.declared.chosen.Chosen.{Chosen}
 use Rattle.gptp_how_soon.specs.declared.chosen.Ends.{Ends}
 use Rattle.gptp_how_soon.proofs.ChosenLemmas.{IsAt, IsSettledChoice, at_clock, at_port, chosen_there, link_stands, one_clock, place_is, settled_choice, used_then}
-use Rattle.gptp_settling_time.specs.HowSoon.{OneEvent}
 use Rattle.gptp_settling_time.specs.Losses.{IsUnmoved}
-use Rattle.gptp_settling_time.specs.TreeLosses.{CutsTreeFrom, IsCutTree, LowersTree}
+use Rattle.gptp_settling_time.specs.TreeLosses.{IsCutTree}
 use Rattle.gptp_how_soon_laws.proofs.FailedLemmas.{each_is}
-use Rattle.gptp_how_soon_laws.proofs.KindLemmas.{loss_lowers}
-use Rattle.gptp_how_soon_laws.proofs.LoweredLemmas.{TakesDown, is_lost_there, lives_still, takes_down}
-use Rattle.gptp_how_soon_laws.proofs.UnmovedLemmas.{AreWell, asked_of, clock_over, same_system, unmoved_at}
-
--- ---- at most one of a list
-
-module _ {X : Type 0} (f : Ends → Bool) (ends : X → Ends) where
-  abbrev times : List X → ℕ
-  times xs = count_by f (map ends xs)
-
-  counted : (x : X) (xs : List X) → times (x ∷ xs) ≡ cond (f (ends x)) 1 0 + times xs
-  counted x xs = sum_by-cons (λ e. cond (f e) 1 0) (ends x) (map ends xs)
-
-  times_here : (x : X) (xs : List X) → f (ends x) ≡ true → times (x ∷ xs) ≡ suc (times xs)
-  times_here x xs is = counted x xs ∙ ap (λ b. cond b 1 0 + times xs) is ∙ omega arith
-
-  times_more : (x : X) (xs : List X) → times xs ≤ times (x ∷ xs)
-  times_more x xs = let more = counted x xs in omega (arith, more)
-
-  times_some : (x : X) (xs : List X) → In x xs → f (ends x) ≡ true → 1 ≤ times xs
-  times_some x [] member is = absurd member
-  times_some x (y ∷ xs) (inl same) is =
-      let here = times_here x xs is in subst (λ z. 1 ≤ times (z ∷ xs)) same (omega (arith, here))
-  times_some x (y ∷ xs) (inr member) is =
-      let some = times_some x xs member is in let more = times_more y xs in omega (arith, some, more)
-
-  one_same : (xs : List X) (x y : X) → times xs ≤ 1 → In x xs → In y xs → f (ends x) ≡ true → f (ends y) ≡ true
-      → x ≡ y
-  one_same [] x y most a b x_is y_is = absurd a
-  one_same (z ∷ xs) x y most (inl a) (inl b) x_is y_is = a ∙ sym b
-  one_same (z ∷ xs) x y most (inl a) (inr b) x_is y_is =
-      let here = times_here x xs x_is in
-      let all : times (x ∷ xs) ≤ 1 = subst (λ v. times (v ∷ xs) ≤ 1) (sym a) most in
-      let some = times_some y xs b y_is in
-      absurd (omega (arith, here, all, some))
-  one_same (z ∷ xs) x y most (inr a) (inl b) x_is y_is =
-      let here = times_here y xs y_is in
-      let all : times (y ∷ xs) ≤ 1 = subst (λ v. times (v ∷ xs) ≤ 1) (sym b) most in
-      let some = times_some x xs a x_is in
-      absurd (omega (arith, here, all, some))
-  one_same (z ∷ xs) x y most (inr a) (inr b) x_is y_is =
-      let more = times_more z xs in one_same xs x y (omega (arith, more, most)) a b x_is y_is
-
--- ---- what two systems chose
-
-module _ (cs : List Chosen) (i j : ℕ) (c d : Chosen) (there : slice_get cs i ≡ Some c)
-    (there' : slice_get cs j ≡ Some d) where
-  same_so : has_same_root (slice_get cs i) (slice_get cs j) ≡ true → c.root ≡ d.root
-  same_so is = eqb-true c.root d.root ((λ k. has_same_root (sym there k) (sym there' k)) ∙ is)
-
-  same_back : c.root ≡ d.root → has_same_root (slice_get cs i) (slice_get cs j) ≡ true
-  same_back same = (λ k. has_same_root (there k) (there' k)) ∙ eq-eqb c.root d.root same
-
-  no_more_so : has_no_more_steps (slice_get cs i) (slice_get cs j) ≡ true → c.steps ≤ d.steps
-  no_more_so is = least c.steps d.steps ((λ k. has_no_more_steps (sym there k) (sym there' k)) ∙ is)
-    where
-      least : (a b : ℕ) → nat_le a b ≡ true → a ≤ b
-      least a b test = grind (arith, nat_tests)
-
-  fewer_back : c.steps < d.steps → has_fewer_steps (slice_get cs i) (slice_get cs j) ≡ true
-  fewer_back less = (λ k. has_fewer_steps (there k) (there' k)) ∙ below c.steps d.steps less
-    where
-      below : (a b : ℕ) → a < b → nat_lt a b ≡ true
-      below a b under = grind (arith, nat_tests)
-
-  apart_so : is_one_apart (slice_get cs i) (slice_get cs j) ≡ true → (c.steps ≡ suc d.steps) ⊎ (d.steps ≡ suc c.steps)
-  apart_so is =
-      let told : is_one_apart (Some c) (Some d) ≡ true = (λ k. is_one_apart (sym there k) (sym there' k)) ∙ is in
-      elim (or_cases (c.steps - d.steps == 1) (d.steps - c.steps == 1) told) [
-        | inl one ↦ let by_one = eqb-true (c.steps - d.steps) 1 one in inl (omega (arith, by_one))
-        | inr one ↦ let by_one = eqb-true (d.steps - c.steps) 1 one in inr (omega (arith, by_one))
-      ]
-
-better_so : (c d : Chosen) → has_better_root (Some c) (Some d) ≡ true → c.root < d.root
-better_so c d is = below c.root d.root is
-  where
-    below : (a b : ℕ) → nat_lt a b ≡ true → a < b
-    below a b test = grind (arith, nat_tests)
-
--- ---- a link at a place
-
-or_second : (a b : Bool) → a ≡ false → (a || b) ≡ true → b ≡ true
-or_second a b none is = ap (λ c. c || b) (sym none) ∙ is
-
-module _ (cs : List Chosen) (i j : ℕ) where
-  one_on_first : leads_one_on cs i (record { a = i; b = j }) ≡ true
-      → is_one_apart (slice_get cs i) (slice_get cs j) ≡ true
-  one_on_first is =
-      let apart : Bool = is_one_apart (slice_get cs i) (slice_get cs j) in
-      let back : Bool = not (j == i) || is_one_apart (slice_get cs i) (slice_get cs i) in
-      or_second (not (i == i)) apart (ap not (eq-eqb i i refl)) (and_parts (not (i == i) || apart) back is).0
-
-  one_on_second : leads_one_on cs i (record { a = j; b = i }) ≡ true
-      → is_one_apart (slice_get cs i) (slice_get cs j) ≡ true
-  one_on_second is =
-      let apart : Bool = is_one_apart (slice_get cs i) (slice_get cs j) in
-      let back : Bool = not (j == i) || is_one_apart (slice_get cs i) (slice_get cs i) in
-      or_second (not (i == i)) apart (ap not (eq-eqb i i refl)) (and_parts back (not (i == i) || apart) is).1
-
-  nearer_at_first : has_fewer_steps (slice_get cs j) (slice_get cs i) ≡ true
-      → leads_nearer cs i (record { a = i; b = j }) ≡ true
-  nearer_at_first fewer =
-      or_left ((i == i) && has_fewer_steps (slice_get cs j) (slice_get cs i))
-      ((j == i) && has_fewer_steps (slice_get cs i) (slice_get cs i))
-      (and_from (i == i) (has_fewer_steps (slice_get cs j) (slice_get cs i)) (eq-eqb i i refl) fewer)
-
-  nearer_at_second : has_fewer_steps (slice_get cs j) (slice_get cs i) ≡ true
-      → leads_nearer cs i (record { a = j; b = i }) ≡ true
-  nearer_at_second fewer =
-      or_right ((j == i) && has_fewer_steps (slice_get cs i) (slice_get cs i))
-      ((i == i) && has_fewer_steps (slice_get cs j) (slice_get cs i))
-      (and_from (i == i) (has_fewer_steps (slice_get cs j) (slice_get cs i)) (eq-eqb i i refl) fewer)
+use Rattle.gptp_how_soon_laws.proofs.TreeTestLemmas.{apart_so, better_so, fewer_back, nearer_at_first, nearer_at_second, no_more_so, one_on_first, one_on_second, one_same, same_back, same_so}
+use Rattle.gptp_how_soon_laws.proofs.UnmovedLemmas.{asked_of, unmoved_at}
+use Rattle.gptp_how_soon_laws.proofs.WorseningLemmas.{clock_over, same_system}
 
 abbrev steps_of : Option Chosen → ℕ
 steps_of None = 0
@@ -724,90 +607,3 @@ module _ (n : NetworkState) (network : IsNetwork n) (made events : List Timed) w
     pub cut_so : (best : System) × (next : System) × (base : ℕ) × (depth : ℕ → ℕ)
         × IsCutTree g h t.top_clock t.other_clock best next base depth
     cut_so = (best, next, base, depth, is_cut)
-
--- ---- the event
-
-module _ (n : NetworkState) (network : IsNetwork n) (made : List Timed) (event : Timed) where
-  abbrev later : List Timed
-  later = made ++ event ∷ []
-
-  module _ (well : AreWell n later) (t : Cuts n network made later) (d : TakesDown n network made event) where
-    cuts_from_top : CutsTreeFrom n made event t.top_clock t.other_clock
-    cuts_from_top g h stands stands' =
-        let well_g = well made (event ∷ []) refl g stands in
-        let well_h = well later [] (append-nil later) h stands' in
-        let back : (m : SystemSpec) → In m n.systems → (system_after made m).live ≡ (system_after later m).live =
-        λ m member. lives_still n network made event d m member in
-        cut_so n network made later t g h stands stands' well_g well_h back
-
-    ends_so : (place : ℕ) (v : LinkSpec) → slice_get n.links place ≡ Some v
-        → IsEnd (port_id d.clock d.port) (link_after made v)
-        → (((link_after made v).a.clock ≡ t.top_clock) × ((link_after made v).b.clock ≡ t.other_clock))
-        ⊎ (((link_after made v).b.clock ≡ t.top_clock) × ((link_after made v).a.clock ≡ t.other_clock))
-    ends_so place v there end =
-        let (g, stands) = stands_after n made network in
-        let (h, stands') = stands_after n later network in
-        let well_g = well made (event ∷ []) refl g stands in
-        let well_h = well later [] (append-nil later) h stands' in
-        let back : (m : SystemSpec) → In m n.systems → (system_after made m).live ≡ (system_after later m).live =
-        λ m member. lives_still n network made event d m member in
-        let wire = network.links place v there in
-        let keeps = after_keeps made v in
-        let top = at_top n network made later t g h stands stands' well_g well_h back in
-        let other = at_other n network made later t g h stands stands' well_g well_h back in
-        let a = at_port n network made g stands well_g v.a wire.a in
-        let b = at_port n network made g stands well_g v.b wire.b in
-        let one : ends_of n v ≡ ends_of n t.wire = elim (subst (In (ends_of n v)) t.lost
-        (is_lost_there n network made event d place v there end)) [ inl is ↦ is | inr none ↦ absurd none ] in
-        let first = ap (λ (e : Ends). e.a) one in
-        let second = ap (λ (e : Ends). e.b) one in
-        let named : (i : ℕ) (u w : ℕ) → IsAt n i u → IsAt n i w → u ≡ w = one_clock n network made g stands well_g in
-        elim t.ends [
-          | inl (x, y, is_top, is_other) ↦ inl (
-            ap (λ p. p.clock) keeps.a
-                ∙ named t.top v.a.clock t.top_clock (subst (λ i. IsAt n i v.a.clock) (first ∙ is_top) a) top,
-            ap (λ p. p.clock) keeps.b
-                ∙ named t.other v.b.clock t.other_clock (subst (λ i. IsAt n i v.b.clock) (second ∙ is_other) b) other,
-          )
-          | inr (x, y, is_top, is_other) ↦ inr (
-            ap (λ p. p.clock) keeps.b
-                ∙ named t.top v.b.clock t.top_clock (subst (λ i. IsAt n i v.b.clock) (second ∙ is_top) b) top,
-            ap (λ p. p.clock) keeps.a
-                ∙ named t.other v.a.clock t.other_clock (subst (λ i. IsAt n i v.a.clock) (first ∙ is_other) a) other,
-          )
-        ]
-
-  module _ (well : AreWell n later) (tree : cuts_tree_after n made later ≡ true)
-      (delay : (sync_paths n later).delay ≡ (sync_paths n made).delay)
-      (paths : (sync_paths n later).systems ≤ (sync_paths n made).systems)
-      (few : (sync_paths n made).systems ≤ 255) (is : is_lowering (told_at n made event.act) ≡ true) where
-    lowers_one_tree : LowersTree n made event
-    lowers_one_tree =
-        let d = takes_down n network made event is in
-        let t = cuts n network made later tree in
-        record {
-          clock = d.clock;
-          port = d.port;
-          act = d.act;
-          used = loss_lowers n network made d.clock d.port d.loss;
-          top = t.top_clock;
-          other = t.other_clock;
-          ends = ends_so well t d;
-          cuts = cuts_from_top well t d;
-          delay = delay;
-          paths = paths;
-          few = few;
-        }
-
--- the events of a time
-pub lowers_tree : (n : NetworkState) (network : IsNetwork n) (made now : List Timed) → AreWell n (made ++ now)
-    → cuts_tree_after n made (made ++ now) ≡ true
-    → (sync_paths n (made ++ now)).delay ≡ (sync_paths n made).delay
-    → (sync_paths n (made ++ now)).systems ≤ (sync_paths n made).systems
-    → (sync_paths n made).systems ≤ 255
-    → lowers_one (told_of n made now) ≡ true
-    → OneEvent (LowersTree n) made now
-lowers_tree n network made [] well tree delay paths few is = absurd cc
-lowers_tree n network made (event ∷ []) well tree delay paths few is =
-    lowers_one_tree n network made event well tree delay paths few is
-lowers_tree n network made (event ∷ other ∷ events) well tree delay paths few is = absurd cc

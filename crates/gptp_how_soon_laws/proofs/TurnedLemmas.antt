@@ -47,7 +47,8 @@ use Rattle.gptp_settling_time.specs.Losses.{IsFarEnd, IsTurned, IsUnmoved, Turns
 use Rattle.gptp_how_soon_laws.proofs.FailedLemmas.{each_is, far_at}
 use Rattle.gptp_how_soon_laws.proofs.ToldLemmas.{loss_lowers}
 use Rattle.gptp_how_soon_laws.proofs.LoweredLemmas.{TakesDown, is_lost_there, lives_still, takes_down}
-use Rattle.gptp_how_soon_laws.proofs.UnmovedLemmas.{AreWell, asked_of, clock_over, same_system, unmoved_at}
+use Rattle.gptp_how_soon_laws.proofs.UnmovedLemmas.{AreWell, asked_of, unmoved_at}
+use Rattle.gptp_how_soon_laws.proofs.WorseningLemmas.{clock_over, same_system}
 
 -- ---- one of a list
 

@@ -1,5 +1,5 @@
 -- Choice bounds of two systems whose link goes down, and comes up again.
-use Rattle.std.proofs.Common.{false, ◌≡◌, ◌<◌, ◌≤◌, ◌+◌, ◌*◌, ℕ, zero, suc, true, List, [], ◌∷◌, Some, slice_get, refl, sym, ap, subst, inl, inr, arith}
+use Rattle.std.proofs.Common.{false, ◌≡◌, ◌<◌, ◌≤◌, ◌+◌, ◌*◌, zero, suc, true, List, [], ◌∷◌, refl, sym, subst, inl, inr, arith}
 use Rattle.std.proofs.lemmas.Option.{none-some, same_Some}
 use Rattle.gptp_setup.specs.SettlingParams.{SettlingParams}
 use Rattle.gptp_scenario.specs.Calm.{AllRest, IsLive}
@@ -9,6 +9,7 @@ use Rattle.gptp_model.specs.World.{port_id}
 use Rattle.gptp_scenario.specs.Network.{IsNetwork, pace_of, wire}
 use Rattle.gptp_scenario.specs.SyncWait.{sync_paths}
 use Rattle.gptp_scenario.specs.InUse.{path_systems}
+use Rattle.gptp_scenario.specs.SettlingTime.{way_span}
 use Rattle.gptp_scenario.specs.declared.change.Act.TheVariants.{Change as Changing}
 use Rattle.gptp_scenario.specs.declared.change.Change.TheVariants.{LinkDown, LinkUp}
 use Rattle.gptp_scenario.specs.declared.change.Timed.{Timed}
@@ -17,11 +18,13 @@ use Rattle.gptp_scenario.specs.declared.sync_wait.SyncPaths.{SyncPaths}
 use Rattle.gptp_invariants.specs.WorldEncodableLaws.{SetsAnOctet}
 use Rattle.gptp_theorem.specs.PlayedLaws.{IsPlayable}
 use Rattle.gptp_settling_time.specs.Gains.{IsDownAfter, JoinsLive, exchanged_from}
-use Rattle.gptp_settling_time.specs.HowSoon.{IsChoiceBound, IsChoiceBoundAfter, NoneBetween, way_span}
+use Rattle.gptp_settling_time.specs.HowSoon.{IsChoiceBound, IsChoiceBoundAfter}
 use Rattle.gptp_settling_time.specs.InTurn.{BringsUp, VariesLittleAfter}
 use Rattle.gptp_network_tests.specs.Pair.{end_station, first_member, pair_network, pair_pace, pair_paths, params, second_member}
 use Rattle.gptp_network_tests.specs.Soon.{back_document}
 use Rattle.gptp_network_tests.proofs.PairLemmas.{pace_is}
+use Rattle.gptp_network_tests.proofs.DocumentLemmas.{none_between}
+use Rattle.gptp_theorem.proofs.SettlingInvariantLemmas.{each_there}
 
 abbrev down : Timed
 down = record { at = 2000000000; act = Changing (LinkDown 1 1) }
@@ -45,13 +48,8 @@ back_playable network = record {
       (record { early = omega arith; change = LinkUp 1 1; act = refl; fits = refl }, tt),
     );
   };
-  octets = octets;
+  octets = each_there (λ (t : Timed). SetsAnOctet t.act) events (tt, (tt, tt));
 }
-  where
-    octets : (place : ℕ) (timed : Timed) → slice_get events place ≡ Some timed → SetsAnOctet timed.act
-    octets zero timed there = subst (λ (t : Timed). SetsAnOctet t.act) (same_Some down timed there) tt
-    octets (suc zero) timed there = subst (λ (t : Timed). SetsAnOctet t.act) (same_Some up timed there) tt
-    octets (suc (suc place)) timed there = absurd (none-some timed there)
 
 rest_down : AllRest pair_network.params pair_network.systems pair_network.links (down ∷ [])
 rest_down zero x early = λ used. record { lossless = refl; good = omega arith }
@@ -109,17 +107,6 @@ comes_up = record {
       (subst (λ (x : SyncPaths). exchanged_from pair_pace x 20000000000 ≤ 21000002001) (sym paths_up) (omega arith));
 }
 
--- no event lies between them
-between : NoneBetween events 2000000000 20000000000
-between event (inl is) behind = absurd (let at = ap (λ (t : Timed). t.at) is in omega (arith, at, behind))
-between event (inr (inl is)) behind = let at = ap (λ (t : Timed). t.at) is in omega (arith, at)
-between event (inr (inr none)) behind = absurd none
-
-before : NoneBetween events 0 2000000000
-before event (inl is) behind = let at = ap (λ (t : Timed). t.at) is in omega (arith, at)
-before event (inr (inl is)) behind = let at = ap (λ (t : Timed). t.at) is in omega (arith, at)
-before event (inr (inr none)) behind = absurd none
-
 span_down : 15000000000 ≡ settling_span_at_once (pace_of pair_network) (sync_paths pair_network (down ∷ []))
 span_down =
     subst (λ (p : SettlingParams). 15000000000 ≡ settling_span_at_once p (sync_paths pair_network (down ∷ [])))
@@ -127,14 +114,19 @@ span_down =
     (subst (λ (x : SyncPaths). 15000000000 ≡ settling_span_at_once pair_pace x) (sym paths_down) refl)
 
 down_bound : IsChoiceBoundAfter pair_network events (0 ∷ []) 2000000000 15000000000
-down_bound = (omega arith, before, (record { links = rest_down; lapses = inl refl }, inr (refl, inl span_down)))
+down_bound = (
+  omega arith,
+  none_between events 0 2000000000 ((λ later. omega arith), ((λ later. omega arith), tt)),
+  (record { links = rest_down; lapses = inl refl }, inr (refl, inl span_down)),
+)
 
 pub back_bound : IsChoiceBound back_document 20000000000 1000002500
 back_bound = (
   2000000000 ∷ 0 ∷ [],
   inl (
     omega arith,
-    between,
+    none_between events 2000000000 20000000000
+        ((λ later. absurd (omega (arith, later))), ((λ later. omega arith), tt)),
     (
       record { links = rest_up; lapses = inl refl },
       inr (

@@ -1,5 +1,5 @@
 -- The world of two systems has settled soon after the second got a better priority1.
-use Rattle.std.proofs.Common.{◌≡◌, ◌<◌, ◌≤◌, ◌+◌, ◌*◌, ◌^◌, ◌%◌, ℕ, zero, suc, pred, true, List, [], ◌∷◌, Option, Some, slice_get, refl, sym, subst, inl, inr, le-leb, arith}
+use Rattle.std.proofs.Common.{◌≡◌, ◌<◌, ◌≤◌, ◌+◌, ◌*◌, ◌^◌, ◌%◌, ℕ, zero, suc, pred, true, List, [], ◌∷◌, Option, refl, sym, subst, inl, inr, le-leb, arith}
 use Rattle.std.specs.Prelude.{if◌then◌else◌, nat_le, Bool}
 use Rattle.std.proofs.lemmas.Option.{none-some, same_Some}
 use Rattle.gptp_links.specs.declared.bounds.Bounds.{Bounds}
@@ -16,7 +16,6 @@ use Rattle.gptp_scenario.specs.declared.network.LinkSpec.{LinkSpec}
 use Rattle.gptp_scenario.specs.declared.network.SystemSpec.{SystemSpec}
 use Rattle.gptp_scenario.specs.declared.sync_wait.SyncPaths.{SyncPaths}
 use Rattle.gptp_network.specs.Snapshot.{events_by}
-use Rattle.gptp_invariants.specs.WorldEncodableLaws.{SetsAnOctet}
 use Rattle.gptp_theorem.specs.PlayedLaws.{IsPlayable}
 use Rattle.gptp_settling_time.specs.Gains.{IsNoWorse, exchanged_from}
 use Rattle.gptp_settling_time.specs.InTurn.{ActsFindSettledInTurn, BettersClock, Heard, LeadOn, SettlesAfter, SettlesByEvents}
@@ -25,6 +24,7 @@ use Rattle.gptp_settling_time.proofs.ClaimedToLemmas.{used_vary}
 use Rattle.gptp_network_tests.specs.Pair.{end_station, first_member, pair_network, pair_pace, pair_paths, params, second_member}
 use Rattle.gptp_network_tests.specs.Soon.{BetterClocksSettleSoon, better_document}
 use Rattle.gptp_network_tests.proofs.PairLemmas.{pace_is, paths_are}
+use Rattle.gptp_network_tests.proofs.DocumentLemmas.{one_playable}
 
 abbrev event : Timed
 event = record { at = 2000000000; act = Changing (Priority1 2 245) }
@@ -33,19 +33,9 @@ abbrev events : List Timed
 events = event ∷ []
 
 playable : IsNetwork pair_network → IsPlayable better_document
-playable network = record {
-  network = network;
-  events = record {
-    in_order = tt;
-    each = (record { early = omega arith; change = Priority1 2 245; act = refl; fits = refl }, tt);
-  };
-  octets = octets;
-}
-  where
-    octets : (place : ℕ) (timed : Timed) → slice_get events place ≡ Some timed → SetsAnOctet timed.act
-    octets zero timed there =
-        subst (λ (t : Timed). SetsAnOctet t.act) (same_Some event timed there) (omega arith)
-    octets (suc place) timed there = absurd (none-some timed there)
+playable =
+    one_playable pair_network event
+    (record { early = omega arith; change = Priority1 2 245; act = refl; fits = refl }) (omega arith)
 
 links_rest : AllRest pair_network.params pair_network.systems pair_network.links events
 links_rest zero x early = λ used. record { lossless = refl; good = omega arith }

@@ -1,5 +1,5 @@
 -- The choice bound of two systems of which the second gets a better priority1 as they begin.
-use Rattle.std.proofs.Common.{◌≡◌, ◌<◌, ◌+◌, ◌*◌, ℕ, zero, suc, true, List, [], ◌∷◌, Some, slice_get, refl, sym, subst, inl, inr, arith}
+use Rattle.std.proofs.Common.{◌≡◌, ◌<◌, ◌+◌, ◌*◌, zero, suc, true, List, [], ◌∷◌, refl, sym, subst, inl, inr, arith}
 use Rattle.std.proofs.lemmas.Option.{none-some, same_Some}
 use Rattle.gptp_setup.specs.SettlingParams.{SettlingParams}
 use Rattle.gptp_scenario.specs.Calm.{AllRest}
@@ -7,19 +7,20 @@ use Rattle.gptp_scenario.specs.Change.{link_after}
 use Rattle.gptp_scenario.specs.Network.{IsNetwork, pace_of, wire}
 use Rattle.gptp_scenario.specs.SyncWait.{sync_paths}
 use Rattle.gptp_scenario.specs.InUse.{path_systems}
+use Rattle.gptp_scenario.specs.SettlingTime.{way_span}
 use Rattle.gptp_scenario.specs.declared.change.Act.TheVariants.{Change as Changing}
 use Rattle.gptp_scenario.specs.declared.change.Change.TheVariants.{Priority1}
 use Rattle.gptp_scenario.specs.declared.change.Timed.{Timed}
 use Rattle.gptp_scenario.specs.declared.network.LinkSpec.{LinkSpec}
 use Rattle.gptp_scenario.specs.declared.sync_wait.SyncPaths.{SyncPaths}
-use Rattle.gptp_invariants.specs.WorldEncodableLaws.{SetsAnOctet}
 use Rattle.gptp_model.specs.World.{port_id}
 use Rattle.gptp_theorem.specs.PlayedLaws.{IsPlayable}
-use Rattle.gptp_settling_time.specs.HowSoon.{IsChoiceBound, two_exchanges, way_span}
+use Rattle.gptp_settling_time.specs.HowSoon.{IsChoiceBound, two_exchanges}
 use Rattle.gptp_settling_time.specs.InTurn.{UsedVaryLittle}
 use Rattle.gptp_network_tests.specs.Pair.{pair_network, pair_pace, pair_paths, params}
 use Rattle.gptp_network_tests.specs.Soon.{early_document}
 use Rattle.gptp_network_tests.proofs.PairLemmas.{pace_is}
+use Rattle.gptp_network_tests.proofs.DocumentLemmas.{one_playable}
 
 abbrev event : Timed
 event = record { at = 0; act = Changing (Priority1 2 245) }
@@ -31,19 +32,9 @@ abbrev link : LinkSpec
 link = wire 0 (port_id 1 1) (port_id 2 1) 500 500 0 true
 
 pub early_playable : IsNetwork pair_network → IsPlayable early_document
-early_playable network = record {
-  network = network;
-  events = record {
-    in_order = tt;
-    each = (record { early = omega arith; change = Priority1 2 245; act = refl; fits = refl }, tt);
-  };
-  octets = octets;
-}
-  where
-    octets : (place : ℕ) (timed : Timed) → slice_get events place ≡ Some timed → SetsAnOctet timed.act
-    octets zero timed there =
-        subst (λ (t : Timed). SetsAnOctet t.act) (same_Some event timed there) (omega arith)
-    octets (suc place) timed there = absurd (none-some timed there)
+early_playable =
+    one_playable pair_network event
+    (record { early = omega arith; change = Priority1 2 245; act = refl; fits = refl }) (omega arith)
 
 links_rest : AllRest pair_network.params pair_network.systems pair_network.links events
 links_rest zero x early = λ used. record { lossless = refl; good = omega arith }

@@ -1,9 +1,8 @@
 -- The bridge of the ring fails that is farthest from the root. It is the far end of both its links, and no other is
 -- moved: so the choice stands at once, and the roles once the ports beside it aren't capable.
-use Rattle.std.proofs.Common.{◌≡◌, ◌⊎◌, ◌<◌, ◌≤◌, ℕ, zero, suc, false, List, [], ◌∷◌, Option, Some, None, slice_get, refl, sym, ap, subst, ◌∙◌, inl, inr, arith}
+use Rattle.std.proofs.Common.{◌≡◌, ◌⊎◌, ◌<◌, ◌≤◌, ℕ, zero, suc, false, List, [], ◌∷◌, Option, Some, None, refl, sym, ap, subst, ◌∙◌, inl, inr, arith}
 use Rattle.std.specs.List.{AllByRecursion}
 use Rattle.std.proofs.lemmas.List.Sorted.{IsPermutation-refl}
-use Rattle.std.proofs.lemmas.Option.{none-some, same_Some}
 use native.Mathlib.Decide.{ℕ_discrete, dec_le, dec_lt}
 use Rattle.gptp_lists.specs.Members.{In}
 use Rattle.gptp_graph.specs.Best.{IsBest}
@@ -25,6 +24,7 @@ use Rattle.gptp_setup.specs.SettlingParams.{SettlingParams}
 use Rattle.gptp_scenario.specs.Calm.{AllRest}
 use Rattle.gptp_scenario.specs.InUse.{path_systems}
 use Rattle.gptp_scenario.specs.Network.{IsNetwork, pace_of}
+use Rattle.gptp_scenario.specs.SettlingTime.{silence_span}
 use Rattle.gptp_scenario.specs.SyncWait.{sync_paths}
 use Rattle.gptp_scenario.specs.declared.change.Act.TheVariants.{Change as Changing}
 use Rattle.gptp_scenario.specs.declared.change.Change.TheVariants.{Fail}
@@ -32,13 +32,12 @@ use Rattle.gptp_scenario.specs.declared.change.Timed.{Timed}
 use Rattle.gptp_scenario.specs.declared.sync_wait.SyncPaths.{SyncPaths}
 use Rattle.gptp_network.specs.Snapshot.{StandsAfter}
 use Rattle.gptp_network.proofs.LawLemmas.{one_snapshot}
-use Rattle.gptp_invariants.specs.WorldEncodableLaws.{SetsAnOctet}
-use Rattle.gptp_invariants.specs.FailedUnanswered.{silence_span}
 use Rattle.gptp_theorem.specs.PlayedLaws.{IsPlayable}
-use Rattle.gptp_settling_time.specs.HowSoon.{IsChoiceAloneBound, IsChoiceBound, IsLossBoundAfter, NoneBetween}
+use Rattle.gptp_settling_time.specs.HowSoon.{IsChoiceAloneBound, IsChoiceBound, IsLossBoundAfter}
 use Rattle.gptp_settling_time.specs.Losses.{FailsFarEnd, IsFarEnd, IsUnmoved, MovesNone}
 use Rattle.gptp_network_tests.specs.Ring.{bridge, far_document, ring_network}
 use Rattle.gptp_network_tests.proofs.RingLemmas.{pace_is, paths_are, ring_begun}
+use Rattle.gptp_network_tests.proofs.DocumentLemmas.{none_between, one_playable}
 
 -- ---- the document
 
@@ -46,28 +45,22 @@ abbrev pub event : Timed
 event = record { at = 30000000000; act = Changing (Fail 0x80e1fffe00000c) }
 
 pub far_playable : IsNetwork ring_network → IsPlayable far_document
-far_playable network = record {
-  network = network;
-  events = record {
-    in_order = tt;
-    each = (record { early = omega arith; change = Fail 0x80e1fffe00000c; act = refl; fits = refl }, tt);
-  };
-  octets = octets;
-}
-  where
-    octets : (place : ℕ) (timed : Timed) → slice_get far_document.events place ≡ Some timed → SetsAnOctet timed.act
-    octets zero timed there = subst (λ (t : Timed). SetsAnOctet t.act) (same_Some event timed there) tt
-    octets (suc place) timed there = absurd (none-some timed there)
+far_playable =
+    one_playable ring_network event
+    (record { early = omega arith; change = Fail 0x80e1fffe00000c; act = refl; fits = refl }) tt
 
-links_rest : AllRest ring_network.params ring_network.systems ring_network.links (event ∷ [])
-links_rest zero x early = λ used. record { lossless = refl; good = omega arith }
-links_rest (suc zero) x early = λ used. record { lossless = refl; good = omega arith }
-links_rest (suc (suc zero)) x early = λ used. record { lossless = refl; good = omega arith }
-links_rest (suc (suc (suc zero))) x early = λ used. record { lossless = refl; good = omega arith }
-links_rest (suc (suc (suc (suc i)))) x early = absurd (omega (arith, early))
+-- whoever fails
+pub failure_rests : (clock : ℕ)
+    → AllRest ring_network.params ring_network.systems ring_network.links
+    (record { at = 30000000000; act = Changing (Fail clock) } ∷ [])
+failure_rests clock zero x early = λ used. record { lossless = refl; good = omega arith }
+failure_rests clock (suc zero) x early = λ used. record { lossless = refl; good = omega arith }
+failure_rests clock (suc (suc zero)) x early = λ used. record { lossless = refl; good = omega arith }
+failure_rests clock (suc (suc (suc zero))) x early = λ used. record { lossless = refl; good = omega arith }
+failure_rests clock (suc (suc (suc (suc i)))) x early = absurd (omega (arith, early))
 
 -- a path has three systems then
-abbrev left_paths : SyncPaths
+abbrev pub left_paths : SyncPaths
 left_paths = record { systems = 3; delay = 410 }
 
 paths_left : sync_paths ring_network (event ∷ []) ≡ left_paths
@@ -302,23 +295,18 @@ fails = record {
   live = record { place = 2; system = bridge 0xf6f8fe436af80080e1fffe00000c; there = refl; clock = refl; live = refl };
   far = λ g stands. subst (λ x. IsFarEnd x third.clock) (one_snapshot far_document 0 ring g ring_stands stands) is_far;
   moves = λ g h v stands stands_then known. inl (moves_none g h v stands stands_then known);
-  delay = subst (λ (x : SyncPaths). x.delay ≡ (sync_paths ring_network []).delay) (sym paths_left)
-      (subst (λ (x : SyncPaths). 410 ≡ x.delay) (sym paths_are) refl);
+  delay = subst (λ (x : SyncPaths). x.delay ≤ (sync_paths ring_network []).delay) (sym paths_left)
+      (subst (λ (x : SyncPaths). 410 ≤ x.delay) (sym paths_are) (omega arith));
   paths = subst (λ (x : SyncPaths). x.systems ≤ (sync_paths ring_network []).systems) (sym paths_left)
       (subst (λ (x : SyncPaths). 3 ≤ x.systems) (sym paths_are) (omega arith));
   few = subst (λ (x : SyncPaths). x.systems ≤ 255) (sym paths_are) (omega arith);
 }
 
--- its event is the first behind the start
-none_between : NoneBetween far_document.events 0 30000000000
-none_between t (inl same) later = subst (λ (x : Timed). 30000000000 ≤ x.at) (sym same) (omega arith)
-none_between t (inr none) later = absurd none
-
 lost : IsLossBoundAfter ring_network far_document.events (0 ∷ []) 30000000000 0 11000000000
 lost = inl (
   omega arith,
-  none_between,
-  record { links = links_rest; lapses = inl refl },
+  none_between far_document.events 0 30000000000 ((λ later. omega arith), tt),
+  record { links = failure_rests 0x80e1fffe00000c; lapses = inl refl },
   refl,
   (1000003050, (refl, ring_begun), omega arith),
   inr (inl ((fails, tt), refl, inr span)),

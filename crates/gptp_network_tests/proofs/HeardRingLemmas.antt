@@ -1,10 +1,9 @@
 -- The bridge of the ring fails that the farthest one hears. That one has the other way, which is as long, so no system
 -- is moved. The choice stands once it doesn't hold any more what it heard, and the roles once the ports beside aren't
 -- capable.
-use Rattle.std.proofs.Common.{◌≡◌, ◌≤◌, ℕ, zero, suc, List, [], ◌∷◌, None, Some, slice_get, refl, sym, subst, inl, inr, arith}
+use Rattle.std.proofs.Common.{◌≡◌, ◌≤◌, ℕ, List, [], ◌∷◌, None, refl, sym, subst, inl, inr, arith}
 use Rattle.std.specs.Prelude.{min}
 use Rattle.std.proofs.lemmas.List.Sorted.{IsPermutation-refl}
-use Rattle.std.proofs.lemmas.Option.{none-some, same_Some}
 use native.Mathlib.Decide.{ℕ_discrete, dec_le, dec_lt}
 use Rattle.gptp_lists.specs.Members.{In}
 use Rattle.gptp_graph.specs.Labelling.{SystemLine}
@@ -17,9 +16,9 @@ use Rattle.gptp_graph.proofs.OrderLemmas.{IsLower-dec}
 use Rattle.gptp_graph.proofs.SoundLemmas.{sound}
 use Rattle.gptp_graph.proofs.SureTests.{sure_passes, sure_well_formed}
 use Rattle.gptp_setup.specs.SettlingParams.{SettlingParams}
-use Rattle.gptp_scenario.specs.Calm.{AllRest}
 use Rattle.gptp_scenario.specs.InUse.{path_systems}
 use Rattle.gptp_scenario.specs.Network.{IsNetwork, pace_of}
+use Rattle.gptp_scenario.specs.SettlingTime.{aging_span, silence_span}
 use Rattle.gptp_scenario.specs.SyncWait.{sync_paths}
 use Rattle.gptp_scenario.specs.declared.change.Act.TheVariants.{Change as Changing}
 use Rattle.gptp_scenario.specs.declared.change.Change.TheVariants.{Fail}
@@ -27,15 +26,14 @@ use Rattle.gptp_scenario.specs.declared.change.Timed.{Timed}
 use Rattle.gptp_scenario.specs.declared.sync_wait.SyncPaths.{SyncPaths}
 use Rattle.gptp_network.specs.Snapshot.{StandsAfter}
 use Rattle.gptp_network.proofs.LawLemmas.{one_snapshot}
-use Rattle.gptp_invariants.specs.WorldEncodableLaws.{SetsAnOctet}
-use Rattle.gptp_invariants.specs.FailedUnanswered.{silence_span}
 use Rattle.gptp_theorem.specs.PlayedLaws.{IsPlayable}
-use Rattle.gptp_settling_time.specs.HowSoon.{IsChoiceAloneBound, IsChoiceBound, IsLossBoundAfter, NoneBetween}
-use Rattle.gptp_settling_time.specs.Losses.{FailsHeard, IsUnmoved, MovesNone, aging_span}
+use Rattle.gptp_settling_time.specs.HowSoon.{IsChoiceAloneBound, IsChoiceBound, IsLossBoundAfter}
+use Rattle.gptp_settling_time.specs.Losses.{FailsHeard, IsUnmoved, MovesNone}
 use Rattle.gptp_settling_time.proofs.SilentSpanLemmas.{failure_within}
 use Rattle.gptp_network_tests.specs.Ring.{bridge, heard_document, ring_network, ring_paths}
-use Rattle.gptp_network_tests.proofs.FarLemmas.{below_all, cable, first, fourth, fourth_line, parent, ring, ring_choice, ring_stands, second, states, third, third_line, unmoved_by}
+use Rattle.gptp_network_tests.proofs.FarLemmas.{failure_rests, left_paths, below_all, cable, first, fourth, fourth_line, parent, ring, ring_choice, ring_stands, second, states, third, third_line, unmoved_by}
 use Rattle.gptp_network_tests.proofs.RingLemmas.{pace_is, paths_are, ring_begun}
+use Rattle.gptp_network_tests.proofs.DocumentLemmas.{none_between, one_playable}
 
 -- ---- the document
 
@@ -43,30 +41,11 @@ abbrev event : Timed
 event = record { at = 30000000000; act = Changing (Fail 0x80e1fffe00000b) }
 
 pub heard_playable : IsNetwork ring_network → IsPlayable heard_document
-heard_playable network = record {
-  network = network;
-  events = record {
-    in_order = tt;
-    each = (record { early = omega arith; change = Fail 0x80e1fffe00000b; act = refl; fits = refl }, tt);
-  };
-  octets = octets;
-}
-  where
-    octets : (place : ℕ) (timed : Timed) → slice_get heard_document.events place ≡ Some timed → SetsAnOctet timed.act
-    octets zero timed there = subst (λ (t : Timed). SetsAnOctet t.act) (same_Some event timed there) tt
-    octets (suc place) timed there = absurd (none-some timed there)
-
-links_rest : AllRest ring_network.params ring_network.systems ring_network.links (event ∷ [])
-links_rest zero x early = λ used. record { lossless = refl; good = omega arith }
-links_rest (suc zero) x early = λ used. record { lossless = refl; good = omega arith }
-links_rest (suc (suc zero)) x early = λ used. record { lossless = refl; good = omega arith }
-links_rest (suc (suc (suc zero))) x early = λ used. record { lossless = refl; good = omega arith }
-links_rest (suc (suc (suc (suc i)))) x early = absurd (omega (arith, early))
+heard_playable =
+    one_playable ring_network event
+    (record { early = omega arith; change = Fail 0x80e1fffe00000b; act = refl; fits = refl }) tt
 
 -- a path has three systems then
-abbrev left_paths : SyncPaths
-left_paths = record { systems = 3; delay = 410 }
-
 paths_left : sync_paths ring_network (event ∷ []) ≡ left_paths
 unfolding path_systems
 paths_left = refl
@@ -147,23 +126,18 @@ fails = record {
   act = refl;
   live = record { place = 1; system = bridge 0xf6f8fe436af80080e1fffe00000b; there = refl; clock = refl; live = refl };
   moves = λ g h v stands stands_then known. inl (moves_none g h v stands stands_then known);
-  delay = subst (λ (x : SyncPaths). x.delay ≡ (sync_paths ring_network []).delay) (sym paths_left)
-      (subst (λ (x : SyncPaths). 410 ≡ x.delay) (sym paths_are) refl);
+  delay = subst (λ (x : SyncPaths). x.delay ≤ (sync_paths ring_network []).delay) (sym paths_left)
+      (subst (λ (x : SyncPaths). 410 ≤ x.delay) (sym paths_are) (omega arith));
   paths = subst (λ (x : SyncPaths). x.systems ≤ (sync_paths ring_network []).systems) (sym paths_left)
       (subst (λ (x : SyncPaths). 3 ≤ x.systems) (sym paths_are) (omega arith));
   few = subst (λ (x : SyncPaths). x.systems ≤ 255) (sym paths_are) (omega arith);
 }
 
--- its event is the first behind the start
-none_between : NoneBetween heard_document.events 0 30000000000
-none_between t (inl same) later = subst (λ (x : Timed). 30000000000 ≤ x.at) (sym same) (omega arith)
-none_between t (inr none) later = absurd none
-
 lost : IsLossBoundAfter ring_network heard_document.events (0 ∷ []) 30000000000 3000000410 11000000000
 lost = inl (
   omega arith,
-  none_between,
-  record { links = links_rest; lapses = inl refl },
+  none_between heard_document.events 0 30000000000 ((λ later. omega arith), tt),
+  record { links = failure_rests 0x80e1fffe00000b; lapses = inl refl },
   refl,
   (1000003050, (refl, ring_begun), omega arith),
   inr (inr (inr (inl (

@@ -1,3 +1,4 @@
+mod DocumentLemmas
 mod ExactLemmas
 mod ReadingLemmas
 mod HeardLemmas
@@ -12,4 +13,5 @@ mod PowerLemmas
 mod HeardRingLemmas
 mod RootlessRingLemmas
 mod TurnedRingLemmas
+mod CutLineLemmas
 mod AgeLemmas

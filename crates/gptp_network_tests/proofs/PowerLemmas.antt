@@ -1,6 +1,6 @@
 -- The bridge of the ring loses its power that is farthest from the root: as it fails both its links go down. So each
 -- link that is up is in use, and choice and roles stand at once.
-use Rattle.std.proofs.Common.{◌≡◌, ◌⊎◌, ◌≤◌, ℕ, zero, suc, true, false, List, [], ◌∷◌, refl, sym, ap, ◌∙◌, inl, inr, arith}
+use Rattle.std.proofs.Common.{◌≡◌, ◌⊎◌, ℕ, zero, suc, true, false, List, [], ◌∷◌, refl, sym, ap, ◌∙◌, inl, inr, arith}
 use Rattle.gptp_vector.specs.declared.port.PortId.{PortId}
 use Rattle.gptp_roles.specs.Selection.{clock_of}
 use Rattle.gptp_scenario.specs.Calm.{AllRest, IsLive, IsUsed}
@@ -15,11 +15,12 @@ use Rattle.gptp_model.specs.World.{port_id}
 use Rattle.gptp_invariants.specs.WorldEncodableLaws.{SetsAnOctet}
 use Rattle.gptp_theorem.specs.PlayedLaws.{IsPlayable}
 use Rattle.gptp_theorem.proofs.SettlingInvariantLemmas.{each_there}
-use Rattle.gptp_settling_time.specs.HowSoon.{IsChoiceAloneBound, IsChoiceBound, IsLossBoundAfter, NoneBetween}
+use Rattle.gptp_settling_time.specs.HowSoon.{IsChoiceAloneBound, IsChoiceBound, IsLossBoundAfter}
 use Rattle.gptp_settling_time.specs.Losses.{LowersUnused, UpIsUsed}
 use Rattle.gptp_network_tests.specs.Ring.{bridge, dark_document, fibre, ring_network}
 use Rattle.gptp_network_tests.proofs.FarLemmas.{event, fails}
 use Rattle.gptp_network_tests.proofs.RingLemmas.{ring_begun}
+use Rattle.gptp_network_tests.proofs.DocumentLemmas.{none_between}
 
 -- ---- the document
 
@@ -185,23 +186,11 @@ used =
 
 -- ---- the bounds
 
-none_between : NoneBetween dark_document.events 0 30000000000
-none_between t member later =
-    elim member [
-      | inl same ↦ by t event same (omega arith)
-      | inr rest ↦ elim rest [
-        | inl same ↦ by t (down 1) same (omega arith)
-        | inr more ↦ elim more [ inl same ↦ by t (down 2) same (omega arith) | inr none ↦ absurd none ]
-      ]
-    ]
-  where
-    by : (t x : Timed) → t ≡ x → 30000000000 ≤ x.at → 30000000000 ≤ t.at
-    by t x same late = let at = ap (λ (y : Timed). y.at) same in omega (arith, late, at)
-
 lost : IsLossBoundAfter ring_network dark_document.events (0 ∷ []) 30000000000 0 0
 lost = inl (
   omega arith,
-  none_between,
+  none_between dark_document.events 0 30000000000
+      ((λ later. omega arith), ((λ later. omega arith), ((λ later. omega arith), tt))),
   record { links = links_rest; lapses = inl refl },
   refl,
   (1000003050, (refl, ring_begun), omega arith),

@@ -1,23 +1,22 @@
 -- The ring of four bridges has settled soon after its start.
-use Rattle.std.proofs.Common.{◌≡◌, ◌<◌, ◌+◌, ◌*◌, ℕ, zero, suc, [], Some, slice_get, refl, sym, subst, inl, inr, arith}
-use Rattle.std.proofs.lemmas.Option.{none-some, same_Some}
+use Rattle.std.proofs.Common.{◌≡◌, ◌<◌, ◌+◌, ◌*◌, zero, suc, [], refl, sym, subst, inl, inr, arith}
 use Rattle.gptp_setup.specs.SettlingParams.{SettlingParams}
 use Rattle.gptp_scenario.specs.Calm.{AllRest}
 use Rattle.gptp_scenario.specs.Network.{IsNetwork, largest_of, pace_of}
 use Rattle.gptp_scenario.specs.InUse.{path_systems}
+use Rattle.gptp_scenario.specs.SettlingTime.{way_span}
 use Rattle.gptp_scenario.specs.SyncWait.{sync_paths}
 use Rattle.gptp_scenario.specs.declared.change.Act.TheVariants.{Change as Changing}
 use Rattle.gptp_scenario.specs.declared.change.Change.TheVariants.{LinkDown}
-use Rattle.gptp_scenario.specs.declared.change.Timed.{Timed}
 use Rattle.gptp_scenario.specs.declared.network.LinkSpec.{LinkSpec}
 use Rattle.gptp_scenario.specs.declared.sync_wait.SyncPaths.{SyncPaths}
-use Rattle.gptp_invariants.specs.WorldEncodableLaws.{SetsAnOctet}
 use Rattle.gptp_theorem.specs.PlayedLaws.{IsPlayable}
-use Rattle.gptp_settling_time.specs.HowSoon.{BoundsChoice, BoundsStart, IsChoiceBound, two_exchanges, way_span}
+use Rattle.gptp_settling_time.specs.HowSoon.{BoundsChoice, BoundsStart, IsChoiceBound, two_exchanges}
 use Rattle.gptp_network_tests.specs.Pair.{pair_pace}
 use Rattle.gptp_network_tests.specs.Ring.{ring_document, ring_network, ring_paths}
 use Rattle.gptp_settling_time.specs.Starts.{LinksVaryLittle}
 use Rattle.gptp_settling_time.proofs.ClaimedToLemmas.{used_vary}
+use Rattle.gptp_network_tests.proofs.DocumentLemmas.{one_playable}
 
 pub pace_is : pace_of ring_network ≡ pair_pace
 unfolding largest_of
@@ -61,17 +60,6 @@ pub ring_bound : IsChoiceBound ring_document 0 1000003050
 ring_bound = ([], inl (refl, ring_begun))
 
 pub ring_playable : IsNetwork ring_network → IsPlayable ring_document
-ring_playable network = record {
-  network = network;
-  events = record {
-    in_order = tt;
-    each = (record { early = omega arith; change = LinkDown 0x80e1fffe00000a 1; act = refl; fits = refl }, tt);
-  };
-  octets = octets;
-}
-  where
-    octets : (place : ℕ) (timed : Timed) → slice_get ring_document.events place ≡ Some timed → SetsAnOctet timed.act
-    octets zero timed there =
-        subst (λ (t : Timed). SetsAnOctet t.act)
-        (same_Some (record { at = 30000000000; act = Changing (LinkDown 0x80e1fffe00000a 1) }) timed there) tt
-    octets (suc place) timed there = absurd (none-some timed there)
+ring_playable =
+    one_playable ring_network (record { at = 30000000000; act = Changing (LinkDown 0x80e1fffe00000a 1) })
+    (record { early = omega arith; change = LinkDown 0x80e1fffe00000a 1; act = refl; fits = refl }) tt

@@ -19,6 +19,7 @@ use Rattle.gptp_scenario.specs.Change.{link_after}
 use Rattle.gptp_scenario.specs.declared.network.LinkSpec.{LinkSpec}
 use Rattle.gptp_network.specs.Document.{DocumentState}
 use Rattle.gptp_scenario.specs.Network.{IsNetwork, pace_of}
+use Rattle.gptp_scenario.specs.SettlingTime.{way_span}
 use Rattle.gptp_scenario.specs.SyncWait.{sync_paths}
 use Rattle.gptp_scenario.specs.declared.sync_wait.SyncPaths.{SyncPaths}
 use Rattle.gptp_theorem.specs.Headline.{WorldIsCalm}
@@ -29,7 +30,7 @@ use Rattle.gptp_theorem.proofs.SyncPathLemmas.{paths_stand}
 use Rattle.gptp_bmca_machine.specs.Settled.{IsSlaveOf}
 use Rattle.gptp_setup.specs.SettlingParams.{SettlingParams}
 use Rattle.gptp_settling_time.specs.ChoiceBounds.{ChoiceAloneBoundsHold, ChoiceBoundsHold}
-use Rattle.gptp_settling_time.specs.HowSoon.{IsChoiceAloneBound, IsChoiceBound, two_exchanges, way_span}
+use Rattle.gptp_settling_time.specs.HowSoon.{IsChoiceAloneBound, IsChoiceBound, two_exchanges}
 use Rattle.gptp_settling_time.specs.Starts.{DelaysVaryLittle, LinksVaryLittle, StartsSettleAtOnce}
 use Rattle.gptp_settling_time.proofs.ClaimedToLemmas.{used_vary}
 use Rattle.gptp_system.specs.State.{clock}

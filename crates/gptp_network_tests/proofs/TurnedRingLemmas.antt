@@ -21,6 +21,7 @@ use Rattle.gptp_scenario.specs.Calm.{AllRest, IsLive, IsUsed}
 use Rattle.gptp_scenario.specs.Change.{link_after}
 use Rattle.gptp_scenario.specs.InUse.{path_systems}
 use Rattle.gptp_scenario.specs.Network.{IsEnd}
+use Rattle.gptp_scenario.specs.SettlingTime.{way_span}
 use Rattle.gptp_scenario.specs.SyncWait.{sync_paths}
 use Rattle.gptp_scenario.specs.declared.change.Act.TheVariants.{Change as Changing}
 use Rattle.gptp_scenario.specs.declared.change.Change.TheVariants.{LinkDown}
@@ -31,18 +32,19 @@ use Rattle.gptp_model.specs.World.{port_id}
 use Rattle.gptp_network.specs.Snapshot.{StandsAfter}
 use Rattle.gptp_network.proofs.LawLemmas.{one_snapshot}
 use Rattle.gptp_theorem.proofs.SettlingInvariantLemmas.{each_there}
-use Rattle.gptp_settling_time.specs.HowSoon.{IsChoiceAloneBound, IsChoiceBound, IsLossBoundAfter, NoneBetween, way_span}
+use Rattle.gptp_settling_time.specs.HowSoon.{IsChoiceAloneBound, IsChoiceBound, IsLossBoundAfter}
 use Rattle.gptp_settling_time.specs.Losses.{IsFarEnd, IsTurned, IsUnmoved, TurnsLink, TurnsSystem}
 use Rattle.gptp_network_tests.specs.Ring.{bridge, fibre, ring_document, ring_network, ring_paths}
 use Rattle.gptp_network_tests.proofs.FarLemmas.{cable, first, first_identity, fourth, fourth_line, is_far, is_first, parent, ring, ring_choice, ring_stands, ring_well, second, second_line, states, third, third_line, unmoved_by}
 use Rattle.gptp_network_tests.proofs.RingLemmas.{paths_are, ring_begun}
+use Rattle.gptp_network_tests.proofs.DocumentLemmas.{none_between}
 
 -- ---- the document
 
-abbrev event : Timed
+abbrev pub event : Timed
 event = record { at = 30000000000; act = Changing (LinkDown first.clock 1) }
 
-links_rest : AllRest ring_network.params ring_network.systems ring_network.links (event ∷ [])
+pub links_rest : AllRest ring_network.params ring_network.systems ring_network.links (event ∷ [])
 links_rest zero x early = λ used. record { lossless = refl; good = omega arith }
 links_rest (suc zero) x early = λ used. record { lossless = refl; good = omega arith }
 links_rest (suc (suc zero)) x early = λ used. record { lossless = refl; good = omega arith }
@@ -50,19 +52,19 @@ links_rest (suc (suc (suc zero))) x early = λ used. record { lossless = refl; g
 links_rest (suc (suc (suc (suc i)))) x early = absurd (omega (arith, early))
 
 -- a path has four systems as before
-paths_left : sync_paths ring_network (event ∷ []) ≡ ring_paths
+pub paths_left : sync_paths ring_network (event ∷ []) ≡ ring_paths
 unfolding path_systems
 paths_left = refl
 
 -- ---- the snapshot after it
 
-abbrev chain : Snapshot
+abbrev pub chain : Snapshot
 chain = record {
   systems = first ∷ second ∷ third ∷ fourth ∷ [];
   links = cable second 2 third 1 ∷ cable third 2 fourth 1 ∷ cable fourth 2 first 2 ∷ [];
 }
 
-chain_stands : StandsAfter ring_network (event ∷ []) chain
+pub chain_stands : StandsAfter ring_network (event ∷ []) chain
 chain_stands =
     record { systems = IsPermutation-refl chain.systems; rising = ring_stands.rising; links = refl }
 
@@ -74,7 +76,7 @@ chain_lines =
     ∷ states fourth 1 (parent 2 first 2) settled.Master settled.Slave
     ∷ []
 
-chain_well : IsWellFormed chain
+pub chain_well : IsWellFormed chain
 unfolding ℕ_discrete dec_le dec_lt dec_both dec_either IsLower-dec PortIdentity-dec
 chain_well = (sure_well_formed chain).1 refl
 
@@ -86,16 +88,16 @@ chain_choice =
 first_before : IsSettledLine ring (states first 0 None settled.Master settled.Master)
 first_before = ring_choice.settled _ (inl refl)
 
-first_then : IsSettledLine chain (states first 0 None settled.Disabled settled.Master)
+pub first_then : IsSettledLine chain (states first 0 None settled.Disabled settled.Master)
 first_then = chain_choice.settled _ (inl refl)
 
-second_then : IsSettledLine chain (states second 3 (parent 2 third 1) settled.Disabled settled.Slave)
+pub second_then : IsSettledLine chain (states second 3 (parent 2 third 1) settled.Disabled settled.Slave)
 second_then = chain_choice.settled _ (inr (inl refl))
 
-third_then : IsSettledLine chain (states third 2 (parent 2 fourth 1) settled.Master settled.Slave)
+pub third_then : IsSettledLine chain (states third 2 (parent 2 fourth 1) settled.Master settled.Slave)
 third_then = chain_choice.settled _ (inr (inr (inl refl)))
 
-fourth_then : IsSettledLine chain (states fourth 1 (parent 2 first 2) settled.Master settled.Slave)
+pub fourth_then : IsSettledLine chain (states fourth 1 (parent 2 first 2) settled.Master settled.Slave)
 fourth_then = chain_choice.settled _ (inr (inr (inr (inl refl))))
 
 -- ---- who is moved
@@ -117,7 +119,7 @@ others v (inr (inr (inr (inl same)))) other =
 others v (inr (inr (inr (inr none)))) other = absurd none
 
 -- the first is the best
-first_is_best : (h : Snapshot) → ((s : System) → In s h.systems → In s ring.systems) → (v : ℕ)
+pub first_is_best : (h : Snapshot) → ((s : System) → In s h.systems → In s ring.systems) → (v : ℕ)
     → IsBestIdentity h v first_identity → IsBest h v first
 first_is_best h within v (b, is, same) = subst (IsBest h v) (is_first b (within b is.live) (sym same)) is
 
@@ -254,7 +256,7 @@ moved_end =
       ((λ end. inl refl), ((λ end. absurd (third_apart end)), ((λ end. absurd (last_apart end)), tt))),
     )
 
-turns : TurnsLink ring_network [] event
+pub turns : TurnsLink ring_network [] event
 turns = record {
   clock = first.clock;
   port = 1;
@@ -263,8 +265,8 @@ turns = record {
   moved = second.clock;
   moved_end = moved_end;
   turns = turns_second;
-  delay = subst (λ (x : SyncPaths). x.delay ≡ (sync_paths ring_network []).delay) (sym paths_left)
-      (subst (λ (x : SyncPaths). 410 ≡ x.delay) (sym paths_are) refl);
+  delay = subst (λ (x : SyncPaths). x.delay ≤ (sync_paths ring_network []).delay) (sym paths_left)
+      (subst (λ (x : SyncPaths). 410 ≤ x.delay) (sym paths_are) (omega arith));
   paths = subst (λ (x : SyncPaths). x.systems ≤ (sync_paths ring_network []).systems) (sym paths_left)
       (subst (λ (x : SyncPaths). 4 ≤ x.systems) (sym paths_are) (omega arith));
   few = subst (λ (x : SyncPaths). x.systems ≤ 255) (sym paths_are) (omega arith);
@@ -272,15 +274,10 @@ turns = record {
 
 -- ---- the bounds
 
--- its event is the first behind the start
-none_between : NoneBetween ring_document.events 0 30000000000
-none_between t (inl same) later = subst (λ (x : Timed). 30000000000 ≤ x.at) (sym same) (omega arith)
-none_between t (inr none) later = absurd none
-
 lost : IsLossBoundAfter ring_network ring_document.events (0 ∷ []) 30000000000 2460 2460
 lost = inl (
   omega arith,
-  none_between,
+  none_between ring_document.events 0 30000000000 ((λ later. omega arith), tt),
   record { links = links_rest; lapses = inl refl },
   refl,
   (1000003050, (refl, ring_begun), omega arith),

@@ -47,6 +47,16 @@ ring_document = record {
   events = record { at = 30000000000; act = Changing (LinkDown 0x80e1fffe00000a 1) } ∷ [];
 }
 
+-- later the other link of the root goes down too, so that the other bridges are cut off in a line
+abbrev pub cut_document : DocumentState
+cut_document = record {
+  network = ring_network;
+  events =
+      record { at = 30000000000; act = Changing (LinkDown 0x80e1fffe00000a 1) }
+      ∷ record { at = 60000000000; act = Changing (LinkDown 0x80e1fffe00000a 2) }
+      ∷ [];
+}
+
 -- the bridge fails that is farthest from the root: it is the far end of both its links
 abbrev pub far_document : DocumentState
 far_document = record {

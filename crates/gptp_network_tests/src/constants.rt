@@ -13,7 +13,6 @@ use gptp_roles::Role;
 use gptp_system::Answer;
 use gptp_vector::ClockId;
 use gptp_world::{Done, Refused, World};
-use std::alloc::Global;
 use std::test::Fail;
 
 /// How many acts a stretch may have.
@@ -29,15 +28,20 @@ const LINK: u64 = 1_800;
 /// from the sums as docs/PLANNING.md has them.
 const BOUNDS_OF_LINKS: [u128; 2] = [26_222_419, 52_444_891];
 
-/// From when on what holds, in a stretch between two changes. All is counted from the earlier one, or from the start,
-/// in announce intervals, of which the largest in the network counts.
+/// After how many announce intervals ports are capable, where they can be: L + 5, L being 9.
+const CAPABLE: u64 = 14;
+
+/// How many clocks at the end of a trace are clean, by after how many announce intervals it arrives; or the trace is
+/// clean as a whole. It is one clock from one interval after ports are capable, and one more with each turn of k + 1
+/// intervals, k being 3. Where fewer systems live, the trace is clean as a whole.
+const CLEAN: [(usize, u64); 5] = [(5, 31), (4, 27), (3, 23), (2, 19), (1, 15)];
+
+/// From when on what holds, in a stretch between two changes, or from the start to one.
 struct Times {
-    /// Ports are capable, where they can be: after L + 5 intervals, L being 9.
-    capable: u64,
-    /// How many clocks at the end of a trace are clean, by when it arrives; or the trace is clean as a whole. It is one
-    /// clock from one interval after ports are capable, and one more with each turn of k + 1 intervals, k being 3.
-    /// Where fewer systems live, the trace is clean as a whole.
-    clean: [(usize, u64); 5],
+    /// The stretch begins.
+    begin: u64,
+    /// The largest announce interval in the network.
+    interval: u64,
     /// The choice and the roles stand. At the start that is two exchanges, an interval since delays vary, and the
     /// greatest delay for each system of a path but one; after the failure the span from any past. And 1 ns more.
     chosen: u64,
@@ -47,16 +51,19 @@ struct Times {
     end: u64,
 }
 
+impl Times {
+    /// The time so many announce intervals into the stretch.
+    fn after(&self, intervals: u64) -> u64 {
+        self.interval
+            .saturating_mul(intervals)
+            .saturating_add(self.begin)
+    }
+}
+
 /// From the start on, where all ports announce each second.
 const ALIKE_BEFORE: Times = Times {
-    capable: 14 * SECOND,
-    clean: [
-        (5, 31 * SECOND),
-        (4, 27 * SECOND),
-        (3, 23 * SECOND),
-        (2, 19 * SECOND),
-        (1, 15 * SECOND),
-    ],
+    begin: 0,
+    interval: SECOND,
     chosen: 2_000_003_501,
     settled: 38 * SECOND,
     end: FAILS - 1,
@@ -64,14 +71,8 @@ const ALIKE_BEFORE: Times = Times {
 
 /// From the failure on.
 const ALIKE_AFTER: Times = Times {
-    capable: 54 * SECOND,
-    clean: [
-        (5, 71 * SECOND),
-        (4, 67 * SECOND),
-        (3, 63 * SECOND),
-        (2, 59 * SECOND),
-        (1, 55 * SECOND),
-    ],
+    begin: FAILS,
+    interval: SECOND,
     chosen: 55_000_001_001,
     settled: 72 * SECOND,
     end: 80 * SECOND,
@@ -80,14 +81,8 @@ const ALIKE_AFTER: Times = Times {
 /// From the start on, where some ports announce each two seconds: then all takes twice as long, some longer than there
 /// is until the failure.
 const MIXED_BEFORE: Times = Times {
-    capable: 28 * SECOND,
-    clean: [
-        (5, 62 * SECOND),
-        (4, 54 * SECOND),
-        (3, 46 * SECOND),
-        (2, 38 * SECOND),
-        (1, 30 * SECOND),
-    ],
+    begin: 0,
+    interval: 2 * SECOND,
     chosen: 3_000_003_501,
     settled: 76 * SECOND,
     end: FAILS - 1,
@@ -95,14 +90,8 @@ const MIXED_BEFORE: Times = Times {
 
 /// From the failure on.
 const MIXED_AFTER: Times = Times {
-    capable: 68 * SECOND,
-    clean: [
-        (5, 102 * SECOND),
-        (4, 94 * SECOND),
-        (3, 86 * SECOND),
-        (2, 78 * SECOND),
-        (1, 70 * SECOND),
-    ],
+    begin: FAILS,
+    interval: 2 * SECOND,
     chosen: 70_000_001_001,
     settled: 104 * SECOND,
     end: 120 * SECOND,
@@ -278,8 +267,8 @@ fn is_frame_clean(live: &Live<'_>, times: &Times, at: u64, frame: &Carried) -> b
         Ok(Message::Announce(announce)) => announce,
         _ => return true,
     };
-    for (clocks, since) in times.clean {
-        if since <= at {
+    for (clocks, intervals) in CLEAN {
+        if times.after(intervals) <= at {
             return is_clean(live, &announce, clocks);
         }
     }
@@ -383,7 +372,7 @@ fn is_asked(times: &Times, at: u64) -> bool {
 fn holds(world: &World<PcgFate>, live: &Live<'_>, times: &Times, at: u64, done: &Done) -> bool
     requires moment { IsMoment times.now.end }
 {
-    (at < times.capable || are_capable(world, live))
+    (at < times.after(CAPABLE) || are_capable(world, live))
         && is_told_clean(live, times, at, done)
         && is_told_exact(world, live, times, at, done)
         && (!is_asked(times, at) || is_settled(world, live))

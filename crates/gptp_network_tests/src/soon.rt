@@ -3,7 +3,7 @@
 
 ghost use Rattle.std.specs.Prelude.{◌≡◌, IfOk, OnOk, Some};
 ghost use Rattle.gptp_network_tests.specs.Pair.{HasBegun, first_member, pair_document};
-ghost use Rattle.gptp_network_tests.specs.Ring.{dark_document, far_document, heard_document, ring_document, rootless_document};
+ghost use Rattle.gptp_network_tests.specs.Ring.{cut_document, dark_document, far_document, heard_document, ring_document, rootless_document};
 ghost use Rattle.gptp_network_tests.specs.Soon.{BetterClocksSettleSoon, ChoosesWithin, IsPairSoon, SettlesWithin, back_document, early_document};
 
 use crate::drawn::begun;
@@ -95,9 +95,9 @@ pub fn lost_power_settles_soon<F: Fate>()
     choice_bounds_hold::<F>();
 }
 
-/// Where the bridge of the ring fails at 30 s that the farthest one hears, that one has another way, which is as long. The
-/// choice stands once it doesn't hold any more what it heard: three announce intervals, and what a frame takes, later. The
-/// roles do 11 s later.
+/// Where the bridge of the ring fails at 30 s that the farthest one hears, that one has another way, which is as long.
+/// The choice stands once it doesn't hold any more what it heard: three announce intervals, and what a frame takes,
+/// later. The roles do 11 s later.
 pub fn heard_systems_settle_soon<F: Fate>()
     ensures choice { ChoosesWithin F.answers heard_document 30000000000 3000000410 }
     ensures roles { SettlesWithin F.answers heard_document 30000000000 11000000000 }
@@ -116,9 +116,19 @@ pub fn turned_rings_settle_soon<F: Fate>()
     choice_bounds_hold::<F>();
 }
 
+/// Where at 60 s the other link of the root goes down too, the other bridges are cut off in a line. Choice and roles
+/// stand 1640 ns later: twice the greatest delay of two links.
+pub fn cut_lines_settle_soon<F: Fate>()
+    ensures choice { ChoosesWithin F.answers cut_document 60000000000 1640 }
+    ensures roles { SettlesWithin F.answers cut_document 60000000000 1640 }
+{
+    choice_alone_bounds_hold::<F>();
+    choice_bounds_hold::<F>();
+}
+
 /// Where the root of the ring fails at 30 s, the others get another one. The choice stands 10.00000205 s later: three
-/// announce intervals and a delay for each of the three that are left on a path, an announce interval, and two delays. The
-/// roles do 11 s later.
+/// announce intervals and a delay for each of the three that are left on a path, an announce interval, and two delays.
+/// The roles do 11 s later.
 pub fn rootless_rings_settle_soon<F: Fate>()
     ensures choice { ChoosesWithin F.answers rootless_document 30000000000 10000002050 }
     ensures roles { SettlesWithin F.answers rootless_document 30000000000 11000000000 }

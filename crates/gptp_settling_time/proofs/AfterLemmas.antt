@@ -39,7 +39,7 @@ use Rattle.gptp_settling_time.proofs.ClaimedToLemmas.{IsClaimedTo, claimed_act, 
 use Rattle.gptp_settling_time.proofs.ClearedToLemmas.{IsClearedTo, cleared_left, cleared_to_act, cleared_to_claimed, cleared_to_later}
 use Rattle.gptp_settling_time.proofs.KeptToLemmas.{IsNewsTo, KeepsTo, keeps_act, keeps_later, news_act_to, news_later_to}
 use Rattle.gptp_settling_time.proofs.LeftToLemmas.{IsLeftTo, left_to_act, left_to_chooses, left_to_later, left_to_settled}
-use Rattle.gptp_settling_time.proofs.FallenToLemmas.{IsFallenTo, fallen_to_act, fallen_to_later, fallen_to_settled}
+use Rattle.gptp_settling_time.proofs.FallenToLemmas.{IsFallenTo, fallen_to_act, fallen_to_claimed, fallen_to_later, fallen_to_settled}
 use Rattle.gptp_settling_time.proofs.LostToLemmas.{IsLostTo, lost_to_act, lost_to_chooses, lost_to_claimed, lost_to_later, lost_to_settled}
 use Rattle.gptp_settling_time.proofs.TurnedToLemmas.{IsTurnedTo, turned_to_act, turned_to_claimed, turned_to_later, turned_to_settled}
 use Rattle.gptp_settling_time.proofs.StartEventLemmas.{IsStartingTo, begun_soon_claimed, begun_soon_news, starting_act, starting_begins, starting_later}
@@ -122,7 +122,7 @@ module _ (d : DocumentState) (playable : IsPlayable d) (events : List Timed) (w 
   rests_from (Heard since) start none so = absurd none
   rests_from (Left silent) start none so = absurd none
   rests_from (Turned silent now) start rest so = turned_to_claimed d events silent now w start so playable rest
-  rests_from (Fallen silent now) start none so = absurd none
+  rests_from (Fallen silent now) start rest so = fallen_to_claimed d events silent now w start so playable rest
   rests_from (Cleared since silent right old) start rest so =
       cleared_to_claimed d events since silent right old w start so playable rest
   rests_from (Aging ago aged silent) start rest so =

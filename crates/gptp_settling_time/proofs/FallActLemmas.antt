@@ -4,7 +4,7 @@ use Rattle.gptp_lists.specs.Members.{In}
 use native.Mathlib.Decide.{ℕ_discrete}
 use Rattle.gptp_graph.specs.Best.{IsBest}
 use Rattle.gptp_graph.specs.PathBound.{path_bound}
-use Rattle.gptp_graph.specs.Snapshot.{IsWellFormed, System, clocks}
+use Rattle.gptp_graph.specs.Snapshot.{IsWellFormed, PortIdentity, System, clocks, port_of}
 use Rattle.gptp_graph.proofs.BestLemmas.{IsBest-neighbour}
 use Rattle.gptp_graph.proofs.DistanceLemmas.{IsDistance-clock, IsDistance-unique}
 use Rattle.gptp_graph.proofs.LinkLemmas.{Adjacent-clock, Adjacent-sym}
@@ -21,7 +21,7 @@ use Rattle.gptp_system.specs.State.{clock}
 use Rattle.gptp_system.specs.Steps.{HasPortNumber}
 use Rattle.gptp_model.specs.Acts.{Acts}
 use Rattle.gptp_model.specs.Changing.{TellsEnds, taken_down}
-use Rattle.gptp_model.specs.World.{Channel, WorldState, sender}
+use Rattle.gptp_model.specs.World.{Channel, WorldState, receiver, sender}
 use Rattle.gptp_model.specs.declared.done.Done.{Done}
 use Rattle.gptp_model.specs.declared.station.Station.{Station}
 use Rattle.gptp_bmca_machine.specs.CutTree.{CutsTree}
@@ -43,22 +43,27 @@ use Rattle.gptp_invariants.specs.WorldNews.{AreReadyBy, AreSilentBy}
 use Rattle.gptp_invariants.specs.WorldSound.{IsSoundWorld}
 use Rattle.gptp_invariants.specs.WorldStanding.{snapshot_of}
 use Rattle.gptp_invariants.proofs.ChoicePlaceLemmas.{station_there}
+use Rattle.gptp_invariants.proofs.ChoiceSendLemmas.{world_apart}
 use Rattle.gptp_invariants.proofs.ChoiceSettlesAsMachineLemmas.{paths_bound}
 use Rattle.gptp_invariants.proofs.WorldStandsLemmas.{stands_well}
 use Rattle.gptp_settling_time.specs.Losses.{IsUnmoved}
 use Rattle.gptp_settling_time.specs.TreeLosses.{IsCutTree}
 use Rattle.gptp_settling_time.proofs.AlwaysClaimedLemmas.{IsStanding}
 use Rattle.gptp_settling_time.proofs.CutDeepLemmas.{deep_within}
+use Rattle.gptp_settling_time.proofs.DueLemmas.{AreDueBy, due_by_interval, in_use_joins}
 use Rattle.gptp_settling_time.proofs.EndAnswersLemmas.{EndAnswers}
-use Rattle.gptp_settling_time.proofs.FallAlwaysLemmas.{IsFallenAlways, fallen_by, settles_by, settles_later}
+use Rattle.gptp_settling_time.proofs.FallAlwaysLemmas.{IsFallenAlways, IsGoneBy, fallen_by, falls_within, settles_by, settles_later}
 use Rattle.gptp_settling_time.proofs.FallDownLemmas.{FlightNames, tree_falls, tree_settles}
 use Rattle.gptp_settling_time.proofs.LeftClaimedLemmas.{HaveAskedLong, left_network}
-use Rattle.gptp_settling_time.proofs.LoweredLemmas.{ends, known, less_then, ready_on, wires}
+use Rattle.gptp_settling_time.proofs.LoweredLemmas.{ends, known, less_then, ready_on, still_joins, wires}
 use Rattle.gptp_settling_time.proofs.MovedAlwaysLemmas.{after_loss, dark_now}
 use Rattle.gptp_settling_time.proofs.OneEndLemmas.{turns_a, turns_b}
 use Rattle.gptp_settling_time.proofs.ReducedLemmas.{NearerStay}
 use Rattle.gptp_settling_time.proofs.SettledSeenLemmas.{IsSettledSeen}
 use Rattle.gptp_settling_time.proofs.TakenDownLemmas.{silent_down, told_keeps}
+use Rattle.gptp_settling_time.proofs.TreeSoundBeginLemmas.{outside_begins}
+use Rattle.gptp_settling_time.proofs.TreeSoundLemmas.{IsSoundOutside}
+use Rattle.gptp_settling_time.proofs.TreeTracesLemmas.{HasAllButLink}
 use Rattle.gptp_settling_time.proofs.WidenedLemmas.{ready_first}
 
 module _ (p : SettlingParams) (w : WorldState) (is : IsWorld p w) (place : ℕ) (channel : Channel)
@@ -89,7 +94,9 @@ module _ (p : SettlingParams) (w : WorldState) (is : IsWorld p w) (place : ℕ) 
       ≤ w.time)
       (late_then : delay_in w' ≤ w'.time) (sound : IsSoundWorld w)
       (named : FlightNames says_announce (snapshot_of w) (view w)) (ready' : AreReadyBy p silent w')
-      (quiet_by : AreSilentBy p silent w) where
+      (quiet_by : AreSilentBy p silent w) (peer : ℕ)
+      (has : HasAllButLink (snapshot_of w) (snapshot_of w') top peer)
+      (peer_out : IsBest (snapshot_of w') peer next → ⊥) where
     by_now : silent ≤ w'.time
     by_now = let time = a.time in omega (arith, past, time)
 
@@ -142,10 +149,42 @@ module _ (p : SettlingParams) (w : WorldState) (is : IsWorld p w) (place : ℕ) 
         dark' : UnlinkedAreOff n.graph (view w')
         dark' = dark_now p silent w' standing' asked' quiet' by_now
 
+    -- what was in flight is gone by then
+    due_gone : HaveQuietLinks p.params w' → NothingLapses p.params → (old : ℕ) → IsGoneBy p w.time old w'
+        → AreDueBy old w'
+    due_gone quiet' off old (inl interval) j l f c at among said =
+        let due = due_by_interval p w' is' j l f c at among said in
+        let time = a.time in
+        omega (arith, due, time, interval)
+    due_gone quiet' off old (inr (used, delay)) j l f c at among said =
+        let kept' = after_loss p silent w' standing' asked' quiet' by_now off late_then in
+        let time = a.time in
+        elim (kept'.calm.facts.fresh j l f at among (in_use_joins w' is'.sound used j l f at among)) [
+          | inl soon ↦ omega (arith, soon, time, delay)
+          | inr early ↦ absurd (omega (arith, early))
+        ]
+
+    sound_begins : HaveQuietLinks p.params w' → NothingLapses p.params → (old : ℕ) → IsGoneBy p w.time old w'
+        → fallen_by n w.time + n.most ≤ old → IsSoundOutside says_announce n.graph next old (view w')
+    sound_begins quiet' off old gone fits =
+        subst (λ h. (t : CutsTree h n top best next base depth) → HasAllButLink h n.graph top peer
+        → (Unmoved h n top → ⊥) → IsSoundEverywhere says_announce h (view w)
+        → FallsBack says_announce h n top best next base depth t w.time (view w')
+        → IsSoundOutside says_announce n.graph next old (view w')) seen.graph
+        (λ t has0 moved sound0 back.
+        outside_begins says_announce seen.n n top peer best next base depth t has0 in_top peer_out moved seen.net (view
+        w)
+        seen.calm seen.invariant seen.late sound0 wired (view w') lost other a w.time back
+        (world_apart w' is'.sound is'.encodable) old
+        (λ v in_v. let less = falls_within n w.time (depth v) (t.deep v in_v) in omega (arith, less, fits))
+        (due_gone quiet' off old gone)) tree has moved_top sound (begins quiet' off).0
+
     pub fallen_begins : IsFallenAlways p (snapshot_of w) silent w.time w'
     fallen_begins = record {
       standing = standing';
       asked = asked';
+      last = (told_keeps channel (record w { net = taken_down place channel w.net; last_change = w.time }) draws w'
+          k).change;
       n = n;
       same = refl;
       top = top;
@@ -160,6 +199,7 @@ module _ (p : SettlingParams) (w : WorldState) (is : IsWorld p w) (place : ℕ) 
           let (falls, settles) = begins quiet' off in
           let time = a.time in
           (falls, inl (omega (arith, time), settles));
+      sound = λ old gone fits quiet' off. sound_begins quiet' off old gone fits;
     }
 
 -- ---- the act
@@ -226,6 +266,33 @@ module _ (p : SettlingParams) (silent owner port : ℕ) (w : WorldState) (draws 
           few = few;
         }
 
+    -- these are the ends of the link
+    ends_of : (way : Direction) (v u : ℕ) → v ≡ (sender way channel).clock → u ≡ (receiver way channel).clock
+        → ((v ≡ top) × (u ≡ other)) ⊎ ((v ≡ other) × (u ≡ top))
+    ends_of FromA v u from to = elim ends_are [
+      | inl (is_a, is_b) ↦ inl (from ∙ is_a, to ∙ is_b)
+      | inr (is_b, is_a) ↦ inr (from ∙ is_a, to ∙ is_b)
+    ]
+    ends_of FromB v u from to = elim ends_are [
+      | inl (is_a, is_b) ↦ inr (from ∙ is_b, to ∙ is_a)
+      | inr (is_b, is_a) ↦ inl (from ∙ is_b, to ∙ is_a)
+    ]
+
+    -- all else is left
+    left_but : HasAllButLink (snapshot_of w) (snapshot_of w') top other
+    left_but = record {
+      systems = λ s member.
+          subst (In s)
+          (sym (told_keeps channel (record w { net = taken_down acts.1.place channel w.net; last_change = w.time })
+          draws w' told).systems) member;
+      links = λ v u joined. elim (still_joins p w is acts.1.place channel here draws w' is' told seen near
+          (port_of v joined.0) (port_of u joined.1) joined.2) [
+            | inl left ↦ inl (joined.0, joined.1, left)
+            | inr (way, from, to) ↦ inr (ends_of way v u (ap (λ (q : PortIdentity). q.clock) from)
+                (ap (λ (q : PortIdentity). q.clock) to))
+          ];
+    }
+
     live_a : told.station_a.live ≡ true
     live_a = live FromA told.place_a told.station_a told.is_a.here told.is_a.named
 
@@ -278,7 +345,8 @@ module _ (p : SettlingParams) (silent owner port : ℕ) (w : WorldState) (draws 
         → IsBest (snapshot_of w') m.clock next → ⊥) → IsFallenAlways p (snapshot_of w) silent w.time w'
     begins_so lost place a outside =
         fallen_begins p w is acts.1.place channel here draws w' is' told seen near silent top best next base depth tree
-        so.in_top lost place a outside pace measured' past late sound named still_ready quiet_by
+        so.in_top lost place a outside pace measured' past late sound named still_ready quiet_by other left_but
+        so.outside
 
     -- what stands at the other end isn't of the tree
     not_tree : (lost place : ℕ) (station : Station) → slice_get w.stations place ≡ Some station

@@ -10,7 +10,7 @@ use Rattle.gptp_links.specs.Fate.{Draw}
 use Rattle.gptp_scenario.specs.Calm.{NothingLapses}
 use Rattle.gptp_scenario.specs.SettlingTime.{window_span}
 use Rattle.gptp_scenario.specs.declared.change.Act.{Act}
-use Rattle.gptp_setup.specs.SettlingParams.{SettlingParams}
+use Rattle.gptp_setup.specs.SettlingParams.{SettlingParams, largest_interval}
 use Rattle.gptp_model.specs.Acts.{Acts, at as at_time}
 use Rattle.gptp_model.specs.Pending.{NothingBefore}
 use Rattle.gptp_model.specs.World.{WorldState}
@@ -41,19 +41,20 @@ use Rattle.gptp_invariants.specs.WorldStanding.{snapshot_of}
 use Rattle.gptp_invariants.proofs.ChoiceCalmKeptLemmas.{KeepsNetwork, acts_keep, delay_kept, links_quiet}
 use Rattle.gptp_invariants.proofs.ChoicePlaceLemmas.{station_there}
 use Rattle.gptp_invariants.proofs.ChoiceSeenActLemmas.{acts_seen}
+use Rattle.gptp_invariants.proofs.ChoiceSendLemmas.{world_apart}
 use Rattle.gptp_invariants.proofs.ChoiceSettlesAsMachineLemmas.{kept_back, paths_bound}
-use Rattle.gptp_invariants.proofs.DelayCapableKeptLemmas.{stood}
 use Rattle.gptp_invariants.proofs.WorldBoundedLemmas.{bounded_by}
 use Rattle.gptp_invariants.proofs.WorldNewsCourseLemmas.{later_keeps}
 use Rattle.gptp_invariants.proofs.WorldOutlineLemmas.{acts_time}
 use Rattle.gptp_invariants.proofs.WorldStandsLemmas.{stands_well}
 use Rattle.gptp_settling_time.proofs.AlwaysClaimedLemmas.{IsStanding, calm_timed}
-use Rattle.gptp_settling_time.proofs.HeardLemmas.{first_acted, first_later}
-use Rattle.gptp_settling_time.proofs.LeftClaimedLemmas.{HaveAskedLong, asked_ready, left_network, same_left, standing_acts, standing_later}
-use Rattle.gptp_settling_time.proofs.LinkStoodLemmas.{stood_in}
+use Rattle.gptp_settling_time.proofs.DueLemmas.{UpIsInUse, use_kept}
+use Rattle.gptp_settling_time.proofs.LeftClaimedLemmas.{HaveAskedBy, HaveAskedLong, asked_acts, asked_later, asked_ready, left_network, same_left, standing_acts, standing_later}
 use Rattle.gptp_settling_time.proofs.MovedAlwaysLemmas.{after_loss, calm_now, dark_now}
 use Rattle.gptp_settling_time.proofs.NewsMeasuredLemmas.{ready_measures}
 use Rattle.gptp_settling_time.proofs.SeenSettledLemmas.{seen_settles}
+use Rattle.gptp_settling_time.proofs.SettledSeenLemmas.{IsSettledSeen, settled_in}
+use Rattle.gptp_settling_time.proofs.TreeSoundLemmas.{IsSoundOutside, outside_kept}
 
 -- by this time each system of the tree has left the root of before
 abbrev pub fallen_by : Network → ℕ → ℕ
@@ -71,10 +72,21 @@ within : (deep reach most : ℕ) → deep < reach → deep * most ≤ pred reach
 within deep zero most less = absurd (omega (arith, less))
 within deep (suc reach) most less = mul-le-mul_right most (omega (arith, less))
 
--- What is claimed of a world since a link went down at a time that cut a tree off.
+-- so each leaves it by that time
+pub falls_within : (n : Network) (start deep : ℕ) → deep < n.reach → falls_by n start deep ≤ fallen_by n start
+falls_within n start deep short = let less = within deep n.reach n.most short in omega (arith, less)
+
+-- What was in flight at the start is gone by then: an announce interval later, or a greatest delay later where each
+-- link that is up is in use.
+abbrev pub IsGoneBy : SettlingParams → ℕ → ℕ → WorldState → Type 0
+IsGoneBy p start old w = (start + largest_interval p ≤ old) ⊎ (UpIsInUse w × (start + delay_in w ≤ old))
+
+-- What is claimed of a world since a link went down at a time that cut a tree off. What others hold is sound. What is
+-- in flight is too, but for what was so at the start, and for what the tree told before it fell back.
 pub record IsFallenAlways (p : SettlingParams) (g : Snapshot) (silent start : ℕ) (w : WorldState) : Type 0 where
   pub standing : IsStanding p silent w
   pub asked : HaveAskedLong w
+  pub last : w.last_change ≡ start
   pub n : Network
   pub same : left_network p silent w ≡ n
   pub top : ℕ
@@ -92,6 +104,9 @@ pub record IsFallenAlways (p : SettlingParams) (g : Snapshot) (silent start : �
       (settles_later n start) (view w))
       ⊎ ((fallen_by n start < w.time)
       × Invariant says_announce (record n { slack = suc (fallen_by n start) }) (view w)))
+  pub sound : (old : ℕ) → IsGoneBy p start old w → fallen_by n start + n.most ≤ old → HaveQuietLinks p.params w
+      → NothingLapses p.params
+      → IsSoundOutside says_announce n.graph next old (view w)
 
 -- the network with the times of what falls back
 module _ (p : SettlingParams) (silent start : ℕ) (w : WorldState) (standing : IsStanding p silent w)
@@ -151,8 +166,7 @@ module _ (p : SettlingParams) (g : Snapshot) (silent start : ℕ) (w w' : WorldS
         kept' dark' step
 
     reached : (v : ℕ) → IsBest is.n.graph v is.next → falls_by is.n start (is.depth v) ≤ fallen_by is.n start
-    reached v in_v =
-        let less = within (is.depth v) is.n.reach is.n.most (is.tree.deep v in_v) in omega (arith, less)
+    reached v in_v = falls_within is.n start (is.depth v) (is.tree.deep v in_v)
 
     abbrev timed_n : Network
     timed_n = record is.n { slack = suc (fallen_by is.n start) }
@@ -191,6 +205,23 @@ module _ (p : SettlingParams) (g : Snapshot) (silent start : ℕ) (w w' : WorldS
         (settles_by is.n start) (settles_later is.n start) (view x))
         ⊎ ((fallen_by is.n start < x.time) × Invariant says_announce timed_n (view x))
 
+    -- what is old is so later
+    gone_before : (old : ℕ) → IsGoneBy p start old w' → IsGoneBy p start old w
+    gone_before old (inl interval) = inl interval
+    gone_before old (inr (used, delay)) =
+        inr (
+          use_kept w' w (kept_back w w' keeps) used,
+          subst (λ most. start + most ≤ old) (delay_kept w w' keeps) delay,
+        )
+
+    sound' : (old : ℕ) → IsGoneBy p start old w' → fallen_by is.n start + is.n.most ≤ old
+        → IsSoundOutside says_announce is.n.graph is.next old (view w')
+    sound' old gone fits =
+        outside_kept says_announce g is.n is.top is.best is.next is.base is.depth is.tree start old
+        (λ v in_v. let by = reached v in_v in omega (arith, by, fits)) (view w) (view w') back back'
+        (world_apart w' standing'.world.sound standing'.world.encodable)
+        (is.sound old (gone_before old gone) fits quiet off) step
+
     settled_on : Settling w → Settling w'
     settled_on (inr (over, invariant)) =
         let over' : fallen_by is.n start < w'.time = omega (arith, over, on) in
@@ -227,6 +258,7 @@ module _ (p : SettlingParams) (g : Snapshot) (silent start : ℕ) (w w' : WorldS
   fallen_step = record {
     standing = standing';
     asked = asked';
+    last = keeps.change ∙ is.last;
     n = is.n;
     same = same';
     top = is.top;
@@ -238,6 +270,7 @@ module _ (p : SettlingParams) (g : Snapshot) (silent start : ℕ) (w w' : WorldS
     past = past';
     late = late';
     seen = λ quiet' off. (back' quiet' off, settled_on quiet' off (is.seen (quiet quiet' off) off).1);
+    sound = λ old gone fits quiet' off. sound' quiet' off old gone fits;
   }
 
 pub fallen_later : (p : SettlingParams) (g : Snapshot) (silent start time : ℕ) (w : WorldState) → w.time ≤ time
@@ -245,8 +278,7 @@ pub fallen_later : (p : SettlingParams) (g : Snapshot) (silent start time : ℕ)
     → IsFallenAlways p g silent start (at_time time w)
 fallen_later p g silent start time w later first is =
     fallen_step p g silent start w (at_time time w) is (standing_later p silent time w later first is.standing)
-    (λ at stands. let (one, by, before, x) = is.asked at (stood_in at (at_time time w) w stands refl stands.here) in
-    (one, by, before, first_later p one by at time w is.standing.world later first x)) (later_keeps time w)
+    (asked_later p w.last_change time w is.standing.world later first is.asked) (later_keeps time w)
     (inl (record { time = time; later = later; is = refl })) later
 
 pub fallen_acts : (p : SettlingParams) (g : Snapshot) (silent start : ℕ) (act : Act) (w : WorldState)
@@ -258,13 +290,8 @@ fallen_acts p g silent start act w draws done w' none octet acts is =
     let keeps = acts_keep act w draws done w' none acts in
     let time = acts_time act w draws done w' acts in
     fallen_step p g silent start w w' is standing'
-    (λ at stands. let (one, by, before, x) = is.asked at (stood p w w' world standing'.world keeps at stands) in
-    let change = keeps.change in (
-      one,
-      by,
-      omega (arith, before, change),
-      first_acted p silent act w draws done w' none acts world standing'.world is.standing.measured at one by x,
-    )) keeps
+    (subst (λ t. HaveAskedBy t w') (sym keeps.change)
+    (asked_acts p w.last_change silent act w draws done w' none acts is.standing standing'.world is.asked)) keeps
     (inr (acts_seen act w draws done w' none world.sound world.encodable acts)) (omega (arith, time))
 
 -- ---- it settles
@@ -301,6 +328,9 @@ module _ (p : SettlingParams) (g : Snapshot) (silent start : ℕ) (w : WorldStat
 
   settled_by_now : settled_from timed ≤ w.time
   settled_by_now = omega (arith, late)
+
+  pub fallen_seen : IsSettledSeen p w
+  fallen_seen = settled_in p w timed refl net calm invariant settled_by_now
 
   pub fallen_settles : Settled w × IsBoundedWorld w
   fallen_settles =

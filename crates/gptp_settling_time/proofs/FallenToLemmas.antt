@@ -1,10 +1,11 @@
 -- Worlds of documents since a link went down that cut a tree off.
-use Rattle.std.proofs.Common.{◌≤◌, ◌+◌, ◌*◌, ℕ, pred, Option, List}
+use Rattle.std.proofs.Common.{◌≤◌, ◌+◌, ◌*◌, ℕ, pred, Option, List, ◌<◌, subst, arith}
 use Rattle.gptp_graph.specs.PathBound.{path_bound}
 use Rattle.gptp_graph.specs.Snapshot.{Snapshot}
 use Rattle.gptp_links.specs.declared.bounds.Bounds.{Bounds}
 use Rattle.gptp_scenario.specs.Calm.{IsCalm, NothingLapses}
 use Rattle.gptp_scenario.specs.Network.{pace_of}
+use Rattle.gptp_scenario.specs.SettlingTime.{way_span}
 use Rattle.gptp_scenario.specs.declared.change.Timed.{Timed}
 use Rattle.gptp_model.specs.Acts.{at}
 use Rattle.gptp_model.specs.Course.{WasDone}
@@ -14,15 +15,19 @@ use Rattle.gptp_model.specs.World.{WorldState}
 use Rattle.gptp_world.specs.Transitions.{ActTrace}
 use Rattle.gptp_world.proofs.SettlingInvariantLemmas.{next_octet}
 use Rattle.gptp_network.specs.Document.{DocumentState}
-use Rattle.gptp_invariants.specs.ChoiceCalm.{delay_in}
+use Rattle.gptp_invariants.specs.ChoiceCalm.{delay_in, sync_paths_of}
 use Rattle.gptp_invariants.specs.ChoiceSettled.{Settled}
 use Rattle.gptp_invariants.specs.WorldBounded.{IsBoundedWorld}
 use Rattle.gptp_invariants.specs.WorldStanding.{snapshot_of}
 use Rattle.gptp_theorem.specs.PlayedLaws.{IsPlayable}
 use Rattle.gptp_theorem.proofs.CalmLemmas.{quiet_stands}
 use Rattle.gptp_theorem.proofs.PlayedLemmas.{no_change}
+use Rattle.gptp_settling_time.proofs.ClaimedToLemmas.{IsClaimedTo}
+use Rattle.gptp_settling_time.proofs.FallenClaimedLemmas.{fallen_claimed}
+use Rattle.gptp_settling_time.proofs.GoesToLemmas.{goes_to, paths_to}
 use Rattle.gptp_settling_time.proofs.KeptToLemmas.{KeepsTo, keeps_act, keeps_later}
 use Rattle.gptp_settling_time.proofs.FallAlwaysLemmas.{IsFallenAlways, fallen_acts, fallen_later, fallen_settles}
+use Rattle.gptp_settling_time.specs.InTurn.{HasFallenBack}
 
 -- A world of a document after these events, by the last of which a tree was cut off at a time; ports without a link
 -- aren't capable from a time on.
@@ -61,3 +66,21 @@ module _ (d : DocumentState) (events : List Timed) (silent time : ℕ) where
   fallen_to_settled w so playable calm off late =
       fallen_settles (pace_of d.network) so.before silent time w so.since
       (quiet_stands d.network events w playable.network so.keeps.stands so.keeps.claim.world.sound calm).links off late
+
+  -- once it has come to rest claims are made of all links always
+  pub fallen_to_claimed : (w : WorldState) (start : ℕ) → IsFallenTo d events silent time w → IsPlayable d
+      → HasFallenBack d.network events time start w.time → IsClaimedTo d events start w
+  fallen_to_claimed w start so playable rest =
+      let paths = paths_to d playable events w so.keeps in
+      let later : time + way_span (sync_paths_of w) < start =
+      subst (λ x. time + way_span x < start) paths rest.later in
+      let over : start + way_span (sync_paths_of w) ≤ w.time =
+      subst (λ x. start + way_span x ≤ w.time) paths rest.over in
+      record {
+        keeps = so.keeps;
+        since = fallen_claimed (pace_of d.network) so.before silent time rest.flight w so.since
+            (quiet_stands d.network events w playable.network so.keeps.stands so.keeps.claim.world.sound
+            rest.calm).links rest.off (omega (arith, later, over))
+            (goes_to d playable events w so.keeps rest.flight rest.is_gone) rest.gone start
+            (omega (arith, later));
+      }

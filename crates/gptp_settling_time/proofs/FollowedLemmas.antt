@@ -1,7 +1,7 @@
 -- A choice bound of a time gives what the network came from then, and when it has settled by that.
-use Rattle.std.proofs.Common.{◌≡◌, ◌⊎◌, inl, inr, ◌<◌, ◌≤◌, ◌+◌, ◌*◌, ℕ, suc, List, [], ◌∷◌, ◌++◌, refl, sym, ap, subst, ◌∙◌, append_assoc, arith}
+use Rattle.std.proofs.Common.{◌≡◌, ◌⊎◌, inl, inr, ◌<◌, ◌≤◌, ◌+◌, ◌*◌, ℕ, suc, List, [], ◌∷◌, ◌++◌, refl, sym, ap, subst, ◌∙◌, append_assoc, max, arith}
 use Rattle.std.specs.List.{AllByRecursion}
-use Rattle.std.proofs.Math.Nat.{le-max_right}
+use Rattle.std.proofs.Math.Nat.{le-max_left, le-max_right}
 use native.Mathlib.Decide.{dec_le}
 use Rattle.gptp_setup.specs.SettlingParams.{largest_interval}
 use Rattle.gptp_scenario.specs.Calm.{IsCalm, NothingLapses}
@@ -14,7 +14,7 @@ use Rattle.gptp_network.specs.Document.{DocumentState}
 use Rattle.gptp_network.specs.Events.{AreInOrder}
 use Rattle.gptp_network.specs.Snapshot.{events_by}
 use Rattle.gptp_settling_time.specs.HowSoon.{AreGainEvents, AreHeardEvents, AreReadyAtStart, AreStartEvents, BoundsAging, BoundsAnyLoss, BoundsEvents, BoundsLoss, BoundsStart, IsChoiceAloneBound, IsChoiceBound, IsChoiceBoundAfter, IsLossBoundAfter, IsRestBoundAfter, EachEvent, NoneBetween, OneEvent, RestsAfterLoss, events_at}
-use Rattle.gptp_settling_time.specs.InTurn.{Aging, AnyPast, AreCapableSoon, BeginsBy, ChoosesAfter, ChoosesByEvents, ComesByEvents, EventLeads, Fallen, Gained, Heard, LeadOn, Left, Lost, Past, SettlesAfter, SettlesByEvents, Starting, StartsWith, TellsNothing, Turned, UsedVaryLittle}
+use Rattle.gptp_settling_time.specs.InTurn.{Aging, AnyPast, AreCapableSoon, BeginsBy, ChoosesAfter, ChoosesByEvents, ComesByEvents, EventLeads, Fallen, FlightIsGone, Gained, Heard, LeadOn, Left, Lost, Past, SettlesAfter, SettlesByEvents, Starting, StartsWith, TellsNothing, Turned, UsedVaryLittle}
 use Rattle.gptp_settling_time.specs.TreeLosses.{LowersTree}
 use Rattle.gptp_settling_time.specs.Losses.{AgesWithin, FailsHeard, LowersLink, LowersUnused, TurnsLink, UpIsUsed}
 use Rattle.gptp_settling_time.proofs.CalmLessLemmas.{fails_calm}
@@ -22,7 +22,8 @@ use Rattle.gptp_settling_time.proofs.CutLemmas.{IsBy, all_by}
 use Rattle.gptp_settling_time.proofs.MomentLemmas.{all_at, last_by, parted}
 use Rattle.gptp_settling_time.proofs.LeadOnLemmas.{HasRested, HasSettled, IsLed, after_idle, any_leads, gains_led, heard_led, idle_led, lead_as, leads_on, led_as, next, rested_so, settled_later, taken_later, wider_led}
 use Rattle.gptp_settling_time.proofs.LosesLeadLemmas.{LosesBy, any_rests, loses_by}
-use Rattle.gptp_settling_time.proofs.LossLeadLemmas.{IsLeftBy, cleared_led, dead_lead, fall_leads, heard_lead, last_at, loss_leads, settles_chooses, turn_leads}
+use Rattle.gptp_settling_time.proofs.LossLeadLemmas.{IsLeftBy, dead_lead, fall_leads, heard_lead, loss_leads, settles_chooses, turn_leads}
+use Rattle.gptp_settling_time.proofs.LossRestLemmas.{cleared_led, last_at}
 use Rattle.gptp_settling_time.proofs.SilentSpanLemmas.{none_silent}
 
 -- ---- a document
@@ -210,11 +211,78 @@ module _ (n : NetworkState) (network : IsNetwork n) (off : NothingLapses n.param
           ]) in
           record { first = before.first; begins = before.begins; last = x; lead = lead; settles = rested }
 
+    -- A tree is cut off, an announce interval after the time before has come to rest: it falls back.
+    falls_on : (then : ℕ) (now : List Timed) → at_now ≡ now → IsCalm n before_now
+        → (before : IsFollowedTo n before_now last then) → last + then + largest_interval (pace_of n) < time
+        → OneEvent (LowersTree n) before_now now
+        → (silent : ℕ) × LeadOn n [] before.first (events_by time all) (Fallen silent time)
+    falls_on then [] same calm before soon none = absurd none
+    falls_on then (event ∷ other ∷ now) same calm before soon none = absurd none
+    falls_on then (event ∷ []) same calm before soon lowers =
+        let here : event.at ≡ time =
+        (subst (AllByRecursion (λ (t : Timed). t.at ≡ time)) same (all_at time all)).0 in
+        let (seen, taken, is) = before.settles in
+        let over = last_by last all in
+        let (silent, leads) = fall_leads n before_now event (suc (last + then)) (omega (arith, over))
+        (omega (arith, soon, here)) seen is (record { lowers = lowers; calm = calm; off = off }) in
+        let past : Past = Fallen silent event.at in (
+          silent,
+          subst (λ at. LeadOn n [] before.first (events_by time all) (Fallen silent at)) here
+              (subst (λ es. LeadOn n [] before.first es past)
+              (sym (parted all last time order less between ∙ ap (λ es. before_now ++ es) same))
+              (leads_on n [] before.first before.last past before_now (event ∷ []) before.lead (
+                seen,
+                taken_later n before_now before.last seen (suc (last + then)) event.at (omega (arith, soon, here))
+                    taken,
+                past,
+                leads,
+                refl,
+              ))),
+        )
+
+    -- it has come to rest once the tree has settled and what was in flight is gone
+    fall_followed : (then rest gone : ℕ) → IsCalm n before_now → IsCalm n (events_by time all)
+        → IsFollowedTo n before_now last then → last + then + largest_interval (pace_of n) < time
+        → OneEvent (LowersTree n) before_now at_now → FlightIsGone n (events_by time all) gone
+        → rest ≡ max (2 * way_span (sync_paths n (events_by time all))) gone
+        → IsFollowedTo n (events_by time all) time rest
+    fall_followed then rest gone calm_then calm before soon lowers flight is =
+        let (silent, lead) = falls_on then at_now refl calm_then before soon lowers in
+        let way : ℕ = way_span (sync_paths n (events_by time all)) in
+        let start : ℕ = suc (time + way) in
+        let ways = le-max_left (2 * way) gone in
+        let flown = le-max_right (2 * way) gone in
+        let over : start + way ≤ suc (time + rest) = omega (arith, is, ways) in
+        record {
+          first = before.first;
+          begins = before.begins;
+          last = Fallen silent time;
+          lead = lead;
+          settles = (
+            Heard start,
+            inr (
+              start,
+              refl,
+              record {
+                calm = calm;
+                off = off;
+                later = omega arith;
+                flight = gone;
+                is_gone = flight;
+                gone = omega (arith, is, flown);
+                over = over;
+              },
+            ),
+            over,
+          );
+        }
+
   bound_calm : (earlier : List ℕ) (time rest : ℕ) → IsRestBoundAfter n all earlier time rest
       → IsCalm n (events_by time all)
   bound_calm [] time rest (start, (calm, is)) = calm
   bound_calm (last ∷ earlier) time rest (inl (later, between, (calm, is))) = calm
-  bound_calm (last ∷ earlier) time rest (inr (later, between, calm, nothing, before, loses)) = calm
+  bound_calm (last ∷ earlier) time rest (inr (inl (later, between, calm, nothing, before, loses))) = calm
+  bound_calm (last ∷ earlier) time rest (inr (inr (later, between, calm, nothing, before, falls, asks))) = calm
 
   followed : (earlier : List ℕ) (time rest : ℕ) → IsRestBoundAfter n all earlier time rest
       → IsFollowedTo n (events_by time all) time rest
@@ -230,9 +298,13 @@ module _ (n : NetworkState) (network : IsNetwork n) (off : NothingLapses n.param
       (inl (later, between, (calm, inr (nothing, inr (then, bound, soon, sharp))))) =
       next_followed last time later between then rest (bound_calm earlier last then bound)
       (followed earlier last then bound) soon sharp
-  followed (last ∷ earlier) time rest (inr (later, between, calm, nothing, (then, bound, soon), loses)) =
+  followed (last ∷ earlier) time rest (inr (inl (later, between, calm, nothing, (then, bound, soon), loses))) =
       loss_followed last time later between then rest (bound_calm earlier last then bound)
       (followed earlier last then bound) soon calm loses
+  followed (last ∷ earlier) time rest
+      (inr (inr (later, between, calm, nothing, (then, bound, soon), lowers, (gone, flight, is)))) =
+      fall_followed last time later between then rest gone (bound_calm earlier last then bound) calm
+      (followed earlier last then bound) soon lowers flight is
 
   -- a choice bound is one by which the network has come to rest
   choice_rests : (earlier : List ℕ) (time choice : ℕ) → IsChoiceBoundAfter n all earlier time choice
@@ -443,49 +515,31 @@ module _ (d : DocumentState) (network : IsNetwork d.network) (order : AreInOrder
             heard held quiet (omega (arith, is_later)) (omega (arith, roles_later, more)) fails others bounds
         by (inr (inr (inr (inr any)))) = any_lost any
 
-    -- a tree is cut off, an interval after the time before has come to rest
-    tree_by : (last choice_then : ℕ) (now : List Timed) → NothingLapses d.network.params
-        → events_at time d.events ≡ now → events_by time d.events ≡ events_by last d.events ++ now
-        → IsCalm d.network (events_by last d.events) → IsCalm d.network (events_by time d.events)
-        → IsFollowedTo d.network (events_by last d.events) last choice_then
+    -- a tree is cut off
+    tree_by : (last choice_then : ℕ) (less : last < time) (between : NoneBetween d.events last time)
+        → NothingLapses d.network.params → IsCalm d.network (events_by last d.events)
+        → IsCalm d.network (events_by time d.events) → IsFollowedTo d.network (events_by last d.events) last choice_then
         → last + choice_then + largest_interval (pace_of d.network) < time
-        → OneEvent (LowersTree d.network) (events_by last d.events) now
+        → OneEvent (LowersTree d.network) (events_by last d.events) (events_at time d.events)
         → choice ≡ 2 * way_span (sync_paths d.network (events_by time d.events)) → roles ≡ choice → IsLost
-    tree_by last choice_then [] off is parts calm_then calm before soon none is_choice same = absurd none
-    tree_by last choice_then (event ∷ other ∷ now) off is parts calm_then calm before soon none is_choice same =
-        absurd none
-    tree_by last choice_then (event ∷ []) off is parts calm_then calm before soon lowers is_choice same =
-        let here : event.at ≡ time =
-        (subst (AllByRecursion (λ (t : Timed). t.at ≡ time)) is (all_at time d.events)).0 in
-        let seen = before.settles.0 in
-        let earlier = events_by last d.events in
-        let over = last_by last d.events in
-        let (silent, leads) = fall_leads d.network earlier event (suc (last + choice_then)) (omega (arith, over))
-        (omega (arith, soon, here)) seen before.settles.2
-        (record { lowers = lowers; calm = calm_then; off = off }) in
-        let past : Past = Fallen silent event.at in
+    tree_by last choice_then less between off calm_then calm before soon lowers is_choice same =
+        let (silent, lead) = falls_on d.network network off d.events order last time less between choice_then
+        (events_at time d.events) refl calm_then before soon lowers in
         record {
           first = before.first;
           begins = before.begins;
-          last = past;
-          lead = subst (λ es. LeadOn d.network [] before.first es past) (sym parts)
-              (leads_on d.network [] before.first before.last past earlier (event ∷ []) before.lead (
-                seen,
-                taken_later d.network earlier before.last seen (suc (last + choice_then)) event.at
-                    (omega (arith, soon, here)) before.settles.1,
-                past,
-                leads,
-                refl,
-              ));
+          last = Fallen silent time;
+          lead = lead;
           calm = calm;
-          settles = λ settled late. (off, omega (arith, here, is_choice, same, late));
-          chooses = λ settled late. (off, omega (arith, here, is_choice, late));
+          settles = λ settled late. (off, omega (arith, is_choice, same, late));
+          chooses = λ settled late. (off, omega (arith, is_choice, late));
         }
 
     lost_after : (earlier : List ℕ) → IsLossBoundAfter d.network d.events earlier time choice roles → IsLost
     lost_after [] none = absurd none
-    lost_after (last ∷ earlier) (inr (less, between, calm, off, (choice_then, bound, soon), lowers, is_choice, same)) =
-        tree_by last choice_then (events_at time d.events) off refl (parted d.events last time order less between)
+    lost_after (last ∷ earlier)
+        (inr (less, between, calm, off, (choice_then, bound, soon), lowers, (is_choice, same))) =
+        tree_by last choice_then less between off
         (bound_calm d.network network off d.events order earlier last choice_then bound) calm
         (followed d.network network off d.events order earlier last choice_then bound) soon lowers is_choice same
     lost_after (last ∷ earlier) (inl (less, between, calm, off, (choice_then, bound, soon), loses)) =

@@ -94,7 +94,18 @@ taken_later n events past seen time later less (inr (start, same, rests)) = inr 
           unlinked = is.unlinked;
           over = omega (arith, over, less);
         }
-    by (Fallen silent now) none = absurd none
+    by (Fallen silent now) is =
+        let gone = is.gone in
+        let over = is.over in
+        record {
+          calm = is.calm;
+          off = is.off;
+          later = is.later;
+          flight = is.flight;
+          is_gone = is.is_gone;
+          gone = omega (arith, gone, less);
+          over = omega (arith, over, less);
+        }
     by (Cleared begun silent right old) is =
         let gone = is.gone in
         let over = is.over in
@@ -167,7 +178,10 @@ rested_so n events past time off (seen, inr (start, same, rests), is) = by past 
     by (Heard since) none = absurd none
     by (Left silent) none = absurd none
     by (Turned silent now) rest = let told = rest.told in (off, omega (arith, told))
-    by (Fallen silent now) none = absurd none
+    by (Fallen silent now) rest =
+        let later = rest.later in
+        let over = rest.over in
+        (off, omega (arith, later, over))
     by (Cleared begun silent right old) rest = (off, rest.unlinked)
     by (Aging ago aged silent) rest = (off, inl rest.unlinked)
     by (Lost begun most silent) rest =

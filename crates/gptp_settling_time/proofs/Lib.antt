@@ -111,6 +111,10 @@ pub mod FallAlwaysLemmas
 pub mod FallDownLemmas
 pub mod FallActLemmas
 pub mod NamedLemmas
+pub mod TreeTracesLemmas
+pub mod TreeSoundLemmas
+pub mod TreeSoundBeginLemmas
+pub mod FallenClaimedLemmas
 pub mod FallenToLemmas
 pub mod FallMadeLemmas
 pub mod NamedAfterLemmas
@@ -128,6 +132,7 @@ pub mod LostEndLemmas
 pub mod SoundButOldLemmas
 pub mod LeadOnLemmas
 pub mod LossLeadLemmas
+pub mod LossRestLemmas
 pub mod RightStageLemmas
 pub mod DueLemmas
 pub mod TellsRightLemmas

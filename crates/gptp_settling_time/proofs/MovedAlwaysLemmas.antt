@@ -35,7 +35,6 @@ use Rattle.gptp_invariants.proofs.ChoiceCalmKeptLemmas.{KeepsNetwork, acts_keep,
 use Rattle.gptp_invariants.proofs.ChoicePlaceLemmas.{station_from, station_there}
 use Rattle.gptp_invariants.proofs.ChoiceSeenActLemmas.{acts_seen}
 use Rattle.gptp_invariants.proofs.ChoiceSettlesAsMachineLemmas.{kept_back, paths_bound}
-use Rattle.gptp_invariants.proofs.DelayCapableKeptLemmas.{stood}
 use Rattle.gptp_invariants.proofs.WorldBoundedLemmas.{bounded_by}
 use Rattle.gptp_invariants.proofs.WorldNewsCourseLemmas.{later_keeps}
 use Rattle.gptp_invariants.proofs.WorldOutlineLemmas.{acts_time}
@@ -43,9 +42,7 @@ use Rattle.gptp_invariants.proofs.WorldStandsLemmas.{stands_well}
 use Rattle.gptp_settling_time.proofs.AlwaysClaimedLemmas.{IsStanding, calm_timed, start_calm, start_network}
 use Rattle.gptp_settling_time.proofs.BesideLemmas.{IsDark, IsMoving}
 use Rattle.gptp_settling_time.proofs.FitsLemmas.{UnlinkedHoldNothing}
-use Rattle.gptp_settling_time.proofs.HeardLemmas.{first_acted, first_later}
-use Rattle.gptp_settling_time.proofs.LeftClaimedLemmas.{HaveAskedLong, asked_heard, asked_ready, left_calm, left_network, same_left, standing_acts, standing_later}
-use Rattle.gptp_settling_time.proofs.LinkStoodLemmas.{stood_in}
+use Rattle.gptp_settling_time.proofs.LeftClaimedLemmas.{HaveAskedBy, HaveAskedLong, asked_acts, asked_heard, asked_later, asked_ready, left_calm, left_network, same_left, standing_acts, standing_later}
 use Rattle.gptp_settling_time.proofs.MovedLemmas.{EachTurns, each_turns, invariant_then, moving_kept}
 use Rattle.gptp_settling_time.proofs.NewsMeasuredLemmas.{ready_measures}
 use Rattle.gptp_settling_time.proofs.SeenSettledLemmas.{seen_settles}
@@ -170,8 +167,7 @@ pub moved_later : (p : SettlingParams) (g : Snapshot) (silent start time : ℕ) 
     → IsMovedAlways p g silent start (at_time time w)
 moved_later p g silent start time w later first is =
     moved_step p g silent start w (at_time time w) is (standing_later p silent time w later first is.standing)
-    (λ at stands. let (one, by, before, x) = is.asked at (stood_in at (at_time time w) w stands refl stands.here) in
-    (one, by, before, first_later p one by at time w is.standing.world later first x)) (later_keeps time w)
+    (asked_later p w.last_change time w is.standing.world later first is.asked) (later_keeps time w)
     (inl (record { time = time; later = later; is = refl })) later
 
 pub moved_acts : (p : SettlingParams) (g : Snapshot) (silent start : ℕ) (act : Act) (w : WorldState)
@@ -183,13 +179,8 @@ moved_acts p g silent start act w draws done w' none octet acts is =
     let keeps = acts_keep act w draws done w' none acts in
     let time = acts_time act w draws done w' acts in
     moved_step p g silent start w w' is standing'
-    (λ at stands. let (one, by, before, x) = is.asked at (stood p w w' world standing'.world keeps at stands) in
-    let change = keeps.change in (
-      one,
-      by,
-      omega (arith, before, change),
-      first_acted p silent act w draws done w' none acts world standing'.world is.standing.measured at one by x,
-    )) keeps
+    (subst (λ t. HaveAskedBy t w') (sym keeps.change)
+    (asked_acts p w.last_change silent act w draws done w' none acts is.standing standing'.world is.asked)) keeps
     (inr (acts_seen act w draws done w' none world.sound world.encodable acts)) (omega (arith, time))
 
 -- ---- it settles

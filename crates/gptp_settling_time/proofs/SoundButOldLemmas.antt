@@ -36,7 +36,7 @@ use Rattle.gptp_settling_time.proofs.UnlinkedLemmas.{IsFarther, far_holds_none}
 -- ---- what a live system says
 
 -- what is said by who may say it, and holds what is sound, is sound
-says_sound : (g : Snapshot) (s : Station) (n : ℕ) (a : Announce) → IsWellFormed g → MaySay g s → StationIsSound g s
+pub says_sound : (g : Snapshot) (s : Station) (n : ℕ) (a : Announce) → IsWellFormed g → MaySay g s → StationIsSound g s
     → IsOwn s n a → IsSoundSent g (port_of s.clock n) a
 says_sound g s n a well is sound own = record {
   sender = here;

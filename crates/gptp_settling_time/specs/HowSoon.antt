@@ -336,19 +336,22 @@ LosesNext n events Then last time Asks =
     × ((then : ℕ) × Then then × (last + then < time))
     × Asks (events_by last events) (events_at time events)
 
--- By the one event of a time a tree is cut off, in a calm network where nothing lapses for want of Sync. The event
--- comes an announce interval after the time before has come to rest, by one of its bounds. The tree drops the best of
--- before within a way, and settles within another.
-abbrev pub BoundsTree : NetworkState → List Timed → (ℕ → Type 0) → ℕ → ℕ → ℕ → ℕ → Type 0
-BoundsTree n events Then last time choice roles =
+-- By the one event of a time a tree is cut off, and all events up to it ask for what `Asks` says. Nothing lapses for
+-- want of Sync. The network is calm. The event comes an announce interval after the time before has come to rest, by
+-- one of its bounds.
+abbrev pub FallsNext : NetworkState → List Timed → (ℕ → Type 0) → ℕ → ℕ → (List Timed → Type 0) → Type 0
+FallsNext n events Then last time Asks =
     (last < time)
     × NoneBetween events last time
     × IsCalm n (events_by time events)
     × NothingLapses n.params
     × ((then : ℕ) × Then then × (last + then + largest_interval (pace_of n) < time))
     × OneEvent (LowersTree n) (events_by last events) (events_at time events)
-    × (choice ≡ 2 * way_span (sync_paths n (events_by time events)))
-    × (roles ≡ choice)
+    × Asks (events_by time events)
+
+-- The tree drops the best of before within a way, and settles within another.
+abbrev pub BoundsTree : NetworkState → ℕ → ℕ → List Timed → Type 0
+BoundsTree n choice roles events = (choice ≡ 2 * way_span (sync_paths n events)) × (roles ≡ choice)
 
 -- ---- rest
 
@@ -389,14 +392,20 @@ RestsAfterAnyLoss n made now rest = (choice : ℕ) × BoundsAnyLoss n made now c
 abbrev pub RestsAfterLoss : NetworkState → List Timed → List Timed → ℕ → Type 0
 RestsAfterLoss n made now rest = RestsAfterOneLoss n made now rest ⊎ RestsAfterAnyLoss n made now rest
 
+-- After a tree was cut off it has come to rest once the tree has settled and what was in flight is gone.
+abbrev pub RestsTree : NetworkState → ℕ → List Timed → Type 0
+RestsTree n rest events =
+    (gone : ℕ) × FlightIsGone n events gone × (rest ≡ max (2 * way_span (sync_paths n events)) gone)
+
 -- By so much later than a time the network has come to rest, by the times before it, the latest first: it has settled,
 -- and nothing that is held, or in flight, names what is gone. The first time of all is 0.
 abbrev pub IsRestBoundAfter : NetworkState → List Timed → List ℕ → ℕ → ℕ → Type 0
 IsRestBoundAfter n events [] time rest = BoundsFirst n events time rest
 IsRestBoundAfter n events (last ∷ earlier) time rest =
     BoundsNext n events (λ then. IsRestBoundAfter n events earlier last then) last time rest
-    ⊎ LosesNext n events (λ then. IsRestBoundAfter n events earlier last then) last time
+    ⊎ (LosesNext n events (λ then. IsRestBoundAfter n events earlier last then) last time
     (λ made now. RestsAfterLoss n made now rest)
+    ⊎ FallsNext n events (λ then. IsRestBoundAfter n events earlier last then) last time (RestsTree n rest))
 
 -- ---- bounds
 
@@ -412,7 +421,7 @@ IsLossBoundAfter n events [] time choice roles = ⊥
 IsLossBoundAfter n events (last ∷ earlier) time choice roles =
     LosesNext n events (λ then. IsRestBoundAfter n events earlier last then) last time
     (λ made now. BoundsLoss n made now choice roles)
-    ⊎ BoundsTree n events (λ then. IsRestBoundAfter n events earlier last then) last time choice roles
+    ⊎ FallsNext n events (λ then. IsRestBoundAfter n events earlier last then) last time (BoundsTree n choice roles)
 
 -- a choice bound of a document at a time: by then the choice stands, and the roles do
 abbrev pub IsChoiceBound : DocumentState → ℕ → ℕ → Type 0

@@ -15,7 +15,7 @@
 --   distance since. When what was in flight is gone, and ports without a link aren't capable, the network has come to
 --   rest as if all had been heard.
 -- - Fallen: a link went down and so cut a tree off. The network settles 1 ns and twice the greatest delay for each
---   system of a path but one later.
+--   system of a path but one later. When what was in flight is gone too, it has come to rest as if all had been heard.
 -- - Aging: a system failed that others heard. What they hold of it ages, and the choice stands once that is gone. The
 --   network has come to rest, as if all had been heard, once right traces have been told by distance since, what was in
 --   flight is gone, and ports without a link aren't capable.
@@ -611,6 +611,18 @@ pub record HasAged (n : NetworkState) (events : List Timed) (aged silent start t
   pub unlinked : silent ≤ time
   pub over : HasSettledHeard n events start time
 
+-- A network in which a tree was cut off at a time has come to rest by another, as one whose ports are capable from a
+-- start on, by which the tree had dropped the best of before. What was in flight is gone. And the greatest delay has
+-- passed since the start for each system of a path but one.
+pub record HasFallenBack (n : NetworkState) (events : List Timed) (fallen start time : ℕ) : Type 0 where
+  pub calm : IsCalm n events
+  pub off : NothingLapses n.params
+  pub later : fallen + way_span (sync_paths n events) < start
+  pub flight : ℕ
+  pub is_gone : FlightIsGone n events flight
+  pub gone : fallen + flight < time
+  pub over : HasSettledHeard n events start time
+
 -- A network that has lost at a time has come to rest by another, as one whose ports are capable from a start on. The
 -- greatest delay has passed since the start for each system of a path but one, and by then the choice stands. Ports
 -- without a link aren't capable by the other time, or no link is up that isn't in use.
@@ -623,6 +635,7 @@ pub record HasToldAll (n : NetworkState) (events : List Timed) (since most silen
 -- by this time it has come to rest, as one whose ports are capable from this start on
 abbrev pub RestsFrom : NetworkState → List Timed → Past → ℕ → ℕ → Type 0
 RestsFrom n events (Turned silent turned) time start = HasToldAnew n events silent turned start time
+RestsFrom n events (Fallen silent fallen) time start = HasFallenBack n events fallen start time
 RestsFrom n events (Cleared since silent right old) time start = HasCleared n events since silent old start time
 RestsFrom n events (Aging ago aged silent) time start = HasAged n events aged silent start time
 RestsFrom n events (Lost since most silent) time start = HasToldAll n events since most silent start time

@@ -1,5 +1,5 @@
 -- A document without its events after a time.
-use Rattle.std.proofs.Common.{◌≡◌, inl, inr, ◌<◌, ◌≤◌, ◌+◌, ℕ, Bool, true, false, nat_le, List, [], ◌∷◌, refl, sym, ap, subst, arith, ◌*◌}
+use Rattle.std.proofs.Common.{◌≡◌, inl, inr, ◌<◌, ◌≤◌, ◌+◌, ℕ, Bool, true, false, nat_le, List, [], ◌∷◌, refl, sym, ap, subst, arith}
 use Rattle.std.specs.Prelude.{◌==◌, if◌then◌else◌}
 use Rattle.std.proofs.lemmas.Bool.{ne_eqb}
 use Rattle.std.proofs.lemmas.Bool.Decides.{nat_tests}
@@ -12,9 +12,8 @@ use Rattle.gptp_network.proofs.SnapshotLemmas.{from_filter}
 use Rattle.gptp_scenario.specs.Calm.{IsCalm}
 use Rattle.gptp_scenario.specs.Network.{NetworkState}
 use Rattle.gptp_scenario.specs.declared.change.Timed.{Timed}
-use Rattle.gptp_scenario.specs.SyncWait.{sync_paths}
 use Rattle.gptp_settling_time.specs.TreeLosses.{LowersTree}
-use Rattle.gptp_settling_time.specs.HowSoon.{BoundsChoice, BoundsEvents, BoundsFirst, BoundsLoss, BoundsNext, BoundsStart, BoundsTree, IsChoiceAloneBound, IsChoiceBound, IsChoiceBoundAfter, IsLossBoundAfter, IsRestBoundAfter, LosesNext, OneEvent, RestsAfterLoss, events_at, way_span}
+use Rattle.gptp_settling_time.specs.HowSoon.{BoundsChoice, BoundsEvents, BoundsFirst, BoundsLoss, BoundsNext, BoundsStart, BoundsTree, FallsNext, IsChoiceAloneBound, IsChoiceBound, IsChoiceBoundAfter, IsLossBoundAfter, IsRestBoundAfter, LosesNext, OneEvent, RestsAfterLoss, RestsTree, events_at}
 use Rattle.gptp_theorem.specs.PlayedLaws.{IsPlayable}
 use Rattle.gptp_timeline.proofs.EventLemmas.{filter_each, filter_in_order}
 use Rattle.gptp_timeline.proofs.PastLemmas.{by_sooner}
@@ -109,17 +108,16 @@ module _ (n : NetworkState) (all : List Timed) (until : ℕ) where
       events_so Asks last time (omega (arith, late, le)) le loses,
     )
 
-    tree_by : (choice roles : ℕ) → BoundsTree n all Then last time choice roles
-        → BoundsTree n (events_by until all) More last time choice roles
-    tree_by choice roles (late, between, calm, off, (before, bound, soon), lowers, is, same) = (
+    falls_by : (Asks : List Timed → Type 0) → FallsNext n all Then last time Asks
+        → FallsNext n (events_by until all) More last time Asks
+    falls_by Asks (late, between, calm, off, (before, bound, soon), lowers, asks) = (
       late,
       λ event member. between event (from_filter (λ (t : Timed). nat_le t.at until) event all member).0,
       subst (IsCalm n) (sym (by_sooner time until all le)) calm,
       off,
       (before, more (omega (arith, late, le)) before bound, soon),
       events_so (OneEvent (LowersTree n)) last time (omega (arith, late, le)) le lowers,
-      subst (λ es. choice ≡ 2 * way_span (sync_paths n es)) (sym (by_sooner time until all le)) is,
-      same,
+      subst Asks (sym (by_sooner time until all le)) asks,
     )
 
   rest_by : (earlier : List ℕ) (time rest : ℕ) → time ≤ until → IsRestBoundAfter n all earlier time rest
@@ -129,10 +127,14 @@ module _ (n : NetworkState) (all : List Timed) (until : ℕ) where
       inl (next_by (λ before. IsRestBoundAfter n all earlier last before)
       (λ before. IsRestBoundAfter n (events_by until all) earlier last before) last time le
       (λ soon before. rest_by earlier last before soon) rest bounds)
-  rest_by (last ∷ earlier) time rest le (inr loses) =
-      inr (loses_by (λ before. IsRestBoundAfter n all earlier last before)
+  rest_by (last ∷ earlier) time rest le (inr (inl loses)) =
+      inr (inl (loses_by (λ before. IsRestBoundAfter n all earlier last before)
       (λ before. IsRestBoundAfter n (events_by until all) earlier last before) last time le
-      (λ soon before. rest_by earlier last before soon) (λ made now. RestsAfterLoss n made now rest) loses)
+      (λ soon before. rest_by earlier last before soon) (λ made now. RestsAfterLoss n made now rest) loses))
+  rest_by (last ∷ earlier) time rest le (inr (inr falls)) =
+      inr (inr (falls_by (λ before. IsRestBoundAfter n all earlier last before)
+      (λ before. IsRestBoundAfter n (events_by until all) earlier last before) last time le
+      (λ soon before. rest_by earlier last before soon) (RestsTree n rest) falls))
 
   bound_by : (earlier : List ℕ) (time choice : ℕ) → time ≤ until → IsChoiceBoundAfter n all earlier time choice
       → IsChoiceBoundAfter n (events_by until all) earlier time choice
@@ -151,9 +153,9 @@ module _ (n : NetworkState) (all : List Timed) (until : ℕ) where
       (λ before. IsRestBoundAfter n (events_by until all) earlier last before) last time le
       (λ soon before. rest_by earlier last before soon) (λ made now. BoundsLoss n made now choice roles) loses)
   loss_by (last ∷ earlier) time choice roles le (inr tree) =
-      inr (tree_by (λ before. IsRestBoundAfter n all earlier last before)
+      inr (falls_by (λ before. IsRestBoundAfter n all earlier last before)
       (λ before. IsRestBoundAfter n (events_by until all) earlier last before) last time le
-      (λ soon before. rest_by earlier last before soon) choice roles tree)
+      (λ soon before. rest_by earlier last before soon) (BoundsTree n choice roles) tree)
 
 pub short_bound : (d : DocumentState) (until time choice : ℕ) → time ≤ until → IsChoiceBound d time choice
     → IsChoiceBound (shortened until d) time choice
