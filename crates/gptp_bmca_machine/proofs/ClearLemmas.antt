@@ -12,13 +12,15 @@ use Rattle.gptp_graph.specs.Snapshot.{IsWellFormed, Joins, PortIdentity, Snapsho
 use Rattle.gptp_bmca_machine.specs.Facts.{FollowsItself, FollowsPort}
 use Rattle.gptp_bmca_machine.specs.Link.{TellerIsReady, TellerIsSettled, final_vector}
 use Rattle.gptp_bmca_machine.specs.LinkStage.{Wiring}
-use Rattle.gptp_bmca_machine.specs.Station.{Mine, Port, Station}
+use Rattle.gptp_bmca_machine.specs.Clean.{HeldFits}
+use Rattle.gptp_bmca_machine.specs.Station.{HoldsAt, Mine, Port, Reception, Station}
 use Rattle.gptp_bmca_machine.specs.Vectors.{master}
 use Rattle.gptp_bmca_machine.proofs.RestLemmas.{Chooses, IsClear, is_master, root_above, steps_above}
 
 -- ---- a system that chooses the best by its distance
 
-module _ (g : Snapshot) (s : Station) (clear : IsClear g s) (best : System) (is_best : IsBest g s.clock best) (d : ℕ)
+module _ (g : Snapshot) (s : Station) (fits : (i : ℕ) (r : Reception) → HoldsAt s i r → HeldFits g s.clock r.said)
+    (best : System) (is_best : IsBest g s.clock best) (d : ℕ)
     (chooses : Chooses s best d) where
   -- its trace has no other system that is as far or farther
   no_farther : (u far : ℕ) → IsBest g u best → IsDistance g u far → d ≤ far → s.clock ≢ u
@@ -29,7 +31,7 @@ module _ (g : Snapshot) (s : Station) (clear : IsClear g s) (best : System) (is_
       elim (In-parts u port.r.said.path (s.clock ∷ []) (subst (In u) port.trace h)) [
         | inl before ↦
             let few : far ≤ port.r.said.steps =
-            (clear.held port.place port.r port.holds).fits.members best u far is_best (sym port.root ∙ chooses.root)
+            (fits port.place port.r port.holds).members best u far is_best (sym port.root ∙ chooses.root)
             before is_best' there in
             let more : s.steps ≡ suc port.r.said.steps = port.steps in
             let own : s.steps ≡ d = chooses.steps in
@@ -39,12 +41,12 @@ module _ (g : Snapshot) (s : Station) (clear : IsClear g s) (best : System) (is_
       ]
 
   -- and is as long as its distance says
-  trace_short : FollowsItself s ⊎ FollowsPort s → length s.trace ≤ suc d
+  pub trace_short : FollowsItself s ⊎ FollowsPort s → length s.trace ≤ suc d
   trace_short (inl itself) = subst (λ (xs : List ℕ). length xs ≤ suc d) (sym itself.trace) (omega arith)
   trace_short (inr port) =
       subst (λ (xs : List ℕ). length xs ≤ suc d) (sym port.trace)
       (let path : length port.r.said.path ≡ suc port.r.said.steps =
-      (clear.held port.place port.r port.holds).fits.long best is_best (sym port.root ∙ chooses.root) in
+      (fits port.place port.r port.holds).long best is_best (sym port.root ∙ chooses.root) in
       let more : s.steps ≡ suc port.r.said.steps = port.steps in
       let own : s.steps ≡ d = chooses.steps in
       omega (arith, path, more, own, length-append port.r.said.path (s.clock ∷ [])))
@@ -55,20 +57,22 @@ module _ (g : Snapshot) (wf : IsWellFormed g) (k : Wiring) (best : System) (root
     (best_there : IsBest g k.hearer best) (there : IsDistance g k.hearer far)
     (farther : (k.steps < far) ⊎ ((k.steps ≡ far) × (k.teller < k.hearer))) where
   -- a system that chooses it by that distance tells so
-  pub tells_clear : (s : Station) → IsClear g s → s.clock ≡ k.teller → IsBest g k.teller best
+  pub tells_clear : (s : Station) → IsClear g s
+      → ((i : ℕ) (r : Reception) → HoldsAt s i r → HeldFits g s.clock r.said) → s.clock ≡ k.teller → IsBest g k.teller
+      best
       → (to : PortIdentity) → Joins g (port_of k.teller (suc k.teller_port)) to → to.clock ≡ k.hearer
       → k.teller ≢ k.hearer → k.steps < 255 → FollowsItself s ⊎ FollowsPort s
       → (pv : Port) → slice_get s.ports k.teller_port ≡ Some pv → TellerIsReady k s pv → TellerIsSettled k s pv
-  tells_clear s clear clock is_best to joins to_is apart near follows pv at (has, on) = record {
+  tells_clear s clear fits clock is_best to joins to_is apart near follows pv at (has, on) = record {
     mine = is_master g wf s clear best own_best k.steps far k.teller_port pv to chooses at on
         (subst (λ c. Joins g (port_of c (suc k.teller_port)) to) (sym clock) joins)
         (subst (λ c. IsDistance g c far) (sym to_is) there)
         (elim farther [ inl less ↦ inl less | inr (same, lower) ↦ inr (same, omega (arith, lower, clock, to_is)) ])
         ∙ ap (λ r. Mine r k.steps) (sym root);
     near = near;
-    foreign = no_farther g s clear best own_best k.steps chooses k.hearer far best_there there as_far
+    foreign = no_farther g s fits best own_best k.steps chooses k.hearer far best_there there as_far
         (λ same. apart (sym clock ∙ same)) follows;
-    short = let long = trace_short g s clear best own_best k.steps chooses follows in omega (arith, long, near);
+    short = let long = trace_short g s fits best own_best k.steps chooses follows in omega (arith, long, near);
   }
     where
       own_best : IsBest g s.clock best

@@ -22,7 +22,7 @@ use Rattle.gptp_bmca_machine.specs.Lapsing.{FollowsFrom, NothingNearLapses}
 use Rattle.gptp_bmca_machine.specs.Levels.{LeadsFarther}
 use Rattle.gptp_bmca_machine.proofs.ClearLemmas.{tells_clear, weaker_clear}
 use Rattle.gptp_bmca_machine.proofs.PlaceLemmas.{same_there}
-use Rattle.gptp_bmca_machine.proofs.RestLemmas.{Chooses, IsClear}
+use Rattle.gptp_bmca_machine.proofs.RestLemmas.{Chooses, IsClear, bounded}
 
 -- the systems at distance d have settled
 abbrev pub AllChoose : Network → MachineState → ℕ → Type 0
@@ -36,7 +36,7 @@ module _ (n : Network) (net : IsSettlingNetwork n) (w : MachineState) (calm : Ca
   clear_at i s at live late = record {
     rest = (calm.stations i s at live).at_rest;
     known = (calm.facts.stations i s at live).known;
-    held = λ place r holds. sound late i s place r at live holds;
+    held = λ place r holds. bounded n.graph s.clock (suc place) r (sound late i s place r at live holds);
   }
 
   -- where a system of the snapshot stands
@@ -120,7 +120,9 @@ module _ (n : Network) (net : IsSettlingNetwork n) (w : MachineState) (calm : Ca
     tells_settled late s pv at port ready =
         let (live, clock) = is_station v s from_known at in
         tells_clear n.graph net.graph (wiring n d best v p u q) best refl leads.far best_to leads.there leads.farther s
-        (clear_at (n.place v) s at live late) clock leads.is_best (port_of u (suc q)) leads.joins refl
+        (clear_at (n.place v) s at live late)
+        (λ place r holds. (sound late (n.place v) s place r at live holds).fits) clock leads.is_best
+        (port_of u (suc q)) leads.joins refl
         (net.graph.apart (port_of v (suc p)) (port_of u (suc q)) leads.joins) near
         (calm.facts.stations (n.place v) s at live).follows pv port ready
 

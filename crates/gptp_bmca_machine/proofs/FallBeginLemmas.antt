@@ -1,123 +1,66 @@
--- A link of a network at rest goes down, which cuts a tree off: its top answers, and it begins to fall back.
-use Rattle.std.proofs.Common.{◌≡◌, ◌≢◌, ◌⊎◌, ◌<◌, ◌≤◌, ◌+◌, ℕ, suc, true, List, ◌∷◌, Some, slice_get, length, refl, reverse, sym, ap, subst, ◌∙◌, inl, inr, arith}
-use Rattle.std.proofs.lemmas.List.{reverse-reverse}
+-- A link of a network at rest goes down, which moves a tree: its top answers, and it begins to fall back.
+use Rattle.std.proofs.Common.{◌≡◌, ◌≢◌, ◌⊎◌, ◌<◌, ◌≤◌, ◌+◌, ℕ, suc, true, Some, slice_get, sym, ap, subst, ◌∙◌, inl, inr, arith}
 use native.Mathlib.Decide.{ℕ_discrete}
 use Rattle.gptp_lists.specs.Members.{In}
-use Rattle.gptp_lists.proofs.ReverseLemmas.{In-reverse}
 use Rattle.gptp_lists.proofs.SystemSpecLemmas.{In-left, In-parts}
-use Rattle.gptp_graph.specs.Best.{IsBest}
-use Rattle.gptp_graph.specs.Snapshot.{Joins, PortIdentity, Snapshot, System, port_of}
-use Rattle.gptp_graph.proofs.DecisionLemmas.{in_dec}
+use Rattle.gptp_bmca_machine.specs.SoundLaws.{UnlinkedAreOff}
+use Rattle.gptp_graph.specs.Snapshot.{IsLinked, Joins, PortIdentity, Snapshot, System, clocks, port_of}
 use Rattle.gptp_graph.proofs.LinkLemmas.{Joins-sym}
-use Rattle.gptp_graph.proofs.PathBoundLemmas.{IsDistance-within}
-use Rattle.gptp_graph.proofs.PathLemmas.{Route-end}
-use Rattle.gptp_graph.proofs.SystemLemmas.{same_clock, system_of}
 use Rattle.gptp_bmca_machine.specs.Acts.{LaneStep}
 use Rattle.gptp_bmca_machine.specs.Calm.{Calm, IsCalmPort}
 use Rattle.gptp_bmca_machine.specs.Clean.{Whole}
-use Rattle.gptp_bmca_machine.specs.CutTree.{CutsTree}
 use Rattle.gptp_bmca_machine.specs.Frame.{Announce, AnnounceFrame, Lane, Spelling}
 use Rattle.gptp_bmca_machine.specs.Levels.{Invariant, LeadsFarther}
-use Rattle.gptp_bmca_machine.specs.Link.{LinkSettles, TellerIsSettled}
+use Rattle.gptp_bmca_machine.specs.Link.{LinkSettles, TellerIsReady, TellerIsSettled}
 use Rattle.gptp_bmca_machine.specs.LinkStage.{AllFinal, FinalAnnounceStays, LinkStage, Wiring}
 use Rattle.gptp_bmca_machine.specs.Network.{IsSettlingNetwork, Network, settled_from}
 use Rattle.gptp_bmca_machine.specs.Reacts.{PortStep}
 use Rattle.gptp_bmca_machine.specs.RestLaws.{LinkStays, SameWiring}
 use Rattle.gptp_bmca_machine.specs.Station.{Disabled, HoldsAt, MachineState, Mine, Port, Received, Reception, Station}
 use Rattle.gptp_bmca_machine.specs.Touch.{Disable, Hear, HeldInTouch, IsUsable, Replaces}
-use Rattle.gptp_bmca_machine.proofs.CutTreeLemmas.{beside, stays_left}
-use Rattle.gptp_bmca_machine.proofs.EndsLemmas.{clear_at, is_station}
+use Rattle.gptp_bmca_machine.proofs.MovedTreeLemmas.{Around, IsBeyond, LeadsDown, MovesTree, around, child_leads}
 use Rattle.gptp_bmca_machine.proofs.FallLeaveLemmas.{TreeAnswers, leaves_old, tells_now}
-use Rattle.gptp_bmca_machine.proofs.FallLemmas.{DownStage, HoldsInTree, HoldsLeft, IsAftermath, IsFalling, IsFreeAt, RootIs, RootIsNot, falls_by, follows_old, holds_by}
+use Rattle.gptp_bmca_machine.proofs.FallHeldLemmas.{holds_by}
+use Rattle.gptp_bmca_machine.proofs.FallLemmas.{DownStage, HasChoice, HasLeft, HoldsInTree, HoldsLeft, IsAftermath, IsFalling, IsFreeAt, IsOld, falls_by, follows_old}
+use Rattle.gptp_bmca_machine.proofs.FallRestLemmas.{chosen, held_before, masters, stays0, was_x}
 use Rattle.gptp_bmca_machine.proofs.FallLevelLemmas.{TreeSettles, not_ready, show}
-use Rattle.gptp_bmca_machine.proofs.LinkEndsLemmas.{teller_on, telling}
+use Rattle.gptp_bmca_machine.proofs.LinkEndsLemmas.{hearer_known, teller_on, telling}
 use Rattle.gptp_bmca_machine.proofs.LinkStageLemmas.{begins}
 use Rattle.gptp_bmca_machine.proofs.LinkStepLemmas.{lives_at}
 use Rattle.gptp_bmca_machine.proofs.PlaceLemmas.{same_there}
 use Rattle.gptp_bmca_machine.proofs.ReactsLemmas.{held_from}
-use Rattle.gptp_bmca_machine.proofs.RestLemmas.{Chooses, is_master}
-use Rattle.gptp_bmca_machine.proofs.RestingLemmas.{all_choose, by_then_at, links_stay, stays_so}
-use Rattle.gptp_bmca_machine.proofs.StillLemmas.{live_before, port_there, still, still_stays}
+use Rattle.gptp_bmca_machine.proofs.StillLemmas.{port_there, still}
+use Rattle.gptp_bmca_machine.proofs.TellsLemmas.{news_final}
 
-module _ (says : Spelling) (n0 n : Network) (top : ℕ) (best next : System) (base : ℕ) (depth : ℕ → ℕ)
-    (t : CutsTree n0.graph n top best next base depth) (net0 : IsSettlingNetwork n0) (w : MachineState)
+module _ (says : Spelling) (n0 n : Network) (Tree : ℕ → Type 0) (Out : ℕ → ℕ → Type 0) (top : ℕ)
+    (best next : System) (base : ℕ) (depth : ℕ → ℕ) (t : MovesTree n0.graph n Tree Out top best next base depth) (net0 :
+    IsSettlingNetwork n0) (w : MachineState)
     (calm0 : Calm n0 w) (invariant0 : Invariant says n0 w) (late0 : settled_from n0 ≤ w.time)
-    (whole0 : (j : ℕ) (l : Lane) (f : AnnounceFrame) (a : Announce) → slice_get w.lanes j ≡ Some l → In f l.frames
-    → says f.octets a → Joins n0.graph l.from l.to → Whole n0.graph l.from.clock a)
-    (same : SameWiring n0 n) (w' : MachineState) (in_top : IsBest n.graph top next)
-    (z : TreeAnswers says n next top w w') (lost : ℕ) (touch_is : z.touch ≡ Disable (suc lost))
+    (came0 : (v p u q : ℕ) (l : Lane) (f : AnnounceFrame) (a : Announce) → Tree v → Tree u
+    → Joins n.graph (port_of v (suc p)) (port_of u (suc q)) → depth v ≡ suc (depth u)
+    → slice_get w.lanes (n.lane (port_of v (suc p))) ≡ Some l → In f l.frames → says f.octets a
+    → Whole n.graph v a ⊎ In u a.path)
+    (same : SameWiring n0 n) (w' : MachineState) (in_top : Tree top)
+    (z : TreeAnswers says n (Around Tree Out) top w w') (lost : ℕ) (touch_is : z.touch ≡ Disable (suc lost))
     (lanes_then : (p q : PortIdentity) (l' : Lane) → Joins n.graph p q → slice_get w'.lanes (n.lane p) ≡ Some l'
     → (l : Lane) × (slice_get w.lanes (n.lane p) ≡ Some l) × LaneStep z.s.clock z.sends l l')
-    (m' : IsAftermath says n0.graph n w') where
+    (m' : IsAftermath says n0.graph n w') (dark' : UnlinkedAreOff n.graph w') (inward' : (v p u q : ℕ) → Out u v
+    → Joins n.graph (port_of v (suc p)) (port_of u (suc q)) → IsFreeAt says n v p u q w') where
   abbrev g : Snapshot
   g = n0.graph
-
-  -- ---- at rest
-
-  module _ (x : ℕ) (in_x : IsBest n.graph x next) (s : Station) (at : slice_get w.stations (n.place x) ≡ Some s) where
-    at0 : slice_get w.stations (n0.place x) ≡ Some s
-    at0 = subst (λ i. slice_get w.stations i ≡ Some s) (same.place x) at
-
-    was_x : (s.live ≡ true) × (s.clock ≡ x)
-    was_x =
-        is_station n0 net0 w calm0 invariant0.sound x s
-        (live_before g n t.well t.left x in_x.reached.1.begins) at0
-
-    chosen : Chooses s best (base + depth x)
-    chosen =
-        all_choose says n0 net0 w calm0 invariant0 late0 (base + depth x) (t.near x in_x)
-        (by_then_at says n0 net0 w calm0 invariant0 late0 (base + depth x)
-        (IsDistance-within g n0.reach x (base + depth x) net0.paths (t.was x in_x))) x best s at0 (t.was_best x in_x)
-        (t.was x in_x)
-
-    -- a port towards one that is deeper is master
-    masters : (i : ℕ) (q : Port) (u : ℕ) (k : ℕ) → slice_get s.ports i ≡ Some q → q.held ≢ Disabled
-        → Joins n.graph (port_of x (suc i)) (port_of u k) → IsBest n.graph u next → depth u ≡ suc (depth x)
-        → q.held ≡ Mine best.identity (base + depth x)
-    masters i q u k there on joins in_u deeper =
-        is_master g net0.graph s (clear_at n0 net0 w calm0 invariant0.sound (n.place x) s at was_x.0
-        (omega (arith, late0))) best (subst (λ c. IsBest g c best) (sym was_x.1) (t.was_best x in_x)) (base + depth x)
-        (base + depth u) i q (port_of u k) chosen there on
-        (subst (λ c. Joins g (port_of c (suc i)) (port_of u k)) (sym was_x.1)
-        (t.left.links (port_of x (suc i)) (port_of u k) joins)) (t.was u in_u) (inl (omega (arith, deeper)))
-
-  -- what was told before is held, and stays
-  stays0 : (v p u q : ℕ) → IsBest n.graph v next → (joins : Joins n.graph (port_of v (suc p)) (port_of u (suc q)))
-      → depth u ≡ suc (depth v) → LinkStays says (still n (base + depth v) best v p u q) w
-  stays0 v p u q in_v joins deeper pv pu l stand =
-      still_stays says n (base + depth v) best v p u q pv.announce pu.held l.frames
-      (stays_so says n0 n same (base + depth v) best best v p u q refl pv.announce pu.held l.frames
-      (links_stay says n0 net0 w calm0 invariant0 late0 (base + depth v) best v p u q (t.near v in_v) leads pv pu l
-      (record {
-        v = stand.v;
-        u = stand.u;
-        teller = subst (λ i. slice_get w.stations i ≡ Some stand.v) (same.place v) stand.teller;
-        teller_port = stand.teller_port;
-        hearer = subst (λ i. slice_get w.stations i ≡ Some stand.u) (same.place u) stand.hearer;
-        hearer_port = stand.hearer_port;
-        lane = subst (λ i. slice_get w.lanes i ≡ Some l) (same.lane (port_of v (suc p))) stand.lane;
-      })))
-    where
-      in_u : IsBest n.graph u next
-      in_u = beside g n top best next base depth t v u (suc p, suc q, joins) in_v
-
-      leads : LeadsFarther g (base + depth v) best v p u q
-      leads = record {
-        is_best = t.was_best v in_v;
-        here = t.was v in_v;
-        joins = t.left.links (port_of v (suc p)) (port_of u (suc q)) joins;
-        far = base + depth u;
-        there = t.was u in_u;
-        farther = inl (omega (arith, deeper));
-      }
 
   -- ---- who isn't the top stands as it did
 
   top_is : z.s.clock ≡ top
-  top_is = (was_x top in_top z.s z.here).1
+  top_is = (was_x says n0 n Tree Out top best next base depth t net0 w calm0 invariant0 late0 same top in_top z.s
+      z.here).1
 
   below_top : (u : ℕ) (d : ℕ) → depth u ≡ suc d → u ≢ top
   below_top u d deeper is = let none = ap depth is ∙ t.first in omega (arith, deeper, none)
+
+  beyond_top : (v u : ℕ) → IsBeyond Tree Out depth v u → u ≢ top
+  beyond_top v u (inl (in_u, deeper)) is = below_top u (depth v) deeper is
+  beyond_top v u (inr out) is = t.outside v u out (subst Tree (sym is) in_top)
 
   -- nothing enters a lane from another
   quiet : (v p : ℕ) → v ≢ top → (l l' : Lane) → l.from ≡ port_of v (suc p)
@@ -139,33 +82,25 @@ module _ (says : Spelling) (n0 n : Network) (top : ℕ) (best next : System) (ba
 
   -- ---- links up the tree
 
-  module _ (v p u q : ℕ) (in_v : IsBest n.graph v next)
+  module _ (v p u q : ℕ) (in_v : Tree v) (in_u : Tree u)
       (joins : Joins n.graph (port_of v (suc p)) (port_of u (suc q))) (higher : depth v ≡ suc (depth u)) where
     back : Joins n.graph (port_of u (suc q)) (port_of v (suc p))
     back = Joins-sym n.graph (port_of v (suc p)) (port_of u (suc q)) joins
 
-    in_u : IsBest n.graph u next
-    in_u = beside g n top best next base depth t v u (suc p, suc q, joins) in_v
-
-    -- nothing was held
-    held_none0 : (s : Station) (pu : Port) (r : Reception) → slice_get w.stations (n.place u) ≡ Some s
-        → slice_get s.ports q ≡ Some pu → pu.held ≡ Received r → ⊥
-    held_none0 s pu r at there holds =
-        let mine = masters u in_u s at q pu v (suc p) there
-        (λ off. absurd (let both : Received r ≡ Disabled = sym holds ∙ off in cc)) back in_v higher in
-        absurd (let both : Received r ≡ Mine best.identity (base + depth u) = sym holds ∙ mine in cc)
-
     held_none : (s : Station) (pu : Port) (r : Reception) → slice_get w'.stations (n.place u) ≡ Some s
         → slice_get s.ports q ≡ Some pu → pu.held ≡ Received r → ⊥
     held_none s pu r at there holds = elim (ℕ_discrete u top) [
-      | no apart ↦ held_none0 s pu r (z.others u s in_u apart at) there holds
+      | no apart ↦ held_before says n0 n Tree Out top best next base depth t net0 w calm0 invariant0 late0 same v p u q
+          in_v in_u joins higher s pu r (z.others u s (t.lives u in_u) (inl in_u) apart at) there holds
       | yes is ↦
           let one : s ≡ z.s' = same_there w'.stations (n.place top) s z.s'
           (subst (λ c. slice_get w'.stations (n.place c) ≡ Some s) is at) z.there in
           elim (held_from says z.s z.s' z.touch w.time z.sends z.reacts q r
           (subst (λ (y : Station). HoldsAt y q r) one (pu, there, holds))) [
             | inl (old, stood, was) ↦
-                held_none0 z.s old r (subst (λ c. slice_get w.stations (n.place c) ≡ Some z.s) (sym is) z.here) stood
+                held_before says n0 n Tree Out top best next base depth t net0 w calm0 invariant0 late0 same v p u q
+                in_v in_u joins higher z.s old r (subst (λ c. slice_get w.stations (n.place c) ≡ Some z.s) (sym is)
+                z.here) stood
                 was
             | inr just ↦ absurd (let both : Disable (suc lost) ≡ Hear (suc q) just.said =
                 sym touch_is ∙ just.touched in cc)
@@ -174,33 +109,6 @@ module _ (says : Spelling) (n0 n : Network) (top : ℕ) (best next : System) (ba
 
     pub up_left : HoldsLeft says n v p u q w'
     up_left s pu l at there lane r holds = absurd (held_none s pu r at there holds)
-
-    -- what is on its way is of what is left, or names whoever hears it
-    came_whole : (a : Announce) → Whole g v a → Whole n.graph v a ⊎ In u a.path
-    came_whole a whole = elim (in_dec u (v ∷ whole.others)) [
-      | yes names ↦
-          inr (subst (In u) (reverse-reverse a.path)
-          (In-reverse u (reverse a.path) (subst (In u) (sym whole.is) names)))
-      | no past ↦
-          let route = stays_left g n top best next base depth t u v (suc q, suc p, back) in_u higher 0 v
-          whole.first.clock whole.others refl in_v whole.way.route past in
-          let known = Route-end n.graph v whole.first.clock whole.others t.well in_v.reached.1.begins route in
-          let (s, live, clock) = system_of n.graph whole.first.clock known in
-          let one = same_clock g s whole.first t.left.graph (t.left.systems s live) whole.known clock in
-          inl (record {
-            others = whole.others;
-            first = whole.first;
-            is = whole.is;
-            way = record {
-              begins = in_v.reached.1.begins;
-              route = route;
-              different = whole.way.different;
-            };
-            known = subst (λ (y : System). In y n.graph.systems) one live;
-            root = whole.root;
-            steps = whole.steps;
-          })
-    ]
 
     pub up_free : IsFreeAt says n v p u q w'
     up_free s pu l' at there lane' = record {
@@ -220,26 +128,25 @@ module _ (says : Spelling) (n0 n : Network) (top : ℕ) (best next : System) (ba
             elim (In-parts f l.frames step.news (subst (In f) step.behind among)) [
               | inr new ↦ absurd (quiet v p apart_v l l' from step f new)
               | inl old ↦
-                  let before = t.left.links (port_of v (suc p)) (port_of u (suc q)) joins in
-                  let whole = whole0 (n.lane (port_of v (suc p))) l f a at_l old said
-                  (subst (λ k. Joins g k l.to) (sym from) (subst (Joins g (port_of v (suc p))) (sym to) before)) in
-                  came_whole a (subst (λ (k : PortIdentity). Whole g k.clock a) from whole)
+                  came0 v p u q l f a in_v in_u joins higher at_l old said
             ]
 
-  -- ---- links down the tree, but from its top
+  -- ---- links that lead down, but from the top
 
-  module _ (v p u q : ℕ) (in_v : IsBest n.graph v next)
-      (joins : Joins n.graph (port_of v (suc p)) (port_of u (suc q))) (deeper : depth u ≡ suc (depth v))
+  module _ (v p u q : ℕ) (in_v : Tree v)
+      (joins : Joins n.graph (port_of v (suc p)) (port_of u (suc q))) (down : LeadsDown g Tree Out base depth v u)
       (apart : v ≢ top) where
-    root_led : RootIs n w' v best
-    root_led s at = (chosen v in_v s (z.others v s in_v apart at)).root
+    old_led : IsOld n w' v best (base + depth v)
+    old_led s at =
+        let chose = chosen says n0 n Tree Out top best next base depth t net0 w calm0 invariant0 late0 same v in_v s
+        (z.others v s (t.lives v in_v) (inl in_v) apart at) in (chose.root, chose.steps)
 
     stays_led : LinkStays says (still n (base + depth v) best v p u q) w'
     stays_led pv pu l' stand =
         by (lanes_then (port_of v (suc p)) (port_of u (suc q)) l' joins stand.lane)
       where
-        in_u' : IsBest n.graph u next
-        in_u' = beside g n top best next base depth t v u (suc p, suc q, joins) in_v
+        known_u : In u (clocks n.graph)
+        known_u = hearer_known g n t.well t.left n.most 0 best v p u q joins (omega arith)
 
         by : ((l : Lane) × (slice_get w.lanes (n.lane (port_of v (suc p))) ≡ Some l)
             × LaneStep z.s.clock z.sends l l')
@@ -261,40 +168,49 @@ module _ (says : Spelling) (n0 n : Network) (top : ℕ) (best next : System) (ba
             })
           where
             stay : FinalAnnounceStays says (still n (base + depth v) best v p u q) pv.announce pu.held l.frames
-            stay = stays0 v p u q in_v joins deeper pv pu l (record {
-              v = stand.v;
-              u = stand.u;
-              teller = z.others v stand.v in_v apart stand.teller;
-              teller_port = stand.teller_port;
-              hearer = z.others u stand.u in_u' (below_top u (depth v) deeper) stand.hearer;
-              hearer_port = stand.hearer_port;
-              lane = at_l;
-            })
+            stay = stays0 says n0 n Tree Out top best next base depth t net0 w calm0 invariant0 late0 same v p u q in_v
+                joins down pv pu l (record {
+                  v = stand.v;
+                  u = stand.u;
+                  teller = z.others v stand.v (t.lives v in_v) (inl in_v) apart stand.teller;
+                  teller_port = stand.teller_port;
+                  hearer = z.others u stand.u known_u (around Tree Out depth v u down.beyond)
+                      (beyond_top v u down.beyond) stand.hearer;
+                  hearer_port = stand.hearer_port;
+                  lane = at_l;
+                })
 
   -- ---- the top
 
-  holds_top : HoldsInTree says g n top best next base depth t w.time top w'
+  holds_top : HoldsInTree says g n Tree Out top best next base depth t w.time top w'
   holds_top =
-      holds_by says g n top best next base depth t w.time w' m' top in_top
+      holds_by says g n Tree Out top best next base depth t w.time w' m' top in_top
       (λ v p i in_v joins deeper. absurd (let none = t.first in omega (arith, deeper, none)))
-      (λ v p i in_v joins higher. up_left v p top i in_v joins higher)
+      (λ v p i joins beyond. elim beyond [
+        | inl (in_v, higher) ↦ up_left v p top i in_v in_top joins higher
+        | inr out ↦ (λ s pu l at there at_l. (inward' v p top i out joins s pu l at there at_l).hears)
+      ])
 
-  not_top : z.s'.root ≢ best.identity
+  not_top : HasChoice z.s' best (base + depth top) → ⊥
   not_top root =
-      let old = follows_old says g n top best next base depth t w.time w' m' top in_top z.s' z.there holds_top root in
-      let deeper = old.deeper in
-      let none = t.first in
-      omega (arith, deeper, none)
+      let old = follows_old says g n Tree Out top best next base depth t w.time w' m' top in_top z.s' z.there holds_top
+      root in
+      elim old.told [
+        | inl above ↦ let deeper = above.deeper in let none = t.first in absurd (omega (arith, deeper, none))
+        | inr lost ↦
+            let lives = lives_at n w' m'.kept.calm top (t.lives top in_top) z.s' z.there in
+            let off = dark' (n.place top) z.s' old.i old.holds.0 z.there lives.0 old.holds.1
+            (λ linked. lost.bare (subst (λ c. IsLinked n.graph (port_of c (suc old.i))) lives.1 linked)) in
+            absurd (let both : Received old.r ≡ Disabled = sym old.holds.2 ∙ off in cc)
+      ]
 
-  root_not : RootIsNot n w' top best
-  root_not s at root =
-      not_top (ap (λ (y : Station). y.root) (same_there w'.stations (n.place top) z.s' s z.there at) ∙ root)
+  left_top : HasLeft n w' top best (base + depth top)
+  left_top s at choice =
+      not_top (subst (λ (y : Station). HasChoice y best (base + depth top))
+      (same_there w'.stations (n.place top) s z.s' at z.there) choice)
 
   module _ (p u q : ℕ) (joins : Joins n.graph (port_of top (suc p)) (port_of u (suc q)))
-      (deeper : depth u ≡ suc (depth top)) where
-    in_below : IsBest n.graph u next
-    in_below = beside g n top best next base depth t top u (suc p, suc q, joins) in_top
-
+      (down : LeadsDown g Tree Out base depth top u) where
     refuses_top : (a : Announce) → z.touch ≡ Hear (suc p) a → IsUsable top a
         → Replaces top (suc p) a (Mine best.identity (base + depth top)) → ⊥
     refuses_top a touched usable replaces =
@@ -306,7 +222,8 @@ module _ (says : Spelling) (n0 n : Network) (top : ℕ) (best next : System) (ba
     was_mine pv stood = (mine, (is_port.timer best.identity (base + depth top) mine).0)
       where
         lives : (z.s.live ≡ true) × (z.s.clock ≡ top)
-        lives = was_x top in_top z.s z.here
+        lives = was_x says n0 n Tree Out top best next base depth t net0 w calm0 invariant0 late0 same top in_top z.s
+            z.here
 
         is_port : IsCalmPort n0 w.time (port_of z.s.clock (suc p)) pv
         is_port = (calm0.stations (n.place top) z.s z.here lives.0).ports p pv stood
@@ -340,38 +257,53 @@ module _ (says : Spelling) (n0 n : Network) (top : ℕ) (best next : System) (ba
                     ]
 
         mine : pv.held ≡ Mine best.identity (base + depth top)
-        mine = masters top in_top z.s z.here p pv u (suc q) stood on joins in_below deeper
+        mine = masters says n0 n Tree Out top best next base depth t net0 w calm0 invariant0 late0 same top in_top z.s
+            z.here p pv u (suc q) stood on joins down
 
-    -- it has left the root of before, and told so
+    -- it has left its old choice, and told so
     top_left : DownStage says n best (base + depth top) (falls_by n w.time (suc (depth top))) top p u q w'
     top_left = inr (inl (
-      root_not,
-      leaves_old says g n top best next base depth t w.time w w' m' top in_top z holds_top not_top p u q joins in_below
-          deeper (base + depth top) was_mine (stays0 top p u q in_top joins deeper) refuses_top
+      left_top,
+      leaves_old says g n Tree Out top best next base depth t w.time w w' m' top in_top z holds_top not_top p u q joins
+          down.beyond was_mine (stays0 says n0 n Tree Out top best next base depth t net0 w calm0 invariant0 late0 same
+          top p u q in_top joins down) refuses_top
           (let none = t.first in omega arith),
     ))
 
   -- ---- so it begins
 
-  begins_down : (v p u q : ℕ) → IsBest n.graph v next → Joins n.graph (port_of v (suc p)) (port_of u (suc q))
-      → depth u ≡ suc (depth v)
+  begins_down : (v p u q : ℕ) → Tree v → Joins n.graph (port_of v (suc p)) (port_of u (suc q))
+      → LeadsDown g Tree Out base depth v u
       → DownStage says n best (base + depth v) (falls_by n w.time (suc (depth v))) v p u q w'
-  begins_down v p u q in_v joins deeper = elim (ℕ_discrete v top) [
-    | no apart ↦ inl (root_led v p u q in_v joins deeper apart, stays_led v p u q in_v joins deeper apart)
+  begins_down v p u q in_v joins down = elim (ℕ_discrete v top) [
+    | no apart ↦ inl (old_led v p u q in_v joins down apart, stays_led v p u q in_v joins down apart)
     | yes is ↦
         subst (λ c. DownStage says n best (base + depth c) (falls_by n w.time (suc (depth c))) c p u q w') (sym is)
         (top_left p u q (subst (λ c. Joins n.graph (port_of c (suc p)) (port_of u (suc q))) is joins)
-        (deeper ∙ ap (λ c. suc (depth c)) is))
+        (subst (λ c. LeadsDown g Tree Out base depth c u) is down))
   ]
 
-  pub falling_begins : IsFalling says g n top best next base depth t w.time w'
-  falling_begins = record { down = begins_down; up = up_free }
+  pub falling_begins : IsFalling says g n Tree Out top best next base depth t w.time w'
+  falling_begins = record {
+    sooner = λ in_tree choice. absurd (not_top (choice z.s' z.there));
+    down = begins_down;
+    up = λ v p u q in_u joins beyond. elim beyond [
+      | inl (in_v, higher) ↦ up_free v p u q in_v in_u joins higher
+      | inr out ↦ inward' v p u q out joins
+    ];
+  }
 
   -- ---- the top may have settled already
 
-  module _ (last : ℕ) (before : ℕ → ℕ) (room : (f : ℕ) → last + n.most < before f) (late : w'.time ≤ last) where
-    module _ (f p u q : ℕ) (close : f < 255) (leads : LeadsFarther n.graph f next top p u q)
+  module _ (before : ℕ → ℕ) (room : (f : ℕ) → w'.time + n.most < before f) where
+    delay : (f : ℕ) → n.most ≤ before f
+    delay f = let more = room f in omega (arith, more)
+
+    module _ (f p u q : ℕ) (close : f < 255) (in_u : Tree u) (leads : LeadsFarther n.graph f next top p u q)
         (deeper : depth u ≡ suc (depth top)) where
+      down : LeadsDown g Tree Out base depth top u
+      down = child_leads g n Tree Out top best next base depth t top u in_u deeper
+
       abbrev k : Wiring
       k = telling n (before f) f next top p u q
 
@@ -388,8 +320,10 @@ module _ (says : Spelling) (n0 n : Network) (top : ℕ) (best next : System) (ba
 
           tells : TellerIsSettled k stand.v pv'
           tells =
-              (show says g n top best next base depth t w.time last before room f top p u q close leads w' m'
-              falling_begins late (inl deeper)).settled stand.v pv' stand.teller stand.teller_port ready
+              (show says g n Tree Out top best next base depth t w.time before f top p u q close in_top in_u leads
+              (delay f)
+              w' m' falling_begins (λ s pv at there not. room f) (inl deeper)).settled stand.v pv' stand.teller
+              stand.teller_port ready
 
           by_lane : ((l : Lane) × (slice_get w.lanes (n.lane (port_of top (suc p))) ≡ Some l)
               × LaneStep z.s.clock z.sends l l')
@@ -397,57 +331,42 @@ module _ (says : Spelling) (n0 n : Network) (top : ℕ) (best next : System) (ba
               × PortStep says z.s.clock (suc p) w.time z.touch z.s'.root z.s'.steps pv pv' z.sends)
               → LinkStage says k pv'.announce pu.held l'.frames
           by_lane (l, at_l, step) (pv, stood, answer) =
-              let (f', among, said, soon) = tells_now says g n top best next base depth t w.time w w' m' top in_top z
-              holds_top not_top p u q leads.joins (in_below p u q leads.joins deeper) deeper (base + depth top)
-              (was_mine p u q leads.joins deeper) (stays0 top p u q in_top leads.joins deeper)
-              (refuses_top p u q leads.joins deeper) (let none = t.first in omega arith) l l' stand.lane step pv pv'
+              let (f', among, said, soon) = tells_now says g n Tree Out top best next base depth t w.time w w' m' top
+              in_top z
+              holds_top not_top p u q leads.joins down.beyond
+              (was_mine p u q leads.joins down) (stays0 says n0 n Tree Out top best next base depth t net0 w calm0
+              invariant0 late0 same top p u q in_top leads.joins down)
+              (refuses_top p u q leads.joins down) (let none = t.first in omega arith) l l' stand.lane step pv pv'
               stood there' answer in
               let more = room f in
               let now = z.time in
               subst (LinkStage says k pv'.announce pu.held) (sym step.behind)
               (begins says k pv'.announce pu.held l.frames step.news f' news among said
-              (omega (arith, soon, more, now, late)))
+              (omega (arith, soon, more, now)))
             where
-              news : AllFinal says k step.news
-              news h a among said =
-                  let (y, sent, over, octets) = step.sent h among in
-                  let (own, master) = z.reacts.tells y a sent (subst (λ o. says o a) octets said) in
-                  let (from, to) = from_then top p u q leads.joins l l' stand.lane step in
-                  let ends : port_of top (suc p) ≡ port_of z.s.clock y.port = sym from ∙ over in
-                  let number : y.port ≡ suc p = ap (λ (x : PortIdentity). x.port) (sym ends) in
-                  let lives = lives_at n w' m'.kept.calm top in_top.reached.1.begins z.s' z.there in
-                  let source : a.source ≡ port_of top (suc p) =
-                  own.source ∙ (λ i. port_of (lives.1 i) (number i)) in
-                  let is_port : IsCalmPort n w'.time (port_of z.s'.clock (suc p)) pv' =
-                  (m'.kept.calm.stations (n.place top) z.s' z.there lives.0).ports p pv' there' in
-                  record {
-                    root = own.root ∙ ap (λ (x : Station). x.root) (sym one) ∙ ready.0.0;
-                    steps = own.steps ∙ ap (λ (x : Station). x.steps) (sym one) ∙ ready.0.1;
-                    source = source;
-                    log = own.log p pv' number there' ∙ is_port.log
-                        ∙ ap (λ c. n.log_of (port_of c (suc p))) lives.1;
-                    qualified = record {
-                      foreign = λ is.
-                          t.well.apart (port_of top (suc p)) (port_of u (suc q)) leads.joins
-                          (ap (λ (x : PortIdentity). x.clock) (sym source) ∙ is);
-                      near = subst (λ x. x < 255)
-                          (sym (own.steps ∙ ap (λ (x : Station). x.steps) (sym one) ∙ ready.0.1)) tells.near;
-                      no_loop = λ names.
-                          tells.foreign (subst (In u) (own.path ∙ ap (λ (x : Station). x.trace) (sym one)) names);
-                      short = subst (λ (xs : List ℕ). length xs ≤ 255)
-                          (sym (own.path ∙ ap (λ (x : Station). x.trace) (sym one))) tells.short;
-                    };
-                  }
+              from_top : l.from ≡ port_of top (suc p)
+              from_top = (from_then top p u q leads.joins l l' stand.lane step).0
 
-    pub settles_begin : TreeSettles says g n top best next base depth t w.time last before room w'
-    settles_begin f v p u q close leads = elim (ℕ_discrete v top) [
-      | no apart ↦ not_ready says g n top best next base depth t w.time last before room f v p u q close leads w'
-          (λ s at. (chosen v leads.is_best s (z.others v s leads.is_best apart at)).root)
+              news : AllFinal says k step.news
+              news =
+                  news_final says g n t.well t.left (before f) f next top p u q leads.joins (delay f) w' m'.kept
+                  m'.fits.stations z.s' z.there pv' there'
+                  (subst (λ (y : Station). TellerIsReady k y pv') one ready)
+                  (subst (λ (y : Station). TellerIsSettled k y pv') one tells) z.sends z.reacts.tells z.s.clock l l'
+                  from_top step
+
+    pub settles_begin : TreeSettles says g n Tree Out top best next base depth t w.time before w'
+    settles_begin f v p u q close in_v in_u leads = elim (ℕ_discrete v top) [
+      | no apart ↦ not_ready says g n Tree Out top best next base depth t w.time before f v p u q close in_v in_u leads
+          (delay f) w'
+          (λ s at.
+          let chose = chosen says n0 n Tree Out top best next base depth t net0 w calm0 invariant0 late0 same v in_v s
+          (z.others v s (t.lives v in_v) (inl in_v) apart at) in (chose.root, chose.steps))
       | yes is ↦
           let here = subst (λ c. LeadsFarther n.graph f next c p u q) is leads in
           subst (λ c. LinkSettles says (telling n (before f) f next c p u q) w') (sym is)
-          (elim (t.steps top u in_top (suc p, suc q, here.joins)) [
-            | inl deeper ↦ top_tells f p u q close here deeper
+          (elim (t.steps top u in_top in_u (suc p, suc q, here.joins)) [
+            | inl deeper ↦ top_tells f p u q close in_u here deeper
             | inr higher ↦ absurd (let none = t.first in omega (arith, higher, none))
           ])
     ]

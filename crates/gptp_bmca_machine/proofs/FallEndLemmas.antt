@@ -1,17 +1,17 @@
 -- Once a tree that is cut off has fallen back, all that is held fits what is left, and each link is at its stage: so it
 -- settles.
-use Rattle.std.proofs.Common.{◌≡◌, ◌<◌, ◌≤◌, ◌+◌, ℕ, suc, Some, slice_get, refl, sym, ap, subst, ◌∙◌, arith}
+use Rattle.std.proofs.Common.{◌≡◌, ◌⊎◌, ◌<◌, ◌≤◌, ◌+◌, ℕ, suc, Some, slice_get, refl, sym, subst, ◌∙◌, arith}
 use Rattle.gptp_lists.specs.Members.{In}
 use Rattle.gptp_graph.specs.Best.{IsBest}
 use Rattle.gptp_graph.specs.Distance.{IsDistance}
 use Rattle.gptp_graph.specs.Snapshot.{IsLinked, Joins, PortIdentity, Snapshot, System, clocks, port_of}
 use Rattle.gptp_graph.proofs.BestLemmas.{IsBest-neighbour, IsBest-unique}
-use Rattle.gptp_graph.proofs.DistanceLemmas.{IsDistance-clock, IsDistance-unique}
-use Rattle.gptp_graph.proofs.ExistenceLemmas.{best_exists, distance_exists}
+use Rattle.gptp_graph.proofs.DistanceLemmas.{IsDistance-clock}
 use Rattle.gptp_graph.proofs.LinkLemmas.{Joins-clock, Joins-sym}
 use Rattle.gptp_graph.proofs.SystemLemmas.{In-clocks}
 use Rattle.gptp_bmca_machine.specs.Acts.{MachineSteps}
-use Rattle.gptp_bmca_machine.specs.Clean.{CameFits, CameOverLink}
+use Rattle.gptp_bmca_machine.specs.Calm.{Calm}
+use Rattle.gptp_bmca_machine.specs.Clean.{CameFits, CameOverLink, Whole}
 use Rattle.gptp_bmca_machine.specs.CutTree.{CutsTree}
 use Rattle.gptp_bmca_machine.specs.Facts.{station_system}
 use Rattle.gptp_bmca_machine.specs.Frame.{Spelling}
@@ -22,54 +22,79 @@ use Rattle.gptp_bmca_machine.specs.Network.{Network, since, wiring}
 use Rattle.gptp_bmca_machine.specs.Sound.{ReceivedFits}
 use Rattle.gptp_bmca_machine.specs.SoundLaws.{UnlinkedAreOff}
 use Rattle.gptp_bmca_machine.specs.Station.{MachineState, Reception, Station}
-use Rattle.gptp_bmca_machine.proofs.CutTreeLemmas.{tree_dec}
+use Rattle.gptp_bmca_machine.proofs.CutTreeLemmas.{IsCutOff, LeadsNowhere, moves_tree, tree_dec}
+use Rattle.gptp_bmca_machine.proofs.MovedTreeLemmas.{MovesTree}
+use Rattle.gptp_bmca_machine.proofs.FallStepLemmas.{SaysSo}
 use Rattle.gptp_bmca_machine.proofs.FallKeptLemmas.{falling_kept}
-use Rattle.gptp_bmca_machine.proofs.FallLemmas.{IsAftermath, IsFalling, RootIsNot, falls_by, free_clear, holds_in_tree, old_in_time}
+use Rattle.gptp_bmca_machine.proofs.FallHeldLemmas.{holds_in_tree, old_in_time}
+use Rattle.gptp_bmca_machine.proofs.FallLemmas.{HasChoice, HasLeft, IsAftermath, IsFalling, falls_by, free_fits, off_drop, off_hold_old, off_none}
 use Rattle.gptp_bmca_machine.proofs.FallLevelLemmas.{TreeSettles}
 use Rattle.gptp_bmca_machine.proofs.LossLemmas.{fits_kept}
 use Rattle.gptp_bmca_machine.proofs.PlaceLemmas.{same_there}
-use Rattle.gptp_bmca_machine.proofs.StillLemmas.{LeadsOn, StillSettles, levels_below, live_before}
+use Rattle.gptp_bmca_machine.proofs.StillLemmas.{LeadsOn, StillSettles, best_was, far_was, levels_below}
 use Rattle.gptp_bmca_machine.proofs.TimedLinkLemmas.{timed_link}
+
+module _ (says : Spelling) (g : Snapshot) (n : Network) (Tree : ℕ → Type 0) (Out : ℕ → ℕ → Type 0) (top : ℕ)
+    (best next : System) (base : ℕ) (depth : ℕ → ℕ) (t : MovesTree g n Tree Out top best next base depth) (start : ℕ)
+  where
+    pub after_step : (w w' : MachineState) → Calm n w → IsAfterLoss n w' → UnlinkedAreOff n.graph w' → MachineSteps says
+        w
+        w'
+        → EverythingFits says g n w → IsAftermath says g n w'
+    after_step w w' calm kept' dark' step fits = record {
+      kept = kept';
+      fits = fits_kept says g n t.left w w' calm kept'.calm step fits;
+      dark = off_hold_old g n w' dark';
+    }
+
+    -- what is known of each state since: links from unmoved systems stay, and each link of the tree is at its stage
+    pub record FallsBack (w : MachineState) : Type 0 where
+      pub after : IsAftermath says g n w
+      pub still : (f : ℕ) → StillSettles says g n f w
+      pub falling : IsFalling says g n Tree Out top best next base depth t start w
+
+    -- every step keeps it, where what comes from outside is of what is left, or names who hears it
+    pub falls_on : (w w' : MachineState) (is : FallsBack w) (kept' : IsAfterLoss n w') (dark' : UnlinkedAreOff n.graph
+        w')
+        (step : MachineSteps says w w') → ((v p u q : ℕ) → Out u v
+        → (joins : Joins n.graph (port_of v (suc p)) (port_of u (suc q)))
+        → SaysSo says g n Tree Out top best next base depth t w w' is.after
+        (after_step w w' is.after.kept.calm kept' dark' step is.after.fits) step v p u q joins
+        (λ a. Whole n.graph v a ⊎ In u a.path)) → FallsBack w'
+    falls_on w w' is kept' dark' step comes = record {
+      after = after';
+      still = λ f.
+          levels_below says g n t.well t.left w w' is.after.kept kept' is.after.fits.stations fits'.stations step
+          is.still
+          (suc f) f (omega arith);
+      falling = falling_kept says g n Tree Out top best next base depth t start w w' is.after after' step
+          (off_drop g n w w' dark') is.falling (off_none g n start w' dark') comes;
+    }
+      where
+        after' : IsAftermath says g n w'
+        after' = after_step w w' is.after.kept.calm kept' dark' step is.after.fits
+
+        fits' : EverythingFits says g n w'
+        fits' = after'.fits
+
+-- ---- a tree that is cut off
 
 module _ (says : Spelling) (g : Snapshot) (n : Network) (top : ℕ) (best next : System) (base : ℕ) (depth : ℕ → ℕ)
     (t : CutsTree g n top best next base depth) (start : ℕ) where
-  -- what is known of each state since: links from unmoved systems stay, and each link of the tree is at its stage
-  pub record FallsBack (w : MachineState) : Type 0 where
-    pub after : IsAftermath says g n w
-    pub still : (f : ℕ) → StillSettles says g n f w
-    pub falling : IsFalling says g n top best next base depth t start w
+  abbrev m : MovesTree g n (IsCutOff n next) LeadsNowhere top best next base depth
+  m = moves_tree g n top best next base depth t
 
-  pub falls_on : (w w' : MachineState) → FallsBack w → IsAfterLoss n w' → UnlinkedAreOff n.graph w'
-      → MachineSteps says w w' → FallsBack w'
-  falls_on w w' is kept' dark' step = record {
-    after = after';
-    still = λ f.
-        levels_below says g n t.well t.left w w' is.after.kept kept' is.after.fits.stations fits'.stations step is.still
-        (suc f) f (omega arith);
-    falling = falling_kept says g n top best next base depth t start w w' is.after after' step is.falling;
-  }
-    where
-      fits' : EverythingFits says g n w'
-      fits' = fits_kept says g n t.left w w' is.after.kept.calm kept'.calm step is.after.fits
-
-      after' : IsAftermath says g n w'
-      after' = record { kept = kept'; fits = fits'; dark = dark' }
+  abbrev pub FallsOff : MachineState → Type 0
+  FallsOff w = FallsBack says g n (IsCutOff n next) LeadsNowhere top best next base depth m start w
 
   -- ---- systems that aren't of the tree
 
   best_before : (v : ℕ) (c : System) → (IsBest n.graph v next → ⊥) → IsBest n.graph v c → IsBest g v c
-  best_before v c out is =
-      let known = is.reached.1.begins in
-      let u = t.others v known out in
-      let (f, was) = best_exists g v t.left.graph (live_before g n t.well t.left v known) in
-      subst (IsBest g v) (IsBest-unique n.graph v f c t.well (u.best f was) is) was
+  best_before v c out is = best_was g n t.well t.left v c (t.others v is.reached.1.begins out) is
 
   far_before : (v far : ℕ) → (IsBest n.graph v next → ⊥) → IsDistance n.graph v far → IsDistance g v far
   far_before v far out is =
-      let known = IsDistance-clock n.graph v far t.well is in
-      let u = t.others v known out in
-      let (f, was) = distance_exists g v t.left.graph (live_before g n t.well t.left v known) in
-      subst (IsDistance g v) (IsDistance-unique n.graph v f far t.well (u.far f was) is) was
+      far_was g n t.well t.left v far (t.others v (IsDistance-clock n.graph v far t.well is) out) is
 
   -- a link leads from none of them to the tree
   out_beside : (v u : ℕ) (i k : ℕ) → (IsBest n.graph v next → ⊥) → Joins n.graph (port_of v i) (port_of u k)
@@ -114,13 +139,15 @@ module _ (says : Spelling) (g : Snapshot) (n : Network) (top : ℕ) (best next :
 
   -- ---- once that time is over
 
-  module _ (last : ℕ) (w : MachineState) (is : FallsBack w)
+  module _ (last : ℕ) (w : MachineState) (is : FallsOff w)
       (reached : (v : ℕ) → IsBest n.graph v next → falls_by n start (depth v) ≤ last) (over : last < w.time) where
     -- nobody has the root of before
-    none_old : (x : ℕ) → IsBest n.graph x next → RootIsNot n w x best
+    none_old : (x : ℕ) → IsBest n.graph x next → HasLeft n w x best (base + depth x)
     none_old x in_x s at root =
-        let late = old_in_time says g n top best next base depth t start w is.after is.falling (depth x) x refl in_x
-        (λ s2 at2. ap (λ (y : Station). y.root) (same_there w.stations (n.place x) s2 s at2 at) ∙ root) in
+        let late = old_in_time says g n (IsCutOff n next) LeadsNowhere top best next base depth m start w is.after
+        is.falling (depth x) x refl in_x
+        (λ s2 at2. subst (λ (y : Station). HasChoice y best (base + depth x))
+        (same_there w.stations (n.place x) s s2 at at2) root) in
         let by = reached x in_x in
         absurd (omega (arith, late, by, over))
 
@@ -137,12 +164,15 @@ module _ (says : Spelling) (g : Snapshot) (n : Network) (top : ℕ) (best next :
         by : Dec (IsBest n.graph s.clock next) → CameFits n.graph s.clock (suc place) r
         by (no out) = out_fits s.clock place r out (is.after.fits.stations i s place r at live holds)
         by (yes in_s) =
-            (free_clear says g n top best next base depth t start w is.after s.clock in_s s there
-            (holds_in_tree says g n top best next base depth t start w is.after is.falling s.clock in_s)
-            (none_old s.clock in_s s there)).held place r holds
+            (free_fits says g n (IsCutOff n next) LeadsNowhere top best next base depth m start w is.after s.clock in_s
+            s there
+            (holds_in_tree says g n (IsCutOff n next) LeadsNowhere top best next base depth m start w is.after
+            is.falling s.clock in_s)
+            (none_old s.clock in_s s there) place r holds)
 
-    module _ (before : ℕ → ℕ) (room : (f : ℕ) → last + n.most < before f)
-        (settles : TreeSettles says g n top best next base depth t start last before room w) (slack : ℕ)
+    module _ (before : ℕ → ℕ)
+        (settles : TreeSettles says g n (IsCutOff n next) LeadsNowhere top best next base depth m start before w) (slack
+        : ℕ)
         (in_time : (f : ℕ) → before f ≤ since (record n { slack = slack }) (suc f))
         (delay : (f : ℕ) → n.most ≤ since (record n { slack = slack }) (suc f)) where
       levels_then : (f : ℕ) → LevelSettles says (record n { slack = slack }) f w
@@ -154,7 +184,8 @@ module _ (says : Spelling) (g : Snapshot) (n : Network) (top : ℕ) (best next :
               let one : next ≡ c = IsBest-unique n.graph v next c t.well in_v leads.is_best in
               subst (λ b. LinkSettles says (wiring (record n { slack = slack }) f b v p u q) w) one
               (timed_link says n slack (before f) f next v p u q (in_time f) w
-              (settles f v p u q close (subst (λ b. LeadsFarther n.graph f b v p u q) (sym one) leads)))
+              (settles f v p u q close in_v (IsBest-neighbour n.graph v u next t.well (suc p, suc q, leads.joins) in_v)
+              (subst (λ b. LeadsFarther n.graph f b v p u q) (sym one) leads)))
           by (no out) =
               let leads_on : LeadsOn g n f c v p u q =
               record {

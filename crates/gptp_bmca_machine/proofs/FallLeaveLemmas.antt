@@ -2,11 +2,9 @@
 use Rattle.std.proofs.Common.{◌≡◌, ◌≢◌, ◌⊎◌, ◌≤◌, ◌+◌, ℕ, suc, true, List, Some, slice_get, refl, sym, ap, subst, ◌∙◌, inl, inr, arith}
 use Rattle.gptp_lists.specs.Members.{In}
 use Rattle.gptp_lists.proofs.SystemSpecLemmas.{In-right}
-use Rattle.gptp_graph.specs.Best.{IsBest}
-use Rattle.gptp_graph.specs.Snapshot.{Joins, PortIdentity, Snapshot, System, port_of}
+use Rattle.gptp_graph.specs.Snapshot.{Joins, PortIdentity, Snapshot, System, clocks, port_of}
 use Rattle.gptp_bmca_machine.specs.Acts.{LaneStep, MachineSteps, StationAnswers}
 use Rattle.gptp_bmca_machine.specs.Calm.{Calm}
-use Rattle.gptp_bmca_machine.specs.CutTree.{CutsTree}
 use Rattle.gptp_bmca_machine.specs.Frame.{Announce, AnnounceFrame, Lane, Send, Spelling}
 use Rattle.gptp_bmca_machine.specs.LinkStage.{FinalAnnounceStays, FrameSaysAnnounce, Wiring}
 use Rattle.gptp_bmca_machine.specs.Network.{Network}
@@ -14,19 +12,20 @@ use Rattle.gptp_bmca_machine.specs.Reacts.{IsMasterAt, IsOwn, KeepsHeld, PortSte
 use Rattle.gptp_bmca_machine.specs.RestLaws.{LinkStays}
 use Rattle.gptp_bmca_machine.specs.Station.{Aged, Disabled, Held, MachineState, Mine, Port, Received, Station}
 use Rattle.gptp_bmca_machine.specs.Touch.{Hear, IsUsable, Replaces, StationTouch}
-use Rattle.gptp_bmca_machine.proofs.FallLemmas.{HoldsInTree, IsAftermath, IsNewTold, falls_by, says_usable, says_whole}
+use Rattle.gptp_bmca_machine.proofs.FallLemmas.{HasChoice, HoldsInTree, IsAftermath, IsNewTold, falls_by, says_usable, says_whole}
+use Rattle.gptp_bmca_machine.proofs.MovedTreeLemmas.{Around, IsBeyond, MovesTree, around}
 use Rattle.gptp_bmca_machine.proofs.HearingLemmas.{mid_mine}
-use Rattle.gptp_bmca_machine.proofs.LinkEndsLemmas.{long_at, on_time, teller_on}
+use Rattle.gptp_bmca_machine.proofs.LinkEndsLemmas.{hearer_known, long_at, on_time, teller_on}
 use Rattle.gptp_bmca_machine.proofs.LinkStepLemmas.{AtLink, lives_at}
 use Rattle.gptp_bmca_machine.proofs.PlaceLemmas.{same_mine, same_there}
 use Rattle.gptp_bmca_machine.proofs.ReactsLemmas.{mid_heard}
 use Rattle.gptp_bmca_machine.proofs.StillLemmas.{port_there, still}
 use Rattle.gptp_bmca_machine.proofs.ToldLemmas.{AllSay, HoldsTold, old_begins}
 
--- A port that was master with another root, and hears nothing lower, tells at once.
+-- A port that was master with another root or other steps, and hears nothing lower, tells at once.
 module _ (says : Spelling) (c n now : ℕ) (touch : StationTouch) (root steps : ℕ) (pv pv' : Port) (sends : List Send)
     (answer : PortStep says c n now touch root steps pv pv' sends) (r d : ℕ) (was : pv.held ≡ Mine r d)
-    (other : root ≢ r) (on : pv'.held ≢ Disabled)
+    (other : (root ≡ r) × (steps ≡ d) → ⊥) (on : pv'.held ≢ Disabled)
     (refuses : (a : Announce) → touch ≡ Hear n a → IsUsable c a → Replaces c n a (Mine r d) → ⊥) where
   kept_none : (mid : Held) → answer.mid ≡ mid → pv'.held ≡ answer.mid → KeepsHeld answer.mid → ⊥
   kept_none Disabled is kept keeps = on (kept ∙ is)
@@ -46,66 +45,73 @@ module _ (says : Spelling) (c n now : ℕ) (touch : StationTouch) (root steps : 
       | inl (already, timer) ↦
           let held = mid_mine c n now root steps touch pv.held answer.mid answer.before already in
           let same = same_mine r d root steps (sym was ∙ held) in
-          absurd (other (sym same.0))
+          absurd (other (sym same.0, sym same.1))
     ]
   ]
 
--- what a system that has left the root of before tells those below it
-pub tells_new : (says : Spelling) (g : Snapshot) (n : Network) (top : ℕ) (best next : System) (base : ℕ)
-    (depth : ℕ → ℕ) (t : CutsTree g n top best next base depth) (start : ℕ) (w : MachineState)
-    (m : IsAftermath says g n w) (x : ℕ) (in_x : IsBest n.graph x next) (s : Station)
+-- what a system that has left its old choice tells those beyond it
+pub tells_new : (says : Spelling) (g : Snapshot) (n : Network) (Tree : ℕ → Type 0) (Out : ℕ → ℕ → Type 0) (top : ℕ)
+    (best next : System) (base : ℕ) (depth : ℕ → ℕ) (t : MovesTree g n Tree Out top best next base depth) (start : ℕ) (w
+    : MachineState)
+    (m : IsAftermath says g n w) (x : ℕ) (in_x : Tree x) (s : Station)
     (at : slice_get w.stations (n.place x) ≡ Some s)
-    (holds : HoldsInTree says g n top best next base depth t start x w) (not : s.root ≢ best.identity) (p u q : ℕ)
-    (joins : Joins n.graph (port_of x (suc p)) (port_of u (suc q))) (deeper : depth u ≡ suc (depth x)) (number : ℕ)
+    (holds : HoldsInTree says g n Tree Out top best next base depth t start x w)
+    (not : HasChoice s best (base + depth x) → ⊥) (p u q : ℕ)
+    (joins : Joins n.graph (port_of x (suc p)) (port_of u (suc q))) (beyond : IsBeyond Tree Out depth x u) (number : ℕ)
     (a : Announce) → IsOwn s number a → IsMasterAt s number → number ≡ suc p
     → IsNewTold n.graph (port_of x (suc p)) u a
-tells_new says g n top best next base depth t start w m x in_x s at holds not p u q joins deeper number a own
+tells_new says g n Tree Out top best next base depth t start w m x in_x s at holds not p u q joins beyond number a own
     (i, pv, place, there, mine) is = record {
       source = own.source ∙ (λ j. port_of (clock j) (is j));
-      whole = says_whole says g n top best next base depth t start w m x in_x s at holds not number a own;
-      usable = says_usable says g n top best next base depth t start w m x in_x s at holds not number a own p u q joins
-          deeper pv (subst (λ j. slice_get s.ports j ≡ Some pv) same there) s.root s.steps mine;
+      whole = says_whole says g n Tree Out top best next base depth t start w m x in_x s at holds not number a own;
+      usable = says_usable says g n Tree Out top best next base depth t start w m x in_x s at holds not number a own p u
+          q
+          joins beyond pv (subst (λ j. slice_get s.ports j ≡ Some pv) same there) s.root s.steps mine;
     }
   where
     clock : s.clock ≡ x
-    clock = (lives_at n w m.kept.calm x in_x.reached.1.begins s at).1
+    clock = (lives_at n w m.kept.calm x (t.lives x in_x) s at).1
 
     same : i ≡ p
     same = let both = sym place ∙ is in omega (arith, both)
 
--- A system of the tree answers, and whoever else is in it stands as it did: its sends enter the lanes to others.
-pub record TreeAnswers (says : Spelling) (n : Network) (next : System) (x : ℕ) (w w' : MachineState) : Type 0 where
-  pub touch : StationTouch
-  pub s : Station
-  pub s' : Station
-  pub sends : List Send
-  pub time : w'.time ≡ w.time
-  pub here : slice_get w.stations (n.place x) ≡ Some s
-  pub there : slice_get w'.stations (n.place x) ≡ Some s'
-  pub reacts : StationReacts says s touch w.time s' sends
-  pub others : (c : ℕ) (z : Station) → IsBest n.graph c next → c ≢ x → slice_get w'.stations (n.place c) ≡ Some z
-      → slice_get w.stations (n.place c) ≡ Some z
-  pub lanes : (p q : PortIdentity) (l' : Lane) → Joins n.graph p q → q.clock ≢ x
-      → slice_get w'.lanes (n.lane p) ≡ Some l'
-      → (l : Lane) × (slice_get w.lanes (n.lane p) ≡ Some l) × LaneStep s.clock sends l l'
-  pub heard : (i : ℕ) (a : Announce) → touch ≡ Hear (suc i) a
-      → (j : ℕ) × (l : Lane) × (f : AnnounceFrame) × (slice_get w.lanes j ≡ Some l) × In f l.frames × says f.octets a
-      × (l.to ≡ port_of s.clock (suc i))
+-- A system of the tree answers, and whoever else is in it or beside it stands as it did: its sends enter the lanes to
+-- others.
+pub record TreeAnswers (says : Spelling) (n : Network) (Beside : ℕ → Type 0) (x : ℕ) (w w' : MachineState) : Type 0
+  where
+    pub touch : StationTouch
+    pub s : Station
+    pub s' : Station
+    pub sends : List Send
+    pub time : w'.time ≡ w.time
+    pub here : slice_get w.stations (n.place x) ≡ Some s
+    pub there : slice_get w'.stations (n.place x) ≡ Some s'
+    pub reacts : StationReacts says s touch w.time s' sends
+    pub others : (c : ℕ) (z : Station) → In c (clocks n.graph) → Beside c → c ≢ x → slice_get w'.stations (n.place c) ≡
+        Some z
+        → slice_get w.stations (n.place c) ≡ Some z
+    pub lanes : (p q : PortIdentity) (l' : Lane) → Joins n.graph p q → q.clock ≢ x
+        → slice_get w'.lanes (n.lane p) ≡ Some l'
+        → (l : Lane) × (slice_get w.lanes (n.lane p) ≡ Some l) × LaneStep s.clock sends l l'
+    pub heard : (i : ℕ) (a : Announce) → touch ≡ Hear (suc i) a
+        → (j : ℕ) × (l : Lane) × (f : AnnounceFrame) × (slice_get w.lanes j ≡ Some l) × In f l.frames × says f.octets a
+        × (l.to ≡ port_of s.clock (suc i))
 
-module _ (says : Spelling) (g : Snapshot) (n : Network) (top : ℕ) (best next : System) (base : ℕ) (depth : ℕ → ℕ)
-    (t : CutsTree g n top best next base depth) (start : ℕ) (w w' : MachineState) (m' : IsAftermath says g n w')
-    (x : ℕ) (in_x : IsBest n.graph x next) (z : TreeAnswers says n next x w w')
-    (holds' : HoldsInTree says g n top best next base depth t start x w') (not' : z.s'.root ≢ best.identity)
-    (p u q : ℕ) (joins : Joins n.graph (port_of x (suc p)) (port_of u (suc q))) (in_u : IsBest n.graph u next)
-    (deeper : depth u ≡ suc (depth x)) (far : ℕ)
+module _ (says : Spelling) (g : Snapshot) (n : Network) (Tree : ℕ → Type 0) (Out : ℕ → ℕ → Type 0) (top : ℕ)
+    (best next : System) (base : ℕ) (depth : ℕ → ℕ) (t : MovesTree g n Tree Out top best next base depth) (start : ℕ) (w
+    w' : MachineState) (m' : IsAftermath says g n w')
+    (x : ℕ) (in_x : Tree x) (z : TreeAnswers says n (Around Tree Out) x w w')
+    (holds' : HoldsInTree says g n Tree Out top best next base depth t start x w') (not' : HasChoice z.s' best (base +
+    depth x) → ⊥)
+    (p u q : ℕ) (joins : Joins n.graph (port_of x (suc p)) (port_of u (suc q))) (beyond : IsBeyond Tree Out depth x u)
     (old : (pv : Port) → slice_get z.s.ports p ≡ Some pv
-    → (pv.held ≡ Mine best.identity far) × (w.time ≤ pv.announce))
-    (stays : LinkStays says (still n far best x p u q) w)
+    → (pv.held ≡ Mine best.identity (base + depth x)) × (w.time ≤ pv.announce))
+    (stays : LinkStays says (still n (base + depth x) best x p u q) w)
     (refuses : (a : Announce) → z.touch ≡ Hear (suc p) a → IsUsable x a
-    → Replaces x (suc p) a (Mine best.identity far) → ⊥)
+    → Replaces x (suc p) a (Mine best.identity (base + depth x)) → ⊥)
     (in_time : w.time ≤ falls_by n start (depth x)) where
   abbrev k : Wiring
-  k = still n far best x p u q
+  k = still n (base + depth x) best x p u q
 
   abbrev New : Announce → Type 0
   New = IsNewTold n.graph (port_of x (suc p)) u
@@ -116,8 +122,11 @@ module _ (says : Spelling) (g : Snapshot) (n : Network) (top : ℕ) (best next :
   apart : u ≢ x
   apart same = t.well.apart (port_of x (suc p)) (port_of u (suc q)) joins (sym same)
 
+  known_u : In u (clocks n.graph)
+  known_u = hearer_known g n t.well t.left n.most 0 best x p u q joins (omega arith)
+
   is_x : (z.s'.live ≡ true) × (z.s'.clock ≡ x)
-  is_x = lives_at n w' m'.kept.calm x in_x.reached.1.begins z.s' z.there
+  is_x = lives_at n w' m'.kept.calm x (t.lives x in_x) z.s' z.there
 
   was_x : z.s.clock ≡ x
   was_x = sym z.reacts.clock ∙ is_x.1
@@ -127,7 +136,8 @@ module _ (says : Spelling) (g : Snapshot) (n : Network) (top : ℕ) (best next :
       → says y.octets a → New a
   new_told y a sent from said =
       let (own, master) = z.reacts.tells y a sent said in
-      tells_new says g n top best next base depth t start w' m' x in_x z.s' z.there holds' not' p u q joins deeper
+      tells_new says g n Tree Out top best next base depth t start w' m' x in_x z.s' z.there holds' not' p u q joins
+      beyond
       y.port a own master (ap (λ (k : PortIdentity). k.port) (sym from))
 
   -- ---- the lane to a system below it
@@ -159,7 +169,7 @@ module _ (says : Spelling) (g : Snapshot) (n : Network) (top : ℕ) (best next :
       pub tells_now : (f : AnnounceFrame) × In f step.news × FrameSaysAnnounce says f × (f.due ≤ w.time + n.most)
       tells_now = by (leaves says x (suc p) w.time z.touch z.s'.root z.s'.steps pv pv' z.sends
           (subst (λ c. PortStep says c (suc p) w.time z.touch z.s'.root z.s'.steps pv pv' z.sends) was_x answer)
-          best.identity far (old pv stood).0 not'
+          best.identity (base + depth x) (old pv stood).0 not'
           (teller_on g n t.well t.left n.most 0 best x p u q joins (omega arith) w' m'.kept m'.fits.stations z.s' pv'
           z.there there') refuses)
         where
@@ -176,7 +186,7 @@ module _ (says : Spelling) (g : Snapshot) (n : Network) (top : ℕ) (best next :
               let same_time = z.time in
               (f, among, (a, subst (λ o. says o a) (sym octets) said), omega (arith, by, same_time))
 
-  pub leaves_old : AtLink says n x p u q (HoldsTold says (still n far best x p u q)
+  pub leaves_old : AtLink says n x p u q (HoldsTold says (still n (base + depth x) best x p u q)
       (IsNewTold n.graph (port_of x (suc p)) u) (falls_by n start (suc (depth x)))) w'
   leaves_old su pu l' at there lane' =
       by_lane (z.lanes (port_of x (suc p)) (port_of u (suc q)) l' joins apart lane')
@@ -205,15 +215,15 @@ module _ (says : Spelling) (g : Snapshot) (n : Network) (top : ℕ) (best next :
                 u = su;
                 teller = z.here;
                 teller_port = stood;
-                hearer = z.others u su in_u apart at;
+                hearer = z.others u su known_u (around Tree Out depth x u beyond) apart at;
                 hearer_port = there;
                 lane = at_l;
               })
 
 -- ---- a step
 
-module _ (says : Spelling) (n : Network) (next : System) (x : ℕ) (w w' : MachineState) (calm : Calm n w)
-    (calm' : Calm n w') (in_x : IsBest n.graph x next) where
+module _ (says : Spelling) (n : Network) (Beside : ℕ → Type 0) (x : ℕ) (w w' : MachineState) (calm : Calm n w)
+    (calm' : Calm n w') (known : In x (clocks n.graph)) where
   -- a system that answers, perhaps to a frame that has been taken off a lane to it
   module _ (touch : StationTouch) (mid : MachineState) (call : StationAnswers says touch mid w')
       (time : mid.time ≡ w.time)
@@ -227,9 +237,9 @@ module _ (says : Spelling) (n : Network) (next : System) (x : ℕ) (w w' : Machi
     at_w = stood (n.place x) call.s (subst (λ i. slice_get mid.stations i ≡ Some call.s) (sym place) call.here)
 
     was : call.s.clock ≡ x
-    was = (lives_at n w calm x in_x.reached.1.begins call.s at_w).1
+    was = (lives_at n w calm x known call.s at_w).1
 
-    answers_so : TreeAnswers says n next x w w'
+    answers_so : TreeAnswers says n Beside x w w'
     answers_so = record {
       touch = touch;
       s = call.s;
@@ -239,10 +249,10 @@ module _ (says : Spelling) (n : Network) (next : System) (x : ℕ) (w w' : Machi
       here = at_w;
       there = subst (λ i. slice_get w'.stations i ≡ Some call.s') (sym place) call.there;
       reacts = subst (λ k. StationReacts says call.s touch k call.s' call.sends) time call.reacts;
-      others = λ c z in_c apart at. elim (call.stations (n.place c) z at) [
+      others = λ c z known_c beside apart at. elim (call.stations (n.place c) z at) [
         | inr (other, there) ↦ stood (n.place c) z there
         | inl (same, is) ↦ absurd (apart (
-            let one : z.clock ≡ c = (lives_at n w' calm' c in_c.reached.1.begins z at).1 in
+            let one : z.clock ≡ c = (lives_at n w' calm' c known_c z at).1 in
             sym one ∙ ap (λ (y : Station). y.clock) is ∙ call.reacts.clock ∙ was))
       ];
       lanes = λ p q l' joins apart at.
@@ -260,7 +270,7 @@ module _ (says : Spelling) (n : Network) (next : System) (x : ℕ) (w w' : Machi
   -- after a step a system stands as it did, or it has answered
   pub answers_or_stands : MachineSteps says w w' → (s' : Station) → slice_get w'.stations (n.place x) ≡ Some s'
       → (slice_get w.stations (n.place x) ≡ Some s')
-      ⊎ TreeAnswers says n next x w w'
+      ⊎ TreeAnswers says n Beside x w w'
   answers_or_stands (inl wait) s' at =
       inl (subst (λ (y : MachineState). slice_get y.stations (n.place x) ≡ Some s') wait.is at)
   answers_or_stands (inr (inl act)) s' at = elim (act.call.stations (n.place x) s' at) [

@@ -1,12 +1,10 @@
--- A tree that is cut off falls back: what a step makes of each link, by what is known of the system that tells.
+-- A tree that a loss moves falls back: what a step makes of each link, by what is known of the system that tells.
 use Rattle.std.proofs.Common.{◌≡◌, ◌≢◌, ◌⊎◌, ◌≤◌, ◌+◌, ℕ, suc, true, List, ◌∷◌, Some, slice_get, refl, sym, subst, ◌∙◌, inl, inr, arith}
 use Rattle.std.specs.Bool.{⊤}
 use Rattle.gptp_lists.specs.Members.{In}
-use Rattle.gptp_graph.specs.Best.{IsBest}
-use Rattle.gptp_graph.specs.Snapshot.{Joins, Snapshot, System, port_of}
+use Rattle.gptp_graph.specs.Snapshot.{Joins, Snapshot, System, clocks, port_of}
 use Rattle.gptp_bmca_machine.specs.Acts.{MachineSteps, StationAnswers}
 use Rattle.gptp_bmca_machine.specs.Clean.{Whole}
-use Rattle.gptp_bmca_machine.specs.CutTree.{CutsTree}
 use Rattle.gptp_bmca_machine.specs.Frame.{Announce, AnnounceFrame, Lane, Send, Spelling}
 use Rattle.gptp_bmca_machine.specs.Link.{HearsSettled}
 use Rattle.gptp_bmca_machine.specs.LinkStage.{IsFinal, Wiring}
@@ -15,9 +13,10 @@ use Rattle.gptp_bmca_machine.specs.Reacts.{PortStep}
 use Rattle.gptp_bmca_machine.specs.Station.{Disabled, Held, MachineState, Mine, Port, Received, Reception, Station}
 use Rattle.gptp_bmca_machine.specs.Touch.{Grow, Hear, HeldInTouch, Replaces, StationTouch}
 use Rattle.gptp_bmca_machine.proofs.FallLemmas.{HoldsLeft, IsAftermath, IsFree, IsFreeAt, IsNewTold}
+use Rattle.gptp_bmca_machine.proofs.MovedTreeLemmas.{LeadsDown, MovesTree, was_best_beside}
 use Rattle.gptp_bmca_machine.proofs.HearingLemmas.{final_kept, final_taken, mid_on, mid_stays}
 use Rattle.gptp_bmca_machine.proofs.ClearLemmas.{weaker_clear}
-use Rattle.gptp_bmca_machine.proofs.LinkEndsLemmas.{hearer_on, hears_by, link_back, long_at, on_time}
+use Rattle.gptp_bmca_machine.proofs.LinkEndsLemmas.{hearer_known, hearer_on, hears_by, link_back, long_at, on_time}
 use Rattle.gptp_bmca_machine.proofs.LinkStepLemmas.{AtLink, StandsAtEnd, link_steps, lives_at}
 use Rattle.gptp_bmca_machine.proofs.PlaceLemmas.{same_there}
 use Rattle.gptp_bmca_machine.proofs.ReactsLemmas.{JustHeard, mid_from}
@@ -65,8 +64,9 @@ free_hears says g v u q now root steps pu pu' sends f fs a said answer free = re
   flight = λ h b among. free.flight h b (inr among);
 }
 
-module _ (says : Spelling) (g : Snapshot) (n : Network) (top : ℕ) (best next : System) (base : ℕ) (depth : ℕ → ℕ)
-    (t : CutsTree g n top best next base depth) (w w' : MachineState) (m : IsAftermath says g n w)
+module _ (says : Spelling) (g : Snapshot) (n : Network) (Tree : ℕ → Type 0) (Out : ℕ → ℕ → Type 0) (top : ℕ)
+    (best next : System) (base : ℕ) (depth : ℕ → ℕ) (t : MovesTree g n Tree Out top best next base depth) (w w' :
+    MachineState) (m : IsAftermath says g n w)
     (m' : IsAftermath says g n w') (step : MachineSteps says w w') (v p u q : ℕ)
     (joins : Joins n.graph (port_of v (suc p)) (port_of u (suc q))) where
   is_on : (pu : Port) → StandsAtEnd says n v p u q w pu → pu.held ≢ Disabled
@@ -118,7 +118,7 @@ module _ (says : Spelling) (g : Snapshot) (n : Network) (top : ℕ) (best next :
 
   -- ---- what was told before is held until what is told since comes
 
-  module _ (in_v : IsBest n.graph v next) (in_u : IsBest n.graph u next) (deeper : depth u ≡ suc (depth v)) (last : ℕ)
+  module _ (in_v : Tree v) (leads : LeadsDown g Tree Out base depth v u) (last : ℕ)
       (new : SaysSo (IsNewTold n.graph (port_of v (suc p)) u)) where
     abbrev k : Wiring
     k = still n (base + depth v) best v p u q
@@ -126,18 +126,22 @@ module _ (says : Spelling) (g : Snapshot) (n : Network) (top : ℕ) (best next :
     abbrev New : Announce → Type 0
     New = IsNewTold n.graph (port_of v (suc p)) u
 
+    known_u : In u (clocks n.graph)
+    known_u = hearer_known g n t.well t.left n.most 0 best v p u q joins (omega arith)
+
     -- what is known of the port that hears
     hears_old : (x : MachineState) → IsAftermath says g n x → (pu : Port) → StandsAtEnd says n v p u q x pu
         → HearsSettled k pu
     hears_old x m_x pu end =
         hears_by g n t.well t.left n.most (base + depth v) best v p u q joins (omega arith) x m_x.kept
         m_x.fits.stations end.s pu end.at end.there
-        (weaker_clear g t.left.graph k best refl (base + depth u) (t.was_best u in_u) (t.was u in_u)
-        (inl (omega (arith, deeper))) end.s
+        (weaker_clear g t.left.graph k best refl leads.far
+        (was_best_beside g n Tree Out top best next base depth t v u in_v (suc p, suc q, joins)) leads.there
+        leads.farther end.s
         (clear_at g n t.well t.left x m_x.kept m_x.fits.stations (n.place u) end.s end.at is.0) is.1 pu end.there)
       where
         is : (end.s.live ≡ true) × (end.s.clock ≡ u)
-        is = lives_at n x m_x.kept.calm u in_u.reached.1.begins end.s end.at
+        is = lives_at n x m_x.kept.calm u known_u end.s end.at
 
     abbrev Holds : Held → List AnnounceFrame → Type 0
     Holds held fs = HoldsTold says k New last held fs
@@ -251,7 +255,7 @@ module _ (says : Spelling) (g : Snapshot) (n : Network) (top : ℕ) (best next :
     -- one or the other, as there is one port and one lane
     pub old_or_free : AtLink says n v p u q (λ held fs. Holds held fs ⊎ IsFree says n.graph v u held fs) w'
         → AtLink says n v p u q Holds w' ⊎ IsFreeAt says n v p u q w'
-    old_or_free is = by (station_of g n t.well t.left w' m'.kept m'.fits.stations u in_u.reached.1.begins)
+    old_or_free is = by (station_of g n t.well t.left w' m'.kept m'.fits.stations u known_u)
       where
         by : ((s : Station) × (slice_get w'.stations (n.place u) ≡ Some s) × (s.live ≡ true) × (s.clock ≡ u))
             → AtLink says n v p u q Holds w' ⊎ IsFreeAt says n v p u q w'

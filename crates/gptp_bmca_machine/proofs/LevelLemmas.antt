@@ -2,6 +2,7 @@
 use Rattle.std.proofs.Common.{◌≡◌, ◌≤◌, ◌<◌, ◌+◌, ℕ, zero, suc, true, Some, length, slice_get, refl, sym, subst, ◌∙◌, inl, inr, arith}
 use native.Mathlib.Decide.{dec_lt}
 use Rattle.gptp_lists.specs.Members.{In}
+use Rattle.gptp_lists.proofs.PlaceLemmas.{member_there}
 use Rattle.gptp_graph.specs.Snapshot.{System, PortIdentity, Snapshot, IsWellFormed, port_of, Joins, Adjacent, clocks}
 use Rattle.gptp_graph.specs.Best.{IsBest}
 use Rattle.gptp_graph.specs.Distance.{IsDistance}
@@ -24,7 +25,6 @@ use Rattle.gptp_bmca_machine.specs.Calm.{Calm}
 use Rattle.gptp_bmca_machine.specs.EarlyPorts.{EarlyPortsHear, ClaimsWhenReady}
 use Rattle.gptp_bmca_machine.specs.Lapsing.{NothingNearLapses}
 use Rattle.gptp_bmca_machine.specs.Levels.{LeadsFarther, LevelSettles, Invariant}
-use Rattle.gptp_bmca_machine.proofs.PlaceLemmas.{there_within}
 use Rattle.gptp_bmca_machine.proofs.NearestLemmas.{came_fits}
 use Rattle.gptp_bmca_machine.proofs.LinkLemmas.{link_kept, link_settled}
 use Rattle.gptp_bmca_machine.proofs.CleanLemmas.{held_whole}
@@ -51,7 +51,7 @@ module _ (says : Spelling) (n : Network) (net : IsSettlingNetwork n) (w : Machin
   -- a linked port of a live system stands at its place
   pub port_there : (v p : ℕ) (to : PortIdentity) (s : Station) → slice_get w.stations (n.place v) ≡ Some s
       → Joins n.graph (port_of v (suc p)) to → (q : Port) × (slice_get s.ports p ≡ Some q)
-  port_there v p to s at joins = there_within s.ports p within
+  port_there v p to s at joins = member_there s.ports p within
     where
       known : In v (clocks n.graph)
       known = Joins-clock n.graph (port_of v (suc p)) to net.graph joins

@@ -6,7 +6,7 @@ use Rattle.gptp_graph.specs.Snapshot.{IsWellFormed, Joins, PortIdentity, System,
 use Rattle.gptp_graph.proofs.LinkLemmas.{Joins-clock, Joins-sym}
 use Rattle.gptp_graph.proofs.SystemLemmas.{system_of}
 use Rattle.gptp_bmca_machine.specs.Acts.{Arrives, Drops, LaneStep, MachineSteps, Runs, StationAnswers}
-use Rattle.gptp_bmca_machine.specs.Calm.{Calm, HasLane}
+use Rattle.gptp_bmca_machine.specs.Calm.{Calm}
 use Rattle.gptp_bmca_machine.specs.Frame.{Announce, AnnounceFrame, Lane, Send, Spelling}
 use Rattle.gptp_bmca_machine.specs.LinkStage.{FrameSaysAnnounce}
 use Rattle.gptp_bmca_machine.specs.Network.{Network}
@@ -66,24 +66,21 @@ module _ (says : Spelling) (n : Network) (v p u q : ℕ) where
         → PortStep says u (suc q) now (Hear (suc q) a) root steps pu pu' sends
         → P pu.held (f ∷ fs) → P' pu'.held fs
 
-  module _ (wf : IsWellFormed n.graph) (joins : Joins n.graph (port_of v (suc p)) (port_of u (suc q)))
-      (w w' : MachineState) (calm : Calm n w) (calm' : Calm n w')
-      (is_on : (pu : Port) → StandsAtEnd w pu → pu.held ≢ Disabled)
+  -- the lane stands there, between the two ports
+  pub record LaneStands (w : MachineState) : Type 0 where
+    pub lane : Lane
+    pub there : slice_get w.lanes (n.lane (port_of v (suc p))) ≡ Some lane
+    pub from : lane.from ≡ port_of v (suc p)
+    pub to : lane.to ≡ port_of u (suc q)
+
+  module _ (known : In u (clocks n.graph)) (w w' : MachineState) (calm : Calm n w) (calm' : Calm n w')
+      (has : LaneStands w) (has' : LaneStands w') (is_on : (pu : Port) → StandsAtEnd w pu → pu.held ≢ Disabled)
       (lapses : (i due : ℕ) (s : Station) → slice_get w.stations i ≡ Some s → s.lapse ≡ Some due → w.time < due)
       (P P' : Held → List AnnounceFrame → Type 0) (N : Announce → Type 0) (keeps : KeepsAtLink w w' P P' N) where
-    known : In u (clocks n.graph)
-    known =
-        Joins-clock n.graph (port_of u (suc q)) (port_of v (suc p)) wf
-        (Joins-sym n.graph (port_of v (suc p)) (port_of u (suc q)) joins)
-
-    lane : ℕ
-    lane = n.lane (port_of v (suc p))
-
     -- the lane is the one between the two ports
     lane_is : (l : Lane) → slice_get w.lanes (n.lane (port_of v (suc p))) ≡ Some l
         → (l.from ≡ port_of v (suc p)) × (l.to ≡ port_of u (suc q))
     lane_is l at =
-        let has = calm.lanes (port_of v (suc p)) (port_of u (suc q)) joins in
         let same = same_there w.lanes (n.lane (port_of v (suc p))) has.lane l has.there at in
         (ap (λ (x : Lane). x.from) (sym same) ∙ has.from, ap (λ (x : Lane). x.to) (sym same) ∙ has.to)
 
@@ -108,9 +105,8 @@ module _ (says : Spelling) (n : Network) (v p u q : ℕ) where
             where
               from_is : l.from ≡ port_of v (suc p)
               from_is =
-                  let has = calm'.lanes (port_of v (suc p)) (port_of u (suc q)) joins in
-                  let same = same_there w'.lanes (n.lane (port_of v (suc p))) has.lane l' has.there lane' in
-                  sym step.from ∙ ap (λ (x : Lane). x.from) (sym same) ∙ has.from
+                  let same = same_there w'.lanes (n.lane (port_of v (suc p))) has'.lane l' has'.there lane' in
+                  sym step.from ∙ ap (λ (x : Lane). x.from) (sym same) ∙ has'.from
 
               new : (f : AnnounceFrame) (a : Announce) → In f step.news → says f.octets a → N a
               new f a among said =
@@ -179,9 +175,6 @@ module _ (says : Spelling) (n : Network) (v p u q : ℕ) where
             other (calm.apart (n.lane (port_of v (suc p))) act.j has.lane act.l has.there act.pops.here
             (has.to ∙ (λ i. port_of (clock i) (number i))))
           where
-            has : HasLane n w (port_of v (suc p)) (port_of u (suc q))
-            has = calm.lanes (port_of v (suc p)) (port_of u (suc q)) joins
-
             clock : u ≡ act.l.to.clock
             clock =
                 sym (lives_at n w calm u known act.call.s
@@ -300,12 +293,29 @@ module _ (says : Spelling) (n : Network) (v p u q : ℕ) where
             ]) (subst (P pu.held) act.pops.frames (is s pu act.l at_w there lane_at))
 
     -- so every step does
-    pub link_steps : MachineSteps says w w' → AtLink P w → AtLink P' w'
-    link_steps (inl wait) is =
+    pub lane_steps : MachineSteps says w w' → AtLink P w → AtLink P' w'
+    lane_steps (inl wait) is =
         (λ s pu l at there at_l.
         keeps.stays pu.held l.frames
         (is s pu l (subst (λ (x : MachineState). slice_get x.stations (n.place u) ≡ Some s) wait.is at) there
         (subst (λ (x : MachineState). slice_get x.lanes (n.lane (port_of v (suc p))) ≡ Some l) wait.is at_l)))
-    link_steps (inr (inl act)) is = comes act is
-    link_steps (inr (inr (inl act))) is = drops act is
-    link_steps (inr (inr (inr act))) is = runs act is
+    lane_steps (inr (inl act)) is = comes act is
+    lane_steps (inr (inr (inl act))) is = drops act is
+    lane_steps (inr (inr (inr act))) is = runs act is
+
+  module _ (wf : IsWellFormed n.graph) (joins : Joins n.graph (port_of v (suc p)) (port_of u (suc q)))
+      (w w' : MachineState) (calm : Calm n w) (calm' : Calm n w')
+      (is_on : (pu : Port) → StandsAtEnd w pu → pu.held ≢ Disabled)
+      (lapses : (i due : ℕ) (s : Station) → slice_get w.stations i ≡ Some s → s.lapse ≡ Some due → w.time < due)
+      (P P' : Held → List AnnounceFrame → Type 0) (N : Announce → Type 0) (keeps : KeepsAtLink w w' P P' N) where
+    -- the lane of a link in use stands
+    stands : (x : MachineState) → Calm n x → LaneStands x
+    stands x calm_x =
+        let is = calm_x.lanes (port_of v (suc p)) (port_of u (suc q)) joins in
+        record { lane = is.lane; there = is.there; from = is.from; to = is.to }
+
+    pub link_steps : MachineSteps says w w' → AtLink P w → AtLink P' w'
+    link_steps =
+        lane_steps (Joins-clock n.graph (port_of u (suc q)) (port_of v (suc p)) wf
+        (Joins-sym n.graph (port_of v (suc p)) (port_of u (suc q)) joins)) w w' calm calm' (stands w calm)
+        (stands w' calm') is_on lapses P P' N keeps

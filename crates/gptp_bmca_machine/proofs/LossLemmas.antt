@@ -27,7 +27,7 @@ use Rattle.gptp_bmca_machine.specs.Run.{last_state, NearHaveSettled}
 use Rattle.gptp_bmca_machine.specs.RestLaws.{IsResting}
 use Rattle.gptp_bmca_machine.specs.LossLaws.{FlightFits, EverythingFits, IsWhatIsLeft, IsLoss, NothingMoved, IsLossRun}
 use Rattle.gptp_bmca_machine.proofs.NearestLemmas.{came_fits}
-use Rattle.gptp_bmca_machine.proofs.RestLemmas.{IsClear, root_above, steps_above}
+use Rattle.gptp_bmca_machine.proofs.RestLemmas.{IsClear, bounded, root_above, steps_above}
 use Rattle.gptp_bmca_machine.proofs.ReactsLemmas.{JustHeard, held_from}
 use Rattle.gptp_bmca_machine.proofs.EndsLemmas.{is_station}
 use Rattle.gptp_bmca_machine.proofs.LevelLemmas.{invariant_kept}
@@ -50,7 +50,12 @@ module _ (says : Spelling) (g : Snapshot) (n : Network) (left : IsWhatIsLeft g n
     is = calm.facts.stations i s at live
 
     clear : IsClear g s
-    clear = record { rest = (calm.stations i s at live).at_rest; known = known_in w.time s is; held = held }
+    clear = record {
+      rest = (calm.stations i s at live).at_rest;
+      known = known_in w.time s is;
+      held = λ i r holds.
+          bounded g s.clock (suc i) r (held i r holds);
+    }
 
     above : (best : System) → IsBest g s.clock best → best.identity ≤ a.root
     above best is_best =
@@ -274,7 +279,7 @@ module _ (says : Spelling) (g : Snapshot) (n : Network) (left : IsWhatIsLeft g n
       record {
         rest = (calm.stations i s at live).at_rest;
         known = known_in w.time s (calm.facts.stations i s at live);
-        held = λ place r holds. all.stations i s place r at live holds;
+        held = λ place r holds. bounded g s.clock (suc place) r (all.stations i s place r at live holds);
       } in
       (root_above g left.graph s clear best is_best, steps_above g left.graph s clear best is_best)
 

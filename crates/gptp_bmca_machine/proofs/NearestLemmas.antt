@@ -55,6 +55,24 @@ module _ (g : Snapshot) (wf : IsWellFormed g) (u : ℕ) (a : Announce) (whole : 
           let same : length back ≡ length ts = as_long in
           omega arith
 
+  -- and every other than its sender at fewer
+  pub steps_more : (x far : ℕ) → In x whole.others → IsBest g x best → IsDistance g x far → a.root ≡ best.identity
+      → far < a.steps
+  steps_more x far at is_best' there root = by whole.others whole.way.route whole.steps at
+    where
+      first : whole.first ≡ best
+      first = same_identity g whole.first best wf whole.known is_best.live (sym whole.root ∙ root)
+
+      by : (us : List ℕ) → Route g u whole.first.clock us → length us ≡ a.steps → In x us → far < a.steps
+      by [] route same none = absurd none
+      by (y ∷ ys) route same among =
+          let (ts, on, short) = route_from g y whole.first.clock x ys route.1 among in
+          let (back, turned, as_long) = Route-reverse g x whole.first.clock ts on in
+          let least : far ≤ length back =
+          least_route g best.clock x far back (distance_from g x far best wf is_best' there)
+          (subst (λ (s : System). Route g s.clock x back) first turned) in
+          omega (arith, least, as_long, short, same)
+
   -- what stands in its trace stands there in reverse
   pub on_way : (x : ℕ) → In x a.path → In x (u ∷ whole.others)
   on_way x h = subst (In x) whole.is (In-reverse x a.path h)

@@ -1,5 +1,5 @@
 -- What stands at a place of a list is one thing, and so is what a port holds.
-use Rattle.std.proofs.Common.{◌≡◌, ◌<◌, ℕ, zero, suc, List, [], ◌∷◌, Some, length, slice_get, refl, sym, subst, ◌∙◌, arith}
+use Rattle.std.proofs.Common.{◌≡◌, ℕ, suc, List, Some, slice_get, sym, subst, ◌∙◌, arith}
 use Rattle.gptp_bmca_machine.specs.Station.{Reception, Mine, Received, Port, Station, HoldsAt}
 
 some_injective : {X : Type 0} (x y : X) → Some x ≡ Some y → x ≡ y
@@ -12,12 +12,6 @@ received_injective x y e = cc
 pub same_there : {X : Type 0} (xs : List X) (i : ℕ) (x y : X) → slice_get xs i ≡ Some x → slice_get xs i ≡ Some y
     → x ≡ y
 same_there xs i x y at also = some_injective x y (sym at ∙ also)
-
--- each place of a list has something
-pub there_within : {X : Type 0} (xs : List X) (i : ℕ) → i < length xs → (x : X) × (slice_get xs i ≡ Some x)
-there_within [] i within = absurd (omega arith)
-there_within (x ∷ xs) zero within = (x, refl)
-there_within (x ∷ xs) (suc i) within = there_within xs i (omega arith)
 
 -- two ports of one number are at one place
 pub same_place : (i j : ℕ) → Some (suc i) ≡ Some (suc j) → i ≡ j

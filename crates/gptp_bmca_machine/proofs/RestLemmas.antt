@@ -22,11 +22,23 @@ pub record Chooses (s : Station) (best : System) (d : ℕ) : Type 0 where
   pub root : s.root ≡ best.identity
   pub steps : s.steps ≡ d
 
--- it is at rest, the snapshot has it, and all it holds fits
+-- What is held respects the snapshot, whatever its trace names: its root is no better than the best, and for that its
+-- steps are no fewer than the system's distance less one, nor than the sender's.
+pub record CameBounded (g : Snapshot) (c n : ℕ) (r : Reception) : Type 0 where
+  pub over : IsLinked g (port_of c n) → CameOverLink g c n r.said
+  pub root : (best : System) → IsBest g c best → best.identity ≤ r.said.root
+  pub here : (best : System) (far : ℕ) → IsBest g c best → r.said.root ≡ best.identity → IsDistance g c far
+      → far ≤ suc r.said.steps
+
+-- what fits does
+pub bounded : (g : Snapshot) (c n : ℕ) (r : Reception) → CameFits g c n r → CameBounded g c n r
+bounded g c n r came = record { over = came.over; root = came.fits.root; here = came.fits.here }
+
+-- it is at rest, the snapshot has it, and all it holds respects that
 pub record IsClear (g : Snapshot) (s : Station) : Type 0 where
   pub rest : StationIsAtRest s
   pub known : In (station_system s) g.systems
-  pub held : (i : ℕ) (r : Reception) → HoldsAt s i r → CameFits g s.clock (suc i) r
+  pub held : (i : ℕ) (r : Reception) → HoldsAt s i r → CameBounded g s.clock (suc i) r
 
 -- a list's first two members are those of its parts
 first_two : (a b c d : ℕ) (xs ys : List ℕ) → a ∷ b ∷ xs ≡ c ∷ d ∷ ys → (a ≡ c) × (b ≡ d)
@@ -36,7 +48,7 @@ module _ (g : Snapshot) (wf : IsWellFormed g) (s : Station) (clear : IsClear g s
     (is_best : IsBest g s.clock best) where
   -- no root that is held is better than the best
   pub held_root : (i : ℕ) (r : Reception) → HoldsAt s i r → best.identity ≤ r.said.root
-  held_root i r holds = (clear.held i r holds).fits.root best is_best
+  held_root i r holds = (clear.held i r holds).root best is_best
 
   -- nor is its own
   pub own_root : best.identity ≤ s.identity
@@ -123,7 +135,7 @@ module _ (g : Snapshot) (wf : IsWellFormed g) (s : Station) (clear : IsClear g s
           best_steps : x.said.steps ≡ d
           best_steps =
               let least : suc d ≤ suc x.said.steps =
-              (clear.held j x holds_x).fits.here best (suc d) is_best best_root here in
+              (clear.held j x holds_x).here best (suc d) is_best best_root here in
               elim (dec_le x.said.steps d) [
                 | yes below ↦ omega arith
                 | no above ↦ absurd (not_lower (inr (root ∙ sym best_root, inl (omega arith))))
@@ -209,7 +221,7 @@ module _ (g : Snapshot) (wf : IsWellFormed g) (s : Station) (clear : IsClear g s
           let (root_is, steps_are) = first_two r.said.root (suc r.said.steps) s.root s.steps
           (r.said.source.clock ∷ r.said.source.port ∷ suc i ∷ []) clear.rest.source (sym path ∙ clear.rest.is) in
           let least : far ≤ suc r.said.steps =
-          (clear.held i r holds).fits.here best far is_best (root_is ∙ root) here in
+          (clear.held i r holds).here best far is_best (root_is ∙ root) here in
           omega arith
 
   -- A port towards a system that is farther, or as far with the higher clock, is master once the system has settled:

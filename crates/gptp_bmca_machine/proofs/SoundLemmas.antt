@@ -19,6 +19,7 @@ use Rattle.gptp_bmca_machine.specs.Clean.{IsWorse, Whole, CameSound}
 use Rattle.gptp_bmca_machine.specs.Facts.{station_system, FollowsPort, IsLiveStationState}
 use Rattle.gptp_bmca_machine.specs.Network.{Network, IsSettlingNetwork, network_setting}
 use Rattle.gptp_bmca_machine.specs.Calm.{HasLane, Calm}
+use Rattle.gptp_bmca_machine.specs.LossLaws.{IsWhatIsLeft}
 use Rattle.gptp_bmca_machine.specs.SoundLaws.{IsSoundFrom, IsSoundOnLinks, UnlinkedAreOff, HasNews, AllIsWhole}
 use Rattle.gptp_bmca_machine.specs.Sound.{ReceivedFits}
 use Rattle.gptp_bmca_machine.proofs.NearestLemmas.{came_fits}
@@ -54,20 +55,23 @@ was_on says s s' touch now sends reacts i r (q', at, holds) =
       ],
     )
 
-module _ (says : Spelling) (n : Network) (net : IsSettlingNetwork n) where
-  abbrev g : Snapshot
-  g = n.graph
+-- all of a network is left of its own snapshot
+pub nothing_lost : (n : Network) → IsWellFormed n.graph → IsWhatIsLeft n.graph n
+nothing_lost n well = record { graph = well; systems = λ s known. known; links = λ p q joins. joins }
 
+-- what is left of a snapshot: there it stays sound by the snapshot
+module _ (says : Spelling) (g : Snapshot) (n : Network) (left : IsWhatIsLeft g n) where
   -- all that the station holds is sound
   abbrev IsSoundStation : Station → Type 0
   IsSoundStation s = (place : ℕ) (r : Reception) → HoldsAt s place r → CameSound g s.clock (suc place) r
 
   -- what a system says is sound where what it holds is
-  says_sound : (now : ℕ) (s : Station) → IsLiveStationState (network_setting n) now s → IsSoundStation s
+  pub says_sound : (now : ℕ) (s : Station) → IsLiveStationState (network_setting n) now s → IsSoundStation s
       → (p : ℕ) (a : Announce)
       → IsOwn s p a → IsWorse g s.clock a ⊎ Whole g s.clock a
   says_sound now s is held p a own = elim is.follows [
-    | inl itself ↦ inr (whole_own g (station_system s) a is.known (own.root ∙ itself.root) (own.steps ∙ itself.steps)
+    | inl itself ↦ inr (whole_own g (station_system s) a (left.systems (station_system s) is.known) (own.root ∙
+        itself.root) (own.steps ∙ itself.steps)
         (own.path ∙ itself.trace))
     | inr port ↦ on port (held port.place port.r port.holds)
   ]
@@ -79,9 +83,10 @@ module _ (says : Spelling) (n : Network) (net : IsSettlingNetwork n) where
           (suc port.place, came.from.port, Joins-sym g came.from (port_of s.clock (suc port.place)) came.joins) in
           elim came.sound [
             | inl worse ↦ inl (λ best is_best. subst (λ m. best.identity < m) (sym (own.root ∙ port.root))
-                (worse best (IsBest-neighbour g s.clock came.from.clock best net.graph joined is_best)))
+                (worse best (IsBest-neighbour g s.clock came.from.clock best left.graph joined is_best)))
             | inr whole ↦ inr (whole_on g s.clock came.from.clock port.r.said a whole
-                (In-clocks g (station_system s) is.known) joined (is.held port.place port.r port.holds).no_loop
+                (In-clocks g (station_system s) (left.systems (station_system s) is.known)) joined (is.held port.place
+                port.r port.holds).no_loop
                 (own.root ∙ port.root) (own.steps ∙ port.steps) (own.path ∙ port.trace))
           ]
 
@@ -165,23 +170,25 @@ module _ (says : Spelling) (n : Network) (net : IsSettlingNetwork n) where
   }
 
   -- what arrives came over the link of the port, where that isn't disabled
-  arrived : (w w' : MachineState) (act : Arrives says w w') → Calm n w → UnlinkedAreOff g w → IsSoundOnLinks says g w
+  arrived : (w w' : MachineState) (act : Arrives says w w') → Calm n w → UnlinkedAreOff n.graph w → IsSoundOnLinks says
+      g w
       → HeardIsSound act.call.s act.touch
   unfolding HeardIsSound
-  arrived w w' act calm off all i q a touched at on = elim (IsLinked-dec g (port_of act.call.s.clock (suc i))) [
+  arrived w w' act calm off all i q a touched at on = elim (IsLinked-dec n.graph (port_of act.call.s.clock (suc i))) [
     | no unlinked ↦ absurd (on (off act.call.place act.call.s i q
         (act.pops.stations act.call.place act.call.s act.call.here) act.call.live at unlinked))
-    | yes (from, joins) ↦ over from (Joins-sym g (port_of act.call.s.clock (suc i)) from joins)
+    | yes (from, joins) ↦ over from (Joins-sym n.graph (port_of act.call.s.clock (suc i)) from joins)
   ]
     where
-      over : (from : PortIdentity) → Joins g from (port_of act.call.s.clock (suc i))
+      over : (from : PortIdentity) → Joins n.graph from (port_of act.call.s.clock (suc i))
           → (from : PortIdentity) × Joins g from (port_of act.call.s.clock (suc i)) × IsSoundFrom g from a
       over from joins = (
         from,
-        joins,
+        left.links from (port_of act.call.s.clock (suc i)) joins,
         subst (λ p. IsSoundFrom g p a) from_is (all.lanes act.j act.l act.f a act.pops.here
             (subst (In act.f) (sym act.pops.frames) (inl (λ j. act.f))) (act.heard (suc i) a touched).1
-            (subst (λ p. Joins g p act.l.to) (sym from_is) (subst (Joins g from) (sym to) joins))),
+            (subst (λ p. Joins g p act.l.to) (sym from_is)
+            (subst (Joins g from) (sym to) (left.links from (port_of act.call.s.clock (suc i)) joins)))),
       )
         where
           to : act.l.to ≡ port_of act.call.s.clock (suc i)
@@ -207,25 +214,31 @@ module _ (says : Spelling) (n : Network) (net : IsSettlingNetwork n) where
   heard_none s touch deaf i q a touched at on = absurd (deaf (suc i) a touched)
 
   -- every step between calm states keeps that all is sound
-  pub sound_kept : (w w' : MachineState) → Calm n w → Calm n w' → UnlinkedAreOff g w → MachineSteps says w w'
+  pub left_sound_kept : (w w' : MachineState) → Calm n w → Calm n w' → UnlinkedAreOff n.graph w → MachineSteps says w w'
       → IsSoundOnLinks says g w
       → IsSoundOnLinks says g w'
-  sound_kept w w' calm calm' off (inl wait) all =
+  left_sound_kept w w' calm calm' off (inl wait) all =
       subst (IsSoundOnLinks says g) (sym wait.is) (record { lanes = all.lanes; stations = all.stations })
-  sound_kept w w' calm calm' off (inr (inl act)) all =
+  left_sound_kept w w' calm calm' off (inr (inl act)) all =
       called act.touch act.mid w' act.call calm' (popped act.j act.l act.f act.fs w act.mid act.pops all)
       (arrived w w' act calm off all)
-  sound_kept w w' calm calm' off (inr (inr (inl act))) all = popped act.j act.l act.f act.fs w w' act.pops all
-  sound_kept w w' calm calm' off (inr (inr (inr act))) all =
+  left_sound_kept w w' calm calm' off (inr (inr (inl act))) all = popped act.j act.l act.f act.fs w w' act.pops all
+  left_sound_kept w w' calm calm' off (inr (inr (inr act))) all =
       called act.touch w w' act.call calm' all (heard_none act.call.s act.touch act.deaf)
 
 module _ (says : Spelling) (n : Network) (net : IsSettlingNetwork n) where
+  pub sound_kept : (w w' : MachineState) → Calm n w → Calm n w' → UnlinkedAreOff n.graph w → MachineSteps says w w'
+      → IsSoundOnLinks says n.graph w
+      → IsSoundOnLinks says n.graph w'
+  sound_kept = left_sound_kept says n.graph n (nothing_lost n net.graph)
+
   -- a system that answers to what is no Announce keeps it too, whatever the state before was
   pub reaction_sound : (w w' : MachineState) → StationAnswers says Other w w' → Calm n w'
       → IsSoundOnLinks says n.graph w
       → IsSoundOnLinks says n.graph w'
   reaction_sound w w' call calm' all =
-      called says n net Other w w' call calm' all (heard_none says n net call.s Other (λ m a e. absurd cc))
+      called says n.graph n (nothing_lost n net.graph) Other w w' call calm' all
+      (heard_none says n.graph n (nothing_lost n net.graph) call.s Other (λ m a e. absurd cc))
 
 -- what is sound fits
 pub received_fits : (says : Spelling) (g : Snapshot) (w : MachineState) → IsWellFormed g → IsSoundOnLinks says g w

@@ -2,15 +2,16 @@
 use Rattle.std.proofs.Common.{◌≡◌, ◌≢◌, ◌⊎◌, ◌≤◌, ◌<◌, ◌+◌, ℕ, zero, suc, true, List, [], ◌∷◌, Some, length, slice_get, refl, sym, ap, subst, ◌∙◌, inl, inr, arith}
 use native.Mathlib.Decide.{dec_lt}
 use Rattle.gptp_lists.specs.Members.{In}
+use Rattle.gptp_lists.proofs.PlaceLemmas.{member_there}
 use Rattle.gptp_graph.specs.Order.{IsLower}
 use Rattle.gptp_graph.specs.Snapshot.{System, PortIdentity, Snapshot, clocks, port_of, Joins, Adjacent, IsLinked, IsWellFormed}
 use Rattle.gptp_graph.specs.Best.{IsBest}
 use Rattle.gptp_graph.specs.Distance.{IsDistance}
 use Rattle.gptp_graph.proofs.LinkLemmas.{Joins-sym, Joins-clock, Adjacent-sym}
 use Rattle.gptp_graph.proofs.SystemLemmas as systems
-use Rattle.gptp_graph.proofs.BestLemmas.{IsBest-neighbour}
+use Rattle.gptp_graph.proofs.BestLemmas.{IsBest-neighbour, IsBest-unique}
 use Rattle.gptp_graph.proofs.DistanceLemmas.{IsDistance-unique, IsDistance-neighbour, IsDistance-clock, IsDistance-best, best_at_zero, nearer_neighbour}
-use Rattle.gptp_graph.proofs.ExistenceLemmas.{distance_exists}
+use Rattle.gptp_graph.proofs.ExistenceLemmas.{best_exists, distance_exists}
 use Rattle.gptp_bmca_machine.specs.Frame.{Announce, Spelling, AnnounceFrame, Lane}
 use Rattle.gptp_bmca_machine.specs.Station.{Reception, Held, Disabled, Mine, Received, Port, Station, MachineState, HoldsAt}
 use Rattle.gptp_bmca_machine.specs.Vectors.{master}
@@ -25,9 +26,9 @@ use Rattle.gptp_bmca_machine.specs.Levels.{LeadsFarther}
 use Rattle.gptp_bmca_machine.specs.Run.{last_state}
 use Rattle.gptp_bmca_machine.specs.LossLaws.{EverythingFits, IsWhatIsLeft, IsLoss, Unmoved, IsAfterLoss, IsKeptRun}
 use Rattle.gptp_bmca_machine.proofs.ClearLemmas.{tells_clear, weaker_clear}
-use Rattle.gptp_bmca_machine.proofs.PlaceLemmas.{same_there, there_within}
+use Rattle.gptp_bmca_machine.proofs.PlaceLemmas.{same_there}
 use Rattle.gptp_bmca_machine.proofs.LinkLemmas.{link_kept, link_settled}
-use Rattle.gptp_bmca_machine.proofs.RestLemmas.{Chooses, IsClear, zero_settles, suc_settles}
+use Rattle.gptp_bmca_machine.proofs.RestLemmas.{Chooses, IsClear, bounded, zero_settles, suc_settles}
 use Rattle.gptp_bmca_machine.proofs.LevelLemmas.{places_of}
 use Rattle.gptp_bmca_machine.proofs.RestingLemmas.{links_stay, stays_so}
 use Rattle.gptp_bmca_machine.proofs.LossLemmas.{fits_kept, loss_fits}
@@ -82,6 +83,17 @@ module _ (g : Snapshot) (n : Network) (wf : IsWellFormed n.graph) (left : IsWhat
   live_before v known =
       let (s, here, clock) = systems.system_of n.graph v known in
       subst (λ c. In c (clocks g)) clock (systems.In-clocks g s (left.systems s here))
+
+  -- what is the best of an unmoved system was, and it was as far
+  pub best_was : (v : ℕ) (c : System) → Unmoved g n v → IsBest n.graph v c → IsBest g v c
+  best_was v c u is =
+      let (f, was) = best_exists g v left.graph (live_before v u.live) in
+      subst (IsBest g v) (IsBest-unique n.graph v f c wf (u.best f was) is) was
+
+  pub far_was : (v far : ℕ) → Unmoved g n v → IsDistance n.graph v far → IsDistance g v far
+  far_was v far u is =
+      let (f, was) = distance_exists g v left.graph (live_before v u.live) in
+      subst (IsDistance g v) (IsDistance-unique n.graph v f far wf (u.far f was) is) was
 
   -- no system was farther before
   nearer_before : (d x e : ℕ) (best : System) → IsBest g x best → IsBest n.graph x best → IsDistance n.graph x d
@@ -162,7 +174,7 @@ module _ (g : Snapshot) (n : Network) (wf : IsWellFormed n.graph) (left : IsWhat
   clear_at i s at live = record {
     rest = (calm.stations i s at live).at_rest;
     known = left.systems (station_system s) (calm.facts.stations i s at live).known;
-    held = λ place r holds. all i s place r at live holds;
+    held = λ place r holds. bounded g s.clock (suc place) r (all i s place r at live holds);
   }
 
   -- where a system of the snapshot stands
@@ -204,7 +216,7 @@ module _ (g : Snapshot) (n : Network) (wf : IsWellFormed n.graph) (left : IsWhat
   -- a linked port of a live system stands at its place
   pub port_there : (v p : ℕ) (to : PortIdentity) (s : Station) → slice_get w.stations (n.place v) ≡ Some s
       → Joins n.graph (port_of v (suc p)) to → (q : Port) × (slice_get s.ports p ≡ Some q)
-  port_there v p to s at joins = there_within s.ports p within
+  port_there v p to s at joins = member_there s.ports p within
     where
       known : In v (clocks n.graph)
       known = Joins-clock n.graph (port_of v (suc p)) to wf joins
@@ -268,7 +280,8 @@ module _ (g : Snapshot) (n : Network) (wf : IsWellFormed n.graph) (left : IsWhat
     tells_settled s pv at port ready =
         let (live, clock) = is_station v s from_known at in
         tells_clear g left.graph (still n d best v p u q) best refl leads.far best_to leads.there leads.farther s
-        (clear_at (n.place v) s at live) clock leads.is_best (port_of u (suc q)) before refl
+        (clear_at (n.place v) s at live) (λ place r holds. (all (n.place v) s place r at live holds).fits) clock
+        leads.is_best (port_of u (suc q)) before refl
         (wf.apart (port_of v (suc p)) (port_of u (suc q)) leads.joins) near
         (calm.facts.stations (n.place v) s at live).follows pv port ready
 
@@ -505,7 +518,7 @@ module _ (says : Spelling) (n n' : Network) (net : IsSettlingNetwork n) (wf : Is
   all : EverythingFits says n.graph n' w'
   all = loss_fits says n n' w w' net loss
 
-  levels_found : (d : ℕ) → StillSettles says n.graph n' d w'
+  pub levels_found : (d : ℕ) → StillSettles says n.graph n' d w'
   levels_found d best v p u q close leads from pv pu l stand ready =
       inr (inr (still_stays says n' d best v p u q pv.announce pu.held l.frames
       (stays_so says n n' loss.same d best best v p u q refl pv.announce pu.held l.frames

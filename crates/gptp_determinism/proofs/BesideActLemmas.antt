@@ -36,7 +36,7 @@ use Rattle.gptp_determinism.specs.ContinuesLaws.{FitAlike, ReceiptsFitAlike}
 use Rattle.gptp_determinism.specs.Named.{AnswersOnce, HaveOwnPorts, IsNamed}
 use Rattle.gptp_determinism.specs.WorldsBesideLaws.{IsActBeside}
 use Rattle.gptp_determinism.proofs.BesideCallLemmas.{all_timers_beside, both_live, calls_beside, calls_if_live_beside, one_live, places_same, plain_down, plain_priority, plain_up, starts_beside, tells_ends_beside}
-use Rattle.gptp_determinism.proofs.BesideSendLemmas.{each_at, each_back, each_set, queues_beside, receivers_same, send_beside, with_queues_beside}
+use Rattle.gptp_determinism.proofs.BesideSendLemmas.{each_at, each_back, each_set, queues_beside, receivers_same, send_beside, with_queues_beside, senders_same}
 use Rattle.gptp_determinism.proofs.NameLemmas.{named_at, named_still, ports_kept}
 use Rattle.gptp_determinism.proofs.SendLemmas.{AreDrawn}
 
@@ -50,10 +50,6 @@ has_end port place net channel is =
       | inl a ↦ (FromA, a)
       | inr b ↦ (FromB, b)
     ]
-
-sender_beside : (direction : Direction) (c d : Channel) → LinksBeside c d → sender direction c ≡ sender direction d
-sender_beside FromA c d is = is.a
-sender_beside FromB c d is = is.b
 
 -- the link at a port in both worlds, and what is so of it in the other
 record LinkBeside (port : PortId) (n m : Net) (So To : ℕ → Channel → Type 0) (k : AtLink port n So)
@@ -69,7 +65,7 @@ link_beside port n m So To own is k l =
     let one = has_end port k.place n k.channel k.is in
     let two = has_end port l.place m l.channel l.is in
     let places = (own l.place k.place two.0 one.0 c k.channel here k.is.here
-    (sender_beside two.0 c l.channel same ∙ two.1 ∙ sym one.1)).0 in
+    (senders_same two.0 c l.channel same ∙ two.1 ∙ sym one.1)).0 in
     let there = subst (λ (i : ℕ). slice_get m.channels i ≡ Some l.channel) places l.is.here in
     record {
       links = each_at LinksBeside n.channels m.channels k.place k.channel l.channel is.links k.is.here there;

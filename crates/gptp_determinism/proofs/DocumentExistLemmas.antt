@@ -43,7 +43,7 @@ use Rattle.gptp_theorem.specs.Reached.{Shape, StandsAsPlanned, shape, shape_afte
 use Rattle.gptp_theorem.proofs.BeginLemmas.{begun_stands}
 use Rattle.gptp_theorem.proofs.ChangeLemmas.{changes_stand}
 use Rattle.gptp_theorem.proofs.KeptLemmas.{acts_stand, time_stands}
-use Rattle.gptp_theorem.proofs.PlayedLemmas.{no_change}
+use Rattle.gptp_theorem.proofs.CalmKeptLemmas.{no_change}
 use Rattle.gptp_determinism.specs.ExistenceLaws.{ActsExist, AllInject, BeginningsExist, DocumentsUnfold}
 use Rattle.gptp_determinism.specs.GoingOn.{AnswersAll, CanGoOn, InjectsOctets}
 use Rattle.gptp_determinism.proofs.WayExistLemmas.{AllTellOctets, done_octets, goes_to, octets-append}

@@ -104,10 +104,10 @@ failed_row far any used =
 -- What is known of a time, by what was seen of it. Not from rest, or where it both gains and loses, the network may
 -- come from any past. The first time has no loss: nothing was there to be lost. Events that make nothing of what stands
 -- leave it as it was. So does a link that gets wider, and so do losses that are followed, where no system is moved.
--- Where one link or one system is taken away such as are cut off don't count as moved. There it matters whether the link
--- that goes down cuts off a far end, and whether the one system that it moves turns, or a tree falls off or turns. Of a
--- system that fails it matters whether it was a far end, so that no other heard it, whether it cuts off another, or
--- trees, and whether each link that is up then is in use. All other losses have one row.
+-- Where one link or one system is taken away such as are cut off don't count as moved. There it matters whether the
+-- link that goes down cuts off a far end, and whether the one system that it moves turns, or a tree falls off or turns.
+-- Of a system that fails it matters whether it was a far end, so that no other heard it, whether it cuts off another,
+-- or trees, and whether each link that is up then is in use. All other losses have one row.
 abbrev pub row_of : Bool → Bool → SyncPaths → SyncPaths → List Told → Moves → Bool → Row
 row_of from_rest first paths_before paths told moves used =
     if not from_rest then AnyPast

@@ -383,7 +383,28 @@ fn a_system_that_a_link_moves_alone_turns_within_two_ways(rt: HostRuntime) -> Re
             13_000_002_870,
         ),
         (
-            "two steps farther, over a neighbour on which another hangs",
+            "a system is cut off",
+            &["a", "b", "c"] as &[&str],
+            &[("a", "1", "b", "1"), ("a", "2", "c", "1")] as &[(&str, &str, &str, &str)],
+            820,
+        ),
+    ] {
+        let times = cut(rt.alloc(), clocks, links)?;
+        assert_eq!(rt;
+            soon(&times, 30_000_000_000).map(|bound| bound.0),
+            Some(choice),
+            "{case}"
+        );
+    }
+    Ok(())
+}
+
+#[test]
+fn a_tree_that_a_link_moves_turns_by_its_one_way_out(rt: HostRuntime) -> Result<(), Fail> {
+    // In each row the first link goes down; in the last there are two ways out of what it moves.
+    for (case, clocks, links, choice) in [
+        (
+            "one alone, two steps farther",
             &["a", "b", "c", "d", "e"] as &[&str],
             &[
                 ("a", "1", "b", "1"),
@@ -392,10 +413,10 @@ fn a_system_that_a_link_moves_alone_turns_within_two_ways(rt: HostRuntime) -> Re
                 ("d", "2", "a", "2"),
                 ("c", "3", "e", "1"),
             ] as &[(&str, &str, &str, &str)],
-            13_000_002_870,
+            2_460,
         ),
         (
-            "together with another",
+            "half of a ring",
             &["a", "b", "c", "d", "e"] as &[&str],
             &[
                 ("a", "1", "b", "1"),
@@ -404,13 +425,35 @@ fn a_system_that_a_link_moves_alone_turns_within_two_ways(rt: HostRuntime) -> Re
                 ("d", "2", "e", "1"),
                 ("e", "2", "a", "2"),
             ] as &[(&str, &str, &str, &str)],
-            16_000_003_690,
+            3_280,
         ),
         (
-            "a system is cut off",
-            &["a", "b", "c"] as &[&str],
-            &[("a", "1", "b", "1"), ("a", "2", "c", "1")] as &[(&str, &str, &str, &str)],
-            820,
+            "with an end station",
+            &["a", "b", "c", "d", "e", "f"] as &[&str],
+            &[
+                ("a", "1", "b", "1"),
+                ("b", "2", "c", "1"),
+                ("c", "2", "d", "1"),
+                ("d", "2", "e", "1"),
+                ("e", "2", "a", "2"),
+                ("b", "3", "f", "1"),
+            ] as &[(&str, &str, &str, &str)],
+            4_100,
+        ),
+        (
+            "two ways out",
+            &["a", "b", "c", "d", "e", "f", "9"] as &[&str],
+            &[
+                ("9", "1", "b", "1"),
+                ("b", "2", "c", "1"),
+                ("b", "3", "d", "1"),
+                ("c", "2", "e", "1"),
+                ("e", "2", "9", "2"),
+                ("d", "2", "f", "1"),
+                ("f", "2", "9", "3"),
+                ("c", "3", "a", "1"),
+            ] as &[(&str, &str, &str, &str)],
+            22_000_005_330,
         ),
     ] {
         let times = cut(rt.alloc(), clocks, links)?;
@@ -648,6 +691,52 @@ fn a_system_that_a_failure_cuts_off_costs_two_ways(rt: HostRuntime) -> Result<()
         assert_eq!(rt; bounds(&hangs, 30_000_000_000), Some(hang), "{case}");
         let mut off = String::new(rt.alloc());
         write!(off, "{HANGS}{DOWN}1\n{DOWN}2\n")?;
+        let loses = joined(rt.alloc(), clocks, links, off.as_str())?;
+        assert_eq!(rt; bounds(&loses, 30_000_000_000), Some(power), "{case}");
+    }
+    Ok(())
+}
+
+#[test]
+fn trees_that_a_failure_cuts_off_cost_two_ways(rt: HostRuntime) -> Result<(), Fail> {
+    const HANGS: &str =
+        "[[event]]\nat = 30000000000\nkind = \"fail\"\nclock = \"000000000000000b\"\n";
+    const DOWN: &str =
+        "[[event]]\nat = 30000000000\nkind = \"link_down\"\nclock = \"000000000000000b\"\nport = ";
+    // In each row b fails; in the last it leaves a ring of what it cuts off.
+    for (case, links, hang, power) in [
+        (
+            "a line and an end station",
+            &[
+                ("a", "1", "b", "1"),
+                ("b", "2", "c", "1"),
+                ("c", "2", "d", "1"),
+                ("b", "3", "e", "1"),
+            ] as &[(&str, &str, &str, &str)],
+            (3_000_001_230, 11_000_000_000),
+            (820, 820),
+        ),
+        (
+            "a triangle and an end station",
+            &[
+                ("a", "1", "b", "1"),
+                ("b", "2", "c", "1"),
+                ("c", "2", "d", "1"),
+                ("b", "3", "e", "1"),
+                ("b", "4", "d", "2"),
+            ] as &[(&str, &str, &str, &str)],
+            (7_000_001_230, 11_000_000_000),
+            (7_000_001_230, 7_000_001_230),
+        ),
+    ] {
+        let clocks = &["a", "b", "c", "d", "e"];
+        let hangs = joined(rt.alloc(), clocks, links, HANGS)?;
+        assert_eq!(rt; bounds(&hangs, 30_000_000_000), Some(hang), "{case}");
+        let mut off = String::new(rt.alloc());
+        write!(off, "{HANGS}{DOWN}1\n{DOWN}2\n{DOWN}3\n")?;
+        if links.len() > 4 {
+            write!(off, "{DOWN}4\n")?;
+        }
         let loses = joined(rt.alloc(), clocks, links, off.as_str())?;
         assert_eq!(rt; bounds(&loses, 30_000_000_000), Some(power), "{case}");
     }

@@ -11,6 +11,7 @@ mod UnmovedLemmas
 mod LoweredLemmas
 mod FailedLemmas
 mod CutOffLemmas
+mod LostLinkLemmas
 mod TreeTestLemmas
 mod TreeLemmas
 mod TreeEventLemmas

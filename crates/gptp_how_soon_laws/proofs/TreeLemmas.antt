@@ -2,7 +2,7 @@
 use Rattle.std.proofs.Common.{◌≡◌, ◌<◌, ◌≤◌, ◌⊎◌, inl, inr, ◌-◌, ◌+◌, ℕ, suc, Bool, true, false, List, [], ◌∷◌, filter, Option, Some, None, length, slice_get, refl, sym, ap, subst, ◌∙◌, arith}
 use Rattle.std.specs.Prelude.{◌&&◌, ◌||◌, nat_le, not, if◌then◌else◌}
 use Rattle.std.specs.List.{count_by, list_all, range_with_len}
-use Rattle.std.proofs.lemmas.Bool.{and_from, and_parts, or_cases}
+use Rattle.std.proofs.lemmas.Bool.{and_parts, or_cases}
 use Rattle.std.proofs.lemmas.Bool.Decides.{nat_tests}
 use Rattle.gptp_lists.specs.Members.{In}
 use Rattle.gptp_lists.proofs.SystemSpecLemmas.{In-map, from_map}
@@ -33,6 +33,7 @@ use Rattle.gptp_how_soon.proofs.ChosenLemmas.{IsAt, IsSettledChoice, at_clock, a
 use Rattle.gptp_settling_time.specs.Losses.{IsUnmoved}
 use Rattle.gptp_settling_time.specs.TreeLosses.{IsCutTree}
 use Rattle.gptp_how_soon_laws.proofs.FailedLemmas.{each_is}
+use Rattle.gptp_how_soon_laws.proofs.LostLinkLemmas.{ends_are, stands_or_lost}
 use Rattle.gptp_how_soon_laws.proofs.TreeTestLemmas.{apart_so, better_so, fewer_back, nearer_at_first, nearer_at_second, no_more_so, one_on_first, one_on_second, one_same, same_back, same_so}
 use Rattle.gptp_how_soon_laws.proofs.UnmovedLemmas.{asked_of, unmoved_at}
 use Rattle.gptp_how_soon_laws.proofs.WorseningLemmas.{clock_over, same_system}
@@ -57,7 +58,14 @@ module _ (n : NetworkState) (network : IsNetwork n) (made events : List Timed) w
   abbrev is_moved_there : ℕ → Bool
   is_moved_there = is_moved_at systems before now
 
-  -- the link that is lost, from the top to the other, by their places and their clocks
+  -- a link has these ends, by their places and their clocks
+  abbrev pub AreEnds : LinkSpec → ℕ → ℕ → ℕ → ℕ → Type 0
+  AreEnds w top other top_clock other_clock =
+      ((w.a.clock ≡ top_clock) × (w.b.clock ≡ other_clock) × ((ends_of n w).a ≡ top) × ((ends_of n w).b ≡ other))
+      ⊎ ((w.b.clock ≡ top_clock) × (w.a.clock ≡ other_clock) × ((ends_of n w).b ≡ top)
+      × ((ends_of n w).a ≡ other))
+
+  -- the link that is lost, from the top to the other
   pub record Cuts : Type 0 where
     pub top : ℕ
     pub other : ℕ
@@ -67,10 +75,7 @@ module _ (n : NetworkState) (network : IsNetwork n) (made events : List Timed) w
     pub known : In wire n.links
     pub used : is_used_then n made wire ≡ true
     pub lost : lost_ends n made events ≡ ends_of n wire ∷ []
-    pub ends : ((wire.a.clock ≡ top_clock) × (wire.b.clock ≡ other_clock)
-        × ((ends_of n wire).a ≡ top) × ((ends_of n wire).b ≡ other))
-        ⊎ ((wire.b.clock ≡ top_clock) × (wire.a.clock ≡ other_clock)
-        × ((ends_of n wire).b ≡ top) × ((ends_of n wire).a ≡ other))
+    pub ends : AreEnds wire top other top_clock other_clock
     pub moved : is_moved_there top ≡ true
     pub stays : not (is_moved_there other) ≡ true
     pub worse : has_better_root (slice_get before top) (slice_get now top) ≡ true
@@ -79,68 +84,49 @@ module _ (n : NetworkState) (network : IsNetwork n) (made events : List Timed) w
   abbrev cuts_from : ℕ → ℕ → Bool
   cuts_from top other = cuts_below systems links before now top other
 
-  record Parts (top other : ℕ) : Type 0 where
-    moved : is_moved_there top ≡ true
-    stays : not (is_moved_there other) ≡ true
-    worse : has_better_root (slice_get before top) (slice_get now top) ≡ true
-    all : list_all (is_below_or_apart systems links before now top) (range_with_len 0 (length systems)) ≡ true
-
-  parts : (top other : ℕ) → cuts_from top other ≡ true → Parts top other
-  parts top other is =
-      let moved_test : Bool = is_moved_there top in
-      let stays_test : Bool = not (is_moved_there other) in
-      let worse_test : Bool = has_better_root (slice_get before top) (slice_get now top) in
-      let all_test : Bool =
-      list_all (is_below_or_apart systems links before now top) (range_with_len 0 (length systems)) in
-      let (three, all) = and_parts (moved_test && stays_test && worse_test) all_test is in
-      let (two, worse) = and_parts (moved_test && stays_test) worse_test three in
-      let (moved, stays) = and_parts moved_test stays_test two in
-      record { moved = moved; stays = stays; worse = worse; all = all }
-
   pub cuts : cuts_tree_after n made events ≡ true → Cuts
   cuts is = by (lost_ends n made events) refl is
     where
+      of_ends : (w : LinkSpec) → In w n.links → is_used_then n made w ≡ true
+          → lost_ends n made events ≡ ends_of n w ∷ [] → (top other top_clock other_clock : ℕ)
+          → AreEnds w top other top_clock other_clock → cuts_from top other ≡ true → Cuts
+      of_ends w known used lost top other top_clock other_clock ends is =
+          let moved_test : Bool = is_moved_there top in
+          let stays_test : Bool = not (is_moved_there other) in
+          let worse_test : Bool = has_better_root (slice_get before top) (slice_get now top) in
+          let all_test : Bool =
+          list_all (is_below_or_apart systems links before now top) (range_with_len 0 (length systems)) in
+          let (three, all) = and_parts (moved_test && stays_test && worse_test) all_test is in
+          let (two, worse) = and_parts (moved_test && stays_test) worse_test three in
+          let (moved, stays) = and_parts moved_test stays_test two in
+          record {
+            top = top;
+            other = other;
+            top_clock = top_clock;
+            other_clock = other_clock;
+            wire = w;
+            known = known;
+            used = used;
+            lost = lost;
+            ends = ends;
+            moved = moved;
+            stays = stays;
+            worse = worse;
+            all = all;
+          }
+
       of_wire : (w : LinkSpec) → In w (filter (is_lost n made events) n.links)
           → lost_ends n made events ≡ ends_of n w ∷ []
           → (cuts_from (ends_of n w).a (ends_of n w).b || cuts_from (ends_of n w).b (ends_of n w).a) ≡ true → Cuts
       of_wire w member lost is =
           let (known, gone) = from_filter (is_lost n made events) w n.links member in
           let used = (and_parts (is_used_then n made w) (not (is_used_then n events w)) gone).0 in
-          elim (or_cases (cuts_from (ends_of n w).a (ends_of n w).b) (cuts_from (ends_of n w).b (ends_of n w).a) is) [
+          let e : Ends = ends_of n w in
+          elim (or_cases (cuts_from e.a e.b) (cuts_from e.b e.a) is) [
             | inl first ↦
-                let x = parts (ends_of n w).a (ends_of n w).b first in
-                record {
-                  top = (ends_of n w).a;
-                  other = (ends_of n w).b;
-                  top_clock = w.a.clock;
-                  other_clock = w.b.clock;
-                  wire = w;
-                  known = known;
-                  used = used;
-                  lost = lost;
-                  ends = inl (refl, refl, refl, refl);
-                  moved = x.moved;
-                  stays = x.stays;
-                  worse = x.worse;
-                  all = x.all;
-                }
+                of_ends w known used lost e.a e.b w.a.clock w.b.clock (inl (refl, refl, refl, refl)) first
             | inr second ↦
-                let x = parts (ends_of n w).b (ends_of n w).a second in
-                record {
-                  top = (ends_of n w).b;
-                  other = (ends_of n w).a;
-                  top_clock = w.b.clock;
-                  other_clock = w.a.clock;
-                  wire = w;
-                  known = known;
-                  used = used;
-                  lost = lost;
-                  ends = inr (refl, refl, refl, refl);
-                  moved = x.moved;
-                  stays = x.stays;
-                  worse = x.worse;
-                  all = x.all;
-                }
+                of_ends w known used lost e.b e.a w.b.clock w.a.clock (inr (refl, refl, refl, refl)) second
           ]
 
       by : (es : List Ends) → lost_ends n made events ≡ es → cuts_tree systems es links before now ≡ true → Cuts
@@ -331,40 +317,18 @@ module _ (n : NetworkState) (network : IsNetwork n) (made events : List Timed) w
 
     -- ---- links
 
-    ends_are : (w : LinkSpec) (v u i j : ℕ) (l : Link) → link_of (w.a, w.b) ≡ l → l.a.clock ≡ v → l.b.clock ≡ u
-        → IsAt n i v → IsAt n j u → ends_of n w ≡ record { a = i; b = j }
-    ends_are w v u i j l same a b at at' =
-        let first : (ends_of n w).a ≡ i =
-        ap (place_of (systems_after n [])) (ap (λ (k : Link). k.a.clock) same ∙ a)
-        ∙ place_is n network made g stands well [] i v at in
-        let second : (ends_of n w).b ≡ j =
-        ap (place_of (systems_after n [])) (ap (λ (k : Link). k.b.clock) same ∙ b)
-        ∙ place_is n network made g stands well [] j u at' in
-        λ k. record { a = first k; b = second k }
-
     -- one of before stands still, or it is the one that is lost
     abbrev IsLost : Link → Type 0
     IsLost l = (w : LinkSpec) × (link_of (w.a, w.b) ≡ l) × (ends_of n w ≡ ends_of n t.wire)
 
     kept_or_lost : (l : Link) → In l g.links → In l h.links ⊎ IsLost l
-    kept_or_lost l member =
-        let r = runs n network made g stands l member in
-        by r.wire r.member r.is (used_then n network made g stands well r.wire r.used) (is_used_then n events r.wire)
-        refl
-      where
-        by : (w : LinkSpec) → In w n.links → link_of (w.a, w.b) ≡ l → is_used_then n made w ≡ true → (still : Bool)
-            → is_used_then n events w ≡ still → In l h.links ⊎ IsLost l
-        by w known same used true still =
-            inl (subst (λ k. In k h.links) same (link_stands n network events h stands' well' w known still))
-        by w known same used false gone =
-            let listed : In (ends_of n w) (lost_ends n made events) =
-            In-map (ends_of n) w (filter (is_lost n made events) n.links)
-            (kept (is_lost n made events) w n.links known
-            (and_from (is_used_then n made w) (not (is_used_then n events w)) used (ap not gone))) in
-            elim (subst (In (ends_of n w)) t.lost listed) [
-              | inl one ↦ inr (w, same, one)
-              | inr none ↦ absurd none
-            ]
+    kept_or_lost l member = elim (stands_or_lost n network made g stands well events h stands' well' l member) [
+      | inl still ↦ inl still
+      | inr (w, same, listed) ↦ elim (subst (In (ends_of n w)) t.lost listed) [
+        | inl one ↦ inr (w, same, one)
+        | inr none ↦ absurd none
+      ]
+    ]
 
     -- a system of the tree at it is the top
     only_top : (i v : ℕ) → IsAt n i v → IsBest h v next → ((ends_of n t.wire).a ≡ i) ⊎ ((ends_of n t.wire).b ≡ i)
@@ -400,13 +364,17 @@ module _ (n : NetworkState) (network : IsNetwork n) (made events : List Timed) w
           | inl member ↦ elim (kept_or_lost (record { a = port_of v p; b = port_of u q }) member) [
             | inl still ↦ inl (p, q, inl still)
             | inr (w, same, lost) ↦
-                let ends = ends_are w v u i j (record { a = port_of v p; b = port_of u q }) same refl refl s.at at_u in
+                let ends =
+                ends_are n network made g stands well w v u i j (record { a = port_of v p; b = port_of u q }) same refl
+                refl s.at at_u in
                 inr (only_top i v s.at in_v (inl (ap (λ (e : Ends). e.a) (sym lost ∙ ends))))
           ]
           | inr member ↦ elim (kept_or_lost (record { a = port_of u q; b = port_of v p }) member) [
             | inl still ↦ inl (p, q, inr still)
             | inr (w, same, lost) ↦
-                let ends = ends_are w u v j i (record { a = port_of u q; b = port_of v p }) same refl refl at_u s.at in
+                let ends =
+                ends_are n network made g stands well w u v j i (record { a = port_of u q; b = port_of v p }) same refl
+                refl at_u s.at in
                 inr (only_top i v s.at in_v (inr (ap (λ (e : Ends). e.b) (sym lost ∙ ends))))
           ]
         ]
@@ -430,7 +398,7 @@ module _ (n : NetworkState) (network : IsNetwork n) (made events : List Timed) w
           wire = r.wire;
           among = kept (is_used_then n events) r.wire n.links r.member
               (used_then n network events h stands' well' r.wire r.used);
-          by = inl (ends_are r.wire p.clock q.clock i j l r.is refl refl at at', r.is);
+          by = inl (ends_are n network made g stands well r.wire p.clock q.clock i j l r.is refl refl at at', r.is);
         }
     joined_by i j p q at at' (inr member) =
         let l : Link = record { a = q; b = p } in
@@ -439,7 +407,7 @@ module _ (n : NetworkState) (network : IsNetwork n) (made events : List Timed) w
           wire = r.wire;
           among = kept (is_used_then n events) r.wire n.links r.member
               (used_then n network events h stands' well' r.wire r.used);
-          by = inr (ends_are r.wire q.clock p.clock j i l r.is refl refl at' at, r.is);
+          by = inr (ends_are n network made g stands well r.wire q.clock p.clock j i l r.is refl refl at' at, r.is);
         }
 
     one_on : (i j : ℕ) (p q : PortIdentity) → IsJoinedBy i j p q → Below i

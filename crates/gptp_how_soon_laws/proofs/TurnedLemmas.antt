@@ -1,7 +1,7 @@
 -- A link that goes down by the one event of a time, and moves one system alone that turns, does so as its event is
 -- told.
 use Rattle.std.proofs.Common.{◌≡◌, ◌≢◌, ◌<◌, ◌≤◌, ◌⊎◌, inl, inr, ◌-◌, ◌+◌, ℕ, suc, Bool, true, false, cond, List, [], ◌∷◌, ◌++◌, map, filter, Option, Some, None, length, slice_get, refl, sym, ap, subst, ◌∙◌, append-nil, arith}
-use Rattle.std.specs.Prelude.{◌==◌, ◌&&◌, ◌||◌, nat_lt, not, if◌then◌else◌}
+use Rattle.std.specs.Prelude.{◌==◌, ◌&&◌, ◌||◌, nat_lt, if◌then◌else◌}
 use Rattle.std.specs.List.{count_by, list_all, range_with_len}
 use Rattle.std.proofs.lemmas.Bool.{and_from, and_parts, eq-eqb, eqb-true, or_cases, or_left, or_right}
 use Rattle.std.proofs.lemmas.Bool.Decides.{nat_tests}
@@ -32,21 +32,21 @@ use Rattle.gptp_scenario.proofs.AfterLemmas.{after_keeps}
 use Rattle.gptp_model.specs.World.{port_id}
 use Rattle.gptp_topology.specs.After.{system_then, systems_after}
 use Rattle.gptp_topology.specs.declared.nodes.System as ours
-use Rattle.gptp_how_soon.specs.Chosen.{chosen_after, differs, ends_at, ends_of, is_moved, is_moved_at, is_used_then, lost_ends, place_of, used_ends}
+use Rattle.gptp_how_soon.specs.Chosen.{chosen_after, differs, ends_at, ends_of, is_moved, is_moved_at, is_used_then, lost_ends, used_ends}
 use Rattle.gptp_how_soon.specs.Far.{is_far_end}
 use Rattle.gptp_how_soon.specs.Kinds.{is_lowering, lowers_one}
-use Rattle.gptp_how_soon.specs.Links.{is_lost}
 use Rattle.gptp_how_soon.specs.Times.{told_at, told_of}
 use Rattle.gptp_how_soon.specs.Turned.{are_different, are_far_ends, goes_farther, goes_one_farther, has_fewer_steps, is_of_one, is_once, leads_nearer, moved_places, neighbour_places, other_end, turns_at, turns_one_after}
 use Rattle.gptp_how_soon.specs.declared.chosen.Chosen.{Chosen}
 use Rattle.gptp_how_soon.specs.declared.chosen.Ends.{Ends}
-use Rattle.gptp_how_soon.proofs.ChosenLemmas.{IsAt, IsSettledChoice, at_clock, at_port, chosen_there, link_stands, one_clock, place_is, settled_choice, used_then}
+use Rattle.gptp_how_soon.proofs.ChosenLemmas.{IsAt, IsSettledChoice, at_clock, at_port, chosen_there, one_clock, settled_choice, used_then}
 use Rattle.gptp_how_soon.proofs.RoundsLemmas.{Has}
 use Rattle.gptp_settling_time.specs.HowSoon.{TurnsOneLink}
 use Rattle.gptp_settling_time.specs.Losses.{IsFarEnd, IsTurned, IsUnmoved, TurnsLink, TurnsSystem}
 use Rattle.gptp_how_soon_laws.proofs.FailedLemmas.{each_is, far_at}
 use Rattle.gptp_how_soon_laws.proofs.ToldLemmas.{loss_lowers}
 use Rattle.gptp_how_soon_laws.proofs.LoweredLemmas.{TakesDown, is_lost_there, lives_still, takes_down}
+use Rattle.gptp_how_soon_laws.proofs.LostLinkLemmas.{ends_are, stands_or_lost}
 use Rattle.gptp_how_soon_laws.proofs.UnmovedLemmas.{AreWell, asked_of, unmoved_at}
 use Rattle.gptp_how_soon_laws.proofs.WorseningLemmas.{clock_over, same_system}
 
@@ -334,51 +334,24 @@ module _ (n : NetworkState) (network : IsNetwork n) (made events : List Timed) w
     -- ---- links
 
     -- the ends of one that leads from the system to another, or to it
-    first_place : (w : LinkSpec) (v i : ℕ) → w.a.clock ≡ v → IsAt n i v → (ends_of n w).a ≡ i
-    first_place w v i same at =
-        ap (place_of (systems_after n [])) same ∙ place_is n network made g stands well [] i v at
-
-    second_place : (w : LinkSpec) (v i : ℕ) → w.b.clock ≡ v → IsAt n i v → (ends_of n w).b ≡ i
-    second_place w v i same at =
-        ap (place_of (systems_after n [])) same ∙ place_is n network made g stands well [] i v at
-
     from_first : (w : LinkSpec) (v i : ℕ) (l : Link) → link_of (w.a, w.b) ≡ l → l.a.clock ≡ x → l.b.clock ≡ v
         → IsAt n i v → ends_of n w ≡ record { a = t.place; b = i }
-    from_first w v i l same a b at =
-        let first = first_place w x t.place (ap (λ (k : Link). k.a.clock) same ∙ a) at_x in
-        let second = second_place w v i (ap (λ (k : Link). k.b.clock) same ∙ b) at in
-        λ k. record { a = first k; b = second k }
+    from_first w v i l same a b at = ends_are n network made g stands well w x v t.place i l same a b at_x at
 
     from_second : (w : LinkSpec) (v i : ℕ) (l : Link) → link_of (w.a, w.b) ≡ l → l.a.clock ≡ v → l.b.clock ≡ x
         → IsAt n i v → ends_of n w ≡ record { a = i; b = t.place }
-    from_second w v i l same a b at =
-        let first = first_place w v i (ap (λ (k : Link). k.a.clock) same ∙ a) at in
-        let second = second_place w x t.place (ap (λ (k : Link). k.b.clock) same ∙ b) at_x in
-        λ k. record { a = first k; b = second k }
+    from_second w v i l same a b at = ends_are n network made g stands well w v x i t.place l same a b at at_x
 
     -- one of before stands still, or it leads to a nearer system
     abbrev IsLost : Link → Type 0
     IsLost l = (w : LinkSpec) × (link_of (w.a, w.b) ≡ l) × (leads_nearer before t.place (ends_of n w) ≡ true)
 
     kept_or_lost : (l : Link) → In l g.links → In l h.links ⊎ IsLost l
-    kept_or_lost l member =
-        let r = runs n network made g stands l member in
-        by r.wire r.member r.is (used_then n network made g stands well r.wire r.used) (is_used_then n events r.wire)
-        refl
-      where
-        by : (w : LinkSpec) → In w n.links → link_of (w.a, w.b) ≡ l → is_used_then n made w ≡ true → (still : Bool)
-            → is_used_then n events w ≡ still → In l h.links ⊎ IsLost l
-        by w known same used true still =
-            inl (subst (λ k. In k h.links) same (link_stands n network events h stands' well' w known still))
-        by w known same used false gone =
-            inr (
-              w,
-              same,
-              each_is (leads_nearer before t.place) (lost_ends n made events) (ends_of n w) t.lost
-                  (In-map (ends_of n) w (filter (is_lost n made events) n.links)
-                  (kept (is_lost n made events) w n.links known
-                  (and_from (is_used_then n made w) (not (is_used_then n events w)) used (ap not gone)))),
-            )
+    kept_or_lost l member = elim (stands_or_lost n network made g stands well events h stands' well' l member) [
+      | inl still ↦ inl still
+      | inr (w, same, listed) ↦
+          inr (w, same, each_is (leads_nearer before t.place) (lost_ends n made events) (ends_of n w) t.lost listed)
+    ]
 
     lost_so : (u far : ℕ) → Adjacent g x u → IsDistance g u far → Adjacent h x u ⊎ (far < was.0.steps)
     lost_so u far (p, q, joins) u_far =

@@ -69,7 +69,7 @@ frame_from w j lane seen there member =
     }
 
 -- a link that is up between two of the systems is used
-used_is : (systems : List System) (direction : Direction) (channel : Channel) → channel.up ≡ true
+pub used_is : (systems : List System) (direction : Direction) (channel : Channel) → channel.up ≡ true
     → stations_have_clock systems (sender direction channel).clock ≡ true
     → stations_have_clock systems (receiver direction channel).clock ≡ true
     → channel_is_used systems channel ≡ true

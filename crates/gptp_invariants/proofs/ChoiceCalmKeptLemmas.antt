@@ -54,7 +54,7 @@ systems_kept (first ∷ stations) (suc place) old new here live same =
     (systems_kept stations place old new here live same)
 
 -- one of its clock
-places_kept : (stations : List Station) (place : ℕ) (old new : Station) → slice_get stations place ≡ Some old
+pub places_kept : (stations : List Station) (place : ℕ) (old new : Station) → slice_get stations place ≡ Some old
     → clock new.system ≡ clock old.system → (number : ℕ)
     → clock_place (slice_set stations place new) number ≡ clock_place stations number
 places_kept [] place old new here same number = refl

@@ -3,7 +3,7 @@ use Rattle.std.proofs.Common.{◌≡◌, ◌⊎◌, ℕ, suc, List, Some, None, 
 use Rattle.std.specs.Option.{option_map}
 use Rattle.gptp_graph.specs.Parent.{ParentLink, IsParent}
 use Rattle.gptp_graph.specs.SettledChoice.{IsParentIfAny}
-use Rattle.gptp_graph.specs.Snapshot.{IsWellFormed, Joins, Snapshot, port_of}
+use Rattle.gptp_graph.specs.Snapshot.{IsLinked, IsWellFormed, Joins, Snapshot, port_of}
 use Rattle.gptp_graph.proofs.LinkLemmas.{Joins-sym}
 use Rattle.gptp_receipt.specs.declared.held.Held.{Held}
 use Rattle.gptp_receipt.specs.declared.held.Reception.{Reception}
@@ -11,7 +11,7 @@ use Rattle.gptp_receipt.specs.Held.{received}
 use Rattle.gptp_system.specs.State.{SystemState, clock, parent}
 use Rattle.gptp_model.specs.declared.station.Station.{Station}
 use Rattle.gptp_bmca_machine.specs.AtRest.{ChoosesItself, ChoosesPort}
-use Rattle.gptp_bmca_machine.specs.Clean.{CameFits}
+use Rattle.gptp_bmca_machine.specs.Clean.{CameOverLink}
 use Rattle.gptp_bmca_machine.specs.Settled.{IsSlaveOf}
 use Rattle.gptp_bmca_machine.specs.Station.{Reception as SeenReception, HoldsAt}
 use Rattle.gptp_invariants.specs.ChoiceView.{port_identity_number, station_view}
@@ -29,12 +29,13 @@ module _ (g : Snapshot) (station : Station) (wf : IsWellFormed g) where
 
   -- what its slave port received came from the port at the other end of that link, which is the parent's
   follows_there : (i : ℕ) (seen : SeenReception) → HoldsAt (station_view station) i seen
-      → CameFits g (clock s) (suc i) seen → s.slave ≡ Some (suc i) → (l : ParentLink) → IsParent g (clock s) l
-      → l.own_port ≡ suc i → option_map followed_link (parent s) ≡ Some l
-  follows_there i seen holds fits slave l follows own =
+      → (IsLinked g (port_of (clock s) (suc i)) → CameOverLink g (clock s) (suc i) seen.said) → s.slave ≡ Some (suc i)
+      → (l : ParentLink) → IsParent g (clock s) l → l.own_port ≡ suc i
+      → option_map followed_link (parent s) ≡ Some l
+  follows_there i seen holds over slave l follows own =
       let at = held_from station.live s i seen holds in
       let joins = subst (λ n. Joins g (port_of (clock s) n) (port_of l.clock l.port)) own follows.nearer.joins in
-      let came = fits.over (port_of l.clock l.port, joins) in
+      let came = over (port_of l.clock l.port, joins) in
       let back = Joins-sym g came.from (port_of (clock s) (suc i)) came.joins in
       let ends : port_identity_number at.reception.vector.source ≡ port_of l.clock l.port =
       ap (λ (r : SeenReception). r.said.source) (sym at.is) ∙ came.source
@@ -46,7 +47,8 @@ module _ (g : Snapshot) (station : Station) (wf : IsWellFormed g) where
   -- so the system follows its parent, where all that it holds came over its links
   pub parent_settled : (vector : List ℕ)
       → ChoosesItself (station_view station) vector ⊎ ChoosesPort (station_view station) vector
-      → ((i : ℕ) (r : SeenReception) → HoldsAt (station_view station) i r → CameFits g (clock s) (suc i) r)
+      → ((i : ℕ) (r : SeenReception) → HoldsAt (station_view station) i r → IsLinked g (port_of (clock s) (suc i))
+      → CameOverLink g (clock s) (suc i) r.said)
       → IsSlaveOf g (clock s) s.slave → IsParentIfAny g (clock s) (option_map followed_link (parent s))
   parent_settled vector (inl (own, none)) came slave =
       let shown : option_map followed_link (parent s) ≡ None = rw none refl in

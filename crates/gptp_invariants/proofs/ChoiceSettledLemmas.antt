@@ -159,7 +159,8 @@ module _ (p : SettlingParams) (m start : ℕ) (times : SettlingTimes) (w : World
           steps = follows.steps;
           slave = follows.slave;
           parent = parent_settled (snapshot_of w) station net.graph rest.vector rest.chosen
-              (λ i r. held_fits place (station_view station) i r (there place station here live) live)
+              (λ i r holds.
+              (held_fits place (station_view station) i r (there place station here live) live holds).over)
               follows.slave;
           roles = roles_are place station here live (roles (omega (arith, late)));
         }

@@ -9,7 +9,6 @@ use Rattle.gptp_messages.specs.declared.message.Message.TheVariants as messages
 use Rattle.gptp_messages.specs.declared.peer_delay.PdelayResp.{PdelayResp}
 use Rattle.gptp_messages.specs.declared.peer_delay.PdelayRespFollowUp.{PdelayRespFollowUp}
 use Rattle.gptp_links.specs.declared.link.Direction.{Direction}
-use Rattle.gptp_links.specs.declared.link.Direction.TheVariants.{FromA, FromB}
 use Rattle.gptp_links.specs.Fate.{Draw}
 use Rattle.gptp_links.specs.Queue.{frame}
 use Rattle.gptp_pdelay.specs.declared.exchange.Measurement.{Measurement}
@@ -34,6 +33,7 @@ use Rattle.gptp_invariants.proofs.DelayPartLemmas.{heard_asked}
 use Rattle.gptp_invariants.specs.FailedUnanswered.{IsOldBy, IsSeenUnanswered, IsUnansweredAt, silent_setting, silent_view}
 use Rattle.gptp_invariants.proofs.FailedUnansweredCallLemmas.{CallStep, LaneShrinks, asker_is, call_seen, failed_apart, relinked, relinked_settled, same_sender, view_stays}
 use Rattle.gptp_invariants.proofs.FailedUnansweredLaneLemmas.{takes_shrink}
+use Rattle.gptp_invariants.proofs.DelayPoppedLemmas.{which_way}
 
 -- ---- what is heard
 
@@ -82,13 +82,6 @@ octets_heard s now p octets n x x' (inl (m, reads, is)) = go (n == p) refl is
         → ((n ≡ p) × AsksNoMore x x') ⊎ (x' ≡ x)
     go true number heard = inl (eqb-true n p number, subst (AsksNoMore x) (sym heard) (message_heard s now m x))
     go false other left = inr left
-
--- a direction is this one or the other
-which_way : (direction way : Direction) → (direction ≡ way) ⊎ (direction ≡ other_direction way)
-which_way FromA FromA = inl refl
-which_way FromA FromB = inr refl
-which_way FromB FromA = inr refl
-which_way FromB FromB = inl refl
 
 -- ---- a delivery
 

@@ -90,7 +90,8 @@ pub claimed_of : (w : WorldState) → WorldInvariant w → SettlingInvariant w
 claimed_of w all = record { pace = all.pace; is = all.is }
 
 -- a world with a system has the parameters and the largest interval that its systems start with
-all_alike : (w : WorldState) → WorldInvariant w → (p : SettlingParams) → HavePace p w → (place : ℕ) (station : Station)
+pub all_alike : (w : WorldState) → WorldInvariant w → (p : SettlingParams) → HavePace p w → (place : ℕ)
+    (station : Station)
     → slice_get w.stations place ≡ Some station → KeepsAll p w × CarriesWhereCalm p w
 all_alike w all p have place station here =
     let known = (all.is.world.known.set place station here).starts in

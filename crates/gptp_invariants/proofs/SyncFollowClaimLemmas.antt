@@ -37,6 +37,7 @@ use Rattle.gptp_invariants.proofs.SyncFollowOffsetLemmas.{offsets_are_exact}
 use Rattle.gptp_invariants.proofs.SyncFollowWorldLemmas.{claimed_is_settled_from, done_carries}
 use Rattle.gptp_invariants.proofs.DelayMeasuredLinkLemmas.{claimed_measured}
 use Rattle.gptp_invariants.proofs.WorldOutlineLemmas.{acts_time, change_is_last, starts_are_last}
+use Rattle.gptp_invariants.proofs.ChoiceSettlesAsMachineLemmas.{kept_back}
 
 -- ---- a calm world
 
@@ -112,20 +113,10 @@ carries_later p w time later first claimed before m settled calm late shown =
 
 -- ---- from act to act
 
--- a network that an act keeps was kept
-keeps_back : (w w' : WorldState) → KeepsNetwork w w' → KeepsNetwork w' w
-keeps_back w w' k = record {
-  systems = sym k.systems;
-  places = λ number. sym (k.places number);
-  setups = sym k.setups;
-  links = sym k.links;
-  change = sym k.change;
-}
-
 calm_before : (p : SettlingParams) (m settled : ℕ) (w w' : WorldState) → KeepsNetwork w w' → IsCalmBy p m settled w'
     → IsCalmBy p m settled w
 calm_before p m settled w w' k calm = record {
-  quiet = stays_quiet w' w (keeps_back w w' k) p.params calm.quiet;
+  quiet = stays_quiet w' w (kept_back w w' k) p.params calm.quiet;
   bounded = subst (λ g. BoundsPaths g m) (same_snapshot w w' k) calm.bounded;
   passed = let passed = calm.passed in let same = k.change in
       let more : m * step_more p (sync_paths_of w') ≡ m * step_more p (sync_paths_of w) =

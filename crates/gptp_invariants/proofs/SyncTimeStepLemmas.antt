@@ -128,7 +128,7 @@ lapse_leads params root (Some p) now due is = by (has_sync_timeout params) (can_
     by false b e = absurd (none-some due e)
 
 -- what is followed on is what was followed
-follows_same : (v : Vector) (t : SystemState) → v.root ≡ t.root → slave_port v ≡ t.slave → follows_on v t ≡ true
+pub follows_same : (v : Vector) (t : SystemState) → v.root ≡ t.root → slave_port v ≡ t.slave → follows_on v t ≡ true
 follows_same v t root slave =
     let first : (v.root == t.root) ≡ true = eq-eqb v.root t.root root in
     rw (first, slave) (same_itself t.slave)

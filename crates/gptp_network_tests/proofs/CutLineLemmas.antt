@@ -271,14 +271,14 @@ tree = record {
 
 cuts : CutsTreeFrom ring_network before cut fourth.clock first.clock
 cuts g h stands stands_then =
-    let then : chain ≡ g = one_snapshot cut_document 30000000000 chain g chain_stands stands in
-    let last : line ≡ h = one_snapshot cut_document 60000000000 line h line_stands stands_then in (
+    let first_is : chain ≡ g = one_snapshot cut_document 30000000000 chain g chain_stands stands in
+    let last_is : line ≡ h = one_snapshot cut_document 60000000000 line h line_stands stands_then in (
       first,
       second,
       1,
       depth,
-      subst (λ x. IsCutTree x h fourth.clock first.clock first second 1 depth) then
-          (subst (λ x. IsCutTree chain x fourth.clock first.clock first second 1 depth) last tree),
+      subst (λ x. IsCutTree x h fourth.clock first.clock first second 1 depth) first_is
+          (subst (λ x. IsCutTree chain x fourth.clock first.clock first second 1 depth) last_is tree),
     )
 
 -- ---- the link
@@ -364,8 +364,7 @@ lost =
       refl,
       (3000003690, rested, later),
       lowers,
-      ways,
-      refl,
+      (ways, refl),
     )
   where
     later : 30000000000 + 3000003690 + largest_interval (pace_of ring_network) < 60000000000

@@ -30,7 +30,6 @@ use Rattle.gptp_system.specs.declared.sending.Sending.{Sending}
 use Rattle.gptp_system.specs.Input.{Frame as FrameHeard, Steps}
 use Rattle.gptp_system.specs.State.{SystemState, clock}
 use Rattle.gptp_system.specs.Takeover.{told_time}
-use Rattle.gptp_model.proofs.SoundLemmas.{acts_sound}
 use Rattle.gptp_model.proofs.SteadyLemmas.{same_clock}
 use Rattle.gptp_model.specs.Act.{Hears, in_state}
 use Rattle.gptp_model.specs.Acts.{Acts, at}
@@ -38,14 +37,13 @@ use Rattle.gptp_model.specs.Course.{WasDone}
 use Rattle.gptp_model.specs.declared.done.Done.{Done}
 use Rattle.gptp_model.specs.declared.done.Done.TheVariants.{Quiet, Heard}
 use Rattle.gptp_model.specs.declared.station.Station.{Station}
-use Rattle.gptp_model.specs.Prompt.{HavePace}
 use Rattle.gptp_model.specs.Sound.{IsSound}
 use Rattle.gptp_model.specs.Views.{ShowsLive}
 use Rattle.gptp_model.specs.World.{Channel, WorldState, world_queue, receiver}
 use Rattle.gptp_sync_machine.specs.Follower.{from}
 use Rattle.gptp_sync_machine.specs.Tree.{IsWayTo}
 use Rattle.gptp_sync_machine.proofs.TreeLemmas.{way_ends_at_parent}
-use Rattle.gptp_invariants.specs.ChoiceCalm.{clock_place, sync_paths_of}
+use Rattle.gptp_invariants.specs.ChoiceCalm.{sync_paths_of}
 use Rattle.gptp_invariants.specs.WorldCalmFor.{IsCalmFor, span_over}
 use Rattle.gptp_invariants.specs.WorldSettlingInvariant.{KeepsAll}
 use Rattle.gptp_invariants.specs.SyncFollowers.{HasWay, IsFollower, base_at, follower_clock, follower_setting, follower_parts, follower_state, stamps_of}
@@ -55,15 +53,13 @@ use Rattle.gptp_invariants.specs.SyncTimed.{AllMeasureRight, CarriesTime, IsSett
 use Rattle.gptp_invariants.specs.SyncTimedClaim.{WorldInvariant, CarriesWhereCalm, IsCalmBy}
 use Rattle.gptp_invariants.specs.SyncTimedLaws.{IsRootOf}
 use Rattle.gptp_invariants.specs.ChoiceView.{port_identity_number}
-use Rattle.gptp_invariants.proofs.ChoiceCalmKeptLemmas.{acts_keep}
 use Rattle.gptp_invariants.proofs.WorldSettlingInvariantLemmas.{over_measured}
-use Rattle.gptp_invariants.proofs.SyncExactLemmas.{all_later}
+use Rattle.gptp_invariants.proofs.SyncExactLemmas.{all_later, stood, all_alike}
 use Rattle.gptp_invariants.proofs.SyncFollowClaimLemmas.{settled_from}
 use Rattle.gptp_invariants.proofs.SyncFollowDeliveryLemmas.{opposite_same}
 use Rattle.gptp_invariants.proofs.SyncFollowMeasureLemmas.{measured_right}
 use Rattle.gptp_invariants.proofs.SyncFollowTreeLemmas.{slave_is}
 use Rattle.gptp_invariants.proofs.SyncFollowWayLemmas.{Follows, follows_parent}
-use Rattle.gptp_invariants.proofs.ChoiceFoundLemmas.{place_is}
 use Rattle.gptp_invariants.proofs.DelayLinkLemmas.{sender_opposite}
 use Rattle.gptp_invariants.proofs.DelayMeasuredLinkLemmas.{claimed_measured}
 use Rattle.gptp_invariants.proofs.WorldWayLemmas.{one_way}
@@ -139,18 +135,6 @@ user link direction w w' draws number (Heard name port answer heard) k (same, us
           becomes = ap (λ (v : WorldState). slice_get v.stations d.place) c.is
               ∙ get-set_same w.stations d.place c.station (in_state c.after c.station) c.here;
         }
-
--- where a system stands after a delivery it stood before
-stood : (link : ℕ) (direction : Direction) (w : WorldState) (draws : List Draw) (done : Done) (w' : WorldState)
-    → IsSound w → Acts (Deliver link direction) w draws done w' → (place place' : ℕ) (station station' : Station)
-    → slice_get w.stations place ≡ Some station → slice_get w'.stations place' ≡ Some station'
-    → clock station'.system ≡ clock station.system → place' ≡ place
-stood link direction w draws done w' sound k place place' station station' here there same =
-    let act = Deliver link direction in
-    let keeps = acts_keep act w draws done w' tt k in
-    place_is w' (acts_sound act w draws done w' sound tt k).wired.clocks place' station' there
-    ∙ ap (clock_place w'.stations) same ∙ keeps.places (clock station.system)
-    ∙ sym (place_is w sound.wired.clocks place station here)
 
 -- so what the system shows after the act is what the Follow_Up made of it
 left_is : (link : ℕ) (direction : Direction) (w w' : WorldState) (draws : List Draw) (number : ℕ) (done : Done)
@@ -352,18 +336,6 @@ module _ (link : ℕ) (direction : Direction) (w w' : WorldState) (draws : List 
       measured (carries m settled calm_by already early) come_late near leads
 
 -- ---- every act
-
--- a world with a system has the parameters and the largest interval that its systems start with
-pub all_alike : (w : WorldState) → WorldInvariant w → (p : SettlingParams) → HavePace p w
-    → (place : ℕ) (station : Station)
-    → slice_get w.stations place ≡ Some station → KeepsAll p w × CarriesWhereCalm p w
-all_alike w all p have place station here =
-    let known = (all.is.world.known.set place station here).starts in
-    let is = have place station here in
-    let params = sym known.params ∙ is.params in
-    let largest = sym known.largest ∙ is.largest in
-    subst (λ q. KeepsAll q w × CarriesWhereCalm q w)
-    (λ i. record { params = params i; largest = largest i }) (all.is, all.carries)
 
 -- what shows at one time of a world shows at another
 best_then : (w : WorldState) (time number moment : ℕ) (shown : ℤ) → IsBestsTime w number moment shown

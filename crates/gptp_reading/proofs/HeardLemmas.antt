@@ -64,7 +64,7 @@ use Rattle.gptp_invariants.specs.WorldShown.{IsSettledFor, distance_span}
 use Rattle.gptp_invariants.proofs.ChoiceCalmKeptLemmas.{KeepsNetwork, acts_keep, earlier_quiet, same_paths, same_snapshot, stays_quiet}
 use Rattle.gptp_invariants.proofs.WorldSettlingInvariantLemmas.{distance_follows}
 use Rattle.gptp_invariants.proofs.WorldClaimLemmas.{claim_begins, claim_kept, claim_later}
-use Rattle.gptp_invariants.proofs.ChoiceSettlesAsMachineLemmas.{paths_bound}
+use Rattle.gptp_invariants.proofs.ChoiceSettlesAsMachineLemmas.{paths_bound, kept_back}
 use Rattle.gptp_invariants.proofs.SyncWaitLemmas.{step_long, wait_is}
 use Rattle.gptp_invariants.proofs.WorldGreatestDelayLemmas.{delay_short}
 use Rattle.gptp_invariants.proofs.WorldOutlineLemmas.{acts_time, change_is_last, starts_are_last}
@@ -242,21 +242,11 @@ at_once p w claimed now m d settled calm late =
     let some = interval_positive p.largest claimed.pace.largest in
     absurd (omega (arith, passed, late, now, some))
 
--- a network that is kept was kept, and is as calm as it was
-pub keeps_back : (w w' : WorldState) → KeepsNetwork w w' → KeepsNetwork w' w
-keeps_back w w' k = record {
-  systems = sym k.systems;
-  places = λ number. sym (k.places number);
-  setups = sym k.setups;
-  links = sym k.links;
-  change = sym k.change;
-}
-
 settled_before : (p : SettlingParams) (m d settled : ℕ) (w w' : WorldState) → KeepsNetwork w w'
     → AreSettledBy p m d settled w' → AreSettledBy p m d settled w
 settled_before p m d settled w w' k calm = record {
   near = calm.near;
-  quiet = stays_quiet w' w (keeps_back w w' k) p.params calm.quiet;
+  quiet = stays_quiet w' w (kept_back w w' k) p.params calm.quiet;
   bounded = subst (λ g. BoundsPaths g m) (same_snapshot w w' k) calm.bounded;
   passed = let passed = calm.passed in let same = k.change in
       let more : d * step_more p (sync_paths_of w') ≡ d * step_more p (sync_paths_of w) =

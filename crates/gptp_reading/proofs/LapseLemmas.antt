@@ -1,8 +1,7 @@
 -- What a step makes of the Lapse timer, case by case.
 use Rattle.std.proofs.Common.{◌≡◌, ◌⊎◌, ◌<◌, ℕ, suc, ℤ, Bool, true, false, List, Option, Some, None, slice_get, refl, sym, ap, subst, ◌∙◌, inl, inr}
-use Rattle.std.specs.Prelude.{◌==◌, IsSome, if◌then◌else◌}
+use Rattle.std.specs.Prelude.{IsSome, if◌then◌else◌}
 use Rattle.std.specs.Option.{option_map_or}
-use Rattle.std.proofs.lemmas.Bool.{eq-eqb}
 use Rattle.std.proofs.lemmas.Option.{none-some}
 use Rattle.gptp_messages.specs.declared.announce.AnnounceView.{AnnounceView}
 use Rattle.gptp_messages.specs.declared.follow_up.FollowUp.{FollowUp}
@@ -32,7 +31,7 @@ use Rattle.gptp_system.specs.Follows.{SystemIsRoot, SystemFollowsPort}
 use Rattle.gptp_system.specs.Lapse.{dropped, lapsed}
 use Rattle.gptp_system.specs.Measuring.{Turns, TurnsAndAsks, TurnsIf, down, is_turned, turned}
 use Rattle.gptp_system.specs.Start.{started}
-use Rattle.gptp_system.specs.Selection.{Becomes, Selects, SelectsIf, choosing, follows_on, lapse_after, same_number}
+use Rattle.gptp_system.specs.Selection.{Becomes, Selects, SelectsIf, choosing, follows_on, lapse_after}
 use Rattle.gptp_system.specs.State.{SystemState, can_lead, change, clock, held_at, is_capable_at, lapse_of, number, own, with_peer}
 use Rattle.gptp_system.specs.Steps.{Expires as TimerExpires, HearsFrame, HearsMessage}
 use Rattle.gptp_system.specs.Syncing.{HearsFollowUpIf, HearsSyncIf, KeepsIf, KnowsBy, KnowsIf, RelaysBy, RelaysIf, SyncsIf, delay_at, is_followed, is_leading, root_rate_at, restarted, said_on, timer_stopped}
@@ -41,7 +40,7 @@ use Rattle.gptp_system.proofs.FollowLemmas.{follows}
 use Rattle.gptp_system.proofs.LapseLemmas.{followed}
 use Rattle.gptp_system.proofs.StepLemmas.{steps_sound}
 use Rattle.gptp_model.specs.Ahead.{IsSteady}
-use Rattle.gptp_invariants.proofs.SyncTimeStepLemmas.{can_lapse}
+use Rattle.gptp_invariants.proofs.SyncTimeStepLemmas.{can_lapse, follows_same}
 
 -- ---- the cases
 
@@ -95,16 +94,6 @@ becomes now s t s' sends k b = subst (Mild now s) (sym b.state) k
 
 rests : (now : ℕ) (s s' : SystemState) (sends : List Sending) → Becomes s s' sends → Mild now s s'
 rests now s s' sends b = becomes now s s s' sends (still now s s refl refl refl) b
-
--- what is followed on is what was followed
-follows_same : (v : Vector) (t : SystemState) → v.root ≡ t.root → slave_port v ≡ t.slave → follows_on v t ≡ true
-follows_same v t root slave =
-    let first : (v.root == t.root) ≡ true = eq-eqb v.root t.root root in
-    rw (first, slave) (same_itself t.slave)
-  where
-    same_itself : (o : Option ℕ) → same_number o o ≡ true
-    same_itself None = refl
-    same_itself (Some p) = eq-eqb p p refl
 
 module _ (now : ℕ) (s t u : SystemState) (sends : List Sending) (params : t.params ≡ s.params)
     (root : t.root ≡ s.root) (slave : t.slave ≡ s.slave) (k : Selects now t u sends) where

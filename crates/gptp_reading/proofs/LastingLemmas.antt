@@ -41,12 +41,13 @@ use Rattle.gptp_invariants.specs.SyncFollowers.{base_at, follower_parts, told_ba
 use Rattle.gptp_invariants.specs.WorldStanding.{snapshot_of}
 use Rattle.gptp_invariants.specs.SyncTimedClaim.{WorldInvariant}
 use Rattle.gptp_invariants.proofs.ChoiceCalmKeptLemmas.{KeepsNetwork, acts_keep, keeps_on, same_paths, same_snapshot, stays_quiet}
-use Rattle.gptp_invariants.proofs.SyncExactLemmas.{all_later, claimed_of}
+use Rattle.gptp_invariants.proofs.SyncExactLemmas.{all_later, claimed_of, all_alike}
 use Rattle.gptp_invariants.proofs.SyncFollowBaseLemmas.{GoesOn, base_there}
 use Rattle.gptp_invariants.proofs.SyncFollowClaimLemmas.{settled_from}
 use Rattle.gptp_invariants.proofs.SyncFollowPartLemmas.{clock_shown, same_parts}
 use Rattle.gptp_invariants.proofs.WorldOutlineLemmas.{acts_time, change_is_last}
 use Rattle.gptp_invariants.proofs.WorldSystemLemmas.{live_from}
+use Rattle.gptp_invariants.proofs.ChoiceSettlesAsMachineLemmas.{kept_back}
 use Rattle.gptp_theorem.specs.Headline.{HasComeDown, WorldIsCalm, UsesFollowUp}
 use Rattle.gptp_theorem.specs.PlayedLaws.{IsPlayable}
 use Rattle.gptp_theorem.proofs.HeadlineLemmas.{quiet_as}
@@ -54,8 +55,7 @@ use Rattle.gptp_reading.specs.Reading.{IsBestsTime, reading}
 use Rattle.gptp_reading.specs.Readings.{LeavesReading, RunsReadInTime}
 use Rattle.gptp_reading.proofs.AgeLemmas.{claimed_alike}
 use Rattle.gptp_reading.proofs.BaseLemmas.{acts_go_on, base_is, base_stays, goes_through}
-use Rattle.gptp_reading.proofs.ExactLemmas.{all_alike, worlds_have_bases, worlds_have_readings}
-use Rattle.gptp_reading.proofs.HeardLemmas.{keeps_back}
+use Rattle.gptp_reading.proofs.ExactLemmas.{worlds_have_bases, worlds_have_readings}
 use Rattle.gptp_reading.proofs.RunLemmas.{AreKept, IsKeptAct, one_more, runs_keep, runs_read_exactly}
 
 -- ---- the world before an act
@@ -80,7 +80,7 @@ module _ (p : SettlingParams) (v w : WorldState) (keeps : KeepsNetwork v w) (cal
       }
 
   quiet_before : IsQuietWorld p.params v
-  quiet_before = stays_quiet w v (keeps_back v w keeps) p.params (quiet_as p w calm)
+  quiet_before = stays_quiet w v (kept_back v w keeps) p.params (quiet_as p w calm)
 
   calm_before : WorldIsCalm p v
   calm_before = record {

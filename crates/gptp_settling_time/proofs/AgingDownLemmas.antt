@@ -53,6 +53,7 @@ use Rattle.gptp_invariants.proofs.WorldOutlineLemmas.{acts_time}
 use Rattle.gptp_invariants.proofs.WorldStandsLemmas.{stands_well}
 use Rattle.gptp_invariants.proofs.WorldSystemLemmas.{clock_there, live_there}
 use Rattle.gptp_invariants.proofs.WorldWayLemmas.{one_way, way_of}
+use Rattle.gptp_invariants.proofs.ChoiceCalmFactLemmas.{used_is}
 use Rattle.gptp_settling_time.proofs.AgesByLemmas.{UnlinkedAgeBy, by_kept, by_reduced}
 use Rattle.gptp_settling_time.proofs.AgesByWorldLemmas.{WorldAgesBy}
 use Rattle.gptp_settling_time.proofs.AgingLemmas.{UnlinkedAge, ages_kept, ages_reduced}
@@ -60,7 +61,6 @@ use Rattle.gptp_settling_time.proofs.AgingClaimedLemmas.{IsAgingAlways, aging_af
 use Rattle.gptp_settling_time.proofs.AgingStillLemmas.{IsAgingSeen, IsEmptied, aging_kept, emptied_reduced, still_emptied}
 use Rattle.gptp_settling_time.proofs.AlwaysClaimedLemmas.{IsStanding}
 use Rattle.gptp_settling_time.proofs.EmptiedLemmas.{AreEmptied, IsAlike, emptied_after, lanes_emptied}
-use Rattle.gptp_settling_time.proofs.FailedAloneLemmas.{used_between}
 use Rattle.gptp_settling_time.proofs.FailedUpLemmas.{delay_set, used_set}
 use Rattle.gptp_settling_time.proofs.FitsLemmas.{IsLeftUnmoved}
 use Rattle.gptp_settling_time.proofs.LeftClaimedLemmas.{HaveAskedLong}
@@ -383,7 +383,7 @@ module _ (p : SettlingParams) (before : Snapshot) (aged silent owner port : ℕ)
         clock_there (live_stations w.stations) k.channel.b.clock
         (subst (λ v. In v (clocks g)) (has_b old at_old).0
         (In-clocks g (standing_system old) (live_there w.stations tells.place_b old at_old live_b))) in
-        let is_used = used_between (live_stations w.stations) FromA k.channel up from to in
+        let is_used = used_is (live_stations w.stations) FromA k.channel up from to in
         let no : true ≡ false = sym is_used ∙ unused in
         absurd cc
 

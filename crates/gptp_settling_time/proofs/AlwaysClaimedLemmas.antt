@@ -1,5 +1,5 @@
 -- A world of which claims are made of all links always: no announce interval has to pass.
-use Rattle.std.proofs.Common.{◌≡◌, ◌≢◌, ◌<◌, ◌≤◌, ◌+◌, ◌*◌, ℕ, suc, Bool, true, false, List, [], ◌∷◌, map, Some, slice_get, refl, sym, ap, subst, ◌∙◌, inl, inr, arith}
+use Rattle.std.proofs.Common.{◌≡◌, ◌≢◌, ◌<◌, ◌≤◌, ◌+◌, ◌*◌, ℕ, suc, true, false, List, [], ◌∷◌, map, Some, slice_get, refl, sym, ap, subst, ◌∙◌, inl, inr, arith}
 use Rattle.gptp_lists.specs.Members.{In}
 use Rattle.gptp_lists.proofs.MappedLemmas.{alike, same_there, some_same}
 use Rattle.gptp_lists.proofs.SystemSpecLemmas.{In-map}
@@ -17,8 +17,6 @@ use Rattle.gptp_scenario.specs.declared.change.Act.{Act}
 use Rattle.gptp_system.specs.declared.port.Port.{Port}
 use Rattle.gptp_system.specs.Facts.{IsShown}
 use Rattle.gptp_system.specs.State.{clock, number}
-use Rattle.gptp_receipt.specs.declared.held.Held.{Held}
-use Rattle.gptp_receipt.specs.declared.held.Held.TheVariants as helds
 use Rattle.gptp_model.specs.Acts.{Acts, at as at_time}
 use Rattle.gptp_model.specs.declared.done.Done.{Done}
 use Rattle.gptp_model.specs.declared.station.Station.{Station}
@@ -74,6 +72,7 @@ use Rattle.gptp_setup.specs.SettlingParams.{largest_interval}
 use Rattle.gptp_settling_time.proofs.HeardLemmas.{IsHeardAt, heard_acts, heard_due, heard_later, heard_link, heard_now, heard_on}
 use Rattle.gptp_settling_time.proofs.LinkStoodLemmas.{stood_in}
 use Rattle.gptp_settling_time.proofs.OrderedLemmas.{link_seen, tells}
+use Rattle.gptp_settling_time.proofs.MasterLemmas.{on_capable}
 use Rattle.gptp_invariants.proofs.DelayCapableKeptLemmas.{stood}
 use Rattle.gptp_invariants.proofs.WorldNewsCourseLemmas.{later_keeps}
 use Rattle.gptp_invariants.proofs.DelayUsedLinkLemmas.{LivesSomewhere, receiver_lives}
@@ -154,12 +153,6 @@ lane_at w is from to way =
 
 -- ---- the port that asks is on exactly where it is capable
 
-not_off : (q : Port) (h : Held) (capable : Bool) → is_capable q.peer ≡ capable → IsShown h q
-    → (h ≡ helds.Disabled → ⊥)
-    → is_capable q.peer ≡ true
-not_off q h true is shown on = is
-not_off q h false is shown on = absurd (on (shown.off is))
-
 module _ (p : SettlingParams) (w : WorldState) (is : IsWorld p w) (at : LinkPlace) (l : IsLinkOf at w) (u i : ℕ)
     (asks_there : port_identity_number (sender at.direction l.channel) ≡ port_of u (suc i)) (s : SeenStation)
     (q : SeenPort)
@@ -202,7 +195,7 @@ module _ (p : SettlingParams) (w : WorldState) (is : IsWorld p w) (at : LinkPlac
   on_is_capable : q.held ≢ Disabled → is_capable l.asking.state.peer ≡ true
   on_is_capable on =
       ap (λ (x : Port). is_capable x.peer) (sym state_is)
-      ∙ not_off port.port port.held (is_capable port.port.peer) refl shown
+      ∙ on_capable port.port port.held (is_capable port.port.peer) refl shown
       (λ off. on (held_is ∙ ap (held_view (span_at seen.station.system)) off))
 
   pub capable_is_on : is_capable l.asking.state.peer ≡ true → q.held ≢ Disabled

@@ -1,5 +1,5 @@
 -- A priority1 that gets no worse, in a world that has settled, leaves claims made of all links always.
-use Rattle.std.proofs.Common.{◌≡◌, ◌<◌, ℕ, suc, Bool, true, false, List, [], ◌∷◌, map, refl, sym, ap, subst, ◌∙◌, inl, inr, arith}
+use Rattle.std.proofs.Common.{◌≡◌, ◌<◌, ℕ, suc, Bool, true, false, List, [], ◌∷◌, refl, sym, ap, subst, ◌∙◌, inl, inr, arith}
 use Rattle.std.specs.Prelude.{◌==◌, ◌&&◌, ◌||◌, if◌then◌else◌, max}
 use Rattle.std.proofs.lemmas.Bool.{eq-eqb}
 use Rattle.gptp_lists.specs.Members.{In}
@@ -36,12 +36,12 @@ use Rattle.gptp_invariants.specs.WorldStanding.{channel_is_used, live_stations, 
 use Rattle.gptp_invariants.proofs.WorldSoundCallLemmas.{links_more}
 use Rattle.gptp_invariants.proofs.WorldSystemLemmas.{clock_from, clock_lives, clock_there}
 use Rattle.gptp_invariants.proofs.WorldWayLemmas.{way_of}
-use Rattle.gptp_invariants.proofs.ChoiceCalmKeptLemmas.{delay_bare, lane_bare}
+use Rattle.gptp_invariants.proofs.ChoiceCalmKeptLemmas.{delay_bare, lane_bare, of_kept}
 use Rattle.gptp_settling_time.proofs.AlwaysClaimedLemmas.{AreHeard, IsClaimedAlways, asks_back, capable_is_on, place_of_way, standing, start_calm, start_net, start_network, way_back, way_stands}
 use Rattle.gptp_settling_time.proofs.HeardLemmas.{StaysCapableAt, stays_elsewhere, stays_link, stays_on}
 use Rattle.gptp_settling_time.specs.Idle.{Lives}
 use Rattle.gptp_settling_time.proofs.PriorityNewsLemmas.{stood}
-use Rattle.gptp_settling_time.proofs.ReactionStageLemmas.{stage_after}
+use Rattle.gptp_bmca_machine.proofs.ReactionStageLemmas.{stage_after}
 use Rattle.gptp_settling_time.proofs.ReactsLemmas.{Reacts, reacts, reacts_news}
 use Rattle.gptp_settling_time.proofs.RestClaimedLemmas.{AreOn}
 use Rattle.gptp_settling_time.proofs.SettledSeenLemmas.{HasSettledSeen, IsSettledSeen, wired_as}
@@ -67,10 +67,6 @@ delay_alike systems others each (first ∷ channels) =
     λ i. if first.up && (each first.a.clock i && each first.b.clock i)
     then max first.bounds.max (delay_alike systems others each channels i)
     else delay_alike systems others each channels i
-
-of_bare : {X : Type 0} (f : List Channel → X) → ((channels : List Channel) → f (map bare channels) ≡ f channels)
-    → (before after : List Channel) → DifferInFlight before after → f after ≡ f before
-of_bare f each before after kept = sym (each after) ∙ ap f kept ∙ each before
 
 -- ---- clocks and links stay
 
@@ -114,7 +110,7 @@ module _ (p : SettlingParams) (w w' : WorldState) (r : Reacts w w') where
   delay_same : delay_in w' ≡ delay_in w
   delay_same =
       delay_alike (live_stations w.stations) (live_stations w'.stations) r.lives w'.net.channels
-      ∙ of_bare (greatest_channel_delay (live_stations w.stations)) (delay_bare (live_stations w.stations))
+      ∙ of_kept (greatest_channel_delay (live_stations w.stations)) (delay_bare (live_stations w.stations))
       w.net.channels w'.net.channels r.links
 
   -- no link is another
@@ -136,7 +132,7 @@ module _ (p : SettlingParams) (w w' : WorldState) (r : Reacts w w') where
     place = λ v. ap (λ (x : Network). x.place v) is ∙ r.places v ∙ same.place v;
     lane = λ q.
         ap (λ (x : Network). x.lane q) is
-        ∙ of_bare (λ channels. lane_of channels q) (lane_bare q) w.net.channels w'.net.channels r.links
+        ∙ of_kept (λ channels. lane_of channels q) (lane_bare q) w.net.channels w'.net.channels r.links
         ∙ same.lane q;
     log = λ q. ap (λ (x : Network). x.log_of q) is ∙ r.logs q ∙ same.log q;
     interval = λ q. ap (λ (x : Network). x.interval_of q) is ∙ ap interval_of (r.logs q) ∙ same.interval q;
@@ -189,10 +185,10 @@ module _ (p : SettlingParams) (start next owner value : ℕ) (w : WorldState) (d
     wired = wiring_same p w w' r seen.n n seen.same refl
 
     -- the port that hears is on
-    lasts : (d : ℕ) (best : System) (v pp u q : ℕ) → LeadsFarther n.graph d best v pp u q
+    lasts : (d : ℕ) (best : System) (v pp u q : ℕ) → d < 255 → LeadsFarther n.graph d best v pp u q
         → StaysOn (wiring n d best v pp u q) (view w) (view w')
     unfolding way_back
-    lasts d best v pp u q leads s s' a b from at port at' port' held =
+    lasts d best v pp u q close leads s s' a b from at port at' port' held =
         let from_port = port_of v (suc pp) in
         let to_port = port_of u (suc q) in
         let way = way_of w' from_port to_port leads.joins in

@@ -29,8 +29,8 @@ use Rattle.gptp_invariants.proofs.SyncFollowMeasureLemmas.{measured_right}
 use Rattle.gptp_invariants.proofs.SyncFollowWorldLemmas.{done_carries, used_within}
 use Rattle.gptp_theorem.specs.PlayedLaws.{IsPlayable}
 use Rattle.gptp_theorem.proofs.CalmLemmas.{quiet_stands}
-use Rattle.gptp_theorem.proofs.PlayedLemmas.{no_change}
 use Rattle.gptp_theorem.proofs.SettlingInvariantLemmas.{events_fit, events_made}
+use Rattle.gptp_theorem.proofs.CalmKeptLemmas.{no_change}
 use Rattle.gptp_settling_time.specs.ExactInTurn.{ActsAreExactInTurn, last_set}
 use Rattle.gptp_settling_time.specs.Exactly.{AreExactFrom}
 use Rattle.gptp_settling_time.specs.InTurn.{Aging, AnyPast, Cleared, Fallen, Gained, Heard, Left, Lost, Past, SettlesAfter, SettlesByEvents, Starting, Turned}

@@ -26,7 +26,7 @@ use Rattle.gptp_invariants.proofs.WorldSoundLemmas.{sound_later}
 use Rattle.gptp_invariants.proofs.WorldStartNewsLemmas.{start_news}
 use Rattle.gptp_invariants.proofs.WorldNewsCourseLemmas.{later_keeps, same_from}
 use Rattle.gptp_theorem.proofs.HeadlineLemmas.{quiet_as}
-use Rattle.gptp_theorem.proofs.PlayedLemmas.{no_change}
+use Rattle.gptp_theorem.proofs.CalmKeptLemmas.{no_change}
 use Rattle.gptp_settling_time.specs.Exactly.{GainsAreExact, IsSettledBy, LinksUpAreExact, NewsAreExact, StartsAreExact}
 use Rattle.gptp_settling_time.proofs.SoonOffsetLemmas.{act_exact}
 use Rattle.gptp_settling_time.proofs.TimedNewsLemmas.{CanSettle, IsTimed, timed_act, timed_begins}

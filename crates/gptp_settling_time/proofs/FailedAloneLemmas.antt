@@ -2,7 +2,6 @@
 -- all that is held and in flight fits the snapshot of before.
 use Rattle.std.proofs.Common.{◌≡◌, ◌≢◌, ◌⊎◌, ◌≤◌, ◌<◌, ◌+◌, ◌*◌, ℕ, zero, suc, pred, pos, true, false, List, Some, slice_get, slice_set, refl, sym, ap, subst, ◌∙◌, inl, inr, arith}
 use Rattle.std.specs.Option.{option_map_or}
-use Rattle.std.proofs.lemmas.Bool.{and_from}
 use Rattle.std.proofs.lemmas.Option.{same_Some}
 use Rattle.gptp_lists.specs.Members.{In}
 use Rattle.gptp_lists.proofs.MappedLemmas.{same_there}
@@ -15,8 +14,6 @@ use Rattle.gptp_graph.proofs.LinkLemmas.{Adjacent-sym, Joins-clock, Joins-sym}
 use Rattle.gptp_graph.proofs.SystemLemmas.{In-clocks, same_clock, system_of}
 use Rattle.gptp_graph.proofs.DistanceLemmas.{IsDistance-clock, best_at_zero, nearer_neighbour}
 use Rattle.gptp_graph.proofs.ExistenceLemmas.{distance_exists}
-use Rattle.gptp_links.specs.declared.link.Direction.{Direction}
-use Rattle.gptp_links.specs.declared.link.Direction.TheVariants.{FromA, FromB}
 use Rattle.gptp_links.specs.Fate.{Draw}
 use Rattle.gptp_scenario.specs.Params.{KeepPace}
 use Rattle.gptp_scenario.specs.SettlingTime.{silence_span}
@@ -46,7 +43,7 @@ use Rattle.gptp_invariants.specs.DelayMeasured.{LinkIsMeasured, LinkStandsAt, St
 use Rattle.gptp_invariants.specs.FailedUnanswered.{IsFailedAmong, IsLastAnswered, IsUnansweredAt, StandsUnanswered}
 use Rattle.gptp_invariants.specs.WorldNews.{AreReadyBy, AreSilentBy, IsSilentBy}
 use Rattle.gptp_invariants.specs.WorldSound.{IsSoundWorld}
-use Rattle.gptp_invariants.specs.WorldStanding.{channel_is_used, live_stations, snapshot_of, standing_system, stations_have_clock}
+use Rattle.gptp_invariants.specs.WorldStanding.{live_stations, snapshot_of, standing_system}
 use Rattle.gptp_invariants.proofs.ChoicePlaceLemmas.{station_from, station_there}
 use Rattle.gptp_invariants.proofs.DelayClaimedCapableLemmas.{clock_has, used_if}
 use Rattle.gptp_invariants.proofs.DelayLinkLemmas.{good_between}
@@ -55,26 +52,19 @@ use Rattle.gptp_invariants.proofs.WorldSoundCallLemmas.{links_more}
 use Rattle.gptp_invariants.proofs.WorldStandsLemmas.{stands_well, used_up}
 use Rattle.gptp_invariants.proofs.WorldSystemLemmas.{clock_there, live_from, live_there}
 use Rattle.gptp_invariants.proofs.WorldWayLemmas.{used_joins, way_of}
+use Rattle.gptp_invariants.proofs.ChoiceCalmKeptLemmas.{places_kept}
+use Rattle.gptp_invariants.proofs.ChoiceCalmFactLemmas.{used_is}
 use Rattle.gptp_settling_time.specs.Losses.{IsCutOff, IsFarEnd, IsUnmoved, IsUnmovedOrCutOff}
 use Rattle.gptp_settling_time.proofs.BegunLeftLemmas.{begins_left}
 use Rattle.gptp_settling_time.proofs.AlwaysClaimedLemmas.{IsStanding, start_network}
 use Rattle.gptp_settling_time.proofs.FitsLemmas.{IsLeftUnmoved, UnlinkedHoldNothing, at_zero, lived}
 use Rattle.gptp_settling_time.proofs.FarEndLemmas.{HasAllBut}
 use Rattle.gptp_settling_time.proofs.LeftClaimedLemmas.{HaveAskedLong, IsLeftAlways, left_network}
-use Rattle.gptp_settling_time.proofs.ReactsLemmas.{places_set}
 use Rattle.gptp_settling_time.proofs.ReducedLemmas.{IsReduced, reduced_itself}
 use Rattle.gptp_settling_time.proofs.ReplyDueLemmas.{last_begins}
 use Rattle.gptp_settling_time.proofs.SettledSeenLemmas.{IsSettledSeen, sound_fits, wired_as}
 use Rattle.gptp_settling_time.proofs.UnlinkedLemmas.{LostAreFarther, far_holds_none}
 use Rattle.gptp_settling_time.proofs.WidenedLemmas.{ready_first}
-
--- a link that is up between two of the systems is used
-pub used_between : (systems : List System) (direction : Direction) (channel : Channel) → channel.up ≡ true
-    → stations_have_clock systems (sender direction channel).clock ≡ true
-    → stations_have_clock systems (receiver direction channel).clock ≡ true
-    → channel_is_used systems channel ≡ true
-used_between systems FromA channel up from to = and_from channel.up _ up (and_from _ _ from to)
-used_between systems FromB channel up from to = and_from channel.up _ up (and_from _ _ to from)
 
 module _ (p : SettlingParams) (number : ℕ) (w : WorldState) (draws : List Draw) (done : Done) (w' : WorldState)
     (is : IsWorld p w) (is' : IsWorld p w') (acts : Acts (Changing (Fail number)) w draws done w') where
@@ -184,7 +174,7 @@ module _ (p : SettlingParams) (number : ℕ) (w : WorldState) (draws : List Draw
     links_still a b joins from to =
         let way = way_of w a b joins in
         let systems = live_stations w'.stations in
-        let used = used_between systems way.direction way.channel
+        let used = used_is systems way.direction way.channel
         (used_up (live_stations w.stations) way.channel way.used)
         (clock_there systems (sender way.direction way.channel).clock
         (subst (λ (q : PortIdentity). In q.clock (clocks g')) (sym way.from) from))
@@ -429,14 +419,14 @@ module _ (p : SettlingParams) (number : ℕ) (w : WorldState) (draws : List Draw
         place_kept : (v : ℕ) → clock_place w'.stations v ≡ clock_place w.stations v
         place_kept v =
             ap (λ xs. clock_place xs v) stations_now
-            ∙ places_set w.stations k.place k.station dead k.is.here refl v
+            ∙ places_kept w.stations k.place k.station dead k.is.here refl v
 
     module _ (seen : IsSettledSeen p w) where
       pub wires : (n : Network) → n ≡ wired_as n (start_network p 0 0 w') → SameWiring seen.n n
       wires n wired = record {
         place = λ v.
             ap (λ (x : Network). x.place v) wired ∙ ap (λ xs. clock_place xs v) stations_now
-            ∙ places_set w.stations k.place k.station dead k.is.here refl v ∙ seen.same.place v;
+            ∙ places_kept w.stations k.place k.station dead k.is.here refl v ∙ seen.same.place v;
         lane = λ q. ap (λ (x : Network). x.lane q) wired ∙ ap (λ cs. lane_of cs q) channels_now ∙ seen.same.lane q;
         log = λ q. ap (λ (x : Network). x.log_of q) wired ∙ log_kept q ∙ seen.same.log q;
         interval = λ q.

@@ -31,8 +31,7 @@ use Rattle.gptp_bmca_machine.specs.RestLaws.{SameWiring}
 use Rattle.gptp_bmca_machine.specs.SoundEverywhere.{IsSoundEverywhere}
 use Rattle.gptp_bmca_machine.specs.SoundLaws.{AllAreNear, UnlinkedAreOff}
 use Rattle.gptp_bmca_machine.specs.Station.{Station as SeenStation}
-use Rattle.gptp_bmca_machine.proofs.FallEndLemmas.{FallsBack}
-use Rattle.gptp_bmca_machine.proofs.FallLevelLemmas.{TreeSettles}
+use Rattle.gptp_bmca_machine.proofs.FallEndLemmas.{FallsOff}
 use Rattle.gptp_bmca_machine.proofs.LinkStepLemmas.{lives_at}
 use Rattle.gptp_bmca_machine.proofs.PlaceLemmas.{same_there as machine_there}
 use Rattle.gptp_invariants.specs.ChoiceCalm.{HaveQuietLinks, delay_in}
@@ -53,7 +52,7 @@ use Rattle.gptp_settling_time.proofs.CutDeepLemmas.{deep_within}
 use Rattle.gptp_settling_time.proofs.DueLemmas.{AreDueBy, due_by_interval, in_use_joins}
 use Rattle.gptp_settling_time.proofs.EndAnswersLemmas.{EndAnswers}
 use Rattle.gptp_settling_time.proofs.FallAlwaysLemmas.{IsFallenAlways, IsGoneBy, fallen_by, falls_within, settles_by, settles_later}
-use Rattle.gptp_settling_time.proofs.FallDownLemmas.{FlightNames, tree_falls, tree_settles}
+use Rattle.gptp_settling_time.proofs.FallDownLemmas.{FlightNames, OffSettles, tree_falls, tree_settles}
 use Rattle.gptp_settling_time.proofs.LeftClaimedLemmas.{HaveAskedLong, left_network}
 use Rattle.gptp_settling_time.proofs.LoweredLemmas.{ends, known, less_then, ready_on, still_joins, wires}
 use Rattle.gptp_settling_time.proofs.MovedAlwaysLemmas.{after_loss, dark_now}
@@ -124,23 +123,23 @@ module _ (p : SettlingParams) (w : WorldState) (is : IsWorld p w) (place : ℕ) 
         (subst (λ v. IsBest (snapshot_of w') v next) (sym named_c) in_c)
 
     begins : HaveQuietLinks p.params w' → NothingLapses p.params
-        → FallsBack says_announce (snapshot_of w) n top best next base depth tree w.time (view w')
-        × TreeSettles says_announce (snapshot_of w) n top best next base depth tree w.time (fallen_by n w.time)
-        (settles_by n w.time) (settles_later n w.time) (view w')
+        → FallsOff says_announce (snapshot_of w) n top best next base depth tree w.time (view w')
+        × OffSettles says_announce (snapshot_of w) n top best next base depth tree w.time (settles_by n w.time) (view w')
     begins quiet' off =
         subst (λ h. (t : CutsTree h n top best next base depth) → (Unmoved h n top → ⊥)
         → IsSoundEverywhere says_announce h (view w) → FlightNames says_announce h (view w)
-        → FallsBack says_announce h n top best next base depth t w.time (view w')
-        × TreeSettles says_announce h n top best next base depth t w.time (fallen_by n w.time)
-        (settles_by n w.time) (settles_later n w.time) (view w')) seen.graph
+        → FallsOff says_announce h n top best next base depth t w.time (view w')
+        × OffSettles says_announce h n top best next base depth t w.time (settles_by n w.time) (view w')) seen.graph
         (λ t moved sound0 named0. (
           tree_falls says_announce seen.n n top best next base depth t in_top moved seen.net (view w) seen.calm
               seen.invariant seen.late sound0 named0 wired (view w') lost other a
               (λ c m in_c at. outside_at c m in_c at kept') kept' dark',
           tree_settles says_announce seen.n n top best next base depth t in_top moved seen.net (view w) seen.calm
               seen.invariant seen.late sound0 named0 wired (view w') lost other a
-              (λ c m in_c at. outside_at c m in_c at kept') kept' dark' (fallen_by n w.time) (settles_by n w.time)
-              (settles_later n w.time) (let time = a.time in omega (arith, time)),
+              (λ c m in_c at. outside_at c m in_c at kept') kept' dark' (settles_by n w.time) (λ f.
+              let time = a.time in
+              let later = settles_later n w.time f in
+              omega (arith, time, later)),
         )) tree moved_top sound named
       where
         kept' : IsAfterLoss n (view w')
@@ -169,13 +168,13 @@ module _ (p : SettlingParams) (w : WorldState) (is : IsWorld p w) (place : ℕ) 
     sound_begins quiet' off old gone fits =
         subst (λ h. (t : CutsTree h n top best next base depth) → HasAllButLink h n.graph top peer
         → (Unmoved h n top → ⊥) → IsSoundEverywhere says_announce h (view w)
-        → FallsBack says_announce h n top best next base depth t w.time (view w')
+        → FallsOff says_announce h n top best next base depth t w.time (view w')
         → IsSoundOutside says_announce n.graph next old (view w')) seen.graph
         (λ t has0 moved sound0 back.
         outside_begins says_announce seen.n n top peer best next base depth t has0 in_top peer_out moved seen.net (view
         w)
         seen.calm seen.invariant seen.late sound0 wired (view w') lost other a w.time back
-        (world_apart w' is'.sound is'.encodable) old
+        (world_apart w' is'.sound is'.encodable) (dark_now p silent w' standing' asked' quiet' by_now) old
         (λ v in_v. let less = falls_within n w.time (depth v) (t.deep v in_v) in omega (arith, less, fits))
         (due_gone quiet' off old gone)) tree has moved_top sound (begins quiet' off).0
 

@@ -23,9 +23,10 @@ use Rattle.gptp_bmca_machine.specs.Levels.{Invariant}
 use Rattle.gptp_bmca_machine.specs.LossLaws.{IsAfterLoss}
 use Rattle.gptp_bmca_machine.specs.Network.{IsSettlingNetwork, Network, settled_from, since}
 use Rattle.gptp_bmca_machine.specs.SoundLaws.{UnlinkedAreOff}
-use Rattle.gptp_bmca_machine.proofs.FallEndLemmas.{FallsBack, fallen_back, falls_on, received_then}
-use Rattle.gptp_bmca_machine.proofs.FallLemmas.{falls_by}
-use Rattle.gptp_bmca_machine.proofs.FallLevelLemmas.{TreeSettles, tree_settles_on}
+use Rattle.gptp_bmca_machine.proofs.CutTreeLemmas.{IsCutOff, LeadsNowhere, moves_tree}
+use Rattle.gptp_bmca_machine.proofs.FallEndLemmas.{FallsOff, fallen_back, falls_on, received_then}
+use Rattle.gptp_bmca_machine.proofs.FallLemmas.{falls_by, off_drop}
+use Rattle.gptp_bmca_machine.proofs.FallLevelLemmas.{tree_settles_on}
 use Rattle.gptp_bmca_machine.proofs.LevelLemmas.{invariant_kept, no_early_ports}
 use Rattle.gptp_bmca_machine.proofs.SettledLemmas.{systems_bounded}
 use Rattle.gptp_bmca_machine.proofs.TimesLemmas.{times_fit}
@@ -49,6 +50,7 @@ use Rattle.gptp_invariants.proofs.WorldOutlineLemmas.{acts_time}
 use Rattle.gptp_invariants.proofs.WorldStandsLemmas.{stands_well}
 use Rattle.gptp_settling_time.proofs.AlwaysClaimedLemmas.{IsStanding, calm_timed}
 use Rattle.gptp_settling_time.proofs.DueLemmas.{UpIsInUse, use_kept}
+use Rattle.gptp_settling_time.proofs.FallDownLemmas.{OffSettles}
 use Rattle.gptp_settling_time.proofs.LeftClaimedLemmas.{HaveAskedBy, HaveAskedLong, asked_acts, asked_later, asked_ready, left_network, same_left, standing_acts, standing_later}
 use Rattle.gptp_settling_time.proofs.MovedAlwaysLemmas.{after_loss, calm_now, dark_now}
 use Rattle.gptp_settling_time.proofs.NewsMeasuredLemmas.{ready_measures}
@@ -98,10 +100,9 @@ pub record IsFallenAlways (p : SettlingParams) (g : Snapshot) (silent start : �
   pub past : silent ≤ w.time
   pub late : delay_in w ≤ w.time
   pub seen : HaveQuietLinks p.params w → NothingLapses p.params
-      → FallsBack says_announce g n top best next base depth tree start (view w)
+      → FallsOff says_announce g n top best next base depth tree start (view w)
       × (((w.time ≤ fallen_by n start)
-      × TreeSettles says_announce g n top best next base depth tree start (fallen_by n start) (settles_by n start)
-      (settles_later n start) (view w))
+      × OffSettles says_announce g n top best next base depth tree start (settles_by n start) (view w))
       ⊎ ((fallen_by n start < w.time)
       × Invariant says_announce (record n { slack = suc (fallen_by n start) }) (view w)))
   pub sound : (old : ℕ) → IsGoneBy p start old w → fallen_by n start + n.most ≤ old → HaveQuietLinks p.params w
@@ -150,7 +151,7 @@ module _ (p : SettlingParams) (g : Snapshot) (silent start : ℕ) (w w' : WorldS
     quiet : HaveQuietLinks p.params w
     quiet = links_quiet w' w (kept_back w w' keeps) p.params quiet'
 
-    back : FallsBack says_announce g is.n is.top is.best is.next is.base is.depth is.tree start (view w)
+    back : FallsOff says_announce g is.n is.top is.best is.next is.base is.depth is.tree start (view w)
     back = (is.seen quiet off).0
 
     kept' : IsAfterLoss is.n (view w')
@@ -160,10 +161,11 @@ module _ (p : SettlingParams) (g : Snapshot) (silent start : ℕ) (w w' : WorldS
     dark' = subst (λ (z : Network). UnlinkedAreOff z.graph (view w')) same'
         (dark_now p silent w' standing' asked' quiet' past')
 
-    back' : FallsBack says_announce g is.n is.top is.best is.next is.base is.depth is.tree start (view w')
+    back' : FallsOff says_announce g is.n is.top is.best is.next is.base is.depth is.tree start (view w')
     back' =
-        falls_on says_announce g is.n is.top is.best is.next is.base is.depth is.tree start (view w) (view w') back
-        kept' dark' step
+        falls_on says_announce g is.n (IsCutOff is.n is.next) LeadsNowhere is.top is.best is.next is.base is.depth
+        (moves_tree g is.n is.top is.best is.next is.base is.depth is.tree) start (view w) (view w') back kept' dark'
+        step (λ v p u q none joins. absurd none)
 
     reached : (v : ℕ) → IsBest is.n.graph v is.next → falls_by is.n start (is.depth v) ≤ fallen_by is.n start
     reached v in_v = falls_within is.n start (is.depth v) (is.tree.deep v in_v)
@@ -201,8 +203,8 @@ module _ (p : SettlingParams) (g : Snapshot) (silent start : ℕ) (w w' : WorldS
     abbrev Settling : WorldState → Type 0
     Settling x =
         ((x.time ≤ fallen_by is.n start)
-        × TreeSettles says_announce g is.n is.top is.best is.next is.base is.depth is.tree start (fallen_by is.n start)
-        (settles_by is.n start) (settles_later is.n start) (view x))
+        × OffSettles says_announce g is.n is.top is.best is.next is.base is.depth is.tree start (settles_by is.n start)
+        (view x))
         ⊎ ((fallen_by is.n start < x.time) × Invariant says_announce timed_n (view x))
 
     -- what is old is so later
@@ -219,7 +221,7 @@ module _ (p : SettlingParams) (g : Snapshot) (silent start : ℕ) (w w' : WorldS
     sound' old gone fits =
         outside_kept says_announce g is.n is.top is.best is.next is.base is.depth is.tree start old
         (λ v in_v. let by = reached v in_v in omega (arith, by, fits)) (view w) (view w') back back'
-        (world_apart w' standing'.world.sound standing'.world.encodable)
+        (world_apart w' standing'.world.sound standing'.world.encodable) dark'
         (is.sound old (gone_before old gone) fits quiet off) step
 
     settled_on : Settling w → Settling w'
@@ -235,12 +237,13 @@ module _ (p : SettlingParams) (g : Snapshot) (silent start : ℕ) (w w' : WorldS
         )
     settled_on (inl (early, settles)) = by (dec_le w'.time (fallen_by is.n start))
       where
-        settles' : TreeSettles says_announce g is.n is.top is.best is.next is.base is.depth is.tree start
-            (fallen_by is.n start) (settles_by is.n start) (settles_later is.n start) (view w')
+        settles' : OffSettles says_announce g is.n is.top is.best is.next is.base is.depth is.tree start
+            (settles_by is.n start) (view w')
         settles' =
-            tree_settles_on says_announce g is.n is.top is.best is.next is.base is.depth is.tree start
-            (fallen_by is.n start) (settles_by is.n start) (settles_later is.n start) (view w) (view w') back.after
-            back'.after step back.falling back'.falling early settles
+            tree_settles_on says_announce g is.n (IsCutOff is.n is.next) LeadsNowhere is.top is.best is.next is.base
+            is.depth (moves_tree g is.n is.top is.best is.next is.base is.depth is.tree) start (settles_by is.n start)
+            (fallen_by is.n start) (settles_later is.n start) (view w) (view w') back.after back'.after step
+            (off_drop g is.n (view w) (view w') dark') back.falling back'.falling early settles
 
         by : Dec (w'.time ≤ fallen_by is.n start) → Settling w'
         by (yes early') = inl (early', settles')
@@ -249,8 +252,8 @@ module _ (p : SettlingParams) (g : Snapshot) (silent start : ℕ) (w w' : WorldS
             inr (
               over,
               fallen_back says_announce g is.n is.top is.best is.next is.base is.depth is.tree start
-                  (fallen_by is.n start) (view w') back' reached over (settles_by is.n start) (settles_later is.n start)
-                  settles' (suc (fallen_by is.n start)) in_time
+                  (fallen_by is.n start) (view w') back' reached over (settles_by is.n start) settles'
+                  (suc (fallen_by is.n start)) in_time
                   (λ f. let by = in_time f in omega (arith, by)),
             )
 

@@ -12,7 +12,6 @@ use Rattle.gptp_scenario.specs.Network.{IsEnd, NetworkState}
 use Rattle.gptp_scenario.specs.declared.change.Change.{Change}
 use Rattle.gptp_scenario.specs.declared.change.Change.TheVariants.{LinkDown, LinkUp, LinkSet, Fail, Recover, Priority1, Inject}
 use Rattle.gptp_scenario.specs.declared.change.Timed.{Timed}
-use Rattle.gptp_scenario.specs.declared.network.SystemSpec.{SystemSpec}
 use Rattle.gptp_scenario.specs.declared.network.LinkSpec.{LinkSpec}
 use Rattle.gptp_system.specs.State.{clock}
 use Rattle.gptp_model.specs.declared.station.Station.{Station}
@@ -27,6 +26,7 @@ use Rattle.gptp_invariants.specs.WorldStanding.{channel_is_used, live_stations, 
 use Rattle.gptp_invariants.proofs.WorldStandsLemmas.{sender_lives, used_up}
 use Rattle.gptp_invariants.proofs.WorldSystemLemmas.{clock_lives, live_from}
 use Rattle.gptp_theorem.specs.Reached.{Shape, StandsAsPlanned, shape, shape_after, channel_wire}
+use Rattle.gptp_theorem.proofs.CalmLemmas.{IsMemberAt}
 use Rattle.gptp_settling_time.specs.Gains.{AllLiveAfter, EndHasFailed, IsDownAfter, IsGainAfter, IsIdleAfter, IsNoWorse, IsUpAfter, KeepsIdentity}
 use Rattle.gptp_settling_time.specs.InTurn.{VariesLittleAfter, IsWithin}
 use Rattle.gptp_settling_time.specs.Idle.{IsIdle, IsUpAt, KeepsPriority, Lives}
@@ -44,12 +44,6 @@ clock_shape station setup = by station.live
         ≡ clock station.system
     by true = refl
     by false = setup.named
-
--- what stands somewhere is one of the network's after the events
-pub record IsMemberAt (n : NetworkState) (events : List Timed) (place : ℕ) (station : Station) : Type 0 where
-  pub member : SystemSpec
-  pub there : slice_get n.systems place ≡ Some member
-  pub is : shape_after n events member ≡ shape station
 
 module _ (n : NetworkState) (events : List Timed) (w : WorldState) (so : StandsAsPlanned n events w) where
   pub member_at : (place : ℕ) (station : Station) → slice_get w.stations place ≡ Some station

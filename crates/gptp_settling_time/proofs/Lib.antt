@@ -70,7 +70,6 @@ pub mod SamePathsLemmas
 pub mod MomentLemmas
 pub mod FollowedLemmas
 pub mod ChoiceBoundLemmas
-pub mod ReactionStageLemmas
 pub mod ReactsLemmas
 pub mod SettledSeenLemmas
 pub mod PriorityNewsLemmas
@@ -172,3 +171,4 @@ pub mod MovedFlightLemmas
 pub mod RightBeginLemmas
 pub mod ToldAnewLemmas
 pub mod NamesItselfLemmas
+pub mod TreeTurnsLemmas

@@ -22,9 +22,9 @@ use Rattle.gptp_invariants.specs.WorldStanding.{channel_is_used, live_stations, 
 use Rattle.gptp_invariants.proofs.WorldNewsLemmas.{ready_goes_through}
 use Rattle.gptp_invariants.proofs.WorldStandsLemmas.{sender_lives, used_up}
 use Rattle.gptp_invariants.proofs.WorldSystemLemmas.{clock_from, clock_there}
+use Rattle.gptp_invariants.proofs.ChoiceCalmFactLemmas.{used_is}
 use Rattle.gptp_settling_time.specs.Idle.{Lives}
 use Rattle.gptp_settling_time.proofs.DeadLanesLemmas.{HasLess, called_less}
-use Rattle.gptp_settling_time.proofs.FailedAloneLemmas.{used_between}
 use Rattle.gptp_settling_time.proofs.LosingLemmas.{HadFlight, TakesAway, WasUsed}
 use Rattle.gptp_settling_time.proofs.PriorityNewsLemmas.{priority_silent, stood}
 use Rattle.gptp_settling_time.proofs.ReactsLemmas.{Reacts, reacts}
@@ -62,7 +62,7 @@ module _ (p : SettlingParams) (owner value : ℕ) (w : WorldState) (draws : List
       record {
         old = old;
         here = there;
-        used = used_between (live_stations w.stations) FromA old
+        used = used_is (live_stations w.stations) FromA old
             (ap (λ (c : Channel). c.up) same ∙ used_up (live_stations w'.stations) new used)
             (subst (λ v. stations_have_clock (live_stations w.stations) v ≡ true)
             (ap (λ (c : Channel). c.a.clock) (sym same))

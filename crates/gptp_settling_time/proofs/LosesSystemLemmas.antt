@@ -23,7 +23,8 @@ use Rattle.gptp_invariants.specs.WorldStanding.{live_stations, snapshot_of, stat
 use Rattle.gptp_invariants.proofs.WorldNewsLemmas.{ready_goes_through}
 use Rattle.gptp_invariants.proofs.WorldStandsLemmas.{sender_lives, used_up}
 use Rattle.gptp_invariants.proofs.WorldSystemLemmas.{clock_from, clock_there}
-use Rattle.gptp_settling_time.proofs.FailedAloneLemmas.{channels_now, elsewhere, last_still, silent_still, stood_beside, stood_good, stood_link, systems_before, time_now, used_between}
+use Rattle.gptp_invariants.proofs.ChoiceCalmFactLemmas.{used_is}
+use Rattle.gptp_settling_time.proofs.FailedAloneLemmas.{channels_now, elsewhere, last_still, silent_still, stood_beside, stood_good, stood_link, systems_before, time_now}
 use Rattle.gptp_settling_time.proofs.LosingLemmas.{TakesAway}
 use Rattle.gptp_settling_time.proofs.WidenedLemmas.{ready_first}
 
@@ -83,7 +84,7 @@ module _ (p : SettlingParams) (number : ℕ) (w : WorldState) (draws : List Draw
             used = λ link channel here used. record {
               old = channel;
               here = ap (λ cs. slice_get cs link) (sym channels) ∙ here;
-              used = used_between (live_stations w.stations) FromA channel
+              used = used_is (live_stations w.stations) FromA channel
                   (used_up (live_stations w'.stations) channel used)
                   (clock_still channel.a.clock (sender_lives (live_stations w'.stations) FromA channel used))
                   (clock_still channel.b.clock (sender_lives (live_stations w'.stations) FromB channel used));

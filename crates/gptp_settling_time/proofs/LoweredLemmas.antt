@@ -5,7 +5,7 @@ use Rattle.std.proofs.Common.{◌≡◌, ◌≢◌, ◌⊎◌, ◌<◌, ◌≤�
 use Rattle.std.proofs.lemmas.Option.{same_Some}
 use Rattle.gptp_lists.specs.Members.{In}
 use Rattle.gptp_lists.proofs.MappedLemmas.{same_there}
-use Rattle.gptp_lists.proofs.PlaceLemmas.{get-set_other, get-set_same, same_place}
+use Rattle.gptp_lists.proofs.PlaceLemmas.{get-set_other, get-set_same, same_place, member_there}
 use Rattle.gptp_graph.specs.PathBound.{path_bound}
 use Rattle.gptp_graph.specs.Snapshot.{IsLinked, IsWellFormed, Joins, PortIdentity, Snapshot, System, clocks, port_of}
 use Rattle.gptp_graph.proofs.ExistenceLemmas.{distance_exists}
@@ -45,7 +45,6 @@ use Rattle.gptp_bmca_machine.specs.Frame.{Lane}
 use Rattle.gptp_bmca_machine.specs.Network.{Network}
 use Rattle.gptp_bmca_machine.specs.RestLaws.{SameWiring}
 use Rattle.gptp_bmca_machine.specs.SoundLaws.{AllAreNear, UnlinkedAreOff}
-use Rattle.gptp_bmca_machine.proofs.PlaceLemmas.{there_within}
 use Rattle.gptp_bmca_machine.specs.Station.{Disabled, Port as SeenPort, Received, Reception as SeenReception, Station as SeenStation}
 use Rattle.gptp_invariants.specs.ChoiceCalm.{HaveQuietLinks, delay_in}
 use Rattle.gptp_invariants.specs.ChoiceSettlesAsMachine.{IsWorld}
@@ -406,7 +405,7 @@ module _ (p : SettlingParams) (w : WorldState) (is : IsWorld p w) (place : ℕ) 
             let keep = span_at station.system in
             let places = shown.places in
             let within = place_within j station.system.held h there in
-            let (q, at_q) = there_within station.system.ports j (omega (arith, places, within)) in
+            let (q, at_q) = member_there station.system.ports j (omega (arith, places, within)) in
             disabled_from keep h
             (dark at (station_view station) j (port_view keep h q) (station_there w.stations at station stands) live
             (port_there keep station.system.held station.system.ports j h q there at_q) (alone i is_n cut j apart)))

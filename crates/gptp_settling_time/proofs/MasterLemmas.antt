@@ -99,7 +99,7 @@ not_mine : (keep : ℤ → ℕ) (h : Held) (root steps : ℕ) → held_view keep
 not_mine keep h root steps mine off =
     let same : Disabled ≡ Mine root steps = sym (ap (held_view keep) off) ∙ mine in cc
 
-on_capable : (q : Port) (h : Held) (capable : Bool) → is_capable q.peer ≡ capable → IsShown h q
+pub on_capable : (q : Port) (h : Held) (capable : Bool) → is_capable q.peer ≡ capable → IsShown h q
     → (h ≡ helds.Disabled → ⊥)
     → is_capable q.peer ≡ true
 on_capable q h true is shown on = is

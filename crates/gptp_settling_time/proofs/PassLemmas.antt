@@ -11,7 +11,7 @@ use Rattle.gptp_model.proofs.AdvanceLemmas.{nothing_sooner}
 use Rattle.gptp_world.specs.Transitions.{Passes, PassesTo, ActTrace}
 use Rattle.gptp_invariants.specs.ChoiceSeenLaws.{IsNoChange}
 use Rattle.gptp_invariants.proofs.WorldOutlineLemmas.{acts_time}
-use Rattle.gptp_theorem.proofs.PlayedLemmas.{no_change}
+use Rattle.gptp_theorem.proofs.CalmKeptLemmas.{no_change}
 
 -- this is so of the worlds before and after an act, which was done at its time
 pub record IsStep {F : Type 0} (answers : Bounds → ℕ → F → Option ℕ → F → Type 0) (So : WorldState → Type 0)

@@ -39,6 +39,7 @@ use Rattle.gptp_invariants.proofs.WorldActEncodableLemmas.{answering_kept}
 use Rattle.gptp_invariants.proofs.WorldAnsweringLemmas.{IsAnswering, sound_answers}
 use Rattle.gptp_invariants.proofs.WorldSoundCallLemmas.{IsThereToo, call_sound, links_more}
 use Rattle.gptp_invariants.proofs.WorldSystemLemmas.{IsLiveAt, live_from, live_there}
+use Rattle.gptp_invariants.proofs.ChoiceCalmKeptLemmas.{places_kept}
 use Rattle.gptp_settling_time.specs.Idle.{Lives}
 
 -- ---- one system becomes another of its clock
@@ -72,18 +73,6 @@ lives_set (first ∷ stations) (suc place) old new here live same number =
         number
     by true rest = ap (λ r. (clock first.system == number) || r) rest
     by false rest = rest
-
-pub places_set : (stations : List Station) (place : ℕ) (old new : Station) → slice_get stations place ≡ Some old
-    → clock new.system ≡ clock old.system → (number : ℕ)
-    → clock_place (slice_set stations place new) number ≡ clock_place stations number
-places_set [] place old new here same number = refl
-places_set (first ∷ stations) zero old new here same number =
-    let one = same_Some first old here in
-    let named : clock new.system ≡ clock first.system = same ∙ ap (λ (x : Station). clock x.system) (sym one) in
-    rw named refl
-places_set (first ∷ stations) (suc place) old new here same number =
-    ap (λ rest. if clock first.system == number then 0 else suc rest)
-    (places_set stations place old new here same number)
 
 pub logs_set : (stations : List Station) (place : ℕ) (old new : Station) → slice_get stations place ≡ Some old
     → ((k : ℕ) → log_at new.setup k ≡ log_at old.setup k) → (i k : ℕ)
@@ -236,8 +225,8 @@ module _ (p : SettlingParams) (w : WorldState) (is : IsWorld p w) (owner value :
     place_kept : (number : ℕ) → clock_place w'.stations number ≡ clock_place w.stations number
     place_kept number =
         ap (λ stations. clock_place stations number) stations_are
-        ∙ places_set v.stations place c.station (in_state c.after c.station) c.here named number
-        ∙ places_set w.stations place station new here refl number
+        ∙ places_kept v.stations place c.station (in_state c.after c.station) c.here named number
+        ∙ places_kept w.stations place station new here refl number
 
     called : Reacts w w'
     called = record {

@@ -49,7 +49,7 @@ use Rattle.gptp_invariants.specs.DelayLinkView.{IsEndOf, IsLinkOf, LinkPlace, ot
 use Rattle.gptp_invariants.specs.DelayMeasured.{LinkIsMeasured, LinkStandsAt}
 use Rattle.gptp_invariants.specs.WorldNews.{IsNews}
 use Rattle.gptp_invariants.specs.WorldStanding.{channel_is_used, live_stations, snapshot_of, standing_system, stations_have_clock}
-use Rattle.gptp_invariants.proofs.ChoiceCalmKeptLemmas.{KeepsNetwork, links_quiet}
+use Rattle.gptp_invariants.proofs.ChoiceCalmKeptLemmas.{KeepsNetwork, links_quiet, places_kept}
 use Rattle.gptp_invariants.proofs.ChoiceFoundLemmas.{place_is}
 use Rattle.gptp_invariants.proofs.ChoiceSeenLaneLemmas.{lane_there}
 use Rattle.gptp_invariants.proofs.ChoiceSendLemmas.{lanes_apart}
@@ -72,7 +72,7 @@ use Rattle.gptp_settling_time.proofs.GainStageLemmas.{ClaimsAlways, stage_kept}
 use Rattle.gptp_settling_time.proofs.HeardLemmas.{IsHeardAt, heard_elsewhere, stays_on}
 use Rattle.gptp_settling_time.proofs.OrderedLemmas.{opposite}
 use Rattle.gptp_settling_time.proofs.QuietUpLemmas.{RaisesAlone, raises}
-use Rattle.gptp_settling_time.proofs.ReactsLemmas.{logs_set, places_set}
+use Rattle.gptp_settling_time.proofs.ReactsLemmas.{logs_set}
 use Rattle.gptp_settling_time.proofs.RecoverLemmas.{keeps, orderly, stood_alone}
 use Rattle.gptp_settling_time.proofs.SameLinkLemmas.{IsSameLink, told_same}
 use Rattle.gptp_settling_time.proofs.SamePartsLemmas.{HasSameParts, called_parts, parts_on}
@@ -516,7 +516,7 @@ module _ (p : SettlingParams) (start next number : ℕ) (w : WorldState) (draws 
       invariant = is.settling m bounded quiet off
 
       places : (c : ℕ) → clock_place begun.stations c ≡ clock_place w.stations c
-      places = places_set w.stations k.place old new starts.here named_new
+      places = places_kept w.stations k.place old new starts.here named_new
 
       logs : (q : PortIdentity) → log_of begun.stations q ≡ log_of w.stations q
       logs q =

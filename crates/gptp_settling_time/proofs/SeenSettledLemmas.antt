@@ -4,7 +4,7 @@ use Rattle.std.proofs.Common.{◌≡◌, ◌≤◌, ℕ, zero, suc, true, Some, 
 use Rattle.gptp_lists.proofs.PlaceLemmas.{member_there}
 use Rattle.gptp_graph.specs.Distance.{IsNear}
 use Rattle.gptp_graph.specs.SettledRole.{IsSettledRole}
-use Rattle.gptp_graph.specs.Snapshot.{Snapshot, port_of}
+use Rattle.gptp_graph.specs.Snapshot.{IsLinked, IsWellFormed, Snapshot, port_of}
 use Rattle.gptp_receipt.specs.declared.held.Held.{Held}
 use Rattle.gptp_setup.specs.SettlingParams.{SettlingParams}
 use Rattle.gptp_system.specs.declared.port.Port.{Port}
@@ -15,9 +15,12 @@ use Rattle.gptp_system.specs.Steps.{HasPortNumber}
 use Rattle.gptp_model.specs.declared.station.Station.{Station}
 use Rattle.gptp_model.specs.World.{WorldState}
 use Rattle.gptp_bmca_machine.specs.Calm.{Calm}
+use Rattle.gptp_bmca_machine.specs.Clean.{CameOverLink}
 use Rattle.gptp_bmca_machine.specs.Levels.{Invariant}
 use Rattle.gptp_bmca_machine.specs.Network.{IsSettlingNetwork, Network, settled_from}
+use Rattle.gptp_bmca_machine.specs.Run.{NearHaveSettled}
 use Rattle.gptp_bmca_machine.specs.Settled.{HasSettledRoles}
+use Rattle.gptp_bmca_machine.specs.Station.{HoldsAt, Reception, Station as SeenStation}
 use Rattle.gptp_bmca_machine.proofs.SettledLemmas.{network_settles}
 use Rattle.gptp_invariants.specs.ChoiceSettled.{IsSettledSystem, Settled, graph_role}
 use Rattle.gptp_invariants.specs.ChoiceSettlesAsMachine.{IsWorld}
@@ -56,10 +59,13 @@ module _ (g : Snapshot) (station : Station) (shown : AreShown station.system)
 
 -- ---- the world
 
--- by any network of the machine that has the world's snapshot, and settles by now
+-- by any network of the machine that has the world's snapshot, in which near systems have settled, and what they hold
+-- came over links
 module _ (p : SettlingParams) (n : Network) (w : WorldState) (is : IsWorld p w) (graph : n.graph ≡ snapshot_of w)
-    (net : IsSettlingNetwork n) (state : Calm n (view w)) (invariant : Invariant says_announce n (view w))
-    (late : settled_from n ≤ w.time) (bare : n.bare ≤ w.time) (sound : n.sound ≤ w.time) where
+    (well : IsWellFormed n.graph) (state : Calm n (view w)) (has : NearHaveSettled n (view w))
+    (came : (place : ℕ) (s : SeenStation) (i : ℕ) (r : Reception) → slice_get (view w).stations place ≡ Some s
+    → s.live ≡ true → IsNear n.graph s.clock → HoldsAt s i r → IsLinked n.graph (port_of s.clock (suc i))
+    → CameOverLink n.graph s.clock (suc i) r.said) (bare : n.bare ≤ w.time) where
   module _ (place : ℕ) (station : Station) (here : slice_get w.stations place ≡ Some station)
       (live : station.live ≡ true) (near : IsNear n.graph (clock station.system)) where
     there : slice_get (view w).stations place ≡ Some (station_view station)
@@ -67,22 +73,20 @@ module _ (p : SettlingParams) (n : Network) (w : WorldState) (is : IsWorld p w) 
 
     choice : HasSettledChoice n.graph station.system
     choice =
-        let (has, follow, roles) = network_settles says_announce n (view w) place (station_view station) net state
-        invariant there live near late in
+        let (best, follow, roles) = has place (station_view station) there live near in
         let follows = follow bare in
         let rest = (state.stations place (station_view station) there live).at_rest in
         record {
           root = follows.root;
           steps = follows.steps;
           slave = follows.slave;
-          parent = parent_settled n.graph station net.graph rest.vector rest.chosen
-              (λ i r. invariant.sound sound place (station_view station) i r there live) follows.slave;
+          parent = parent_settled n.graph station well rest.vector rest.chosen
+              (λ i r holds. came place (station_view station) i r there live near holds) follows.slave;
         }
 
     system : n.off ≤ w.time → IsSettledSystem n.graph station.system
     system off =
-        let (has, follow, roles) = network_settles says_announce n (view w) place (station_view station) net state
-        invariant there live near late in
+        let (best, follow, roles) = has place (station_view station) there live near in
         record {
           root = choice.root;
           steps = choice.steps;
@@ -91,13 +95,31 @@ module _ (p : SettlingParams) (n : Network) (w : WorldState) (is : IsWorld p w) 
           roles = roles_settled n.graph station (is.sound.on_time.stations place station here).steady.shown (roles off);
         }
 
-  pub seen_chooses : ChoiceStands w
-  seen_chooses =
+  pub near_choose : ChoiceStands w
+  near_choose =
       subst (λ g. (place : ℕ) (station : Station) → slice_get w.stations place ≡ Some station → station.live ≡ true
       → IsNear g (clock station.system) → HasSettledChoice g station.system) graph choice
 
-  pub seen_settles : n.off ≤ w.time → Settled w
-  seen_settles off =
+  pub near_settle : n.off ≤ w.time → Settled w
+  near_settle off =
       subst (λ g. (place : ℕ) (station : Station) → slice_get w.stations place ≡ Some station → station.live ≡ true
       → IsNear g (clock station.system) → IsSettledSystem g station.system) graph
       (λ place station here live near. system place station here live near off)
+
+-- or by one that settles by now
+module _ (p : SettlingParams) (n : Network) (w : WorldState) (is : IsWorld p w) (graph : n.graph ≡ snapshot_of w)
+    (net : IsSettlingNetwork n) (state : Calm n (view w)) (invariant : Invariant says_announce n (view w))
+    (late : settled_from n ≤ w.time) (bare : n.bare ≤ w.time) (sound : n.sound ≤ w.time) where
+  has : NearHaveSettled n (view w)
+  has place s there live near = network_settles says_announce n (view w) place s net state invariant there live near late
+
+  came : (place : ℕ) (s : SeenStation) (i : ℕ) (r : Reception) → slice_get (view w).stations place ≡ Some s
+      → s.live ≡ true → IsNear n.graph s.clock → HoldsAt s i r → IsLinked n.graph (port_of s.clock (suc i))
+      → CameOverLink n.graph s.clock (suc i) r.said
+  came place s i r there live near holds = (invariant.sound sound place s i r there live holds).over
+
+  pub seen_chooses : ChoiceStands w
+  seen_chooses = near_choose p n w is graph net.graph state has came bare
+
+  pub seen_settles : n.off ≤ w.time → Settled w
+  seen_settles = near_settle p n w is graph net.graph state has came bare

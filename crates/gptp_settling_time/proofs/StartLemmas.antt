@@ -45,8 +45,8 @@ use Rattle.gptp_invariants.proofs.WorldClaimLemmas.{claim_begins}
 use Rattle.gptp_invariants.proofs.WorldNewsLemmas.{link_used, news_begin}
 use Rattle.gptp_invariants.proofs.WorldStartNewsLemmas.{first_ready, start_news}
 use Rattle.gptp_theorem.proofs.HeadlineLemmas.{is_settled, quiet_as}
-use Rattle.gptp_theorem.proofs.PlayedLemmas.{no_change}
 use Rattle.gptp_theorem.proofs.SettlingInvariantLemmas.{advanced_claimed}
+use Rattle.gptp_theorem.proofs.CalmKeptLemmas.{no_change}
 use Rattle.gptp_world.proofs.SettlingInvariantLemmas.{next_octet}
 use Rattle.std.proofs.lemmas.Option.{none-some}
 use Rattle.gptp_lists.proofs.SystemSpecLemmas.{In-map}

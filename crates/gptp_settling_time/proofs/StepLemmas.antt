@@ -12,21 +12,12 @@ use Rattle.gptp_invariants.specs.ChoiceSettled.{Settled}
 use Rattle.gptp_invariants.specs.ChoiceSettlesAsMachine.{IsWorld}
 use Rattle.gptp_invariants.specs.WorldStanding.{snapshot_of}
 use Rattle.gptp_invariants.proofs.ChoiceCalmKeptLemmas.{acts_keep, same_snapshot}
+use Rattle.gptp_invariants.proofs.SyncExactLemmas.{shows_then}
 use Rattle.gptp_bmca_machine.specs.SoundLaws.{AllAreNear}
 use Rattle.gptp_settling_time.specs.ChoiceAlone.{ChoiceStands}
 use Rattle.gptp_settling_time.specs.Unchanged.{LeavesChoiceShown, LeavesShown}
 use Rattle.gptp_settling_time.proofs.PassLemmas.{IsStep}
 use Rattle.gptp_settling_time.proofs.SameShownLemmas.{leaves_choice, leaves_shown}
-
--- a system shows the same at another time
-shows_at : (w : WorldState) (time number : ℕ) (s : SystemState) → ShowsLive number w s → ShowsLive number (at time w) s
-shows_at w time number s shows = record {
-  place = shows.place;
-  station = shows.station;
-  is = record { here = shows.is.here; named = shows.is.named };
-  live = shows.live;
-  state = shows.state;
-}
 
 shows_then : (w : WorldState) (time number : ℕ) (s : SystemState) → ShowsLive number (at time w) s
     → ShowsLive number w s
@@ -61,7 +52,7 @@ module _ (p : SettlingParams) {F : Type 0} (answers : Bounds → ℕ → F → O
       let is = leaves_shown p then t.after (world then so_then) (world t.after step.after) (settles then so_then on)
       (settles t.after step.after (omega (arith, on, done))) same_then near in
       record {
-        stays = λ number s shows. is.stays number s (shows_at t.before t.told.timed.at number s shows);
+        stays = λ number s shows. is.stays number s (shows_then t.before t.told.timed.at number s shows);
         comes = λ number lives.
             let back = is.comes number lives in
             (back.0, shows_then t.before t.told.timed.at number back.0 back.1);
@@ -74,7 +65,7 @@ module _ (p : SettlingParams) {F : Type 0} (answers : Bounds → ℕ → F → O
       let is = leaves_choice p then t.after (world then so_then) (chooses then so_then on)
       (chooses t.after step.after (omega (arith, on, done))) same_then near in
       record {
-        stays = λ number s shows. is.stays number s (shows_at t.before t.told.timed.at number s shows);
+        stays = λ number s shows. is.stays number s (shows_then t.before t.told.timed.at number s shows);
         comes = λ number lives.
             let back = is.comes number lives in
             (back.0, shows_then t.before t.told.timed.at number back.0 back.1);

@@ -15,9 +15,10 @@ use Rattle.gptp_bmca_machine.specs.LossLaws.{Unmoved}
 use Rattle.gptp_bmca_machine.specs.Network.{IsSettlingNetwork, Network, settled_from}
 use Rattle.gptp_bmca_machine.specs.RestLaws.{SameWiring}
 use Rattle.gptp_bmca_machine.specs.SoundEverywhere.{IsSoundEverywhere, IsSoundSent, StationIsSound}
+use Rattle.gptp_bmca_machine.specs.SoundLaws.{UnlinkedAreOff}
 use Rattle.gptp_bmca_machine.specs.Station.{Disabled, MachineState, Received, Station}
-use Rattle.gptp_bmca_machine.proofs.CutTreeLemmas.{beside, tree_dec}
-use Rattle.gptp_bmca_machine.proofs.FallEndLemmas.{FallsBack}
+use Rattle.gptp_bmca_machine.proofs.CutTreeLemmas.{beside, cuts_off, tree_dec}
+use Rattle.gptp_bmca_machine.proofs.FallEndLemmas.{FallsOff}
 use Rattle.gptp_bmca_machine.proofs.FallLemmas.{falls_by}
 use Rattle.gptp_settling_time.proofs.EndAnswersLemmas.{EndAnswers, HeldBefore, flew, held_before}
 use Rattle.gptp_settling_time.proofs.TreeSoundLemmas.{IsOldInTree, IsSoundOutside, LanesBeginApart, linked_at, tells_outside}
@@ -30,7 +31,7 @@ module _ (says : Spelling) (n0 n : Network) (top other : ℕ) (best next : Syste
     (invariant0 : Invariant says n0 w) (late0 : settled_from n0 ≤ w.time)
     (sound0 : IsSoundEverywhere says n0.graph w) (same : SameWiring n0 n) (w' : MachineState) (lost place : ℕ)
     (a : EndAnswers says n top lost place w w') (start : ℕ)
-    (b' : FallsBack says n0.graph n top best next base depth t start w') (apart' : LanesBeginApart w') (old : ℕ)
+    (b' : FallsOff says n0.graph n top best next base depth t start w') (apart' : LanesBeginApart w') (dark' : UnlinkedAreOff n.graph w') (old : ℕ)
     (deep : (v : ℕ) → IsBest n.graph v next → falls_by n start (depth v) + n.most ≤ old)
     (due : (j : ℕ) (l : Lane) (f : AnnounceFrame) (c : Announce) → slice_get w'.lanes j ≡ Some l → In f l.frames
     → says f.octets c → f.due ≤ old) where
@@ -44,7 +45,7 @@ module _ (says : Spelling) (n0 n : Network) (top other : ℕ) (best next : Syste
   held_outside : (i : ℕ) (s : Station) → slice_get w'.stations i ≡ Some s → s.live ≡ true
       → (IsBest n.graph s.clock next → ⊥) → StationIsSound n.graph s
   held_outside i s at live out k r (q, at_q, holds) =
-      came (linked_at says g n top best next base depth t start w' b' i s at live k q at_q
+      came (linked_at says g n top best next base depth t start w' b' i s at live dark' k q at_q
       (λ off. let both : Received r ≡ Disabled = sym holds ∙ off in absurd cc))
     where
       o : HeldBefore says n0 n top t.well t.left moved_top net0 w calm0 invariant0 late0 sound0 same w' lost place a
@@ -67,7 +68,7 @@ module _ (says : Spelling) (n0 n : Network) (top other : ℕ) (best next : Syste
             joins = back;
             source = was.source ∙ one;
             sound = stays from.clock r.said
-                (λ in_from. out (beside g n top best next base depth t from.clock s.clock (from.port, suc k, back)
+                (λ in_from. out (beside g n top best next base depth (cuts_off g n top best next base depth t) from.clock s.clock (from.port, suc k, back)
                 in_from))
                 (Joins-clock g from (port_of s.clock (suc k)) t.left.graph
                 (Joins-sym g (port_of s.clock (suc k)) from joined_then))
@@ -84,7 +85,7 @@ module _ (says : Spelling) (n0 n : Network) (top other : ℕ) (best next : Syste
             let (port, own, master, from) = sent.own in
             let live = a.reacts.live ∙ a.live in
             tells_outside says g n top best next base depth t start w' b' (n.place top) a.s' a.there live old deep
-            apart' (λ out. held_outside (n.place top) a.s' a.there live out) port c own master j l f at among from
+            apart' dark' (λ out. held_outside (n.place top) a.s' a.there live out) port c own master j l f at among from
         | inl o ↦ elim (Joins-dec n.graph l.from l.to) [
           | no none ↦ inr (record { by = due j l f c at among said; inside = λ joins. absurd (none joins) })
           | yes joins ↦

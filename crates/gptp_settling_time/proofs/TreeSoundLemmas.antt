@@ -1,7 +1,6 @@
 -- A tree that is cut off falls back. What others hold stays sound, and so does what is in flight, but for what the tree
 -- told before it dropped the best of before. Once that is gone all is sound.
 use Rattle.std.proofs.Common.{◌≡◌, ◌⊎◌, ◌<◌, ◌≤◌, ◌+◌, ℕ, suc, true, List, Some, slice_get, refl, sym, ap, subst, ◌∙◌, inl, inr, arith}
-use native.Mathlib.Decide.{ℕ_discrete}
 use Rattle.gptp_lists.specs.Members.{In}
 use Rattle.gptp_lists.proofs.SystemSpecLemmas.{In-parts}
 use Rattle.gptp_graph.specs.Best.{IsBest}
@@ -18,11 +17,14 @@ use Rattle.gptp_bmca_machine.specs.Frame.{Announce, AnnounceFrame, Lane, Send, S
 use Rattle.gptp_bmca_machine.specs.Network.{Network, network_setting}
 use Rattle.gptp_bmca_machine.specs.Reacts.{IsMasterAt, IsOwn}
 use Rattle.gptp_bmca_machine.specs.SoundEverywhere.{IsSoundEverywhere, IsSoundSent, StationIsSound}
+use Rattle.gptp_bmca_machine.specs.SoundLaws.{UnlinkedAreOff}
 use Rattle.gptp_bmca_machine.specs.Station.{Disabled, HoldsAt, MachineState, Mine, Port, Received, Reception, Station}
 use Rattle.gptp_bmca_machine.specs.Touch.{Hear, StationTouch}
-use Rattle.gptp_bmca_machine.proofs.CutTreeLemmas.{beside, tree_dec}
-use Rattle.gptp_bmca_machine.proofs.FallEndLemmas.{FallsBack}
-use Rattle.gptp_bmca_machine.proofs.FallLemmas.{HeldInTree, falls_by, free_holds, holds_in_tree, old_in_time, says_whole}
+use Rattle.gptp_bmca_machine.proofs.CutTreeLemmas.{IsCutOff, LeadsNowhere, beside, cuts_off, moves_tree, tree_dec}
+use Rattle.gptp_bmca_machine.proofs.FallEndLemmas.{FallsOff}
+use Rattle.gptp_bmca_machine.proofs.FallHeldLemmas.{holds_in_tree, old_in_time}
+use Rattle.gptp_bmca_machine.proofs.FallLemmas.{HasChoice, HeldFree, choice_dec, falls_by, free_holds, says_whole}
+use Rattle.gptp_bmca_machine.proofs.MovedTreeLemmas.{MovesTree}
 use Rattle.gptp_bmca_machine.proofs.PlaceLemmas.{same_there}
 use Rattle.gptp_bmca_machine.proofs.ReactsLemmas.{JustHeard, held_from}
 use Rattle.gptp_bmca_machine.proofs.SoundEverywhereLemmas.{may_say}
@@ -50,7 +52,10 @@ pub record IsSoundOutside (says : Spelling) (g : Snapshot) (next : System) (old 
 module _ (says : Spelling) (g : Snapshot) (n : Network) (top : ℕ) (best next : System) (base : ℕ) (depth : ℕ → ℕ)
     (t : CutsTree g n top best next base depth) (start : ℕ) where
   abbrev IsFallingBack : MachineState → Type 0
-  IsFallingBack = FallsBack says g n top best next base depth t start
+  IsFallingBack = FallsOff says g n top best next base depth t start
+
+  abbrev m : MovesTree g n (IsCutOff n next) LeadsNowhere top best next base depth
+  m = moves_tree g n top best next base depth t
 
   -- ---- what is told
 
@@ -66,22 +71,22 @@ module _ (says : Spelling) (g : Snapshot) (n : Network) (top : ℕ) (best next :
     there = subst (λ k. slice_get w.stations k ≡ Some s) (calm.placed i s at) at
 
     -- a port that received something is at a link, and so is a master port
-    pub linked_at : (place : ℕ) (q : Port) → slice_get s.ports place ≡ Some q → (q.held ≡ Disabled → ⊥)
+    pub linked_at : UnlinkedAreOff n.graph w → (place : ℕ) (q : Port) → slice_get s.ports place ≡ Some q → (q.held ≡ Disabled → ⊥)
         → IsLinked n.graph (port_of s.clock (suc place))
-    linked_at place q at_q on = elim (IsLinked-dec n.graph (port_of s.clock (suc place))) [
+    linked_at dark place q at_q on = elim (IsLinked-dec n.graph (port_of s.clock (suc place))) [
       | yes linked ↦ linked
-      | no none ↦ absurd (on (b.after.dark i s place q at live at_q none))
+      | no none ↦ absurd (on (dark i s place q at live at_q none))
     ]
 
     module _ (old : ℕ) (deep : (v : ℕ) → IsBest n.graph v next → falls_by n start (depth v) + n.most ≤ old)
-        (apart : LanesBeginApart w) (held : (IsBest n.graph s.clock next → ⊥) → StationIsSound n.graph s) (port : ℕ)
+        (apart : LanesBeginApart w) (dark : UnlinkedAreOff n.graph w) (held : (IsBest n.graph s.clock next → ⊥) → StationIsSound n.graph s) (port : ℕ)
         (a : Announce) (own : IsOwn s port a) (master : IsMasterAt s port) (j : ℕ) (l : Lane) (f : AnnounceFrame)
         (at_l : slice_get w.lanes j ≡ Some l) (among : In f l.frames) (from : l.from ≡ port_of s.clock port) where
       -- it tells over a link
       over : Joins n.graph l.from l.to
       over =
           let (k, q, number, at_q, mine) = master in
-          let (to, joins) = linked_at k q at_q
+          let (to, joins) = linked_at dark k q at_q
           (λ off. let both : Mine s.root s.steps ≡ Disabled = sym mine ∙ off in absurd cc) in
           on_lane to (subst (λ m. Joins n.graph (port_of s.clock m) to) (sym number) joins)
         where
@@ -113,18 +118,19 @@ module _ (says : Spelling) (g : Snapshot) (n : Network) (top : ℕ) (best next :
       by_tree (no out) =
           inl (sent (says_sound n.graph s port a t.well
           (may_say (network_setting n) w.time s (calm.facts.stations i s at live)) (held out) own))
-      by_tree (yes in_s) = elim (ℕ_discrete s.root best.identity) [
+      by_tree (yes in_s) = elim (choice_dec s best (base + depth s.clock)) [
         | no not ↦ inl (sent (record {
           sender = known_at;
           source = own.source;
-          sound = inr (says_whole says g n top best next base depth t start w b.after s.clock in_s s there
-              (holds_in_tree says g n top best next base depth t start w b.after b.falling s.clock in_s) not port a
+          sound = inr (says_whole says g n (IsCutOff n next) LeadsNowhere top best next base depth m start w b.after s.clock in_s s there
+              (holds_in_tree says g n (IsCutOff n next) LeadsNowhere top best next base depth m start w b.after b.falling s.clock in_s) not port a
               own);
         }))
-        | yes root ↦
-            let late = old_in_time says g n top best next base depth t start w b.after b.falling (depth s.clock)
+        | yes choice ↦
+            let late = old_in_time says g n (IsCutOff n next) LeadsNowhere top best next base depth m start w b.after b.falling (depth s.clock)
             s.clock refl in_s
-            (λ x at_x. ap (λ (y : Station). y.root) (same_there w.stations (n.place s.clock) x s at_x there) ∙ root) in
+            (λ x at_x. subst (λ y. HasChoice y best (base + depth s.clock))
+            (same_there w.stations (n.place s.clock) s x there at_x) choice) in
             let most = deep s.clock in_s in
             let due = soon in
             inr (record {
@@ -141,6 +147,7 @@ module _ (says : Spelling) (g : Snapshot) (n : Network) (top : ℕ) (best next :
 
   module _ (old : ℕ) (deep : (v : ℕ) → IsBest n.graph v next → falls_by n start (depth v) + n.most ≤ old)
       (w w' : MachineState) (b : IsFallingBack w) (b' : IsFallingBack w') (apart' : LanesBeginApart w')
+      (dark' : UnlinkedAreOff n.graph w')
       (is : IsSoundOutside says n.graph next old w) where
     -- what a system that isn't of the tree hears over a link is sound
     module _ (act : Arrives says w w') (place : ℕ) (a : Announce) (hears : act.touch ≡ Hear (suc place) a)
@@ -171,7 +178,7 @@ module _ (says : Spelling) (g : Snapshot) (n : Network) (top : ℕ) (best next :
                 let over : Joins n.graph act.l.from act.l.to =
                 subst (λ p. Joins n.graph p act.l.to) (sym from_is) (subst (Joins n.graph from) (sym to) joins) in
                 let inside = subst (λ (p : PortIdentity). IsBest n.graph p.clock next) from_is (gone.inside over) in
-                absurd (out (beside g n top best next base depth t from.clock act.call.s.clock
+                absurd (out (beside g n top best next base depth (cuts_off g n top best next base depth t) from.clock act.call.s.clock
                 (from.port, suc place, joins) inside))
           ]
 
@@ -193,7 +200,7 @@ module _ (says : Spelling) (g : Snapshot) (n : Network) (top : ℕ) (best next :
           (elim (held_from says call.s call.s' touch mid.time call.sends call.reacts place r (q, at_q, holds)) [
             | inl before ↦
                 is.stations call.place call.s (stood call.place call.s call.here) call.live out place r before
-            | inr just ↦ came just (linked_at w' b' call.place call.s' call.there live' place q at_q
+            | inr just ↦ came just (linked_at w' b' call.place call.s' call.there live' dark' place q at_q
                 (λ off. let both : Received r ≡ Disabled = sym holds ∙ off in absurd cc))
           ])
         where
@@ -236,7 +243,7 @@ module _ (says : Spelling) (g : Snapshot) (n : Network) (top : ℕ) (best next :
                   → IsSoundSent n.graph l'.from a ⊎ IsOldInTree n.graph next old l'.from l'.to f.due
               fresh (x, x_in, from, octets) =
                   let (own, master) = call.reacts.tells x a x_in (subst (λ (o : List ℕ). says o a) octets said) in
-                  tells_outside w' b' call.place call.s' call.there live' old deep apart' held' x.port a own master j l'
+                  tells_outside w' b' call.place call.s' call.there live' old deep apart' dark' held' x.port a own master j l'
                   f at among (step.from ∙ from ∙ (λ i. port_of (sym call.reacts.clock i) x.port))
 
       answered : IsSoundOutside says n.graph next old w'
@@ -288,28 +295,28 @@ module _ (says : Spelling) (g : Snapshot) (n : Network) (top : ℕ) (best next :
       from = port_of h.v (suc h.p);
       joins = h.joins;
       source = h.source;
-      sound = inr (free_holds says g n top best next base depth t start w b.after s.clock in_s s at_place holds_in not
-          place r holds);
+      sound = inr h.whole;
     }
       where
         at_place : slice_get w.stations (n.place s.clock) ≡ Some s
         at_place = there w b i s at live
 
-        holds_in : (x : Station) (i : ℕ) (r : Reception) → slice_get w.stations (n.place s.clock) ≡ Some x
-            → HoldsAt x i r → HeldInTree says g n top best next base depth t start s.clock i r
-        holds_in = holds_in_tree says g n top best next base depth t start w b.after b.falling s.clock in_s
-
-        h : HeldInTree says g n top best next base depth t start s.clock place r
-        h = holds_in s place r at_place holds
-
-        -- nobody has the root of before
-        not : s.root ≡ best.identity → ⊥
-        not root =
-            let late = old_in_time says g n top best next base depth t start w b.after b.falling (depth s.clock)
+        -- nobody has its old choice
+        not : HasChoice s best (base + depth s.clock) → ⊥
+        not choice =
+            let late = old_in_time says g n (IsCutOff n next) LeadsNowhere top best next base depth m start w b.after b.falling (depth s.clock)
             s.clock refl in_s (λ x at_x.
-            ap (λ (y : Station). y.root) (same_there w.stations (n.place s.clock) x s at_x at_place) ∙ root) in
+            subst (λ y. HasChoice y best (base + depth s.clock))
+            (same_there w.stations (n.place s.clock) s x at_place at_x) choice) in
             let by = fallen s.clock in_s in
             omega (arith, late, by)
+
+        h : HeldFree says g n (IsCutOff n next) LeadsNowhere top best next base depth m start s.clock place r
+        h =
+            free_holds says g n (IsCutOff n next) LeadsNowhere top best next base depth m start w b.after s.clock in_s s
+            at_place
+            (holds_in_tree says g n (IsCutOff n next) LeadsNowhere top best next base depth m start w b.after b.falling
+            s.clock in_s) not place r holds
 
     pub outside_gone : IsSoundEverywhere says n.graph w
     outside_gone = record {

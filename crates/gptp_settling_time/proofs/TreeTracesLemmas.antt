@@ -14,7 +14,7 @@ use Rattle.gptp_bmca_machine.specs.Clean.{IsWorse, Whole}
 use Rattle.gptp_bmca_machine.specs.CutTree.{CutsTree}
 use Rattle.gptp_bmca_machine.specs.Frame.{Announce}
 use Rattle.gptp_bmca_machine.specs.Network.{Network}
-use Rattle.gptp_bmca_machine.proofs.CutTreeLemmas.{beside, tree_dec}
+use Rattle.gptp_bmca_machine.proofs.CutTreeLemmas.{beside, cuts_off, tree_dec}
 
 -- of two snapshots the second has the systems of the first, and its links but such as join these two systems
 pub record HasAllButLink (g g' : Snapshot) (top other : ℕ) : Type 0 where
@@ -30,7 +30,7 @@ module _ (g : Snapshot) (n : Network) (top : ℕ) (best next : System) (base : �
       → In other us
   leaves v end [] in_v out same = absurd (out (subst (λ c. IsBest n.graph c next) same in_v))
   leaves v end (u ∷ us) in_v out (joined, route) = elim (has.links v u joined) [
-    | inl left ↦ inr (leaves u end us (beside g n top best next base depth t v u left in_v) out route)
+    | inl left ↦ inr (leaves u end us (beside g n top best next base depth (cuts_off g n top best next base depth t) v u left in_v) out route)
     | inr (inl (is_top, is_other)) ↦ inl (sym is_other)
     | inr (inr (is_other, is_top)) ↦ absurd (outside (subst (λ c. IsBest n.graph c next) is_other in_v))
   ]
@@ -43,7 +43,7 @@ module _ (g : Snapshot) (n : Network) (top : ℕ) (best next : System) (base : �
     | inl left ↦ (
       left,
       stays_out u end us
-          (λ in_u. out (beside g n top best next base depth t u v (Adjacent-sym n.graph v u left) in_u)) out_end route
+          (λ in_u. out (beside g n top best next base depth (cuts_off g n top best next base depth t) u v (Adjacent-sym n.graph v u left) in_u)) out_end route
           apart,
     )
     | inr (inl (is_top, is_other)) ↦ absurd (out (subst (λ c. IsBest n.graph c next) (sym is_top) in_top))

@@ -64,7 +64,7 @@ count_stands n events w so sound = ap length (systems_stand n events w so sound)
 -- ---- one of the network
 
 -- what stands somewhere is one of the network's after the events
-record IsMemberAt (n : NetworkState) (events : List Timed) (place : ℕ) (station : Station) : Type 0 where
+pub record IsMemberAt (n : NetworkState) (events : List Timed) (place : ℕ) (station : Station) : Type 0 where
   pub member : SystemSpec
   pub there : slice_get n.systems place ≡ Some member
   pub is : shape_after n events member ≡ shape station

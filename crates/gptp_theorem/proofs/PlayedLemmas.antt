@@ -2,11 +2,8 @@
 use Rattle.std.proofs.Common.{◌≡◌, ◌+◌, ℕ, List, [], ◌∷◌, ◌++◌, Option, refl, sym, ap, subst, arith}
 use Rattle.std.specs.List.{AllByRecursion}
 use Rattle.gptp_links.specs.declared.bounds.Bounds.{Bounds}
-use Rattle.gptp_scenario.specs.declared.change.Act.{Act}
 use Rattle.gptp_scenario.specs.declared.change.Timed.{Timed}
 use Rattle.gptp_model.specs.declared.done.Done.{Done}
-use Rattle.gptp_model.specs.declared.item.Item.{Item}
-use Rattle.gptp_model.specs.declared.item.Item.TheVariants.{Expiry, Arrival}
 use Rattle.gptp_scenario.specs.Allowed.{IsFitAct}
 use Rattle.gptp_model.specs.Acts.{at}
 use Rattle.gptp_model.specs.Advancing.{Advanced, Advances, Told}
@@ -14,7 +11,6 @@ use Rattle.gptp_model.specs.Course.{WasDone}
 use Rattle.gptp_model.specs.Initial.{initial}
 use Rattle.gptp_scenario.specs.Network.{IsNetwork, NetworkState}
 use Rattle.gptp_model.specs.Sound.{IsSound}
-use Rattle.gptp_model.specs.Views.{IsActOf}
 use Rattle.gptp_model.specs.World.{WorldState}
 use Rattle.gptp_model.proofs.AdvanceLemmas.{next_fits, nothing_sooner}
 use Rattle.gptp_model.proofs.SoundLemmas.{acts_sound, later_sound, starts_sound}
@@ -24,17 +20,12 @@ use Rattle.gptp_world.proofs.InitialLemmas.{initial_sound}
 use Rattle.gptp_network.specs.Document.{DocumentState}
 use Rattle.gptp_network.specs.Snapshot.{events_by}
 use Rattle.gptp_report.specs.Run.{Goes, PlaysRun}
-use Rattle.gptp_invariants.specs.ChoiceSeenLaws.{IsNoChange}
 use Rattle.gptp_theorem.specs.Reached.{StandsAsPlanned}
 use Rattle.gptp_theorem.specs.PlayedLaws.{IsMade, IsReached}
 use Rattle.gptp_theorem.proofs.BeginLemmas.{begun_stands}
 use Rattle.gptp_theorem.proofs.ChangeLemmas.{changes_stand}
 use Rattle.gptp_theorem.proofs.KeptLemmas.{acts_stand, time_stands}
-
--- what is pending is no change
-pub no_change : (item : Item) (act : Act) (w : WorldState) → IsActOf item w act → IsNoChange act
-no_change (Arrival link direction) act w is = subst IsNoChange (sym is) tt
-no_change (Expiry place timer) act w (station, here, is) = subst IsNoChange (sym is) tt
+use Rattle.gptp_theorem.proofs.CalmKeptLemmas.{no_change}
 
 -- it stands so, and is sound
 record Is (n : NetworkState) (events : List Timed) (w : WorldState) : Type 0 where

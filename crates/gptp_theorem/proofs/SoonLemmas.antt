@@ -28,7 +28,7 @@ use Rattle.gptp_theorem.specs.Headline.{WorldIsCalm, IsSettled}
 use Rattle.gptp_theorem.specs.Soon.{GainsAreSound, GainsSettle, LinksUpSettle, RestsAreSound, SoundGoesOn, StartsAreSound, StartsSettle}
 use Rattle.gptp_theorem.proofs.SettlingInvariantLemmas.{advanced_claimed}
 use Rattle.gptp_theorem.proofs.HeadlineLemmas.{is_settled, quiet_as}
-use Rattle.gptp_theorem.proofs.PlayedLemmas.{no_change}
+use Rattle.gptp_theorem.proofs.CalmKeptLemmas.{no_change}
 
 quiet_links : (p : SettlingParams) (w : WorldState) → WorldIsCalm p w → HaveQuietLinks p.params w
 quiet_links p w calm = (quiet_as p w calm).links

@@ -1,5 +1,5 @@
--- A system that reacts in a network that has settled: each link is at a stage afterwards. As ReactionLemmas of
--- gptp_bmca_machine has it, where all that is held is sound anyway.
+-- A system that reacts in a network that has settled, after which all that is held is sound: each link is at a stage
+-- then.
 use Rattle.std.proofs.Common.{◌≡◌, ◌⊎◌, ◌≤◌, ◌<◌, ◌+◌, ℕ, suc, true, [], ◌∷◌, Some, slice_get, sym, subst, ◌∙◌, inl, inr, arith}
 use native.Mathlib.Decide.{dec_le}
 use Rattle.gptp_lists.specs.Members.{In}
@@ -36,7 +36,7 @@ module _ (says : Spelling) (n n' : Network) (net : IsSettlingNetwork n) (net' : 
     (links : (p q : PortIdentity) → Joins n'.graph p q → Joins n.graph p q) (same : SameWiring n n')
     (most_is : n'.most ≡ n.most) (early : w.time < since n' 0) (calm' : Calm n' w')
     (all_after : IsSoundOnLinks says n'.graph w')
-    (stays_on : (d : ℕ) (best : System) (v p u q : ℕ) → LeadsFarther n'.graph d best v p u q
+    (stays_on : (d : ℕ) (best : System) (v p u q : ℕ) → d < 255 → LeadsFarther n'.graph d best v p u q
     → StaysOn (wiring n' d best v p u q) w w') where
   started : since n 0 ≤ w.time
   started = omega (arith, late)
@@ -311,7 +311,7 @@ module _ (says : Spelling) (n n' : Network) (net : IsSettlingNetwork n) (net' : 
     pub stage_after : LinkSettles says (wiring n' d b' v p u q) w'
     stage_after from =
         called says (wiring n' d b' v p u q) Other w w' call ends_before ends_after
-        (subst (λ t. n'.claimed d (port_of v (suc p)) ≤ t) call.time from) (stays_on d b' v p u q leads)
+        (subst (λ t. n'.claimed d (port_of v (suc p)) ≤ t) call.time from) (stays_on d b' v p u q close leads)
         (stage_before d b' v p u q joins leads)
         (λ a here touched. absurd cc) (λ port r here grown. absurd cc) from
       where
