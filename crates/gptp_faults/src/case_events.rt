@@ -1,6 +1,6 @@
 //! The events of a case.
 
-ghost use Rattle.std.specs.Prelude.{◌≡◌, ◌≤◌, ◌++◌, ◌∷◌, [], IfErr, IfOk, IfSome, OnOk, map};
+ghost use Rattle.std.specs.Prelude.{◌≡◌, ◌≤◌, ◌∷◌, [], IfErr, IfOk, IfSome, OnOk, map};
 ghost use Rattle.std.specs.List.{AllByRecursion};
 ghost use Rattle.gptp_setup.specs.declared.limits.TheConstants.{LAST_MOMENT};
 ghost use Rattle.gptp_network.specs.Adding.{with_event};
@@ -212,24 +212,33 @@ fn hang_events(alloc: Global, clock: ClockId) -> Result<CaseEvents, AllocError>
     })
 }
 
-/// Puts after others that the links at these ports go down.
-fn push_downs(changes: &mut Vec<CaseChange>, ports: &[PortId]) -> Result<(), AllocError>
-    ensures { OnOk result (changes.new.items ≡ changes.old.items ++ map CaseChange.LinkDown ports.now) }
+/// The links at these ports go down.
+fn downs(alloc: Global, ports: &[PortId]) -> Result<Vec<CaseChange>, AllocError>
+    ensures { IfOk result (λ changes. changes.items ≡ map CaseChange.LinkDown ports.now) }
 {
-    for port in ports {
-        changes.push(CaseChange::LinkDown(*port))?;
-    }
-    Ok(())
+    ports
+        .iter()
+        .map(|port| CaseChange::LinkDown(*port))
+        .collect(alloc)
 }
 
-/// Puts after others that the links at these ports come up.
-fn push_ups(changes: &mut Vec<CaseChange>, ports: &[PortId]) -> Result<(), AllocError>
-    ensures { OnOk result (changes.new.items ≡ changes.old.items ++ map CaseChange.LinkUp ports.now) }
+/// The links at these ports come up.
+fn ups(alloc: Global, ports: &[PortId]) -> Result<Vec<CaseChange>, AllocError>
+    ensures { IfOk result (λ changes. changes.items ≡ map CaseChange.LinkUp ports.now) }
 {
-    for port in ports {
-        changes.push(CaseChange::LinkUp(*port))?;
-    }
-    Ok(())
+    ports
+        .iter()
+        .map(|port| CaseChange::LinkUp(*port))
+        .collect(alloc)
+}
+
+/// A system that fails, and then the links at these ports go down.
+fn power_off(alloc: Global, clock: ClockId, ports: &[PortId]) -> Result<Vec<CaseChange>, AllocError>
+    ensures { IfOk result (λ at. at.items ≡ CaseChange.Fail clock ∷ map CaseChange.LinkDown ports.now) }
+{
+    let mut at = one(alloc, CaseChange::Fail(clock))?;
+    at.extend_from_slice(&downs(alloc, ports)?)?;
+    Ok(at)
 }
 
 /// A system that starts again, and then the links at these ports come up.
@@ -241,7 +250,7 @@ fn power_back(
     ensures { IfOk result (λ back. back.items ≡ CaseChange.Recover clock ∷ map CaseChange.LinkUp ports.now) }
 {
     let mut back = one(alloc, CaseChange::Recover(clock))?;
-    push_ups(&mut back, ports)?;
+    back.extend_from_slice(&ups(alloc, ports)?)?;
     Ok(back)
 }
 
@@ -249,10 +258,8 @@ fn power_back(
 fn power_at_once(alloc: Global, clock: ClockId, ports: &[PortId]) -> Result<CaseEvents, AllocError>
     ensures { IfOk result (λ e. e ≡ power_events clock ports.now) }
 {
-    let mut at = one(alloc, CaseChange::Fail(clock))?;
-    push_downs(&mut at, ports)?;
     Ok(CaseEvents {
-        at,
+        at: power_off(alloc, clock, ports)?,
         seen: Vec::new(alloc),
         delay: 0,
         back: power_back(alloc, clock, ports)?,
@@ -269,11 +276,9 @@ fn power_seen(
     requires { delay ≤ LAST_MOMENT }
     ensures { IfOk result (λ e. e ≡ power_seen clock ports.now delay) }
 {
-    let mut seen = Vec::new(alloc);
-    push_downs(&mut seen, ports)?;
     Ok(CaseEvents {
         at: one(alloc, CaseChange::Fail(clock))?,
-        seen,
+        seen: downs(alloc, ports)?,
         delay: if ports.is_empty() { 0 } else { delay },
         back: power_back(alloc, clock, ports)?,
     })

@@ -137,42 +137,52 @@ fn live_systems(alloc: Global, document: &Document) -> Result<Vec<ClockId>, Allo
     Ok(clocks)
 }
 
-/// Puts the cases of systems that hang after others.
-fn push_hangs(cases: &mut Vec<Case>, clocks: &[ClockId]) -> Result<(), AllocError>
-    ensures { OnOk result (cases.new.items ≡ cases.old.items ++ map Case.System clocks.now) }
+/// The cases of systems that hang.
+fn hangs(alloc: Global, clocks: &[ClockId]) -> Result<Vec<Case>, AllocError>
+    ensures { IfOk result (λ cases. cases.items ≡ map Case.System clocks.now) }
 {
-    for clock in clocks {
-        cases.push(Case::System { clock: *clock })?;
-    }
-    Ok(())
+    clocks
+        .iter()
+        .map(|clock| Case::System { clock: *clock })
+        .collect(alloc)
 }
 
-/// Puts the cases of systems that lose their power after others.
-fn push_powers(cases: &mut Vec<Case>, clocks: &[ClockId]) -> Result<(), AllocError>
-    ensures { OnOk result (cases.new.items ≡ cases.old.items ++ map Case.Power clocks.now) }
+/// The cases of systems that lose their power.
+fn powers(alloc: Global, clocks: &[ClockId]) -> Result<Vec<Case>, AllocError>
+    ensures { IfOk result (λ cases. cases.items ≡ map Case.Power clocks.now) }
 {
-    for clock in clocks {
-        cases.push(Case::Power { clock: *clock })?;
-    }
-    Ok(())
+    clocks
+        .iter()
+        .map(|clock| Case::Power { clock: *clock })
+        .collect(alloc)
 }
 
 /// Puts the cases of systems that hang after others, where they are cases.
-fn push_hangs_if(cases: &mut Vec<Case>, clocks: &[ClockId], asked: bool) -> Result<(), AllocError>
+fn push_hangs_if(
+    alloc: Global,
+    cases: &mut Vec<Case>,
+    clocks: &[ClockId],
+    asked: bool,
+) -> Result<(), AllocError>
     ensures { OnOk result (cases.new.items ≡ cases.old.items ++ (if asked then map Case.System clocks.now else [])) }
 {
     match asked {
-        true => push_hangs(cases, clocks),
+        true => cases.extend_from_slice(&hangs(alloc, clocks)?),
         false => Ok(()),
     }
 }
 
 /// Puts the cases of systems that lose their power after others, where they are cases.
-fn push_powers_if(cases: &mut Vec<Case>, clocks: &[ClockId], asked: bool) -> Result<(), AllocError>
+fn push_powers_if(
+    alloc: Global,
+    cases: &mut Vec<Case>,
+    clocks: &[ClockId],
+    asked: bool,
+) -> Result<(), AllocError>
     ensures { OnOk result (cases.new.items ≡ cases.old.items ++ (if asked then map Case.Power clocks.now else [])) }
 {
     match asked {
-        true => push_powers(cases, clocks),
+        true => cases.extend_from_slice(&powers(alloc, clocks)?),
         false => Ok(()),
     }
 }
@@ -190,7 +200,7 @@ pub(crate) fn cases_of(
     let snapshot = document.snapshot(alloc, document.last_change())?;
     let mut cases = link_cases(alloc, &snapshot, only)?;
     let clocks = live_systems(alloc, document)?;
-    push_hangs_if(&mut cases, &clocks, has_systems(only))?;
-    push_powers_if(&mut cases, &clocks, has_power(only, power))?;
+    push_hangs_if(alloc, &mut cases, &clocks, has_systems(only))?;
+    push_powers_if(alloc, &mut cases, &clocks, has_power(only, power))?;
     Ok(cases)
 }
