@@ -8,10 +8,11 @@ use Rattle.gptp_timeline.proofs.time_watch.TimeWatch.new.Goals as goal
 
 pub invariant_of-result : goal.invariant_of-result
 invariant_of-result g c =
-    subst ReadsRise (sym (c.in_ok-reads.ensures ∙ ap (map unread) c.in_ok-clocks.ensures))
+    subst ReadsRise (sym (c.in_ok-reads.ensures ∙ ap (map unread) (c.deref-2.ensures.value ∙ c.in_ok-clocks.ensures)))
     (first_reads_rise c.args.world.now.world_core c.well_formed-2.ensures.sound.wired.clocks)
 
 pub new-requires : goal.new-requires
 new-requires g c =
-    subst (λ rs. IsAccount rs []) (sym (c.in_ok-systems.ensures ∙ ap (map no_reading) c.in_ok-clocks.ensures))
+    subst (λ rs. IsAccount rs [])
+    (sym (c.in_ok-systems.ensures ∙ ap (map no_reading) (c.deref.ensures.value ∙ c.in_ok-clocks.ensures)))
     (first_account c.args.world.now.world_core c.well_formed-2.ensures.sound.wired.clocks)

@@ -5,5 +5,5 @@ use Rattle.gptp_timeline.proofs.watch.Watch.new.Goals as goal
 
 pub invariant_of-result : goal.invariant_of-result
 invariant_of-result g c =
-    subst WatchedRise (sym (c.in_ok-systems.ensures ∙ ap (map unseen) c.in_ok-clocks.ensures))
+    subst WatchedRise (sym (c.in_ok-systems.ensures ∙ ap (map unseen) (c.deref.ensures.value ∙ c.in_ok-clocks.ensures)))
     (unseen_rise c.args.world.now.world_core c.well_formed-2.ensures.sound.wired.clocks)
