@@ -1,6 +1,6 @@
 //! Values that pass over links between places, round by round.
 
-ghost use Rattle.std.specs.Prelude.{◌≡◌, ◌<◌, ℕ, length, List};
+ghost use Rattle.std.specs.Prelude.{◌<◌, ℕ, length, List};
 ghost use Rattle.gptp_certificate.specs.Rounds.{AreLeast, LinksAreWithin, CameOver, ValuesPass, PassRound};
 
 use gptp_vector::Identity;

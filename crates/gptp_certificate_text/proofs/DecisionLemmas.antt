@@ -18,7 +18,7 @@ use Rattle.gptp_certificate_text.proofs.WordLemmas.{no_cut, other_word}
 
 -- ---- octets
 
-bool_dec : (test is : Bool) → Dec (test ≡ is)
+pub bool_dec : (test is : Bool) → Dec (test ≡ is)
 bool_dec true true = yes refl
 bool_dec true false = no (λ same. absurd cc)
 bool_dec false true = no (λ same. absurd cc)

@@ -1,5 +1,5 @@
 -- Whether a certificate passes each of its tests can be decided.
-use Rattle.std.proofs.Common.{◌≡◌, ◌⊎◌, ◌+◌, ◌<◌, ◌≤◌, ℕ, Bool, true, false, List, [], ◌∷◌, Option, Some, None, refl, sym, ap, subst, ◌∙◌, inl, inr}
+use Rattle.std.proofs.Common.{◌≡◌, ◌⊎◌, ◌+◌, ◌<◌, ◌≤◌, ℕ, true, false, List, [], ◌∷◌, Option, Some, None, refl, sym, ap, subst, ◌∙◌, inl, inr}
 use Rattle.std.specs.List.{range_with_len}
 use native.Mathlib.Decide.{ℕ_discrete, dec_le, dec_lt}
 use Rattle.gptp_lists.specs.Members.{Different, In}
@@ -19,14 +19,9 @@ use Rattle.gptp_checker.specs.Faults.{test_of}
 use Rattle.gptp_checker.specs.LineTests.{FitsSteps, FollowsParent, FollowsNearer, HasNearer, IsNoLower, PassesEachLine, PassesLine}
 use Rattle.gptp_checker.specs.Places.{IsSystemAt}
 use Rattle.gptp_checker.proofs.FaultLemmas.{by_lines, found_by}
+use Rattle.gptp_certificate_text.proofs.DecisionLemmas.{bool_dec}
 
 -- ---- facts
-
-pub bool_dec : (test is : Bool) → Dec (test ≡ is)
-bool_dec true true = yes refl
-bool_dec true false = no (λ same. absurd cc)
-bool_dec false true = no (λ same. absurd cc)
-bool_dec false false = yes refl
 
 pub implied_dec : {A B : Type 0} → Dec A → Dec B → Dec (A → B)
 implied_dec (no out) rest = yes (λ here. absurd (out here))

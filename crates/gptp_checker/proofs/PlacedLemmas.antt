@@ -15,6 +15,7 @@ use Rattle.gptp_graph.proofs.OrderLemmas.{IsLeastIn, least_member}
 use Rattle.gptp_network.specs.Snapshot.{port_identity}
 use Rattle.gptp_vector.specs.declared.port.PortId.{PortId}
 use Rattle.gptp_certificate_text.specs.Certificate.{IsCertificate}
+use Rattle.gptp_certificate_text.proofs.DecisionLemmas.{bool_dec}
 use Rattle.gptp_checker.specs.declared.fault.Fault.{Fault}
 use Rattle.gptp_checker.specs.declared.fault.Fault.TheVariants as faults
 use Rattle.gptp_checker.specs.declared.line_test.LineTest.{LineTest}
@@ -24,7 +25,7 @@ use Rattle.gptp_checker.specs.declared.location.Location.TheVariants.{System, Li
 use Rattle.gptp_checker.specs.Faults.{IsFirstFault, test_of}
 use Rattle.gptp_checker.specs.LineTests.{AgreeAcross, AgreeOver, AreNoLower, IsNoLower, PassesEachLine, PassesLine}
 use Rattle.gptp_checker.specs.Located.{DiffersAt, Disagrees, HasAllPorts, IsAtLine, IsBefore, IsFirstEnd, IsFirstLine, IsFirstPort, IsKnownLine, IsLocation, IsMissing, IsStrange, own_end, parent_end}
-use Rattle.gptp_checker.proofs.DecisionLemmas.{bool_dec, denied_dec, each_dec, implied_dec, line_dec, list_dec, no_lower_dec, port_role_dec}
+use Rattle.gptp_checker.proofs.DecisionLemmas.{denied_dec, each_dec, implied_dec, line_dec, list_dec, no_lower_dec, port_role_dec}
 use Rattle.gptp_checker.proofs.FaultLemmas.{by_lines, found_by, systems_before}
 use Rattle.gptp_checker.proofs.LocatedLemmas.{systems_right}
 

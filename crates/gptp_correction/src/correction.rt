@@ -1,6 +1,6 @@
 //! What a bridge sends on, and what a slave reads.
 
-ghost use Rattle.std.specs.Prelude.{◌≡◌, ◌+ℤ◌, OkIff};
+ghost use Rattle.std.specs.Prelude.{◌+ℤ◌, OkIff};
 ghost use Rattle.gptp_scaled.specs.Interval.{FitsInterval};
 ghost use Rattle.gptp_scaled.specs.ScaledNs.{FitsScaled};
 ghost use Rattle.gptp_correction.specs.Correction.{bridge, sync_received, relayed, ReceiptFits, RelayFits};
@@ -57,7 +57,7 @@ fn later(origin: ScaledNs, correction: Interval, time: ScaledNs) -> Result<Scale
 }
 
 impl Carried {
-    ghost use Rattle.std.specs.Prelude.{◌≡◌, OkIff};
+    ghost use Rattle.std.specs.Prelude.{OkIff};
     ghost use Rattle.gptp_correction.specs.Correction.{carried_on, receipt, BridgeFits, SlaveFits};
 
     /// What is carried on after a bridge.

@@ -1,6 +1,6 @@
 //! The whole way of a Sync.
 
-ghost use Rattle.std.specs.Prelude.{◌≡◌, OkIff};
+ghost use Rattle.std.specs.Prelude.{OkIff};
 ghost use Rattle.gptp_correction.specs.Carry.{carry_of, CarryFits};
 
 use crate::correction::{Carried, Hop};

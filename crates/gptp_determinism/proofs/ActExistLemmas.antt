@@ -11,14 +11,13 @@ use Rattle.gptp_setup.specs.declared.timer.Timer.{Timer}
 use Rattle.gptp_system.specs.declared.answer.Answer.{Answer}
 use Rattle.gptp_system.specs.Input.{Expires as TimerExpires, Frame as FrameHeard}
 use Rattle.gptp_system.specs.State.{clock, due}
-use Rattle.gptp_system.specs.Steps.{IsDue, IsUp}
+use Rattle.gptp_system.specs.Steps.{IsDue}
 use Rattle.gptp_scenario.specs.declared.change.Act.{Act}
 use Rattle.gptp_scenario.specs.declared.change.Act.TheVariants.{Deliver, Expire, Change as Changing}
 use Rattle.gptp_scenario.specs.Allowed.{IsFitAct}
 use Rattle.gptp_model.specs.declared.done.Done.{Done}
 use Rattle.gptp_model.specs.declared.done.Done.TheVariants.{Quiet, Heard}
 use Rattle.gptp_model.specs.declared.item.Item.TheVariants.{Arrival}
-use Rattle.gptp_model.specs.declared.station.Station.{Station}
 use Rattle.gptp_model.specs.Act.{TimerRunsOut, Hears, TakesFrame}
 use Rattle.gptp_model.specs.Acts.{at, Acts, AtPlace, AtSystem, Changes, Delivery, IsOldestDue, IsReadyAct}
 use Rattle.gptp_model.specs.Agrees.{stopped}
@@ -28,6 +27,7 @@ use Rattle.gptp_model.specs.World.{world_queue, receiver, station_due, with_queu
 use Rattle.gptp_model.proofs.AheadLemmas.{live_due, requeued_fit}
 use Rattle.gptp_model.proofs.StayLemmas.{carry_join, net_stays, takes_carry}
 use Rattle.gptp_model.proofs.WiredLemmas.{time_wired}
+use Rattle.gptp_model.proofs.ActsByLemmas.{opposite_up, in_flight_up}
 use Rattle.gptp_determinism.specs.ExistenceLaws.{StepsExist}
 use Rattle.gptp_determinism.specs.GoingOn.{AnswersAll, InjectsOctets, IsOfOctets}
 use Rattle.gptp_determinism.proofs.CallExistLemmas.{calls_exist, IsCalled}
@@ -42,23 +42,6 @@ receiving_end : (w : WorldState) (link : ℕ) (direction : Direction) (channel :
     → slice_get w.net.channels link ≡ Some channel → HasEnd (receiver direction channel) w.stations
 receiving_end w link FromA channel ends here = ends link FromB channel here
 receiving_end w link FromB channel ends here = ends link FromA channel here
-
--- it measures its link, where that is up
-receiver_up : (w : WorldState) (link place : ℕ) (direction : Direction) (channel : Channel) (station : Station)
-    → IsWired w → slice_get w.net.channels link ≡ Some channel → channel.up ≡ true
-    → slice_get w.stations place ≡ Some station → station.live ≡ true
-    → clock station.system ≡ (receiver direction channel).clock
-    → IsUp station.system (receiver direction channel).port
-receiver_up w link place FromA channel station is here up there live named =
-    is.linked link place FromB channel station here up there live named
-receiver_up w link place FromB channel station is here up there live named =
-    is.linked link place FromA channel station here up there live named
-
--- a link on which a frame is in flight is up
-in_flight_up : (up : Bool) (frames : List Frame) (oldest : Frame) (rest : List Frame) → (up ≡ false → frames ≡ [])
-    → frames ≡ oldest ∷ rest → up ≡ true
-in_flight_up true frames oldest rest still front = refl
-in_flight_up false frames oldest rest still front = let none = still refl in absurd cc
 
 -- the oldest frame of a link is delivered, and something is told of it
 abbrev IsDelivered : ℕ → Direction → WorldState → List Draw → WorldState → Type 0
@@ -167,7 +150,7 @@ module _ {F : Type 0} (answers : Bounds → ℕ → F → Option ℕ → F → T
           comes_so answers emptied fate (IsCalled end.place (FrameHeard port octets) emptied)
           (IsDelivered link direction w) (λ draws v called. tells (Some called.0) draws v called.1)
           (calls_exist answers all steps end.place (FrameHeard port octets) emptied end.station fate end.here live
-          (receiver_up w link end.place direction channel end.station is oldest.here up end.here live end.named)
+          (opposite_up w link end.place direction channel end.station is oldest.here up end.here live end.named)
           frames.0.0 left.can)
       by false failed =
           comes_without answers emptied emptied fate (IsDelivered link direction w)

@@ -9,7 +9,7 @@ use Rattle.gptp_error_laws.specs.Examples.{two_links_way}
 use Rattle.gptp_error_laws.specs.ExampleSync.{GoesOverTwoLinks, sync_came, phases, sent, two_hops}
 use Rattle.gptp_error_laws.specs.WayLaws.{shown_at}
 
-drifts : (i : ℕ) → i ≤ 2 → IsDrift (drift_at two_links_way i)
+pub drifts : (i : ℕ) → i ≤ 2 → IsDrift (drift_at two_links_way i)
 drifts zero h = record { low = omega (arith, ints); high = omega (arith, ints) }
 drifts (suc zero) h = record { low = omega (arith, ints); high = omega (arith, ints) }
 drifts (suc (suc zero)) h = record { low = omega (arith, ints); high = omega (arith, ints) }

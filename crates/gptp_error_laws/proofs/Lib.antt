@@ -3,4 +3,4 @@ pub mod HopLemmas
 pub mod CutLemmas
 pub mod WayLemmas
 pub mod LongerLemmas
-mod ExampleLemmas
+pub mod ExampleLemmas

@@ -1,5 +1,5 @@
 -- What a port makes of octets that it hears, as one that asks and as one that answers.
-use Rattle.std.proofs.Common.{◌≡◌, ◌≢◌, ◌⊎◌, ◌*◌, ◌<◌, ℕ, ℤ, ◌-ℤ◌, ◌+◌, pos, int_le, is_some, Bool, true, List, ◌∷◌, take, Some, None, refl, sym, ap, subst, ◌∙◌, inl, inr, eq-eqb, rules}
+use Rattle.std.proofs.Common.{◌≡◌, ◌≢◌, ◌⊎◌, ◌*◌, ◌<◌, ℕ, ℤ, ◌-ℤ◌, ◌+◌, pos, int_le, is_some, Bool, true, List, ◌∷◌, take, Some, None, refl, sym, ap, subst, ◌∙◌, inl, inr, eq-eqb}
 use Rattle.std.specs.Prelude.{if◌then◌else◌, ◌==◌}
 use Rattle.std.specs.Option.{option_map_or}
 use Rattle.gptp_graph.specs.Snapshot.{PortIdentity}
@@ -17,10 +17,11 @@ use Rattle.gptp_pdelay.specs.declared.progress.Progress.TheVariants as progresse
 use Rattle.gptp_pdelay.specs.declared.progress.Request.{Request}
 use Rattle.gptp_pdelay.specs.declared.progress.Response.{Response}
 use Rattle.gptp_pdelay.specs.Exchange.{carried_time, mean_delay, measurement_of, neighbor_rate, oldest, times_of}
-use Rattle.gptp_pdelay.specs.GoodLink.{IsGoodLink, IsWithinThreshold}
+use Rattle.gptp_pdelay.specs.GoodLink.{IsGoodLink}
 use Rattle.gptp_pdelay.specs.Peer.{PeerState, after_follow_up, after_response, answered_by, completed, measured_by}
 use Rattle.gptp_pdelay.specs.Progress.{is_follow_up_to, is_response_to, response_of}
 use Rattle.gptp_pdelay.proofs.ExchangeLemmas.{neighbor_rate_is_within}
+use Rattle.gptp_pdelay.proofs.GoodLinkLemmas.{is_at_most}
 use Rattle.gptp_system.specs.Measures.{Part, part_heard}
 use Rattle.gptp_system.specs.State.{SystemState, stamp_time}
 use Rattle.gptp_pdelay_machine.specs.Asker.{Asked, Answered, TakesReply, own_request, asker_completed as completes}
@@ -93,11 +94,6 @@ module _ (k : Setting) (s : SystemState) (now : ℕ) (octets : List ℕ) (x x' :
       go (inr (none, is)) = inl (λ request said. none (messages.PdelayReq said.0) said.1, ap waits_view is)
 
 -- ---- as one that asks
-
--- a delay within the threshold passes the test
-is_at_most : (threshold : ℕ) (delay : ℤ) → IsWithinThreshold threshold delay
-    → int_le delay (pos (65536 * threshold)) ≡ true
-is_at_most threshold delay h = search rules
 
 -- the test of a follow-up passes
 follow_up_passes : (own : PortId) (request : Request) (response : Response) (m : PdelayRespFollowUp)

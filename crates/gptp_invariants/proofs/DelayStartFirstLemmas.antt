@@ -31,7 +31,7 @@ use Rattle.gptp_model.specs.Initial.{channel_from, initial, setup_of, station_of
 use Rattle.gptp_model.specs.Sound.{IsItsSetup, IsSound}
 use Rattle.gptp_model.specs.World.{Channel, WorldState, world_queue, receiver, sender}
 use Rattle.gptp_model.proofs.StayLemmas.{starts_all_stay}
-use Rattle.gptp_model.proofs.UpLemmas.{brings_port, brought_ports}
+use Rattle.gptp_model.proofs.UpLemmas.{brings_port, brought_ports, filter_in}
 use Rattle.gptp_pdelay_machine.specs.Lanes.{AreMute}
 use Rattle.gptp_pdelay_machine.proofs.LaneLemmas.{no_frames_mute}
 use Rattle.gptp_invariants.specs.DelayFirstAt.{IsFirstAt}
@@ -54,16 +54,6 @@ within : {X : Type 0} (xs : List X) (i : ℕ) (x : X) → slice_get xs i ≡ Som
 within [] i x there = absurd (none-some x there)
 within (y ∷ ys) zero x there = omega arith
 within (y ∷ ys) (suc i) x there = let less = within ys i x there in omega (arith, less)
-
-filter_in : (test : ℕ → Bool) (xs : List ℕ) (x : ℕ) → In x (filter test xs) → In x xs
-filter_in test [] x among = among
-filter_in test (y ∷ ys) x among = by (test y) among (λ rest. filter_in test ys x rest)
-  where
-    by : (b : Bool) → In x (cond b (y ∷ filter test ys) (filter test ys)) → (In x (filter test ys) → In x ys)
-        → In x (y ∷ ys)
-    by true (inl here) ih = inl here
-    by true (inr rest) ih = inr (ih rest)
-    by false rest ih = inr (ih rest)
 
 filter_different : (test : ℕ → Bool) (xs : List ℕ) → Different xs → Different (filter test xs)
 filter_different test [] different = tt

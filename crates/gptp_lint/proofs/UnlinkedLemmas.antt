@@ -14,6 +14,7 @@ use Rattle.gptp_scenario.specs.Network.{IsNetwork, NetworkState}
 use Rattle.gptp_scenario.specs.declared.network.SystemSpec.{SystemSpec}
 use Rattle.gptp_network.proofs.PassLemmas.{kept, passes, passes_at}
 use Rattle.gptp_network.proofs.SnapshotLemmas.{In-permutation, from_filter}
+use Rattle.gptp_network.proofs.TakingLemmas.{OneClockEach}
 use Rattle.gptp_topology.specs.Course.{cable_of, is_cable_end}
 use Rattle.gptp_topology.specs.Tables.{clocks_of}
 use Rattle.gptp_topology.specs.declared.course.Cable.{Cable}
@@ -58,10 +59,6 @@ linked_from n clock (w, among, at) =
     ])
 
 -- ---- clocks differ
-
-abbrev OneClockEach : List SystemSpec → Type 0
-OneClockEach ms = (i j : ℕ) (l m : SystemSpec) → slice_get ms i ≡ Some l → slice_get ms j ≡ Some m
-    → clock_of l.identity ≡ clock_of m.identity → i ≡ j
 
 pub clocks_differ : (ms : List SystemSpec) → OneClockEach ms → Different (map own_clock ms)
 clocks_differ [] once = tt

@@ -200,7 +200,7 @@ expires_timely place timer w draws w' k =
     let least : w.time ≤ w.time = omega arith in rw (expires_due place timer w draws w' k) least
 
 -- a frame is in flight on a link that is up, so that the port at its end measures that link
-opposite_up : (w : WorldState) (link place : ℕ) (direction : Direction) (channel : Channel) (station : Station)
+pub opposite_up : (w : WorldState) (link place : ℕ) (direction : Direction) (channel : Channel) (station : Station)
     → IsWired w
     → slice_get w.net.channels link ≡ Some channel → channel.up ≡ true → slice_get w.stations place ≡ Some station
     → station.live ≡ true → clock station.system ≡ (receiver direction channel).clock
@@ -210,7 +210,7 @@ opposite_up w link place FromA channel station is here up there live named =
 opposite_up w link place FromB channel station is here up there live named =
     is.linked link place FromA channel station here up there live named
 
-in_flight_up : (up : Bool) (frames : List Frame) (oldest : Frame) (rest : List Frame) → (up ≡ false → frames ≡ [])
+pub in_flight_up : (up : Bool) (frames : List Frame) (oldest : Frame) (rest : List Frame) → (up ≡ false → frames ≡ [])
     → frames ≡ oldest ∷ rest → up ≡ true
 in_flight_up true frames oldest rest still front = refl
 in_flight_up false frames oldest rest still front = let none = still refl in absurd cc

@@ -145,7 +145,7 @@ in_filter test (y ∷ ys) x passes among = by (test y) refl among (λ rest. in_f
     by false is (inl here) ih = let both : true ≡ false = sym passes ∙ ap test here ∙ is in absurd cc
     by false is (inr rest) ih = rw is (ih rest)
 
-filter_in : (test : ℕ → Bool) (xs : List ℕ) (x : ℕ) → In x (filter test xs) → In x xs
+pub filter_in : (test : ℕ → Bool) (xs : List ℕ) (x : ℕ) → In x (filter test xs) → In x xs
 filter_in test [] x among = among
 filter_in test (y ∷ ys) x among = by (test y) among (λ rest. filter_in test ys x rest)
   where

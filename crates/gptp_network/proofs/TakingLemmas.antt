@@ -163,7 +163,7 @@ clock_lives events m pair lives =
     ap (λ (p : ℕ × ℕ). clock_of p.0) (sym is) ∙ clock_after events m
 
 -- where no two members have one clock
-abbrev OneClockEach : List SystemSpec → Type 0
+abbrev pub OneClockEach : List SystemSpec → Type 0
 OneClockEach ms = (i j : ℕ) (l m : SystemSpec) → slice_get ms i ≡ Some l → slice_get ms j ≡ Some m
     → clock_of l.identity ≡ clock_of m.identity → i ≡ j
 

@@ -42,7 +42,7 @@ abbrev exchanges : Option Measurement → PeerState → PeerState
 exchanges o p = option_map_or (λ m. completed m p) o p
 
 -- the state at the end of an interval, by whether a request is open, and too many are lost
-abbrev ends : Bool → Bool → PeerState → PeerState
+abbrev pub ends : Bool → Bool → PeerState → PeerState
 ends open' many p =
     if open' then (if many then reset_peer p else record p { progress = Closed; lost = p.lost + 1 }) else p
 

@@ -1,9 +1,10 @@
-use Rattle.std.proofs.Common.{◌+◌, ◌^◌, ℤ, pos, neg_ℤ, ◌-ℤ◌, ◌*ℤ◌, ◌≤ℤ◌, int_lt, if◌then◌else◌, Bool, true, false, None, Some, arith}
-use Rattle.std.proofs.lemmas.Int.{ints, clamps}
-use Rattle.gptp_scaled.specs.Rate.{IsNeighborRate, clamped, scaled_by, unit}
+use Rattle.std.proofs.Common.{◌+◌, ◌^◌, ℤ, pos, neg_ℤ, ◌-ℤ◌, ◌*ℤ◌, ◌≤ℤ◌, int_lt, false, None, Some, arith}
+use Rattle.std.proofs.lemmas.Int.{ints}
+use Rattle.gptp_scaled.specs.Rate.{IsNeighborRate, scaled_by, unit}
 use Rattle.gptp_scaled.specs.Floor.{floor_div}
 use Rattle.gptp_scaled.specs.ScaledNs.{FitsScaled}
 use Rattle.gptp_scaled.proofs.LawProofs.{neighbor_rate_is_near}
+use Rattle.gptp_scaled.proofs.CountLemmas.{bounded}
 use Rattle.gptp_pdelay.specs.Clock.{IsTime}
 use Rattle.gptp_pdelay.specs.Exchange.{IsCarriedTime, NeighborRateIsWithin}
 
@@ -40,15 +41,10 @@ twice_fits q a b s t w f g h k =
       high = omega (arith, ints, m.high, h.low, h.high, k.low, k.high);
     }
 
--- the number within the limit that is nearest to another is within it, and so is 0
-is_within : (t : Bool) (z : ℤ) → IsNeighborRate (if t then clamped z else pos 0)
-is_within true z = record { low = omega (arith, ints, clamps); high = omega (arith, ints, clamps) }
-is_within false z = record { low = omega (arith, ints); high = omega (arith, ints) }
-
 -- a neighbour rate is one of them
 pub neighbor_rate_is_within : NeighborRateIsWithin
-neighbor_rate_is_within None t3 t4 = is_within false (pos 0)
+neighbor_rate_is_within None t3 t4 = bounded false (pos 0)
 neighbor_rate_is_within (Some since) t3 t4 =
     let e3 = t3 -ℤ since.t3 in
     let e4 = t4 -ℤ since.t4 in
-    is_within (int_lt (pos 0) e4) (floor_div ((e3 -ℤ e4) *ℤ unit) e4)
+    bounded (int_lt (pos 0) e4) (floor_div ((e3 -ℤ e4) *ℤ unit) e4)

@@ -46,7 +46,7 @@ pub good_without : (more most turnaround threshold : ℕ) → IsGoodLink (most +
 good_without more most turnaround threshold good = omega (arith, good)
 
 -- a delay within the threshold passes the test
-is_at_most : (threshold : ℕ) (delay : ℤ) → IsWithinThreshold threshold delay
+pub is_at_most : (threshold : ℕ) (delay : ℤ) → IsWithinThreshold threshold delay
     → int_le delay (pos (65536 * threshold)) ≡ true
 is_at_most threshold delay h = search rules
 

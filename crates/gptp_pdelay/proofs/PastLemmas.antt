@@ -5,12 +5,12 @@ use Rattle.std.specs.Option.{ForSome, option_map_or}
 use Rattle.gptp_pdelay.specs.declared.exchange.Measurement.{Measurement}
 use Rattle.gptp_pdelay.specs.declared.exchange.Times.{Times}
 use Rattle.gptp_pdelay.specs.declared.progress.Progress.{Progress}
-use Rattle.gptp_pdelay.specs.declared.progress.Progress.TheVariants.{Closed}
 use Rattle.gptp_pdelay.specs.Capability.{Event, Resets, Asks, IsAsked, Answers, HearsResponse, HearsFollowUp, IntervalEnds, after, after_all}
 use Rattle.gptp_pdelay.specs.Earlier.{past_of}
 use Rattle.gptp_pdelay.specs.Exchange.{AreTimes, oldest, times_of}
 use Rattle.gptp_pdelay.specs.Past.{PastIsNewest, WindowStays, since_reset, since_reset_all}
-use Rattle.gptp_pdelay.specs.Peer.{PeerState, answered_by, completed, is_open, loses_too_many, measured_by, new_peer, reset_peer}
+use Rattle.gptp_pdelay.specs.Peer.{PeerState, answered_by, completed, is_open, loses_too_many, measured_by, new_peer}
+use Rattle.gptp_pdelay.proofs.CapabilityLemmas.{ends}
 
 -- ---- lists of times
 
@@ -71,11 +71,6 @@ exchanges o p = option_map_or (λ m. completed m p) o p
 -- a state where the progress is another
 abbrev progresses : Option Progress → PeerState → PeerState
 progresses o p = option_map_or (λ progress. record p { progress = progress }) o p
-
--- a state at the end of an interval
-abbrev ends : Bool → Bool → PeerState → PeerState
-ends open' many p =
-    if open' then (if many then reset_peer p else record p { progress = Closed; lost = p.lost + 1 }) else p
 
 exchange_window : (o : Option Measurement) (p : PeerState) → (exchanges o p).window ≡ p.window
 exchange_window None p = refl

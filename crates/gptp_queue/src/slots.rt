@@ -1,6 +1,6 @@
 //! The slots of a ring, and which of them have an entry.
 
-ghost use Rattle.std.specs.Prelude.{◌≡◌, ◌≢◌, ℕ, ◌-◌, ◌<◌, ◌≤◌, [], ◌∷◌, ◌++◌, length, slice_set, true, IfOk, IfSome, IfNone, OnOk};
+ghost use Rattle.std.specs.Prelude.{◌≡◌, ℕ, ◌-◌, ◌<◌, ◌≤◌, [], ◌∷◌, ◌++◌, length, slice_set, true, IfOk, IfSome, IfNone, OnOk};
 ghost use Rattle.gptp_queue.specs.Order.{first_of, part_at, rest_of, Within};
 ghost use Rattle.gptp_queue.specs.Slots.{IsFirstFrom};
 ghost use Rattle.gptp_queue.specs.Entry.{Entry};

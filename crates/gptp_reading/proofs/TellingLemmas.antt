@@ -16,26 +16,15 @@ use Rattle.gptp_pdelay_machine.specs.Lanes.{LaneFrame}
 use Rattle.gptp_error_laws.specs.TimeError.{measured_jitter_at, rates_error_at, time_error_at}
 use Rattle.gptp_sync_machine.specs.Messages.{Message, Sync, FollowUp, IsOneMessage}
 use Rattle.gptp_sync_machine.specs.Right.{IsHeldAt, IsMeasuredAt, FollowUpIsRight, at_rate, info_of, most_correction_at}
-use Rattle.gptp_sync_machine.specs.RightLaws.{IsOnWay}
 use Rattle.gptp_sync_machine.specs.Follower.{Follower, IsSetting, FollowerSync, FollowerSetting, from, own_clock, root_told}
 use Rattle.gptp_sync_machine.specs.Flows.{AreCarried, Arrival, FramesFlow}
 use Rattle.gptp_sync_machine.specs.Acts.{kept_at_ingress}
 use Rattle.gptp_sync_machine.specs.Invariant.{FollowerInvariant, IsKept}
 use Rattle.gptp_sync_machine.proofs.RightLemmas.{bridge_numbers_fit}
+use Rattle.gptp_sync_machine.proofs.TellingLemmas.{on_way}
 use Rattle.gptp_reading.specs.Reading.{read_after}
 use Rattle.gptp_reading.proofs.WayLemmas.{later_within, reading_is_right}
 use Rattle.gptp_reading.specs.ReadingLaws.{IsBehindBy}
-
--- what is known was told on the way
-on_way : (k : FollowerSetting) (told : Relayed) (sent came heard : ℕ) → IsSetting k → AreCarried k sent came heard
-    → FollowUpIsRight k.way k.phase k.base k.place told sent → IsOnWay k.way k.phase k.base k.place told sent came
-on_way k told sent came heard is carried right = record {
-  documented = is.documented;
-  on_way = is.on_way;
-  long = carried.long;
-  short = omega (arith, carried.behind, carried.short);
-  right = right;
-}
 
 -- ---- as it was sent
 

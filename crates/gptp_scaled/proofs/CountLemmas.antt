@@ -113,7 +113,7 @@ clamps_keep m x y h =
     record { low = omega (arith, ints, clamps, h.low); high = omega (arith, ints, clamps, h.high) }
 
 -- whatever two clocks count, the rate is within the limit
-bounded : (t : Bool) (z : ℤ) → IsNeighborRate (if t then clamped z else pos 0)
+pub bounded : (t : Bool) (z : ℤ) → IsNeighborRate (if t then clamped z else pos 0)
 bounded true z = record { low = omega (arith, ints, clamps); high = omega (arith, ints, clamps) }
 bounded false z = record { low = omega (arith, ints); high = omega (arith, ints) }
 

@@ -1,5 +1,5 @@
 -- The limits of what is the same for all systems of a network (profile).
-use Rattle.std.specs.Prelude.{◌≡◌, ◌<◌, ◌≤◌, ℕ, ◌+◌, ◌*◌, ℤ, pos, neg_ℤ, Bool, not, ◌&&◌, nat_lt, nat_le, int_le, [], ◌∷◌, Option}
+use Rattle.std.specs.Prelude.{◌<◌, ◌≤◌, ℕ, ◌+◌, ◌*◌, ℤ, pos, neg_ℤ, Bool, not, ◌&&◌, nat_lt, nat_le, int_le, [], ◌∷◌, Option}
 use Rattle.gptp_setup.specs.Intervals.{AreParams, interval_of, IsLog}
 use Rattle.gptp_setup.specs.SettlingParams.{largest_interval, SettlingParams}
 use Rattle.gptp_setup.specs.declared.setup.Params.{Params}

@@ -9,8 +9,8 @@ use Rattle.gptp_correction.specs.declared.sync_in.SyncInfo.{SyncInfo}
 use Rattle.gptp_pdelay_machine.specs.Lanes.{LaneFrame}
 use Rattle.gptp_pdelay_machine.proofs.LaneLemmas.{no_frames_mute}
 use Rattle.gptp_error_laws.specs.TimeError.{drift_at}
-use Rattle.gptp_error_laws.specs.Examples.{two_links_way}
 use Rattle.gptp_error_laws.specs.WayLaws.{shown_at}
+use Rattle.gptp_error_laws.proofs.ExampleLemmas.{drifts}
 use Rattle.gptp_sync_machine.specs.Messages.{Message, Sync, FollowUp, IsOneMessage}
 use Rattle.gptp_sync_machine.specs.Right.{IsHeldAt, IsMeasuredAt, FollowUpIsRight, info_of}
 use Rattle.gptp_sync_machine.specs.Follower.{Follower, IsSetting, FollowerSync, FollowerSetting, from, parent_link}
@@ -156,12 +156,6 @@ says_one octets m is = record { said = is; only = λ other too. same other (sym 
   where
     same : (other : Message) → Some m ≡ Some other → other ≡ m
     same other e = cc
-
-drifts : (i : ℕ) → i ≤ 2 → IsDrift (drift_at two_links_way i)
-drifts zero h = record { low = omega (arith, ints); high = omega (arith, ints) }
-drifts (suc zero) h = record { low = omega (arith, ints); high = omega (arith, ints) }
-drifts (suc (suc zero)) h = record { low = omega (arith, ints); high = omega (arith, ints) }
-drifts (suc (suc (suc i))) h = absurd (omega (arith, h))
 
 bridge_drifts : (i : ℕ) → i ≤ 1 → IsDrift (drift_at at_bridge.way i)
 bridge_drifts zero h = record { low = omega (arith, ints); high = omega (arith, ints) }

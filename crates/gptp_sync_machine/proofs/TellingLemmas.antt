@@ -36,7 +36,7 @@ parents_time k k' time is' parent late =
     omega (arith, late, before, short, parent.longest)
 
 -- what is known was told on the way
-on_way : (k : FollowerSetting) (told : Relayed) (sent came heard : ℕ) → IsSetting k → AreCarried k sent came heard
+pub on_way : (k : FollowerSetting) (told : Relayed) (sent came heard : ℕ) → IsSetting k → AreCarried k sent came heard
     → FollowUpIsRight k.way k.phase k.base k.place told sent → IsOnWay k.way k.phase k.base k.place told sent came
 on_way k told sent came heard is carried right = record {
   documented = is.documented;

@@ -1,6 +1,6 @@
 //! What a system makes of what its ports hold.
 
-ghost use Rattle.std.specs.Prelude.{◌≡◌, ◌<◌, ◌≤◌, length};
+ghost use Rattle.std.specs.Prelude.{◌<◌, ◌≤◌, length};
 ghost use Rattle.std.specs.Option.{ForSome};
 ghost use Rattle.gptp_receipt.specs.Held.{received};
 ghost use Rattle.gptp_roles.specs.Choice.{IsPlaced};
