@@ -118,13 +118,6 @@ starts_more place lowest lines line numbers number low here is_low start so_far 
 
 -- ---- one line more is marked
 
-pub marked_none : (lowest numbers : List ℕ) (lines : List SystemLine) → LinesAreMarked 0 lowest numbers lines lines
-marked_none lowest numbers lines = record {
-  long = refl;
-  marked = λ i line below here. absurd (omega arith);
-  left = λ i from. refl;
-}
-
 pub marked_more : (place : ℕ) (lowest numbers : List ℕ) (old now : List SystemLine) (line new : SystemLine)
     → slice_get now place ≡ Some line → Marks (value lowest place) (value numbers place) line new
     → LinesAreMarked place lowest numbers old now

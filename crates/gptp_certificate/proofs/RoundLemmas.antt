@@ -1,12 +1,10 @@
 -- After as many rounds as there are places the least value that comes over so many links stands at each.
-use Rattle.std.proofs.Common.{◌≡◌, ◌≢◌, ◌⊎◌, ◌+◌, ◌*◌, ◌<◌, ◌≤◌, ℕ, zero, suc, List, [], ◌∷◌, ◌++◌, length, take, Some, slice_get, slice_set, slice_index_or, refl, sym, ap, subst, ◌∙◌, inl, inr, arith}
-use Rattle.std.proofs.lemmas.List.{length-set}
+use Rattle.std.proofs.Common.{◌≡◌, ◌⊎◌, ◌+◌, ◌*◌, ◌<◌, ◌≤◌, ℕ, zero, suc, List, [], ◌∷◌, ◌++◌, length, take, Some, slice_get, slice_set, slice_index_or, refl, sym, ap, subst, ◌∙◌, inl, inr, arith}
 use Rattle.gptp_lists.specs.Members.{In}
 use Rattle.std.proofs.lemmas.Option.{slice_get-get_or}
 use Rattle.gptp_lists.proofs.MappedLemmas.{taken}
 use Rattle.gptp_lists.proofs.SystemSpecLemmas.{In-parts, In-slice_get}
-use Rattle.gptp_lists.proofs.PlaceLemmas.{get-set_same, read, same_place}
-use Rattle.std.proofs.lemmas.List.{get_or-set_other}
+use Rattle.gptp_lists.proofs.PlaceLemmas.{get-set_same, read}
 use Rattle.gptp_certificate.specs.Rounds.{value, LinksAreWithin, CameOver, HasCome, Leads, PassRound, ValuesPass, LinkTouches}
 
 -- ---- over one link
@@ -20,51 +18,6 @@ module _ (step a b x y : ℕ) (xs : List ℕ) (at_a : slice_get xs a ≡ Some x)
 
   set_at : (i z new : ℕ) → slice_get xs i ≡ Some z → value (slice_set xs i new) i ≡ new
   set_at i z new at = read (slice_set xs i new) i new 0 (get-set_same xs i z new at)
-
-  -- the value at b is the lesser
-  pub passes_to_a : y + step < x → ValuesPass step a b xs (slice_set xs a (y + step))
-  passes_to_a lower = record {
-    long = length-set xs a (y + step);
-    less = λ i. by i (same_place i a);
-    meets_a = let new = set_at a x (y + step) at_a in let there = is_b in omega arith;
-    meets_b = at_other (same_place b a);
-    from = λ i. came i (same_place i a);
-  }
-    where
-      by : (i : ℕ) → (i ≡ a) ⊎ (i ≢ a) → value (slice_set xs a (y + step)) i ≤ value xs i
-      by i (inl same) =
-          let new = set_at a x (y + step) at_a in let old = is_a in
-          rw same (omega arith)
-      by i (inr apart) = let other = get_or-set_other xs a i (y + step) 0 apart in omega arith
-
-      at_other : (b ≡ a) ⊎ (b ≢ a) → value (slice_set xs a (y + step)) b ≤ value xs a + step
-      at_other (inl same) =
-          let alike : value xs b ≡ value xs a = ap (value xs) same in
-          let here = is_a in let there = is_b in absurd (omega arith)
-      at_other (inr apart) =
-          let other = get_or-set_other xs a b (y + step) 0 apart in
-          let here = is_a in let there = is_b in omega arith
-
-      came : (i : ℕ) → (i ≡ a) ⊎ (i ≢ a) → (value (slice_set xs a (y + step)) i ≡ value xs i)
-          ⊎ ((i ≡ a) × (value (slice_set xs a (y + step)) i ≡ value xs b + step))
-          ⊎ ((i ≡ b) × (value (slice_set xs a (y + step)) i ≡ value xs a + step))
-      came i (inl same) =
-          let new = set_at a x (y + step) at_a in let there = is_b in
-          inr (inl (same, rw same (omega arith)))
-      came i (inr apart) = inl (get_or-set_other xs a i (y + step) 0 apart)
-
--- neither is
-pub passes_nothing : (step a b x y : ℕ) (xs : List ℕ) → slice_get xs a ≡ Some x → slice_get xs b ≡ Some y
-    → x ≤ y + step → y ≤ x + step → ValuesPass step a b xs xs
-passes_nothing step a b x y xs at_a at_b first second =
-    let here = read xs a x 0 at_a in let there = read xs b y 0 at_b in
-    record {
-      long = refl;
-      less = λ i. omega arith;
-      meets_a = omega arith;
-      meets_b = omega arith;
-      from = λ i. inl refl;
-    }
 
 -- over a link the other way round it is the same
 turned : (step a b : ℕ) (xs ys : List ℕ) → ValuesPass step a b xs ys → ValuesPass step b a xs ys
@@ -80,16 +33,7 @@ turned step a b xs ys passes = record {
   ];
 }
 
--- the value at a is the lesser
-pub passes_to_b : (step a b x y : ℕ) (xs : List ℕ) → slice_get xs a ≡ Some x → slice_get xs b ≡ Some y
-    → x + step < y → ValuesPass step a b xs (slice_set xs b (x + step))
-passes_to_b step a b x y xs at_a at_b lower =
-    turned step b a xs (slice_set xs b (x + step)) (passes_to_a step b a y x xs at_b at_a lower)
-
 -- ---- over all links
-
-pub round_begins : (step : ℕ) (xs : List ℕ) → PassRound step [] xs xs
-round_begins step xs = record { long = refl; less = λ i. omega arith; meets = λ i j member. absurd member }
 
 round_more : (step a b : ℕ) (links : List (ℕ × ℕ)) (before xs ys : List ℕ) → PassRound step links before xs
     → ValuesPass step a b xs ys → PassRound step (links ++ (a, b) ∷ []) before ys

@@ -289,12 +289,6 @@ behind_head v w xs ys x y is_v is_w e =
     append_cancel_left (codes "gptp-certificate ") (decimal v) (decimal w) cut.0 in
     (decimal_injective v w (omega arith) (omega arith) digits, cut.1)
 
--- a text is of one version
-pub one_version : (v w : ℕ) (xs ys : List SystemLine) → IsVersion v → IsVersion w
-    → certificate_text v xs ≡ certificate_text w ys → v ≡ w
-one_version v w xs ys is_v is_w e =
-    (behind_head v w (entries_of xs) (entries_of ys) end_text end_text is_v is_w e).0
-
 near_if_ports : (far : Bool) (port : PortLine) (ports : List PortLine) → (far ≡ true → port ∷ ports ≡ [])
     → far ≡ false
 near_if_ports false port ports bare = refl

@@ -1,6 +1,6 @@
 -- Single lines: each is spelled in one way, by words.
 use Rattle.std.proofs.Common.{◌≡◌, ◌≢◌, ℕ, zero, suc, ◌+◌, ◌<◌, ◌≤◌, ◌==◌, ◌%◌, ◌/◌, ◌^◌, Bool, true, false, not, if◌then◌else◌, List, [], ◌∷◌, ◌++◌, codes, inr, refl, sym, ap, subst, ◌∙◌, arith}
-use Rattle.std.specs.Prelude.{Option, Some, None, Result, Ok, Err, IfErr, IfNone, OnErr, decimal, get_or, slice_index}
+use Rattle.std.specs.Prelude.{Option, Some, None, Result, Ok, Err, IfErr, OnErr, decimal, get_or, slice_index}
 use Rattle.std.specs.List.{list_all}
 use Rattle.std.proofs.lemmas.Bool.Decides.{nat_tests}
 use Rattle.std.proofs.lemmas.Fmt.{decimal_by_steps, decimal_nonempty}
@@ -15,8 +15,8 @@ use Rattle.gptp_graph.specs.Parent.{ParentLink}
 use Rattle.gptp_certificate_text.specs.declared.fault.CertificateFault.{CertificateFault}
 use Rattle.gptp_certificate_text.specs.declared.fault.CertificateFault.TheVariants.{Spelling}
 use Rattle.gptp_certificate_text.specs.Words.{is_blank, IsWord}
-use Rattle.gptp_certificate_text.specs.Forms.{Form, SystemForm, FarForm, PortForm, ParentWords, SystemWords, FarWords, PortWords, AreSystemWords, AreFarWords, ArePortWords, FitsHere, HasForm, HasParentWords, HasWords, far_text, form_text, parent_text, port_text, role_word, system_text}
-use Rattle.gptp_certificate_text.specs.CertificateText.{far_words, parent_words, port_words, spelled_line, system_words}
+use Rattle.gptp_certificate_text.specs.Forms.{Form, SystemForm, FarForm, PortForm, ParentWords, SystemWords, FarWords, PortWords, AreSystemWords, AreFarWords, FitsHere, HasForm, HasParentWords, HasWords, far_text, form_text, parent_text, role_word, system_text}
+use Rattle.gptp_certificate_text.specs.CertificateText.{parent_words, port_words, spelled_line, system_words}
 use Rattle.std.specs.Option.{option_map}
 use Rattle.gptp_certificate_text.specs.Entries.{LineKey, SystemEntry, PortEntry, IsReadableEntry, IsReadableParent}
 use Rattle.gptp_certificate_text.specs.Lines.{LineFails}
@@ -192,20 +192,6 @@ misspelled version after_far line form (Err e) words fits is fault none = inr (
       (sym same ∙ is)),
 )
 
--- a line with no words of any form
-pub no_form : {X : Type 0} (line : List ℕ) (o : Option X)
-    → ((words : SystemWords) → AreSystemWords words → line ≢ system_text words)
-    → IfNone o ((words : FarWords) → AreFarWords words → line ≢ far_text words)
-    → IfNone o ((words : PortWords) → ArePortWords words → line ≢ port_text words)
-    → IfNone o ((form : Form) → HasWords form → line ≢ form_text form)
-no_form line None system far port = by_form
-  where
-    by_form : (form : Form) → HasWords form → line ≢ form_text form
-    by_form (SystemForm words) = system words
-    by_form (FarForm words) = far words
-    by_form (PortForm words) = port words
-no_form line (Some x) system far port = search Rattle.std.proofs.Common.rules
-
 -- a line whose form can't stand here
 pub unfit : (version : ℕ) (after_far : Bool) (line : List ℕ) (form : Form) → HasWords form → line ≡ form_text form
     → (FitsHere version after_far form → ⊥) → HasForm version after_far line → ⊥
@@ -222,17 +208,6 @@ no_system version words none (SystemEntry clock root steps true parent) readable
 no_system version words none (SystemEntry clock root steps false parent) readable e =
     none version clock root steps parent readable (let same : system_words clock root steps parent ≡ words = cc in same)
 no_system version words none (PortEntry clock port) readable e = absurd cc
-
--- nor by these of a far one
-pub no_far_system : (version : ℕ) (words : FarWords)
-    → ((version clock root steps : ℕ) (parent : Option ParentLink)
-    → IsReadableEntry version (SystemEntry clock root steps true parent)
-    → far_words clock root steps ≢ words)
-    → (entry : LineKey) → IsReadableEntry version entry → spelled_line entry ≢ FarForm words
-no_far_system version words none (SystemEntry clock root steps true parent) readable e =
-    none version clock root steps parent readable (let same : far_words clock root steps ≡ words = cc in same)
-no_far_system version words none (SystemEntry clock root steps false parent) readable e = absurd cc
-no_far_system version words none (PortEntry clock port) readable e = absurd cc
 
 -- nor by these of a port
 pub no_port : (version : ℕ) (words : PortWords)

@@ -1,5 +1,5 @@
 -- The text of a certificate, one line of it.
-use Rattle.std.proofs.Common.{◌≡◌, ◌+◌, ◌-◌, ◌<◌, ◌≤◌, ℕ, zero, suc, Bool, true, List, [], ◌∷◌, ◌++◌, length, map, Option, Some, None, slice_get, codes, refl, ap, ◌∙◌, append_assoc, append-nil, arith}
+use Rattle.std.proofs.Common.{◌≡◌, ◌+◌, ◌-◌, ◌<◌, ◌≤◌, ℕ, zero, suc, true, List, [], ◌∷◌, ◌++◌, length, map, Option, Some, slice_get, codes, refl, ap, ◌∙◌, append_assoc, arith}
 use Rattle.std.specs.Option.{option_map}
 use Rattle.std.proofs.lemmas.List.{map-append, length-map}
 use Rattle.std.proofs.lemmas.Option.{slice_get-map}
@@ -92,9 +92,3 @@ behind_head version lines (suc i) some =
 pub printed : (at : Option (List ℕ)) (line before after : List ℕ) → at ≡ Some line
     → after ≡ before ++ (line ++ 10 ∷ []) → PrintsLine at true before after
 printed at line before after is written = rw is (refl, written)
-
-pub printed_behind : (line : Option (List ℕ)) (told : Bool) (before written after : List ℕ)
-    → PrintsLine line told [] written → after ≡ before ++ written → PrintsLine line told before after
-printed_behind (Some line) told before written after (is, shown) new = (is, new ∙ ap (λ t. before ++ t) shown)
-printed_behind None told before written after (is, shown) new =
-    (is, new ∙ ap (λ t. before ++ t) shown ∙ append-nil before)

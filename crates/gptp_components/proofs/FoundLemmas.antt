@@ -72,9 +72,6 @@ pub nothing_there : (g : Snapshot) (found : List (Option Distance)) (v : ℕ) (d
     → IsFound g found v d → ⊥
 nothing_there g found v d nothing is = nothing d (In-slice_get (Some d) found is.place is.there)
 
-pub nothing_first : NothingFound []
-nothing_first d member = member
-
 pub nothing_more : (found : List (Option Distance)) → NothingFound found → NothingFound (found ++ None ∷ [])
 nothing_more found nothing d member = elim (In-parts (Some d) found (None ∷ []) member) [
   | inl before ↦ nothing d before

@@ -1,5 +1,5 @@
 -- The component of a root, by rising distance.
-use Rattle.std.proofs.Common.{◌≡◌, ◌<◌, ◌≤◌, ◌∙◌, ℕ, zero, suc, List, [], ◌∷◌, length, Option, refl, sym, ap, subst, inl, inr, arith}
+use Rattle.std.proofs.Common.{◌≡◌, ◌≤◌, ◌∙◌, ℕ, zero, suc, List, [], ◌∷◌, length, Option, refl, sym, ap, subst, inl, inr, arith}
 use Rattle.std.proofs.lemmas.Bool.{cases_lt}
 use Rattle.gptp_lists.specs.Members.{In}
 use Rattle.gptp_graph.specs.Best.{IsBest}
@@ -208,10 +208,6 @@ module _ (g : Snapshot) (wf : IsWellFormed g) (far : Distance) (before after : L
   -- no distance is as great as there are systems
   pub whole_by_count : length g.systems ≤ far.steps → IsComponentFound g far.root before after
   whole_by_count all = whole (λ w has. let less = IsDistance-bounded g w far.steps wf has.steps in absurd (omega arith))
-
-  -- while somebody is at the edge, the distance is below the number of systems
-  pub edge_within : (w : ℕ) → In w edge → far.steps < length g.systems
-  edge_within w member = IsDistance-bounded g w far.steps wf (found.at_edge w member).steps
 
   -- who is at the edge is one step nearer than the next
   pub edge_before : (next : Distance) → next.root ≡ far.root → next.steps ≡ suc far.steps → (u : ℕ) → In u edge

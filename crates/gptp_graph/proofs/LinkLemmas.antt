@@ -90,8 +90,3 @@ one_link_of (l ∷ ls) d p q r h k = both (one_link_of ls d.1.1 p q r) (place l 
     both later (inr (inr i)) (inl (c, e)) = absurd (a_later q c i)
     both later (inr (inr i)) (inr (inl (c, e))) = absurd (b_later q c i)
     both later (inr (inr i)) (inr (inr j)) = later i j
-
--- where no port is named twice among the ends, a port has one link at most
-pub one_link-different_ends : (g : Snapshot) → Different (link_ends g.links) → (p q r : PortIdentity)
-    → Joins g p q → Joins g p r → q ≡ r
-one_link-different_ends g d = one_link_of g.links d

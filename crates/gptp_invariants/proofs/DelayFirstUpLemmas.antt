@@ -121,9 +121,6 @@ module _ (p : SettlingParams) (at : LinkPlace) (w : WorldState) (sound : IsSound
       (sound.wired.ports at.link at.answering (other_direction at.direction) s.channel s.answering.station s.here
       s.answering.here (s.answering.named ∙ ap (λ (q : PortId). q.clock) (sym begins)))
 
-  asking_before : IsEndOf at.asking (sender at.direction s.channel) w
-  asking_before = end_is at.asking (sender at.direction s.channel) w measured s.asking asking_of
-
   abbrev answering_before : IsEndOf at.answering (receiver at.direction s.channel) w
   answering_before = end_is at.answering (receiver at.direction s.channel) w measured s.answering answering_of
 

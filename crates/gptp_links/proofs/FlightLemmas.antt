@@ -8,7 +8,7 @@ use Rattle.std.specs.Option.{option_map, option_map_or}
 use Rattle.std.specs.List.{AllZip}
 use Rattle.std.specs.Prelude.{count_by, is_some, slice_index_or}
 use Rattle.slab.specs.Slab.{Slab, get, slab_len, IsSlabClone, IsSlotClone, Updates}
-use Rattle.gptp_links.specs.Flights.{with_next_flight, with_last_flight, with_limit, without_first_flight, no_flights, due_of_first, Differ, EndsWith, frame_at, due_at, next_at, chain, keys_of, frames_of, frames_in, queue_of, DirectionIsChained, AreBeside, IsSameFlight, SameRoom, JoinsFlight, ChangesOneDirection, FlightsAreLinked}
+use Rattle.gptp_links.specs.Flights.{with_next_flight, with_last_flight, with_limit, without_first_flight, Differ, EndsWith, frame_at, due_at, next_at, chain, keys_of, frames_of, frames_in, queue_of, DirectionIsChained, AreBeside, IsSameFlight, SameRoom, JoinsFlight, ChangesOneDirection, FlightsAreLinked}
 use Rattle.gptp_links.specs.Queue.{Frame, frame, first_frame, newest_due, AreDueInOrder}
 use Rattle.gptp_links.specs.State.{LinkState, ChangesOnly}
 use Rattle.gptp_links.specs.declared.flight.Key.{Key}
@@ -338,9 +338,6 @@ changes-pushed s one t lane key f vacant updates len capacity room joins chained
 
 -- ---- the oldest frame is taken out
 
-newest-rest : (e f : Frame) (fs : List Frame) → newest_due (e ∷ (f ∷ fs)) ≡ newest_due (f ∷ fs)
-newest-rest e f fs = refl
-
 -- The frame at the head of a direction is gone.
 module _ (s t : ℕ → Option Flight) (lane : Lane) (f : Flight) (found : s lane.head.place ≡ Some f)
     (same : (k : ℕ) → k ≢ lane.head.place → t k ≡ s k) (some : 0 < lane.count)
@@ -368,9 +365,6 @@ module _ (s t : ℕ → Option Flight) (lane : Lane) (f : Flight) (found : s lan
 
   keys-left : keys_of t shorter ≡ rest
   keys-left = chain-same s t (lane.count - 1) f.next.place rest-same
-
-  pub keys-taken : keys_of s lane ≡ lane.head.place ∷ keys_of t shorter
-  keys-taken = keys-were ∙ ap (λ (ks : List ℕ). lane.head.place ∷ ks) (sym keys-left)
 
   frames-left : frames_in t shorter ≡ frames_of s rest
   frames-left =
@@ -453,17 +447,6 @@ changes-taken s t lane f found updates len capacity some chained = record {
 
 -- ---- a link
 
--- a direction has none, and has room for so many
-pub chained-none : (s : ℕ → Option Flight) (limit : ℕ) → DirectionIsChained s (no_flights limit)
-chained-none s limit = record {
-  there = tt;
-  differ = tt;
-  due_in_order = tt;
-  tail = tt;
-  first_due = λ some. absurd (omega (arith, some));
-  last_due = refl;
-}
-
 pub chained-roomy : (s : ℕ → Option Flight) (lane : Lane) (limit : ℕ) → DirectionIsChained s lane
     → DirectionIsChained s (with_limit limit lane)
 chained-roomy s lane limit h = record {
@@ -474,17 +457,6 @@ chained-roomy s lane limit h = record {
   first_due = h.first_due;
   last_due = h.last_due;
 }
-
--- when the oldest is due
-pub due-first : (s : ℕ → Option Flight) (lane : Lane) → DirectionIsChained s lane
-    → due_of_first lane ≡ option_map (λ (f : Frame). f.due) (first_frame (frames_in s lane))
-due-first s lane h = by lane.count h.first_due where
-  by : (n : ℕ) → (0 < n → lane.first_due ≡ due_at s lane.head.place)
-      → (if n == 0 then None else Some lane.first_due)
-      ≡ option_map (λ (f : Frame). f.due) (first_frame (frames_of s (chain s n lane.head.place)))
-  by zero due = refl
-  by (suc n) due = not_tested (suc n) 0 None (Some lane.first_due) (λ none. omega (arith, none))
-      ∙ ap Some (due (omega arith))
 
 pub linked-turned : (s : Slab Flight) (one other : Lane) → FlightsAreLinked s one other → FlightsAreLinked s other one
 linked-turned s one other h =

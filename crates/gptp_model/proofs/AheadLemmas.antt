@@ -206,22 +206,6 @@ module _ (place : ℕ) (input : Input) (w : WorldState) (draws : List Draw) (ans
       (λ timer t is. late timer t (sym (live_due called timer k.live) ∙ is)) (timers_from 1 called.system.ports)
       w.net.pending none)
 
-  -- Where each timer of the system is pending when it is due, a call leaves nothing pending before now.
-  pub calls_nothing_before : IsSteady k.station.system → IsTimely k.station.system w.time input
-      → AreFit w.net.channels → ArePending place input k.station.system w.net.pending
-      → NothingBefore w.time w.net.pending → NothingBefore w.time w'.net.pending
-  calls_nothing_before steady timely fit pending none =
-      subst (λ (x : WorldState). NothingBefore w.time x.net.pending) (sym k.is) (call_before fit late none)
-    where
-      late : NoneLate w.time k.after
-      late timer t is =
-          by (step_ahead place w.time k.station.system k.after k.sends answer w.net.pending steady input timely k.steps
-          pending timer t is)
-        where
-          by : (times_of_item (Expiry place timer) w.net.pending ≡ t ∷ []) ⊎ (w.time < t) → w.time ≤ t
-          by (inl kept) = first_late w.time place timer w.net.pending t none kept
-          by (inr later) = omega arith
-
   -- Where each timer of the system is pending when it is due, a call leaves no more to do by now.
   pub calls_due_by : IsSteady k.station.system → IsTimely k.station.system w.time input → AreFit w.net.channels
       → ArePending place input k.station.system w.net.pending

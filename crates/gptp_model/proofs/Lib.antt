@@ -12,7 +12,6 @@ pub mod ChangeAgreeLemmas
 pub mod NextDueLemmas
 pub mod OwnTimerLemmas
 pub mod PortCountLemmas
-pub mod NextLemmas
 pub mod PendingLemmas
 pub mod MomentLemmas
 pub mod TimerLemmas

@@ -168,19 +168,6 @@ pub set_due-moved : (i : Item) (due : Option ℕ) (es : List Entry) → (times_o
 set_due-moved i due es differ = set_due-moved_step i due es differ
     (same_times (times_of_item i es) (timer_time due)) refl
 
-after_one : (ts : List ℕ) → length ts ≤ 1 → drop 1 ts ≡ []
-after_one [] once = refl
-after_one (t ∷ ts) once = is_empty ts (omega arith)
-
--- an item that is pending at most once isn't any more where the first is cancelled
-pub times-stopped : (i : Item) (es : List Entry) → length (times_of_item i es) ≤ 1
-    → times_of_item i (without_first_entry i es) ≡ []
-times-stopped i es once = times-without_first_same i es ∙ after_one (times_of_item i es) once
-
-pub set_due-replaced : (i : Item) (due : Option ℕ) (es : List Entry) → (times_of_item i es ≡ timer_time due → ⊥)
-    → length (times_of_item i es) ≤ 1 → set_due i due es ≡ put_if i due (without_first_entry i es)
-set_due-replaced i due es differ once = set_due-moved i due es differ ∙ ap (put_if i due) (without-once i es once)
-
 listed-eq : (a b : Option ℕ) → timer_time a ≡ timer_time b → option_eq eqb a b ≡ true
 listed-eq None None same = refl
 listed-eq None (Some t) same = absurd (grind (arith, same))

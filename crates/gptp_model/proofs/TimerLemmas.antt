@@ -99,10 +99,6 @@ module _ (due : Timer → Option ℕ) (place : ℕ) where
   set_all-append [] us es = refl
   set_all-append (t ∷ ts) us es = set_all-append ts us (set_due (Expiry place t) (due t) es)
 
-  pub set_all-more : (ts : List Timer) (t : Timer) (es : List Entry)
-      → set_all (ts ++ t ∷ []) es ≡ set_due (Expiry place t) (due t) (set_all ts es)
-  set_all-more ts t es = set_all-append ts (t ∷ []) es
-
   -- where all are pending when they are due, nothing changes
   pub set_all-kept : (ts : List Timer) (es : List Entry) → AllByRecursion (IsSet es) ts → set_all ts es ≡ es
   set_all-kept [] es all = refl

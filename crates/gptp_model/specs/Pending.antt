@@ -93,18 +93,7 @@ arrival_place link FromB = link * 2 + 1
 abbrev pub arrival_room : ℕ → Direction → PendingState → ℕ
 arrival_room link direction p = slice_index_or p.rooms (arrival_place link direction) 0
 
--- at least this many more arrivals can be put in each direction of a link
-pub record HasArrivalRoom (link more : ℕ) (p : PendingState) : Type 0 where
-  pub from_a : more ≤ arrival_room link FromA p
-  pub from_b : more ≤ arrival_room link FromB p
-
 -- there is no less room for arrivals than there was
 abbrev pub KeepsArrivalRoom : PendingState → PendingState → Type 0
 KeepsArrivalRoom old new =
     (link : ℕ) (direction : Direction) → arrival_room link direction old ≤ arrival_room link direction new
-
--- the room for arrivals is what it was, but for one direction of a link
-abbrev pub KeepsOtherRoom : ℕ → Direction → PendingState → PendingState → Type 0
-KeepsOtherRoom link direction old new = (other : ℕ) (way : Direction)
-    → same_item (Arrival link direction) (Arrival other way) ≡ false
-    → arrival_room other way new ≡ arrival_room other way old

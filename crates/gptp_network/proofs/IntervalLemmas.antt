@@ -1,5 +1,5 @@
 -- The announce intervals of a document.
-use Rattle.std.proofs.Common.{◌≡◌, ◌≢◌, ◌+◌, ◌++◌, ◌&&◌, ◌==◌, if◌then◌else◌, true, false, ℕ, suc, ℤ, List, [], ◌∷◌, length, drop, Option, Some, None, Result, Ok, Err, IsOk, refl, sym, ap, subst, ◌∙◌, append-nil, append_assoc, arith}
+use Rattle.std.proofs.Common.{◌≡◌, ◌≢◌, ◌+◌, ◌++◌, ◌&&◌, ◌==◌, if◌then◌else◌, false, ℕ, suc, ℤ, List, [], ◌∷◌, length, drop, Option, Some, None, Result, Ok, Err, IsOk, refl, sym, ap, subst, ◌∙◌, append_assoc, arith}
 use Rattle.std.specs.List.{list_all}
 use Rattle.std.proofs.Math.Bool.{and-false}
 use Rattle.std.proofs.lemmas.Bool.Decides.{nat_tests}
@@ -50,15 +50,6 @@ module _ (ports : ℕ) (ds : Items) where
       ap (λ r. r >>= one_for_each ports) read
       ∙ ap (λ b. if b then Ok (zs ++ z ∷ more) else Err OutOfRange)
       (ap (λ b. (length (zs ++ z ∷ more) == ports) && b) none ∙ and-false (length (zs ++ z ∷ more) == ports))
-
-  -- where all have been read, and each is an interval, the array holds them
-  pub all_intervals : (zs : List ℤ) → whole_numbers ds ≡ behind zs (Ok []) → list_all is_log zs ≡ true
-      → length zs ≡ ports → intervals_in ports ds ≡ Ok zs
-  unfolding intervals_in
-  all_intervals zs read are many =
-      let same : (length zs == ports) ≡ true = grind (arith, nat_tests) in
-      ap (λ r. r >>= one_for_each ports) (read ∙ ap Ok (append-nil zs))
-      ∙ ap (λ b. if b then Ok zs else Err OutOfRange) (ap (λ b. b && list_all is_log zs) same ∙ are)
 
 -- there are as many numbers as members
 length_numbers : (vs : List Value) (zs : List ℤ) → whole_numbers (items_view vs) ≡ Ok zs → length zs ≡ length vs

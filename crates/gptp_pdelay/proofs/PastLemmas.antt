@@ -58,12 +58,6 @@ oldest_of (Some last) (t ∷ ts) none = absurd (found t ts none)
     found t [] e = absurd cc
     found t (u ∷ ts) e = found u ts e
 
-pub oldest_before : (last : Option Measurement) (earlier : List Times) (t : Times) → oldest earlier ≡ Some t
-    → oldest (past_of last earlier) ≡ Some t
-oldest_before None earlier t is = is
-oldest_before (Some last) [] t is = absurd cc
-oldest_before (Some last) (u ∷ us) t is = is
-
 -- a state after an exchange, if there is one
 abbrev exchanges : Option Measurement → PeerState → PeerState
 exchanges o p = option_map_or (λ m. completed m p) o p

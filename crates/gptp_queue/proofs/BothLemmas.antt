@@ -1,5 +1,5 @@
 -- Two lists of parts: what is in either, and the least of both.
-use Rattle.std.proofs.Common.{◌≡◌, ◌⊎◌, ◌+◌, Bool, true, false, List, [], ◌∷◌, ◌++◌, length, Option, Some, None, IsSome, IfSome, if◌then◌else◌, refl, subst, inl, inr, arith}
+use Rattle.std.proofs.Common.{◌≡◌, ◌⊎◌, ◌+◌, Bool, true, false, List, [], ◌∷◌, ◌++◌, length, Option, Some, None, IfSome, if◌then◌else◌, refl, subst, inl, inr, arith}
 use Prim.Native.Nat.{zero, suc}
 use Rattle.std.proofs.lemmas.List.Sums.{sum_by-append}
 use Rattle.gptp_queue.specs.Order.{comes_first, first_of_both, is_before, size_of, AddsTo, IsLeastOf, Sweeps, TakesLeast, Within}
@@ -152,14 +152,6 @@ pub other_taken : (ps qs ns : List (List Entry)) (one other : Option Entry) → 
     → IfSome (first_of_both one other) (λ d. TakesLeast (ps ++ qs) (ps ++ ns) d)
 other_taken ps qs ns one None h takes = rw h tt
 other_taken ps qs ns one (Some d) h takes = rw h (takes_other ps qs ns d takes)
-
-pub one_some : (one other : Option Entry) → comes_first one other ≡ true → IsSome one
-one_some None other h = absurd (grind (arith, h))
-one_some (Some d) other h = refl
-
-pub other_some : (one other : Option Entry) → comes_first one other ≡ false → IsSome (first_of_both one other)
-    → IsSome other
-other_some one other h some = rw h at some
 
 module _ (ps qs : List (List Entry)) (one other : Option Entry) (least : IsLeastOf (Within ps) one)
     (least_other : IsLeastOf (Within qs) other) where

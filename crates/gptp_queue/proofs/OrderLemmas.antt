@@ -45,9 +45,6 @@ not_both d e h later =
 
 -- ---- runs
 
-all_through : (d e : Entry) (es : List Entry) → IsNoLater d e → All (IsNoLater e) es → All (IsNoLater d) es
-all_through d e es h all = λ i x within. through d e (get_or es i x) h (all i x within)
-
 -- the first is no later than the last
 first_last : (d : Entry) (es : List Entry) → Rise (d ∷ es) → IsNoLater d (get_or (d ∷ es) (length es) d)
 first_last d [] rises = itself d

@@ -1,5 +1,5 @@
 -- The smallest and the largest of the intervals that the ports of a network announce at.
-use Rattle.std.proofs.Common.{◌≡◌, ◌≤◌, inl, inr, ◌⊎◌, ℕ, zero, suc, ℤ, ◌≤ℤ◌, List, [], ◌∷◌, ◌++◌, Option, Some, None, slice_get, false, rules, refl, sym, ap, subst, ◌∙◌, append-nil, arith}
+use Rattle.std.proofs.Common.{◌≡◌, ◌≤◌, inl, inr, ◌⊎◌, ℕ, zero, suc, ℤ, ◌≤ℤ◌, List, [], ◌∷◌, ◌++◌, Option, Some, slice_get, false, rules, refl, sym, ap, subst, ◌∙◌, append-nil, arith}
 use Rattle.std.specs.Int.{int_max, int_min}
 use Rattle.std.specs.List.{All, AllByRecursion, Contains, cons_option, flat_map, fold, list_any, reduce}
 use Rattle.std.specs.Option.{unwrap_or}
@@ -14,7 +14,7 @@ use Rattle.gptp_lists.proofs.SystemSpecLemmas.{In-left, In-parts, In-right, In-s
 use Rattle.gptp_lists.proofs.PlaceLemmas.{read}
 use Rattle.gptp_setup.specs.Intervals.{interval_of, IsLog, IsLogUpTo}
 use Rattle.gptp_setup.proofs.IntervalLemmas.{interval_rises}
-use Rattle.gptp_scenario.specs.Network.{NetworkState, ArePrompt, IsKeptNetwork, IsNetwork, is_any_slower, largest_of, logs_of, pace_of, smallest_of, with_system}
+use Rattle.gptp_scenario.specs.Network.{NetworkState, ArePrompt, IsNetwork, is_any_slower, largest_of, logs_of, pace_of, smallest_of, with_system}
 use Rattle.gptp_scenario.specs.Params.{KeepPace}
 use Rattle.gptp_scenario.specs.declared.network.SystemSpec.{SystemSpec}
 use Rattle.gptp_scenario.specs.declared.network.LinkSpec.{LinkSpec}
@@ -57,10 +57,6 @@ pub reduce-append : {X : Type 0} (f : X → X → X) (xs ys : List X)
     → reduce f (xs ++ ys) ≡ reduce f (cons_option (reduce f xs) ys)
 reduce-append f [] ys = refl
 reduce-append f (x ∷ xs) ys = ap Some (fold-append f x xs ys)
-
-pub reduce_alone : {X : Type 0} (f : X → X → X) (found : Option X) → reduce f (cons_option found []) ≡ found
-reduce_alone f None = refl
-reduce_alone f (Some x) = refl
 
 -- the intervals with one system more
 pub logs_added : (n : NetworkState) (m : SystemSpec) → logs_of (with_system m n) ≡ logs_of n ++ m.intervals.items
@@ -107,17 +103,6 @@ largest_chosen : (n : NetworkState) → IsChosen (λ r x. x ≤ℤ r) n.params.a
 unfolding largest_of
 largest_chosen n =
     is_chosen int_max (λ r x. x ≤ℤ r) fold-int_max_reached fold-int_max_bounds n.params.announce (logs_of n)
-
--- what is kept of a network
-pub kept_smallest : (n : NetworkState) (least greatest : Option ℤ) → IsKeptNetwork n least greatest
-    → unwrap_or least n.params.announce ≡ smallest_of n
-unfolding smallest_of
-kept_smallest n least greatest h = ap (λ found. unwrap_or found n.params.announce) h.smallest
-
-pub kept_largest : (n : NetworkState) (least greatest : Option ℤ) → IsKeptNetwork n least greatest
-    → unwrap_or greatest n.params.announce ≡ largest_of n
-unfolding largest_of
-kept_largest n least greatest h = ap (λ found. unwrap_or found n.params.announce) h.largest
 
 pub smallest_least : (n : NetworkState) (log : ℤ) → In log (logs_of n) → smallest_of n ≤ℤ log
 smallest_least n = (smallest_chosen n).each

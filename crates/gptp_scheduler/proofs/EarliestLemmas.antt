@@ -34,11 +34,6 @@ module _ {T : Type 0} where
   no-earlier-itself : (p : Placed T) → IsNoEarlier p.time p.number (chain_entry p)
   no-earlier-itself p = record { not_before = omega arith; by_number = λ same. omega arith }
 
-  pub hint-least : (nodes : ℕ → Option (Node T)) (slot : ℕ) (link : Option Key) → IsSome link → IsHint nodes slot link
-      → LeastIn nodes slot link
-  hint-least nodes slot None some h = absurd (cc)
-  hint-least nodes slot (Some key) some h = h
-
   least-hint : (nodes : ℕ → Option (Node T)) (slot : ℕ) (link : Option Key) → LeastIn nodes slot link
       → IsHint nodes slot link
   least-hint nodes slot None h = tt

@@ -10,10 +10,6 @@ module _ {T : Type 0} where
   absent [] n none = refl
   absent (e ∷ es) n none = grind (arith, nat_tests, absent es n)
 
-  pub without-head : (e : AgendaEntry T) (es : List (AgendaEntry T)) (n : ℕ) → e.number ≡ n → entry_at es n ≡ None
-      → without_number n (e ∷ es) ≡ es
-  without-head e es n same none = grind (arith, nat_tests, absent es n none)
-
   pub without-other_head : (e : AgendaEntry T) (es : List (AgendaEntry T)) (n : ℕ) → (e.number ≡ n → ⊥)
       → without_number n (e ∷ es) ≡ e ∷ without_number n es
   without-other_head e es n other = grind (arith, nat_tests)

@@ -7,4 +7,3 @@ pub mod EarliestLemmas
 pub mod EntryLemmas
 pub mod FiledLemmas
 pub mod AgendaLemmas
-pub mod FirstLemmas

@@ -18,13 +18,6 @@ same_from_xor a b none =
       bit_at-lt b i,
     ))
 
-pub xor_pos : (a b : ℕ) → a ≢ b → 0 < bit_xor a b
-xor_pos a b differ =
-    elim (cases_lt 0 (bit_xor a b)) [
-      | inl some ↦ some
-      | inr none ↦ absurd (differ (same_from_xor a b (omega arith)))
-    ]
-
 tick-le : (height a b : ℕ) → a ≤ b → tick height a ≤ tick height b
 unfolding tick
 tick-le height a b below = le-div _ b _ (pow_pos (height * 8)) (le_trans (div-mul-le_self a _) below)

@@ -51,11 +51,6 @@ module _ {T : Type 0} where
       → placed_at nodes k ≡ Some (placed e)
   held-node nodes k e is = ap (option_map placed) is
 
-  -- what stands in a slot stands there by its number
-  number-at : (nodes : ℕ → Option (Node T)) (k : ℕ) (p : Placed T) → placed_at nodes k ≡ Some p
-      → numbers_in nodes p.slot k ≡ Some p.number
-  number-at nodes k p at = ap (number_in p.slot) at ∙ number-own p.slot p refl
-
   -- an entry that was moved is the same entry
   pub same-moved : (old new : ℕ → Option (Node T)) (key slot : ℕ) → Moves old new key slot → SameEntries old new
   same-moved old new key slot moves k = elim (cases_eq k key) [

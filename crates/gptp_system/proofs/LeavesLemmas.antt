@@ -18,7 +18,7 @@ use Rattle.gptp_setup.specs.declared.timer.Timer.TheVariants as timers
 use Rattle.gptp_system.specs.declared.timers_changed.TimersChanged.{TimersChanged}
 use Rattle.gptp_system.specs.declared.timers_changed.TimersChanged.TheVariants as touches
 use Rattle.gptp_system.specs.Announcing.{answer_to_heard, compared, replaces_held, HearsAgain, HearsQualified}
-use Rattle.gptp_system.specs.Input.{Input, Frame, Expires}
+use Rattle.gptp_system.specs.Input.{Frame, Expires}
 use Rattle.gptp_system.specs.Measuring.{is_turned, TurnsIf}
 use Rattle.gptp_system.specs.Reach.{is_of_time, is_selected, is_touched, is_touched_by, same_timer, stops_at, Leaves}
 use Rattle.gptp_system.specs.Selection.{SelectsIf}
@@ -35,10 +35,6 @@ use Rattle.gptp_system.proofs.TypeLemmas.{type_number}
 -- a state that stays has all timers due when they were
 unchanged : (touched : Timer → Bool) (s s' : SystemState) → s' ≡ s → Leaves touched s s'
 unchanged touched s s' same = subst (Leaves touched s) (sym same) (λ timer off. refl)
-
--- where any timer may be touched nothing is asked
-pub all_touched : (input : Input) (s s' : SystemState) → Touches input touches.All s s'
-all_touched input s s' = record { own = tt; always = λ timer off. absurd cc; leaves = λ timer off. absurd cc }
 
 -- ---- a message
 

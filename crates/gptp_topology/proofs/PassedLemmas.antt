@@ -11,7 +11,7 @@ use Rattle.gptp_network.specs.Snapshot.{events_by}
 use Rattle.gptp_topology.specs.Tables.{told_times}
 use Rattle.gptp_topology.specs.Times.{AreCalmTimes, IsCalmTime, times_from, times_of}
 use Rattle.gptp_topology.specs.declared.times.CalmTime.{CalmTime}
-use Rattle.gptp_topology.proofs.CourseLemmas.{all_from_0, behind, not_before, only_past, order_behind, past_by, past_more, still_past, until_now}
+use Rattle.gptp_topology.proofs.CourseLemmas.{behind, not_before, only_past, order_behind, past_by, past_more, still_past, until_now}
 
 -- ---- whatever is told of a time
 
@@ -25,17 +25,6 @@ pub record Passed {X : Type 0} (at_of : X → ℕ) (Is : X → Type 0) (d : Docu
   pub order : AreInOrder left
   pub times_are : map at_of xs ++ times_from at left ≡ times_of d.events
   pub each : AllByRecursion Is xs
-
-pub passed_none : {X : Type 0} (at_of : X → ℕ) (Is : X → Type 0) (d : DocumentState) → AreInOrder d.events
-    → Passed at_of Is d [] d.events 0 []
-passed_none at_of Is d order = record {
-  split = refl;
-  past = tt;
-  come = all_from_0 d.events;
-  order = order;
-  times_are = refl;
-  each = tt;
-}
 
 one_more : {X : Type 0} (Is : X → Type 0) (xs : List X) (x : X) → AllByRecursion Is xs → Is x
     → AllByRecursion Is (xs ++ x ∷ [])

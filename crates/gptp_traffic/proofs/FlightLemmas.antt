@@ -114,14 +114,6 @@ frames-none flights lane none = at-mapped flight_frame flights.queues lane ∙ a
 
 -- ---- room and lanes
 
-pub places-roomy : (flights after : QueuesState FlightState) → after ≡ record flights { room = after.room }
-    → places_of after ≡ record (places_of flights) { room = after.room }
-places-roomy flights after kept = ap places_of kept
-
-pub frames-roomy : (flights after : QueuesState FlightState) → after ≡ record flights { room = after.room }
-    → frames_of after ≡ frames_of flights
-frames-roomy flights after kept = ap frames_of kept
-
 pub many-lanes : (flights : QueuesState FlightState) (n : ℕ) → length (places_of flights).queues ≡ n
     → (length flights.queues ≡ n) × (length (frames_of flights) ≡ n)
 many-lanes flights n many =

@@ -1,8 +1,7 @@
 -- The links that are up between two live systems, counted and listed one after another.
-use Rattle.std.proofs.Common.{◌≡◌, ◌≤◌, ◌+◌, ℕ, zero, suc, Bool, true, false, List, [], ◌∷◌, ◌++◌, length, take, Some, None, slice_get, refl, sym, ap, subst, ◌∙◌, arith, append-nil, length-append}
+use Rattle.std.proofs.Common.{◌≡◌, ◌≤◌, ◌+◌, ℕ, zero, suc, Bool, true, false, List, [], ◌∷◌, ◌++◌, length, take, Some, slice_get, refl, sym, ap, subst, ◌∙◌, arith, append-nil, length-append}
 use Rattle.std.proofs.lemmas.Option.{none-some, same_Some}
 use Rattle.gptp_graph.specs.Snapshot.{Link, System}
-use Rattle.gptp_vector.specs.declared.port.PortId.{PortId}
 use Rattle.std.proofs.lemmas.List.{take_all}
 use Rattle.gptp_lists.proofs.MappedLemmas.{taken}
 use Rattle.gptp_lists.proofs.SystemSpecLemmas.{In-map}
@@ -16,7 +15,7 @@ use Rattle.gptp_world.specs.declared.world_parts.WorldParts.{WorldParts}
 use Rattle.gptp_traffic.specs.Traffic.{join_of}
 use Rattle.gptp_world.specs.Directory.{direction_end}
 use Rattle.gptp_world.specs.WorldCore.{IsFounded}
-use Rattle.gptp_world.specs.Used.{snapshot_link, used, used_if, used_in}
+use Rattle.gptp_world.specs.Used.{used, used_if, used_in}
 use Rattle.gptp_world.proofs.DeliveringLemmas.{IsReceiver}
 use Rattle.gptp_world.proofs.EndLemmas.{end_same, known_join, station_at}
 
@@ -107,30 +106,6 @@ used_here systems (x ∷ xs) (suc link) channel here is =
 pub used_yes : (systems : List System) (channel : Channel) → channel_is_used systems channel ≡ true
     → used systems channel ≡ Some (standing_link channel)
 used_yes systems channel is = rw is refl
-
-pub used_no : (systems : List System) (channel : Channel) → channel_is_used systems channel ≡ false
-    → used systems channel ≡ None
-used_no systems channel is = rw is refl
-
--- what the one is, is put after
-pub used_some : (systems : List System) (channel : Channel) (ports : PortId × PortId)
-    → Some (snapshot_link ports) ≡ used systems channel → used_if systems channel ≡ snapshot_link ports ∷ []
-used_some systems channel ports same = by (channel_is_used systems channel) refl
-  where
-    by : (is : Bool) → channel_is_used systems channel ≡ is → used_if systems channel ≡ snapshot_link ports ∷ []
-    by true is =
-        let one : standing_link channel ≡ snapshot_link ports =
-        same_Some (standing_link channel) (snapshot_link ports) (sym (same ∙ used_yes systems channel is)) in
-        rw is (ap (λ l. l ∷ []) one)
-    by false is = absurd (none-some (snapshot_link ports) (sym (same ∙ used_no systems channel is)))
-
-pub used_none : (systems : List System) (channel : Channel) → None ≡ used systems channel
-    → used_if systems channel ≡ []
-used_none systems channel same = by (channel_is_used systems channel) refl
-  where
-    by : (is : Bool) → channel_is_used systems channel ≡ is → used_if systems channel ≡ []
-    by true is = absurd (none-some (standing_link channel) (same ∙ used_yes systems channel is))
-    by false is = rw is refl
 
 -- ---- the links of a stage, one after another
 
