@@ -9,7 +9,7 @@ use Rattle.gptp_topology.specs.Tables.{are_calm, marked_paths}
 use Rattle.gptp_topology.specs.declared.course.Cable.{Cable}
 use Rattle.gptp_topology.specs.declared.course.Standing.{Standing}
 use Rattle.gptp_how_soon.specs.Far.{up_is_used}
-use Rattle.gptp_how_soon.specs.Bounds.{heard_by, ready, times_by}
+use Rattle.gptp_how_soon.specs.Bounds.{arrived_by, heard_by, ready, times_by}
 use Rattle.gptp_how_soon.specs.Kinds.{begins_wider, brings_nothing, is_loss, makes_nothing, sets_link}
 use Rattle.gptp_how_soon.specs.Links.{new_among}
 use Rattle.gptp_how_soon.specs.Rest.{are_losses_followed, asks_who_is_moved, failed_row, heard_at_once, is_failing_followed, is_from_rest, is_lowering_followed, leaves_silent, no_moves, row_of}
@@ -17,7 +17,7 @@ use Rattle.gptp_how_soon.specs.Silent.{held_among, own_intervals}
 use Rattle.gptp_how_soon.specs.Times.{settling_time}
 use Rattle.gptp_how_soon.specs.Walk.{moves_seen, view_seen}
 use Rattle.gptp_how_soon.specs.declared.bounds.Row.{Row}
-use Rattle.gptp_how_soon.specs.declared.bounds.Row.TheVariants.{AnyLosses, AnyPast, CutOff, Gained, Lowered, OneTurned, TreeCutOff, TreeTurned, Unchanged}
+use Rattle.gptp_how_soon.specs.declared.bounds.Row.TheVariants.{AnyLosses, AnyPast, CutOff, FailureCutsTrees, Gained, Lowered, OneTurned, PowerCutsTrees, TreeCutOff, TreeTurned, Unchanged}
 use Rattle.gptp_how_soon.specs.declared.bounds.SettlingTime.{SettlingTime}
 use Rattle.gptp_how_soon.specs.declared.kinds.Told.{Told}
 use Rattle.gptp_how_soon.specs.declared.rest.Moves.{Moves}
@@ -50,6 +50,8 @@ same_row from_rest first before paths told moves used =
         else if failing && not (asked_of moves (rest && (followed || lowering || failing))).moved
         then failed_row (asked_of moves (rest && (followed || lowering || failing))).far
         (asked_of moves (rest && (followed || lowering || failing))).any used
+        else if failing && (asked_of moves (rest && (followed || lowering || failing))).trees_fall
+        then if used then PowerCutsTrees else FailureCutsTrees
         else if list_any is_loss told then if list_all brings_nothing told then AnyLosses else AnyPast
         else Gained)
         ≡ (if not rest then AnyPast else if first then Gained else if idle then Unchanged
@@ -59,6 +61,7 @@ same_row from_rest first before paths told moves used =
         else if lowering && moves.falls then TreeCutOff
         else if lowering && moves.tree_turns then TreeTurned
         else if failing && not moves.moved then failed_row moves.far moves.any used
+        else if failing && moves.trees_fall then if used then PowerCutsTrees else FailureCutsTrees
         else if list_any is_loss told then if list_all brings_nothing told then AnyLosses else AnyPast
         else Gained)
     by false idle followed lowering failing = refl
@@ -70,9 +73,9 @@ same_row from_rest first before paths told moves used =
 pub settled_so : (n : NetworkState) (w : Walk) (at : ℕ) (first followed from_rest calm sets silent own : Bool)
     (held : ℕ) (moves : Moves)
     (paths : SyncPaths) (told : List Told) (standings : List Standing) (used : List Bool) (new : List Cable)
-    (soon heard way : ℕ) (row : Row) (time : SettlingTime) (all_used : Bool)
+    (soon heard way arrived : ℕ) (row : Row) (time : SettlingTime) (all_used : Bool)
     → time
-    ≡ times_by n at w.last_set (record {
+    ≡ times_by n at arrived (record {
       paths_before = w.paths_before;
       used_before = w.all_used_before;
       silent = silent;
@@ -97,10 +100,11 @@ pub settled_so : (n : NetworkState) (w : Walk) (at : ℕ) (first followed from_r
     → paths ≡ marked_paths w.tables.marks.items w.tables.nodes.items
     → first ≡ not (is_some w.before)
     → all_used ≡ up_is_used standings
+    → arrived ≡ arrived_by w.longest w.last_set
     → time ≡ settling_time n (view_seen n w at)
 settled_so n w at first followed from_rest calm sets silent own held moves paths told standings used new soon heard way
-    row time all_used e0 es eh eo e1 e2 e3 e4 e5 e6 e7 e8 e9 e10 e11 e12 e13 e14 e15 eu =
+    arrived row time all_used e0 es eh eo e1 e2 e3 e4 e5 e6 e7 e8 e9 e10 e11 e12 e13 e14 e15 eu ea =
     let row_is : row ≡ row_of from_rest first w.paths_before paths told (moves_seen n w at) all_used =
     e1 ∙ ap (λ m. row_of from_rest first w.paths_before paths told m all_used) e2
     ∙ same_row from_rest first w.paths_before paths told (moves_seen n w at) all_used in
-    rw (e0, es, eh, eo, row_is, eu, e3, e4, e5, e6, e7, e8, e9, e10, e11, e12, e13, e14, e15) refl
+    rw (e0, ea, es, eh, eo, row_is, eu, e3, e4, e5, e6, e7, e8, e9, e10, e11, e12, e13, e14, e15) refl

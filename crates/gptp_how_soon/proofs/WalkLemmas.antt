@@ -1,5 +1,5 @@
 -- A walk stands as the events so far leave a document.
-use Rattle.std.proofs.Common.{◌≡◌, max, ℕ, List, [], ◌∷◌, ◌++◌, Bool, true, false, cond, filter, map, not, ◌&&◌, append_assoc, refl, sym, ap, ap₂, subst, ◌∙◌, arith}
+use Rattle.std.proofs.Common.{◌≡◌, max, ℕ, List, [], ◌∷◌, ◌++◌, Bool, true, false, cond, filter, map, not, ◌&&◌, Some, append_assoc, refl, sym, ap, ap₂, subst, ◌∙◌, arith}
 use Rattle.std.specs.List.{find}
 use Rattle.std.specs.Option.{is_some}
 use Rattle.std.proofs.lemmas.List.{append-nil}
@@ -19,7 +19,7 @@ use Rattle.gptp_how_soon.specs.Chosen.{ends_among, ends_in_use, ends_of, lost_en
 use Rattle.gptp_how_soon.specs.Far.{up_is_used}
 use Rattle.gptp_how_soon.specs.Kinds.{sets_bounds, told_by}
 use Rattle.gptp_how_soon.specs.Links.{delay_set, longest_delay, longest_set, lost_among, new_among}
-use Rattle.gptp_how_soon.specs.Times.{last_set, moves_at, told_at, told_of, view_at}
+use Rattle.gptp_how_soon.specs.Times.{last_of, last_set, moves_at, told_at, told_of, view_at}
 use Rattle.gptp_how_soon.specs.Silent.{held_among, own_intervals}
 use Rattle.gptp_how_soon.specs.Walk.{IsFirstWalk, WalkGoesOn, WalkPasses, moves_seen, view_seen}
 use Rattle.gptp_how_soon.specs.declared.bounds.SettlingTime.{SettlingTime}
@@ -49,15 +49,19 @@ last_behind (u ∷ (v ∷ ts)) t = last_behind (v ∷ ts) t
 abbrev sets : Timed → Bool
 sets t = sets_bounds t.act
 
+last_of_behind : (ts : List Timed) (t : Timed) → last_of (ts ++ t ∷ []) ≡ Some t.at
+last_of_behind [] t = refl
+last_of_behind (u ∷ ts) t = ap Some (last_behind (u ∷ ts) t)
+
 set_more : (events : List Timed) (t : Timed)
-    → last_set (events ++ t ∷ []) ≡ cond (sets_bounds t.act) t.at (last_set events)
-set_more events t = ap last_change (filter-append sets events (t ∷ [])) ∙ by (sets_bounds t.act)
+    → last_set (events ++ t ∷ []) ≡ cond (sets_bounds t.act) (Some t.at) (last_set events)
+set_more events t = ap last_of (filter-append sets events (t ∷ [])) ∙ by (sets_bounds t.act)
   where
     by : (test : Bool)
-        → last_change (filter sets events ++ cond test (t ∷ []) [])
-        ≡ cond test t.at (last_change (filter sets events))
-    by true = last_behind (filter sets events) t
-    by false = ap last_change (append-nil (filter sets events))
+        → last_of (filter sets events ++ cond test (t ∷ []) [])
+        ≡ cond test (Some t.at) (last_of (filter sets events))
+    by true = last_of_behind (filter sets events) t
+    by false = ap last_of (append-nil (filter sets events))
 
 -- ---- the greatest delay that a link has had
 
@@ -187,7 +191,7 @@ module _ (n : NetworkState) (network : IsNetwork n) where
       → WalkStands n made (now ++ t ∷ []) new
   stands_more made now t old new so passes =
       let joined : (made ++ now) ++ t ∷ [] ≡ made ++ (now ++ t ∷ []) = append_assoc made now (t ∷ []) in record {
-        set = passes.set ∙ ap (cond (sets_bounds t.act) t.at) so.set ∙ sym (set_more (made ++ now) t)
+        set = passes.set ∙ ap (cond (sets_bounds t.act) (Some t.at)) so.set ∙ sym (set_more (made ++ now) t)
             ∙ ap last_set joined;
         longest = passes.longest ∙ ap (max (delay_set t.act)) so.longest ∙ longer n (made ++ now) t
             ∙ ap (longest_delay n) joined;

@@ -8,13 +8,13 @@ use Rattle.gptp_network.specs.Document.{DocumentState}
 use Rattle.gptp_scenario.specs.Network.{IsNetwork, NetworkState, pace_of}
 use Rattle.gptp_scenario.specs.SettlingTime.{settling_span_with, silence_span}
 use Rattle.gptp_scenario.specs.declared.sync_wait.SyncPaths.{SyncPaths}
-use Rattle.gptp_how_soon.specs.Bounds.{any_loss_span, choice_by, choice_of_row, roles_by, roles_of_row, settled, settling_by, watch}
+use Rattle.gptp_how_soon.specs.Bounds.{any_loss_span, arrived_by, choice_by, choice_of_row, roles_by, roles_of_row, settled, settling_by, watch}
 use Rattle.gptp_how_soon.specs.Kinds.{sets_link}
 use Rattle.gptp_how_soon.specs.Silent.{own_intervals}
 use Rattle.gptp_how_soon.specs.Times.{View, events_at, events_before, gained_at, loss_at, row_at, settling_times, settling_times_from, time_at, view_at}
 use Rattle.gptp_how_soon.specs.declared.bounds.Loss.{Loss}
 use Rattle.gptp_how_soon.specs.declared.bounds.Row.{Row}
-use Rattle.gptp_how_soon.specs.declared.bounds.Row.TheVariants.{AnyLosses, AnyPast, CutOff, FailedEnd, FailedHeard, FailureCutsOff, Gained, LostEnd, LostPower, Lowered, OneTurned, PowerCutsOff, TreeCutOff, TreeTurned, Unchanged}
+use Rattle.gptp_how_soon.specs.declared.bounds.Row.TheVariants.{AnyLosses, AnyPast, CutOff, FailedEnd, FailedHeard, FailureCutsOff, FailureCutsTrees, Gained, LostEnd, LostPower, Lowered, OneTurned, PowerCutsOff, PowerCutsTrees, TreeCutOff, TreeTurned, Unchanged}
 use Rattle.gptp_how_soon.specs.declared.bounds.Settling.{Settling}
 use Rattle.gptp_how_soon.specs.declared.bounds.SettlingTime.{SettlingTime}
 use Rattle.gptp_how_soon.proofs.SilentLemmas.{held_within}
@@ -49,18 +49,20 @@ roles_later n loss paths row gained held = by (n.params.sync_timeout == 0) row
     by true OneTurned = omega arith
     by true TreeCutOff = omega arith
     by true TreeTurned = omega arith
+    by true PowerCutsTrees = omega arith
+    by true FailureCutsTrees = omega arith
     by true AnyLosses = lost loss.silent
     by true Gained = omega arith
 
-watched_longer : (n : NetworkState) → IsNetwork n → (at last_set : ℕ) (loss : Loss) (paths : SyncPaths)
+watched_longer : (n : NetworkState) → IsNetwork n → (at arrived : ℕ) (loss : Loss) (paths : SyncPaths)
     (calm sets : Bool) (row : Row) (gained : ℕ) (s : Settling) → loss.held ≤ silence_span (pace_of n)
-    → settling_by n at last_set loss paths calm sets row gained ≡ Some s
-    → s.choice < watch n at paths (settling_by n at last_set loss paths calm sets row gained)
-watched_longer n network at last_set loss paths false sets row gained s held is = absurd cc
-watched_longer n network at last_set loss paths true sets row gained s held is =
+    → settling_by n at arrived loss paths calm sets row gained ≡ Some s
+    → s.choice < watch n at paths (settling_by n at arrived loss paths calm sets row gained)
+watched_longer n network at arrived loss paths false sets row gained s held is = absurd cc
+watched_longer n network at arrived loss paths true sets row gained s held is =
     let later = roles_later n loss paths row gained held in
     let some = interval_positive n.params.sync network.params.ranges.params.sync in
-    let told : Settling = settled n at last_set loss paths sets row gained in
+    let told : Settling = settled n at arrived loss paths sets row gained in
     let same : told ≡ s = same_Some told s is in
     subst (λ (x : Settling). x.choice < watch n at paths (Some told)) same (omega (arith, later, some))
 
@@ -69,7 +71,8 @@ watched_longer_then : (d : DocumentState) → IsNetwork d.network → (before : 
 watched_longer_then d network before at s is =
     let n = d.network in
     let v : View = view_at n (events_before before d.events) (events_at at d.events) before at in
-    watched_longer n network at v.last_set (loss_at v) v.paths v.calm (sets_link v.told) (row_at v) (gained_at n v) s
+    watched_longer n network at (arrived_by v.longest v.last_set) (loss_at v) v.paths v.calm (sets_link v.told)
+    (row_at v) (gained_at n v) s
     (held_within n (own_intervals n before at) _ _) is
 
 watched_longer_from : (d : DocumentState) → IsNetwork d.network → (before : Option SettlingTime) (ats : List ℕ)

@@ -13,7 +13,7 @@ use Rattle.gptp_how_soon.specs.Kinds.{recovers}
 use Rattle.gptp_how_soon.specs.Links.{varies}
 use Rattle.gptp_how_soon.specs.declared.bounds.Loss.{Loss}
 use Rattle.gptp_how_soon.specs.declared.bounds.Row.{Row}
-use Rattle.gptp_how_soon.specs.declared.bounds.Row.TheVariants.{AnyLosses, AnyPast, CutOff, FailedEnd, FailedHeard, FailureCutsOff, Gained, LostEnd, LostPower, Lowered, OneTurned, PowerCutsOff, TreeCutOff, TreeTurned, Unchanged}
+use Rattle.gptp_how_soon.specs.declared.bounds.Row.TheVariants.{AnyLosses, AnyPast, CutOff, FailedEnd, FailedHeard, FailureCutsOff, FailureCutsTrees, Gained, LostEnd, LostPower, Lowered, OneTurned, PowerCutsOff, PowerCutsTrees, TreeCutOff, TreeTurned, Unchanged}
 use Rattle.gptp_how_soon.specs.declared.bounds.Settling.{Settling}
 use Rattle.gptp_how_soon.specs.declared.bounds.SettlingTime.{SettlingTime}
 use Rattle.gptp_how_soon.specs.declared.kinds.Told.{Told}
@@ -74,6 +74,8 @@ choice_of_row n loss paths FailureCutsOff gained = loss.held + 2 * way_span path
 choice_of_row n loss paths OneTurned gained = 2 * way_span paths
 choice_of_row n loss paths TreeCutOff gained = 2 * way_span paths
 choice_of_row n loss paths TreeTurned gained = 2 * way_span paths
+choice_of_row n loss paths PowerCutsTrees gained = 2 * way_span paths
+choice_of_row n loss paths FailureCutsTrees gained = loss.held + 2 * way_span paths
 choice_of_row n loss paths AnyLosses gained = any_loss_span n loss paths
 choice_of_row n loss paths Gained gained = gained
 
@@ -105,6 +107,9 @@ roles_of_row n loss paths FailureCutsOff gained =
 roles_of_row n loss paths OneTurned gained = choice_of_row n loss paths OneTurned gained
 roles_of_row n loss paths TreeCutOff gained = choice_of_row n loss paths TreeCutOff gained
 roles_of_row n loss paths TreeTurned gained = choice_of_row n loss paths TreeTurned gained
+roles_of_row n loss paths PowerCutsTrees gained = choice_of_row n loss paths PowerCutsTrees gained
+roles_of_row n loss paths FailureCutsTrees gained =
+    max (choice_of_row n loss paths FailureCutsTrees gained) (silence_span (pace_of n))
 roles_of_row n loss paths AnyLosses gained = roles_after_losses n loss paths
 roles_of_row n loss paths Gained gained = gained
 
@@ -130,8 +135,8 @@ aged_echo_span n loss paths =
 -- gone. After a far end or a tree is cut off, or a far end fails, only what was in flight does; of one that fails by
 -- links of before too. Where ports beside it may still be capable roles have to stand too. After a link goes down by
 -- which no system is moved, or a system that others heard loses its power, traces have to be told anew first. So they
--- do once the choice stands where one system turns, or one fails that others heard. After losses without a row of
--- their own all is sound once roles stand. After others it is as soon as the choice stands from any past.
+-- do once the choice stands where one system or a tree turns, or one fails that others heard. After losses without a
+-- row of their own all is sound once roles stand. After others it is as soon as the choice stands from any past.
 abbrev pub sound_of_row : NetworkState → Loss → SyncPaths → Row → ℕ → ℕ
 sound_of_row n loss paths AnyPast gained = settling_span_at_once (pace_of n) paths
 sound_of_row n loss paths Unchanged gained = 0
@@ -147,7 +152,9 @@ sound_of_row n loss paths FailedHeard gained = aged_echo_span n loss paths
 sound_of_row n loss paths FailureCutsOff gained = max (loss.held + 2 * way_span paths) (aged_echo_span n loss paths)
 sound_of_row n loss paths OneTurned gained = 2 * way_span paths + echo_span (pace_of n) paths
 sound_of_row n loss paths TreeCutOff gained = max (2 * way_span paths) (gone_by n paths loss.used_before)
-sound_of_row n loss paths TreeTurned gained = settling_span_at_once (pace_of n) paths
+sound_of_row n loss paths TreeTurned gained = 2 * way_span paths + echo_span (pace_of n) paths
+sound_of_row n loss paths PowerCutsTrees gained = settling_span_at_once (pace_of n) paths
+sound_of_row n loss paths FailureCutsTrees gained = settling_span_at_once (pace_of n) paths
 sound_of_row n loss paths AnyLosses gained = roles_after_losses n loss paths
 sound_of_row n loss paths Gained gained = gained
 
@@ -166,6 +173,8 @@ echo_of_row n paths FailedHeard = echo_span (pace_of n) paths
 echo_of_row n paths FailureCutsOff = echo_span (pace_of n) paths
 echo_of_row n paths OneTurned = echo_span (pace_of n) paths
 echo_of_row n paths TreeTurned = echo_span (pace_of n) paths
+echo_of_row n paths PowerCutsTrees = echo_span (pace_of n) paths
+echo_of_row n paths FailureCutsTrees = echo_span (pace_of n) paths
 echo_of_row n paths row = 0
 
 abbrev pub echo_by : NetworkState → SyncPaths → Row → ℕ
@@ -188,22 +197,27 @@ rest_by p paths sets roles retold sound =
 abbrev pub exact_span : Params → SyncPaths → ℕ
 exact_span p paths = (p.window - 1) * interval_of p.pdelay + paths.systems * (p.threshold + p.residence)
 
--- From when on offsets are exact: the roles stand, links are measured, and an announce interval has passed since the
--- network began and since a link was last set; then what each system uses comes down the tree.
+-- By when what was in flight as a link was last set has arrived: later by the greatest delay that a link has had. Where
+-- none was set nothing is in flight for longer than the greatest delay of its link.
+abbrev pub arrived_by : ℕ → Option ℕ → ℕ
+arrived_by longest None = 0
+arrived_by longest (Some time) = time + longest
+
+-- From when on offsets are exact: the choice stands, links are measured, and what was in flight as a link was last set
+-- has arrived; then what each system uses comes down the tree. Roles of ports beside a system that failed don't matter.
 abbrev pub exact_from : NetworkState → ℕ → ℕ → SyncPaths → Bool → ℕ → ℕ
-exact_from n at last_set paths sets roles =
-    max (at + max roles (set_span n.params paths sets)) (last_set + largest_interval (pace_of n))
-    + exact_span n.params paths
+exact_from n at arrived paths sets choice =
+    max (at + max choice (set_span n.params paths sets)) arrived + exact_span n.params paths
 
 -- the bounds at a time
 abbrev pub settled : NetworkState → ℕ → ℕ → Loss → SyncPaths → Bool → Row → ℕ → Settling
-settled n at last_set loss paths sets row gained = record {
+settled n at arrived loss paths sets row gained = record {
   choice = choice_by n loss paths row gained;
   roles = roles_by n loss paths row gained;
   sound = sound_by n loss paths row gained;
   rest = rest_by n.params paths sets (roles_by n loss paths row gained) (retold_by n loss paths row gained)
       (sound_by n loss paths row gained);
-  exact_from = exact_from n at last_set paths sets (roles_by n loss paths row gained);
+  exact_from = exact_from n at arrived paths sets (choice_by n loss paths row gained);
 }
 
 -- A time is watched until the network rests and offsets are exact, and for eight Syncs more; where it isn't calm, for
@@ -217,12 +231,12 @@ watch n at paths settling = needed_watch n at paths settling + 8 * interval_of n
 
 -- what is told of a time
 abbrev pub settling_by : NetworkState → ℕ → ℕ → Loss → SyncPaths → Bool → Bool → Row → ℕ → Option Settling
-settling_by n at last_set loss paths calm sets row gained =
-    if calm then Some (settled n at last_set loss paths sets row gained) else None
+settling_by n at arrived loss paths calm sets row gained =
+    if calm then Some (settled n at arrived loss paths sets row gained) else None
 
 abbrev pub times_by : NetworkState → ℕ → ℕ → Loss → SyncPaths → Bool → Bool → Row → ℕ → SettlingTime
-times_by n at last_set loss paths calm sets row gained = record {
+times_by n at arrived loss paths calm sets row gained = record {
   at = at;
-  settling = settling_by n at last_set loss paths calm sets row gained;
-  watch = watch n at paths (settling_by n at last_set loss paths calm sets row gained);
+  settling = settling_by n at arrived loss paths calm sets row gained;
+  watch = watch n at paths (settling_by n at arrived loss paths calm sets row gained);
 }

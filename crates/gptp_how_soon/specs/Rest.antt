@@ -8,7 +8,7 @@ use Rattle.gptp_scenario.specs.SettlingTime.{way_span}
 use Rattle.gptp_scenario.specs.declared.sync_wait.SyncPaths.{SyncPaths}
 use Rattle.gptp_how_soon.specs.Kinds.{are_heard, begins_wider, brings_nothing, fails_and_recovers, fails_first, first_wider_by, is_better, is_gain, is_failing, is_loss, is_other, is_recovery, is_wider, leaves_links, lowers_one, lowers_unused, makes_nothing, tells_nothing}
 use Rattle.gptp_how_soon.specs.declared.bounds.Row.{Row}
-use Rattle.gptp_how_soon.specs.declared.bounds.Row.TheVariants.{AnyLosses, AnyPast, CutOff, FailedEnd, FailedHeard, FailureCutsOff, Gained, LostEnd, LostPower, Lowered, OneTurned, PowerCutsOff, TreeCutOff, TreeTurned, Unchanged}
+use Rattle.gptp_how_soon.specs.declared.bounds.Row.TheVariants.{AnyLosses, AnyPast, CutOff, FailedEnd, FailedHeard, FailureCutsOff, FailureCutsTrees, Gained, LostEnd, LostPower, Lowered, OneTurned, PowerCutsOff, PowerCutsTrees, TreeCutOff, TreeTurned, Unchanged}
 use Rattle.gptp_how_soon.specs.declared.bounds.Settling.{Settling}
 use Rattle.gptp_how_soon.specs.declared.bounds.SettlingTime.{SettlingTime}
 use Rattle.gptp_how_soon.specs.declared.kinds.Told.{Told}
@@ -107,7 +107,7 @@ failed_row far any used =
 -- Where one link or one system is taken away such as are cut off don't count as moved. There it matters whether the
 -- link that goes down cuts off a far end, and whether the one system that it moves turns, or a tree falls off or turns.
 -- Of a system that fails it matters whether it was a far end, so that no other heard it, whether it cuts off another,
--- and whether each link that is up then is in use. All other losses have one row.
+-- or trees, and whether each link that is up then is in use. All other losses have one row.
 abbrev pub row_of : Bool → Bool → SyncPaths → SyncPaths → List Told → Moves → Bool → Row
 row_of from_rest first paths_before paths told moves used =
     if not from_rest then AnyPast
@@ -120,6 +120,8 @@ row_of from_rest first paths_before paths told moves used =
     else if is_lowering_followed paths_before paths told && moves.tree_turns then TreeTurned
     else if is_failing_followed paths_before paths told && not moves.moved
     then failed_row moves.far moves.any used
+    else if is_failing_followed paths_before paths told && moves.trees_fall
+    then if used then PowerCutsTrees else FailureCutsTrees
     else if list_any is_loss told then if list_all brings_nothing told then AnyLosses else AnyPast
     else Gained
 
@@ -139,6 +141,7 @@ no_moves = record {
   turned = false;
   falls = false;
   tree_turns = false;
+  trees_fall = false;
   far = false;
 }
 

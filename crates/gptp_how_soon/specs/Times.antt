@@ -22,8 +22,9 @@ use Rattle.gptp_topology.specs.Tables.{has_clock}
 use Rattle.gptp_topology.specs.Times.{times_of}
 use Rattle.gptp_topology.specs.declared.course.Cable.{Cable}
 use Rattle.gptp_topology.specs.declared.course.Standing.{Standing}
-use Rattle.gptp_how_soon.specs.Bounds.{heard_by, ready, times_by}
+use Rattle.gptp_how_soon.specs.Bounds.{arrived_by, heard_by, ready, times_by}
 use Rattle.gptp_how_soon.specs.Chosen.{moves_counted, moves_some}
+use Rattle.gptp_how_soon.specs.CutTrees.{cuts_trees_after}
 use Rattle.gptp_how_soon.specs.Far.{are_far_after, cut_far_ends_after, up_is_used}
 use Rattle.gptp_how_soon.specs.Kinds.{sets_bounds, sets_link, takes_one, told_by}
 use Rattle.gptp_how_soon.specs.Links.{longest_delay, new_links}
@@ -41,8 +42,8 @@ use Rattle.gptp_how_soon.specs.declared.rest.Moves.{Moves}
 -- what is seen of a time
 pub record View : Type 0 where
   pub at : ℕ
-  -- when a link was last set, and the greatest delay that one has had
-  pub last_set : ℕ
+  -- when a link was last set, if one was, and the greatest delay that one has had
+  pub last_set : Option ℕ
   pub longest : ℕ
   -- the time before, what Sync had to cross then, and whether each link that was up was in use
   pub before : Option SettlingTime
@@ -92,7 +93,8 @@ loss_at v = record {
 
 abbrev pub settling_time : NetworkState → View → SettlingTime
 settling_time n v =
-    times_by n v.at v.last_set (loss_at v) v.paths v.calm (sets_link v.told) (row_at v) (gained_at n v)
+    times_by n v.at (arrived_by v.longest v.last_set) (loss_at v) v.paths v.calm (sets_link v.told) (row_at v)
+    (gained_at n v)
 
 -- ---- what is seen
 
@@ -109,9 +111,13 @@ abbrev pub told_of : NetworkState → List Timed → List Timed → List Told
 told_of n made [] = []
 told_of n made (t ∷ ts) = told_at n made t.act ∷ told_of n (made ++ t ∷ []) ts
 
--- when the last of these events was that sets a link, or 0
-abbrev pub last_set : List Timed → ℕ
-last_set events = last_change (filter (λ (t : Timed). sets_bounds t.act) events)
+abbrev pub last_of : List Timed → Option ℕ
+last_of [] = None
+last_of (t ∷ ts) = Some (last_change (t ∷ ts))
+
+-- when the last of these events was that sets a link, if one does
+abbrev pub last_set : List Timed → Option ℕ
+last_set events = last_of (filter (λ (t : Timed). sets_bounds t.act) events)
 
 -- at a time, after the events made before and those of that time now
 abbrev pub moves_at : NetworkState → List Timed → List Timed → Option SettlingTime → ℕ → Moves
@@ -122,6 +128,7 @@ moves_at n made now before at = record {
   turned = turns_one_after n made (made ++ now);
   falls = has_rested_for (largest_interval (pace_of n)) before at && cuts_tree_after n made (made ++ now);
   tree_turns = has_rested_for (largest_interval (pace_of n)) before at && turns_tree_after n made (made ++ now);
+  trees_fall = has_rested_for (largest_interval (pace_of n)) before at && cuts_trees_after n made (made ++ now);
   far = are_far_after n made (told_of n made now);
 }
 

@@ -10,6 +10,7 @@ use Rattle.gptp_topology.specs.Course.{cable_is_used, named}
 use Rattle.gptp_topology.specs.Tables.{TablesActed, are_calm, cables_of, has_clock, link_named, marked_paths, neighbours_at, systems_in}
 use Rattle.gptp_topology.specs.declared.nodes.System.{System}
 use Rattle.gptp_how_soon.specs.Chosen.{any_counted, any_moved, chosen_over, ends_among, ends_in_use}
+use Rattle.gptp_how_soon.specs.CutTrees.{cuts_trees}
 use Rattle.gptp_how_soon.specs.Far.{all_cut_far_ends, are_far, up_is_used}
 use Rattle.gptp_how_soon.specs.Kinds.{sets_bounds, takes_one, told_by}
 use Rattle.gptp_how_soon.specs.Links.{delay_set, longest_among, lost_among, new_among}
@@ -27,7 +28,7 @@ use Rattle.gptp_how_soon.specs.declared.walk.Walk.{Walk}
 
 -- before all events
 pub record IsFirstWalk (n : NetworkState) (w : Walk) : Type 0 where
-  pub set : w.last_set ≡ 0
+  pub set : w.last_set ≡ None
   pub longest : w.longest ≡ longest_among (cables_of n)
   pub tables : Stand n [] w.tables
   pub ends : w.ends.items ≡ map (ends_among w.systems_before.items) (cables_of n)
@@ -40,7 +41,7 @@ pub record IsFirstWalk (n : NetworkState) (w : Walk) : Type 0 where
 
 -- an event of this time is passed
 pub record WalkPasses (at : ℕ) (act : Act) (old new : Walk) : Type 0 where
-  pub set : new.last_set ≡ (if sets_bounds act then at else old.last_set)
+  pub set : new.last_set ≡ (if sets_bounds act then Some at else old.last_set)
   pub longest : new.longest ≡ max (delay_set act) old.longest
   pub tables : TablesActed act old.tables new.tables
   pub told : new.told.items
@@ -101,6 +102,9 @@ moves_seen n w at = record {
       (chosen_before w) (chosen_now w);
   tree_turns = has_rested_for (largest_interval (pace_of n)) w.before at
       && turns_tree (systems_in w.tables.nodes.items) (lost_seen w) (ends_in_use w.ends.items (used_now w))
+      (chosen_before w) (chosen_now w);
+  trees_fall = has_rested_for (largest_interval (pace_of n)) w.before at
+      && cuts_trees (systems_in w.tables.nodes.items) (lost_seen w) (ends_in_use w.ends.items (used_now w))
       (chosen_before w) (chosen_now w);
   far = are_far w.systems_before.items (chosen_before w) (ends_in_use w.ends.items w.used_before.items) w.told.items;
 }

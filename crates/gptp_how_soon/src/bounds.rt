@@ -7,7 +7,7 @@ ghost use Rattle.gptp_setup.specs.SettlingParams.{largest_interval};
 ghost use Rattle.gptp_scenario.specs.Network.{pace_of};
 ghost use Rattle.gptp_scenario.specs.SettlingAtOnce.{settling_span_at_once};
 ghost use Rattle.gptp_scenario.specs.SettlingTime.{capability_span, echo_span, silence_span, way_span};
-ghost use Rattle.gptp_how_soon.specs.Bounds.{aged_echo_span, any_loss_span, asked_again, choice_by, exact_from, exact_span, gone_by, heard_by, is_again, is_hard_to_hear, ready, retold_by, roles_after_losses, roles_by, set_span, settled, sound_by, times_by, two_exchanges, watch};
+ghost use Rattle.gptp_how_soon.specs.Bounds.{aged_echo_span, any_loss_span, arrived_by, asked_again, choice_by, exact_from, exact_span, gone_by, heard_by, is_again, is_hard_to_hear, ready, retold_by, roles_after_losses, roles_by, set_span, settled, sound_by, times_by, two_exchanges, watch};
 
 use crate::kinds::{Told, recovers};
 use crate::links::varies;
@@ -85,6 +85,11 @@ pub enum Row {
     TreeCutOff,
     /// By its one event a link goes down that moves a tree. Its systems keep their root, and get it by one other link.
     TreeTurned,
+    /// A system fails, and all that are moved are trees that it cuts off. Each link that is up then is in use, as where
+    /// it loses its power.
+    PowerCutsTrees,
+    /// So it is, but a link is up then that isn't in use.
+    FailureCutsTrees,
     /// Some of its events are losses, the others make nothing of what stands, and no other row of a loss is so.
     AnyLosses,
     /// None of its events is a loss.
@@ -256,9 +261,13 @@ fn choice_by(network: &Network, loss: Loss, paths: SyncPaths, row: Row, gained: 
         Row::AnyPast => settling_span_at_once(network, paths),
         Row::Unchanged | Row::Lowered | Row::LostEnd | Row::FailedEnd | Row::LostPower => 0,
         Row::FailedHeard => loss.held,
-        Row::FailureCutsOff => loss.held + 2 * way_span(paths),
-        Row::CutOff | Row::PowerCutsOff | Row::OneTurned | Row::TreeCutOff | Row::TreeTurned => 2
-            * way_span(paths),
+        Row::FailureCutsOff | Row::FailureCutsTrees => loss.held + 2 * way_span(paths),
+        Row::CutOff
+        | Row::PowerCutsOff
+        | Row::OneTurned
+        | Row::TreeCutOff
+        | Row::TreeTurned
+        | Row::PowerCutsTrees => 2 * way_span(paths),
         Row::AnyLosses => any_loss_span(network, loss, paths),
         Row::Gained => gained,
     }
@@ -297,9 +306,15 @@ fn roles_by(network: &Network, loss: Loss, paths: SyncPaths, row: Row, gained: u
         Row::AnyPast => settling_span_at_once(network, paths),
         Row::Unchanged | Row::Lowered | Row::LostEnd | Row::LostPower => 0,
         Row::FailedEnd | Row::FailedHeard => silence_span(network),
-        Row::FailureCutsOff => (loss.held + 2 * way_span(paths)).max(silence_span(network)),
-        Row::CutOff | Row::PowerCutsOff | Row::OneTurned | Row::TreeCutOff | Row::TreeTurned => 2
-            * way_span(paths),
+        Row::FailureCutsOff | Row::FailureCutsTrees => {
+            (loss.held + 2 * way_span(paths)).max(silence_span(network))
+        }
+        Row::CutOff
+        | Row::PowerCutsOff
+        | Row::OneTurned
+        | Row::TreeCutOff
+        | Row::TreeTurned
+        | Row::PowerCutsTrees => 2 * way_span(paths),
         Row::AnyLosses => roles_after_losses(network, loss, paths),
         Row::Gained => gained,
     }
@@ -360,7 +375,9 @@ fn sound_by(network: &Network, loss: Loss, paths: SyncPaths, row: Row, gained: u
     let gone = gone_by(network, paths, loss.used_before);
     let gone_before = gone_by(network, loss.paths_before, loss.used_before);
     match row {
-        Row::AnyPast | Row::TreeTurned => settling_span_at_once(network, paths),
+        Row::AnyPast | Row::PowerCutsTrees | Row::FailureCutsTrees => {
+            settling_span_at_once(network, paths)
+        }
         Row::Unchanged => 0,
         Row::Lowered => echo_span(network, paths).max(gone),
         Row::CutOff | Row::TreeCutOff => (2 * way_span(paths)).max(gone),
@@ -373,7 +390,7 @@ fn sound_by(network: &Network, loss: Loss, paths: SyncPaths, row: Row, gained: u
             let aged = loss.held + 2 * way_span(paths);
             aged.max(aged_echo_span(network, loss, paths))
         }
-        Row::OneTurned => 2 * way_span(paths) + echo_span(network, paths),
+        Row::OneTurned | Row::TreeTurned => 2 * way_span(paths) + echo_span(network, paths),
         Row::AnyLosses => roles_after_losses(network, loss, paths),
         Row::Gained => gained,
     }
@@ -397,8 +414,10 @@ fn retold_by(network: &Network, loss: Loss, paths: SyncPaths, row: Row, gained: 
         Row::Unchanged | Row::LostEnd | Row::FailedEnd => 0,
         Row::Lowered | Row::LostPower => echo_span(network, paths),
         Row::FailedHeard => loss.held + echo_span(network, paths),
-        Row::FailureCutsOff => loss.held + 2 * way_span(paths) + echo_span(network, paths),
-        Row::PowerCutsOff | Row::OneTurned | Row::TreeTurned => {
+        Row::FailureCutsOff | Row::FailureCutsTrees => {
+            loss.held + 2 * way_span(paths) + echo_span(network, paths)
+        }
+        Row::PowerCutsOff | Row::OneTurned | Row::TreeTurned | Row::PowerCutsTrees => {
             2 * way_span(paths) + echo_span(network, paths)
         }
         Row::CutOff | Row::TreeCutOff => 2 * way_span(paths),
@@ -428,11 +447,26 @@ fn exact_span(network: &Network, paths: SyncPaths) -> u64
     window + paths.systems as u64 * (params.threshold + params.residence)
 }
 
-/// The bounds at a time, where a link was last set at another.
+/// By when what was in flight as a link was last set has arrived, in ns: later by the greatest delay that a link has
+/// had; 0 where none was set.
+pub(crate) fn arrived_by(at: u64, longest: u64, last_set: Option<u64>) -> u64
+    requires early { at ≤ LATEST_EVENT }
+    requires longest { longest ≤ 16000000000 }
+    requires set { IfSome last_set (λ last. last ≤ at) }
+    ensures is { result ≡ arrived_by longest last_set }
+    ensures bound { result ≤ at + 16000000000 }
+{
+    match last_set {
+        Some(last) => last + longest,
+        None => 0,
+    }
+}
+
+/// The bounds at a time, where what was in flight as a link was last set has arrived by another.
 fn settled(
     network: &Network,
     at: u64,
-    last_set: u64,
+    arrived: u64,
     loss: Loss,
     paths: SyncPaths,
     sets: bool,
@@ -444,24 +478,24 @@ fn settled(
     requires short_before { loss.paths_before.delay ≤ 16000000000 }
     requires held { loss.held ≤ 4112000000000 }
     requires early { at ≤ LATEST_EVENT }
-    requires set { last_set ≤ at }
+    requires set { arrived ≤ at + 16000000000 }
     requires gained { gained ≤ 195000000000000 }
-    ensures is { result ≡ settled network.now at last_set loss paths sets row gained }
+    ensures is { result ≡ settled network.now at arrived loss paths sets row gained }
     ensures rest { result.rest ≤ 195016000000000 }
     ensures exact { result.exact_from ≤ at + 196264000000000 }
 {
     network.well_formed();
     let set = set_span(network, paths, sets);
-    let interval = interval_of(network.largest());
+    let choice = choice_by(network, loss, paths, row, gained);
     let roles = roles_by(network, loss, paths, row, gained);
     let sound = sound_by(network, loss, paths, row, gained);
     let retold = retold_by(network, loss, paths, row, gained);
     Settling {
-        choice: choice_by(network, loss, paths, row, gained),
+        choice,
         roles,
         sound,
         rest: roles.max(sound).max((retold + paths.delay).max(set)),
-        exact_from: (at + roles.max(set)).max(last_set + interval) + exact_span(network, paths),
+        exact_from: (at + choice.max(set)).max(arrived) + exact_span(network, paths),
     }
 }
 
@@ -482,11 +516,11 @@ fn watch(network: &Network, at: u64, paths: SyncPaths, settling: Option<Settling
     needed + 8 * interval_of(network.params().sync)
 }
 
-/// What is told of a time, where a link was last set at another.
+/// What is told of a time, where what was in flight as a link was last set has arrived by another.
 pub(crate) fn times_by(
     network: &Network,
     at: u64,
-    last_set: u64,
+    arrived: u64,
     loss: Loss,
     paths: SyncPaths,
     calm: bool,
@@ -499,13 +533,13 @@ pub(crate) fn times_by(
     requires short_before { loss.paths_before.delay ≤ 16000000000 }
     requires held { loss.held ≤ 4112000000000 }
     requires early { at ≤ LATEST_EVENT }
-    requires set { last_set ≤ at }
+    requires set { arrived ≤ at + 16000000000 }
     requires gained { gained ≤ 195000000000000 }
-    ensures is { result ≡ times_by network.now at last_set loss paths calm sets row gained }
+    ensures is { result ≡ times_by network.now at arrived loss paths calm sets row gained }
     ensures bound { result.watch ≤ 200000000000000 }
 {
     let settling = if calm {
-        Some(settled(network, at, last_set, loss, paths, sets, row, gained))
+        Some(settled(network, at, arrived, loss, paths, sets, row, gained))
     } else {
         None
     };

@@ -6,6 +6,7 @@
 
 mod bounds;
 mod chosen;
+mod cut_trees;
 mod far;
 mod kinds;
 mod links;

@@ -27,6 +27,8 @@ pub struct Moves {
     pub falls: bool,
     /// Whether then a tree turns by one other link.
     pub tree_turns: bool,
+    /// Whether then all that they move are trees that are cut off.
+    pub trees_fall: bool,
     /// Whether those that they name were far ends.
     pub far: bool,
 }
@@ -270,6 +272,12 @@ pub(crate) fn row_of(
         Row::TreeTurned
     } else if is_failing_followed(paths_before, paths, told) && !moves.moved {
         failed_row(moves.far, moves.any, used)
+    } else if is_failing_followed(paths_before, paths, told) && moves.trees_fall {
+        if used {
+            Row::PowerCutsTrees
+        } else {
+            Row::FailureCutsTrees
+        }
     } else if any_loss(told) {
         if all_bring_nothing(told) {
             Row::AnyLosses

@@ -131,7 +131,7 @@ fn two_end_stations_settle(rt: HostRuntime) -> Result<(), Fail> {
             "min = 500\nmax = 500\n",
             "[[event]]\nat = 0\nkind = \"link_down\"\nclock = \"000000000000000a\"\nport = 1\n"
         )?,
-        start(0, 0, 1_000_003_600, 2_000_003_600)
+        start(0, 0, 3_600, 1_000_003_600)
     );
     // Too long a link.
     assert_eq!(rt;
@@ -414,7 +414,7 @@ fn a_tree_that_a_link_moves_turns_by_its_one_way_out(rt: HostRuntime) -> Result<
                 ("d", "2", "a", "2"),
                 ("c", "3", "e", "1"),
             ] as &[(&str, &str, &str, &str)],
-            (15_000_002_870, 2_460),
+            (3_000_004_100, 2_460),
         ),
         (
             "half of a ring",
@@ -426,7 +426,7 @@ fn a_tree_that_a_link_moves_turns_by_its_one_way_out(rt: HostRuntime) -> Result<
                 ("d", "2", "e", "1"),
                 ("e", "2", "a", "2"),
             ] as &[(&str, &str, &str, &str)],
-            (18_000_003_690, 3_280),
+            (4_000_005_330, 3_280),
         ),
         (
             "with an end station",
@@ -439,7 +439,7 @@ fn a_tree_that_a_link_moves_turns_by_its_one_way_out(rt: HostRuntime) -> Result<
                 ("e", "2", "a", "2"),
                 ("b", "3", "f", "1"),
             ] as &[(&str, &str, &str, &str)],
-            (21_000_004_510, 4_100),
+            (5_000_006_560, 4_100),
         ),
         (
             "two ways out",
@@ -570,9 +570,9 @@ fn a_far_end_that_fails_costs_the_choice_nothing(rt: HostRuntime) -> Result<(), 
                 roles: 11_000_000_000,
                 sound: 11_000_000_000,
                 rest: 11_000_000_000,
-                exact_from: 41_000_005_400,
+                exact_from: 30_000_005_400,
             }),
-            watch: 12_000_005_400,
+            watch: 12_000_000_001,
         })
     );
     Ok(())
@@ -589,7 +589,7 @@ fn a_system_that_others_hear_costs_the_choice_what_they_hold_it_for(
     const DOWN: &str =
         "[[event]]\nat = 30000000000\nkind = \"link_down\"\nclock = \"000000000000000d\"\nport = ";
     for (case, network, power, bound) in [
-        ("it hangs", "", false, (3_000_000_410, 41_000_005_400)),
+        ("it hangs", "", false, (3_000_000_410, 33_000_005_810)),
         (
             "it hangs, and that is noticed soon",
             "[network]\npdelay = -3\nlost = 1\n",
@@ -657,15 +657,17 @@ fn bounds(times: &[SettlingTime], at: u64) -> Option<(u64, u64)>
 }
 
 #[test]
-fn a_system_that_a_failure_cuts_off_costs_two_ways(rt: HostRuntime) -> Result<(), Fail> {
-    // c hears the root over b alone, and d has it from a. Where b and c go on to d another is moved that isn't cut off.
+fn what_a_failure_cuts_off_costs_two_ways(rt: HostRuntime) -> Result<(), Fail> {
     const HANGS: &str =
         "[[event]]\nat = 30000000000\nkind = \"fail\"\nclock = \"000000000000000b\"\n";
     const DOWN: &str =
         "[[event]]\nat = 30000000000\nkind = \"link_down\"\nclock = \"000000000000000b\"\nport = ";
-    for (case, links, hang, power) in [
+    // In each row b fails, or loses its power and so many links. The second moves another that isn't cut off, the last
+    // two that are joined beside it.
+    for (case, ports, links, hang, power) in [
         (
             "one is cut off",
+            2,
             &[
                 ("a", "1", "b", "1"),
                 ("b", "2", "c", "1"),
@@ -676,6 +678,7 @@ fn a_system_that_a_failure_cuts_off_costs_two_ways(rt: HostRuntime) -> Result<()
         ),
         (
             "one goes over another",
+            2,
             &[
                 ("a", "1", "b", "1"),
                 ("b", "2", "c", "1"),
@@ -686,12 +689,43 @@ fn a_system_that_a_failure_cuts_off_costs_two_ways(rt: HostRuntime) -> Result<()
             (13_000_002_870, 13_000_002_870),
             (13_000_002_870, 13_000_002_870),
         ),
+        (
+            "a line and an end station",
+            3,
+            &[
+                ("a", "1", "b", "1"),
+                ("b", "2", "c", "1"),
+                ("c", "2", "d", "1"),
+                ("b", "3", "e", "1"),
+            ] as &[(&str, &str, &str, &str)],
+            (3_000_001_230, 11_000_000_000),
+            (820, 820),
+        ),
+        (
+            "a triangle and an end station",
+            4,
+            &[
+                ("a", "1", "b", "1"),
+                ("b", "2", "c", "1"),
+                ("c", "2", "d", "1"),
+                ("b", "3", "e", "1"),
+                ("b", "4", "d", "2"),
+            ] as &[(&str, &str, &str, &str)],
+            (7_000_001_230, 11_000_000_000),
+            (7_000_001_230, 7_000_001_230),
+        ),
     ] {
         let clocks = &["a", "b", "c", "d", "e"];
         let hangs = joined(rt.alloc(), clocks, links, HANGS)?;
         assert_eq!(rt; bounds(&hangs, 30_000_000_000), Some(hang), "{case}");
         let mut off = String::new(rt.alloc());
         write!(off, "{HANGS}{DOWN}1\n{DOWN}2\n")?;
+        if ports > 2 {
+            write!(off, "{DOWN}3\n")?;
+        }
+        if ports > 3 {
+            write!(off, "{DOWN}4\n")?;
+        }
         let loses = joined(rt.alloc(), clocks, links, off.as_str())?;
         assert_eq!(rt; bounds(&loses, 30_000_000_000), Some(power), "{case}");
     }
@@ -823,14 +857,14 @@ fn a_far_end_that_loses_its_power_costs_nothing(rt: HostRuntime) -> Result<(), F
         rt.alloc(),
         "[[event]]\nat = 30000000000\nkind = \"fail\"\nclock = \"000000000000000c\"\n[[event]]\nat = 30000000000\nkind = \"link_down\"\nclock = \"000000000000000c\"\nport = 1\n",
     )?;
-    assert_eq!(rt; soon(&hangs, 30_000_000_000), Some((0, 41_000_005_400)));
+    assert_eq!(rt; soon(&hangs, 30_000_000_000), Some((0, 30_000_005_400)));
     let before = ring(
         rt.alloc(),
         "[[event]]\nat = 30000000000\nkind = \"link_down\"\nclock = \"000000000000000c\"\nport = 1\n[[event]]\nat = 30000000000\nkind = \"fail\"\nclock = \"000000000000000c\"\n",
     )?;
     assert_eq!(rt;
         soon(&before, 30_000_000_000),
-        Some((10_000_002_050, 41_000_005_400))
+        Some((10_000_002_050, 40_000_007_450))
     );
     Ok(())
 }
@@ -984,15 +1018,20 @@ fn a_system_recovers_once_no_frame_of_before_is_in_flight(rt: HostRuntime) -> Re
 }
 
 #[test]
-fn offsets_are_exact_an_announce_interval_after_the_start(rt: HostRuntime) -> Result<(), Fail> {
-    // Eight exchanges each second.
+fn offsets_are_exact_soon_after_exchanges(rt: HostRuntime) -> Result<(), Fail> {
+    // Eight of them each second, since the start and since a link was set.
     assert_eq!(rt;
         pair(
             rt.alloc(),
             "min = 500\nmax = 500\n",
             "[network]\npdelay = -3\n"
         )?,
-        start(125_002_500, 125_003_000, 1_000_003_600, 2_000_003_600)
+        start(125_002_500, 125_003_000, 125_006_100, 1_125_006_100)
     );
+    let times = ring(
+        rt.alloc(),
+        "[[event]]\nat = 30000000000\nkind = \"link_set\"\nclock = \"000000000000000a\"\nport = 1\nmin = 380\nmax = 500\nloss = 0\n[network]\npdelay = -3\n",
+    )?;
+    assert_eq!(rt; soon(&times, 30_000_000_000), Some((0, 30_250_009_200)));
     Ok(())
 }

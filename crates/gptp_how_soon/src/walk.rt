@@ -1,16 +1,17 @@
 //! How a document stands at each time, as its events come.
 
-ghost use Rattle.std.specs.Prelude.{◌≡◌, ◌≤◌, if◌then◌else◌, IfOk, OnOk};
+ghost use Rattle.std.specs.Prelude.{◌≡◌, ◌≤◌, if◌then◌else◌, IfOk, IfSome, OnOk};
 ghost use Rattle.gptp_network.specs.declared.keys.TheConstants.{LATEST_EVENT};
 ghost use Rattle.gptp_topology.specs.Tables.{AreMarked, marked_paths};
 ghost use Rattle.gptp_how_soon.specs.Times.{settling_time};
 ghost use Rattle.gptp_how_soon.specs.Rest.{no_moves};
 ghost use Rattle.gptp_how_soon.specs.Walk.{IsFirstWalk, WalkGoesOn, WalkPasses, moves_seen, view_seen};
 
-use crate::bounds::{Loss, SettlingTime, announce_interval, heard, ready, times_by, way_span};
+use crate::bounds::{Loss, SettlingTime, announce_interval, arrived_by, heard, ready, times_by, way_span};
 use crate::chosen::{
     Chosen, Ends, any_counted, any_moved, choose, copy_systems, ends_in_use, ends_of,
 };
+use crate::cut_trees::cuts_trees;
 use crate::far::{all_cut_far_ends, are_far, up_is_used};
 use crate::kinds::{Told, sets_bounds, sets_link, takes_one, tell};
 use crate::links::{delay_set, longest_among, lost_among, mark_used, new_links};
@@ -31,8 +32,8 @@ pub(crate) struct Walk {
     pub tables: Tables,
     /// The systems at the ends of each link.
     pub ends: Vec<Ends>,
-    /// When a link was last set; 0 where none was.
-    pub last_set: u64,
+    /// When a link was last set, if one was.
+    pub last_set: Option<u64>,
     /// The greatest delay that a link has had, in ns.
     pub longest: u64,
     /// The events of this time.
@@ -65,7 +66,7 @@ impl Walk {
         Ok(Walk {
             tables,
             ends,
-            last_set: 0,
+            last_set: None,
             longest: longest_among(&cables),
             told: Vec::new(alloc),
             before: None,
@@ -86,7 +87,7 @@ impl Walk {
         tell(&mut self.told, act, link, system)?;
         self.tables.act(act);
         if sets_bounds(act) {
-            self.last_set = at;
+            self.last_set = Some(at);
         }
         self.longest = delay_set(act).max(self.longest);
         Ok(())
@@ -130,6 +131,7 @@ impl Walk {
             turned,
             falls: rested && cuts_tree(&systems, &lost, &links, &before, &now),
             tree_turns: rested && turns_tree(&systems, &lost, &links, &before, &now),
+            trees_fall: rested && cuts_trees(&systems, &lost, &links, &before, &now),
             far: are_far(&self.systems_before, &before, &links_before, &self.told),
         })
     }
@@ -154,6 +156,7 @@ impl Walk {
                 turned: false,
                 falls: false,
                 tree_turns: false,
+                trees_fall: false,
                 far: false,
             })
         }
@@ -172,7 +175,8 @@ impl Walk {
         requires short { paths.delay ≤ 16000000000 }
         requires short_before { self.now.paths_before.delay ≤ 16000000000 }
         requires early { at ≤ LATEST_EVENT }
-        requires set { self.now.last_set ≤ at }
+        requires longest { self.now.longest ≤ 16000000000 }
+        requires set { IfSome self.now.last_set (λ last. last ≤ at) }
         ensures is { IfOk result (λ time. time ≡ settling_time network.now (view_seen network.now self.now at)) }
         ensures bound { IfOk result (λ time. time.watch ≤ 200000000000000) }
     {
@@ -200,7 +204,7 @@ impl Walk {
         Ok(times_by(
             network,
             at,
-            self.last_set,
+            arrived_by(at, self.longest, self.last_set),
             loss,
             paths,
             self.tables.is_calm(network, paths),

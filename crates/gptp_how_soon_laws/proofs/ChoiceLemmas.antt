@@ -17,22 +17,24 @@ use Rattle.gptp_network.specs.Document.{DocumentState}
 use Rattle.gptp_network.specs.Snapshot.{events_by}
 use Rattle.gptp_network.proofs.SnapshotLemmas.{from_filter}
 use Rattle.gptp_theorem.specs.PlayedLaws.{IsPlayable}
-use Rattle.gptp_how_soon.specs.Bounds.{aged_echo_span, any_loss_span, choice_by, choice_of_row, gone_by, roles_of_row, sound_by}
+use Rattle.gptp_how_soon.specs.Bounds.{aged_echo_span, any_loss_span, arrived_by, choice_by, choice_of_row, gone_by, roles_of_row, sound_by}
+use Rattle.gptp_how_soon.specs.Links.{longest_delay}
 use Rattle.gptp_how_soon.specs.Silent.{own_intervals}
 use Rattle.gptp_how_soon.specs.Times.{View, events_at, gained_at, last_set, loss_at, ready_at, row_at, settling_time, settling_times, settling_times_from, time_at, view_at}
 use Rattle.gptp_how_soon.specs.declared.bounds.Loss.{Loss}
 use Rattle.gptp_how_soon.specs.declared.bounds.Row.{Row}
-use Rattle.gptp_how_soon.specs.declared.bounds.Row.TheVariants.{AnyLosses, AnyPast, CutOff, FailedEnd, FailedHeard, FailureCutsOff, Gained, LostEnd, LostPower, Lowered, OneTurned, PowerCutsOff, TreeCutOff, TreeTurned, Unchanged}
+use Rattle.gptp_how_soon.specs.declared.bounds.Row.TheVariants.{AnyLosses, AnyPast, CutOff, FailedEnd, FailedHeard, FailureCutsOff, FailureCutsTrees, Gained, LostEnd, LostPower, Lowered, OneTurned, PowerCutsOff, PowerCutsTrees, TreeCutOff, TreeTurned, Unchanged}
 use Rattle.gptp_how_soon.specs.declared.bounds.Settling.{Settling}
 use Rattle.gptp_how_soon.specs.declared.bounds.SettlingTime.{SettlingTime}
-use Rattle.gptp_settling_time.specs.HowSoon.{BoundsAging, BoundsAnyLoss, BoundsChoice, BoundsEvents, BoundsLoss, BoundsStart, BoundsTree, FailsHeardFirst, HeldFor, IsChoiceBoundAfter, IsLossBoundAfter, IsRestBoundAfter, NoneBetween, RestsAfterLoss, RestsTree, TreeNext}
-use Rattle.gptp_settling_time.specs.InTurn.{FlightIsGone}
+use Rattle.gptp_settling_time.specs.HowSoon.{BoundsAging, BoundsAnyLoss, BoundsChoice, BoundsEvents, BoundsLoss, BoundsSplit, BoundsStart, BoundsTree, FailsHeardFirst, FailsTreesFirst, HeldFor, IsChoiceBoundAfter, IsLossBoundAfter, IsRestBoundAfter, NoneBetween, RestsAfterLoss, RestsTree, TreeNext}
+use Rattle.gptp_settling_time.specs.InTurn.{FlightIsGone, turned_echo_span}
 use Rattle.gptp_settling_time.specs.TreeLosses.{LowersTree, TurnsTreeLink}
 use Rattle.gptp_settling_time.proofs.MomentLemmas.{all_at, last_by, parted}
 use Rattle.gptp_settling_time.proofs.WellFormedLemmas.{after_well}
 use Rattle.gptp_how_soon_laws.specs.Choice.{SettlingsAreChoiceBounds}
 use Rattle.gptp_how_soon_laws.proofs.RowBoundLemmas.{HasOwnBounds, IsSoundSooner, IsTelling, bounds_choice, choice_or_own, past_row, sound_or_sooner, tells}
-use Rattle.gptp_how_soon_laws.proofs.RowLemmas.{ComesLate, CutsLate, HasComeToRest, any_losses, cut_off, failed, gained, heard, lost_end, lost_power, lowered, tree_cut, tree_turned, turned, unchanged}
+use Rattle.gptp_how_soon_laws.proofs.RowLemmas.{ComesLate, CutsLate, FailsLate, any_losses, cut_off, failed, failure_cuts, gained, heard, lost_end, lost_power, lowered, power_cuts, tree_cut, tree_turned, turned, unchanged}
+use Rattle.gptp_how_soon_laws.proofs.RowTestLemmas.{HasComeToRest}
 use Rattle.gptp_how_soon_laws.proofs.SilentLemmas.{held_for, last_now}
 use Rattle.gptp_how_soon_laws.proofs.StartRowLemmas.{first_past, first_roles, first_sound, never_unchanged, started}
 use Rattle.gptp_how_soon_laws.proofs.UnmovedLemmas.{AreWell}
@@ -82,8 +84,8 @@ module _ (d : DocumentState) (playable : IsPlayable d) where
     pub sooner : s.choice ≤ s.roles
     pub sound : IsRestBoundAfter n all earlier at s.sound
     pub rest : s.sound ≤ s.rest
-    pub exact : max (at + s.roles) (last_set (events_by at all) + largest_interval (pace_of n)) + window_span n.params
-        + (sync_paths n (events_by at all)).systems * (n.params.threshold + n.params.residence)
+    pub exact : max (at + s.choice) (arrived_by (longest_delay n (events_by at all)) (last_set (events_by at all)))
+        + window_span n.params + (sync_paths n (events_by at all)).systems * (n.params.threshold + n.params.residence)
         ≤ s.exact_from
 
   abbrev pub TellsSo : List ℕ → SettlingTime → Type 0
@@ -115,7 +117,7 @@ module _ (d : DocumentState) (playable : IsPlayable d) where
         sooner = omega (arith, roles_same);
         sound = subst (IsChoiceBoundAfter n all [] 0) sound_same chosen;
         rest = it.rest;
-        exact = subst (λ es. max (0 + s.roles) (last_set es + largest_interval (pace_of n)) + window_span n.params
+        exact = subst (λ es. max (0 + s.choice) (arrived_by (longest_delay n es) (last_set es)) + window_span n.params
             + (sync_paths n es).systems * (n.params.threshold + n.params.residence)
             ≤ s.exact_from) (sym (begin_at all)) it.exact;
       }
@@ -184,19 +186,29 @@ module _ (d : DocumentState) (playable : IsPlayable d) where
         )
 
     -- what others hold of a system that fails has aged so much later
-    held : FailsHeardFirst n made now → HeldFor n made now v.held
-    held fails = held_for n playable.network made now (own_intervals n (Some b) at) (late_so now fails (all_at at all))
+    held : (now ≡ [] → ⊥) → HeldFor n made now v.held
+    held some = held_for n playable.network made now (own_intervals n (Some b) at) (late_so now some (all_at at all))
       where
-        late_so : (events : List Timed) → FailsHeardFirst n made events
+        late_so : (events : List Timed) → (events ≡ [] → ⊥)
             → AllByRecursion (λ (t : Timed). t.at ≡ at) events → own_intervals n (Some b) at ≡ true
             → last_change made + largest_interval (pace_of n) + longest_span (pace_of n)
             < last_change (made ++ events)
-        late_so [] none at_all own = absurd none
-        late_so (event ∷ events) fails at_all own =
+        late_so [] none at_all own = absurd (none refl)
+        late_so (event ∷ events) some at_all own =
             let last = last_by b.at all in
             let moment = last_now at made event events at_all in
             let passed = below (b.at + largest_interval (pace_of n) + longest_span (pace_of n)) at own in
             omega (arith, last, moment, passed)
+
+    -- it has an event where this isn't so of none
+    some_now : (Are : List Timed → Type 0) → (Are [] → ⊥) → Are now → now ≡ [] → ⊥
+    some_now Are none are same = none (subst Are same are)
+
+    held_heard : FailsHeardFirst n made now → HeldFor n made now v.held
+    held_heard fails = held (some_now (FailsHeardFirst n made) (λ none. none) fails)
+
+    held_trees : FailsTreesFirst n made now → HeldFor n made now v.held
+    held_trees fails = held (some_now (FailsTreesFirst n made) (λ none. none) fails)
 
     -- an event of this kind comes an announce interval after the time before has come to rest, and all ask for this
     tree_next : (Is : List Timed → Timed → Type 0) (Asks : List Timed → Type 0) → IsCalm n (events_by at all)
@@ -217,21 +229,26 @@ module _ (d : DocumentState) (playable : IsPlayable d) where
           subst Asks (sym (parted all b.at at playable.events.in_order late between)) asks,
         )
 
-    -- it comes to rest so after a loss, or after a tree is cut off
+    -- it comes to rest so after a loss, after a tree is cut off, or after one turns
     abbrev Rests : ℕ → Type 0
     Rests sound =
         (HasComeToRest b at × RestsAfterLoss n made now sound)
-        ⊎ ((rest : HasComeToRest b at) × CutsLate n playable.network all b at late rest
+        ⊎ (((rest : HasComeToRest b at) × CutsLate n playable.network all b at late rest
         × (sound ≡ max (2 * way_span v.paths) (gone_by n v.paths v.used_before)))
+        ⊎ ((rest : HasComeToRest b at) × ComesLate n playable.network all b at late (TurnsTreeLink n) rest
+        × (sound ≡ turned_echo_span n (made ++ now))))
 
     rests : (sound : ℕ) → IsCalm n (events_by at all) → NothingLapses n.params → Rests sound
         → IsRestBoundAfter n all (b.at ∷ earlier) at sound
     rests sound calm off (inl (rest, loses)) =
         let (bound, past) = sound_before rest in
         inr (inl (late, between, calm, off, (rest.settling.sound, bound, past), loses))
-    rests sound calm off (inr (rest, tree, is)) =
-        inr (inr (tree_next (LowersTree n) (RestsTree n sound) calm off rest tree.comes
-        (gone_by n v.paths v.used_before, tree.flight, is)))
+    rests sound calm off (inr (inl (rest, tree, is))) =
+        inr (inr (inl (tree_next (LowersTree n) (RestsTree n sound) calm off rest tree.comes
+        (gone_by n v.paths v.used_before, tree.flight, is))))
+    rests sound calm off (inr (inr (rest, tree, is))) =
+        inr (inr (inr (tree_next (TurnsTreeLink n) (λ events. sound ≡ turned_echo_span n events) calm off rest tree
+        is)))
 
     -- it has come to rest by what the row of this loss says
     rests_by : (sound : ℕ) → sound ≡ sound_by n loss v.paths (row_at v) (gained_at n v)
@@ -249,7 +266,10 @@ module _ (d : DocumentState) (playable : IsPlayable d) where
     rests_by sound told (inr (inr (inr (inl (row, is))))) =
         let x = cut_off n playable.network all b at late well row in
         inl (x.rested, inl (inl (x.cuts, (gone_by n v.paths v.used_before, x.flight, told ∙ is))))
-    rests_by sound told (inr (inr (inr (inr (inl (row, is)))))) =
+    rests_by sound told (inr (inr (inr (inr (inl (inr row, is)))))) =
+        let (rest, tree) = tree_turned n playable.network all b at late well row in
+        inr (inr (rest, tree, told ∙ is))
+    rests_by sound told (inr (inr (inr (inr (inl (inl row, is)))))) =
         let (rest, turns) = turned n playable.network all b at late well row in
         inl (rest, inl (inr (inr (inr (inl (turns, told ∙ is))))))
     rests_by sound told (inr (inr (inr (inr (inr (inl (row, long))))))) =
@@ -265,7 +285,7 @@ module _ (d : DocumentState) (playable : IsPlayable d) where
           rest,
           inl (inr (inr (inr (inr (
             fails,
-            inr (largest_interval (pace_of n), inr refl, (v.held, held fails, late)),
+            inr (largest_interval (pace_of n), inr refl, (v.held, held_heard fails, late)),
           ))))),
         )
     rests_by sound told (inr (inr (inr (inr (inr (inr (inr (inl (row, is))))))))) =
@@ -279,7 +299,7 @@ module _ (d : DocumentState) (playable : IsPlayable d) where
           ),
         )
     rests_by sound told (inr (inr (inr (inr (inr (inr (inr (inr (row, is))))))))) =
-        let (rest, tree) = tree_cut n playable.network all b at late well row in inr (rest, tree, told ∙ is)
+        let (rest, tree) = tree_cut n playable.network all b at late well row in inr (inl (rest, tree, told ∙ is))
 
     -- it has come to rest as soon as it settles from any past, or sooner after a loss
     rest_so : (s : Settling) → IsTelling n v s → IsChoiceBoundAfter n all (b.at ∷ earlier) at settled_by
@@ -298,14 +318,16 @@ module _ (d : DocumentState) (playable : IsPlayable d) where
           ⊎ ((roles : ℕ) × IsLossBoundAfter n all (b.at ∷ earlier) at s.choice roles)
       sooner : s.choice ≤ s.roles
 
-    -- What a loss asks for from rest, or a tree that falls off or turns an announce interval later.
+    -- What a loss asks for from rest, or a tree that falls off or turns an announce interval later, or a failure that
+    -- cuts trees off.
     abbrev Asks : ℕ → ℕ → Type 0
     Asks choice roles =
         (HasComeToRest b at × BoundsLoss n made now choice roles)
-        ⊎ (((rest : HasComeToRest b at)
+        ⊎ ((((rest : HasComeToRest b at)
         × (CutsLate n playable.network all b at late rest
         ⊎ ComesLate n playable.network all b at late (TurnsTreeLink n) rest))
         × (choice ≡ 2 * way_span v.paths) × (roles ≡ choice))
+        ⊎ (FailsLate n playable.network all b at late × BoundsSplit n choice roles made now))
 
     lost : (s : Settling) → IsChoiceBoundAfter n all (b.at ∷ earlier) at settled_by → NothingLapses n.params
         → Asks s.choice s.roles
@@ -313,12 +335,25 @@ module _ (d : DocumentState) (playable : IsPlayable d) where
     lost s settles off (inl (rest, loses)) =
         let (bound, past) = sound_before rest in
         inl (late, between, settles.2.0, off, (rest.settling.sound, bound, past), loses)
-    lost s settles off (inr ((rest, inl tree), choice, roles)) =
+    lost s settles off (inr (inl ((rest, inl tree), choice, roles))) =
         inr (inl (tree_next (LowersTree n) (BoundsTree n s.choice s.roles) settles.2.0 off rest tree.comes
         (choice, roles)))
-    lost s settles off (inr ((rest, inr tree), choice, roles)) =
-        inr (inr (tree_next (TurnsTreeLink n) (BoundsTree n s.choice s.roles) settles.2.0 off rest tree
-        (choice, roles)))
+    lost s settles off (inr (inl ((rest, inr tree), choice, roles))) =
+        inr (inr (inl (tree_next (TurnsTreeLink n) (BoundsTree n s.choice s.roles) settles.2.0 off rest tree
+        (choice, roles))))
+    lost s settles off (inr (inr (x, splits))) =
+        let then = so x.rest.settling x.rest.is in
+        let less = then.rest in
+        let passed = x.longer in
+        inr (inr (inr (
+          late,
+          between,
+          settles.2.0,
+          off,
+          (x.rest.settling.sound, then.sound, omega (arith, less, passed)),
+          x.fails,
+          splits,
+        )))
 
     -- what ages does no later than ports beside a failed system are off
     ages_first : (aged quiet : ℕ) → BoundsAging n made now aged quiet → aged ≤ quiet
@@ -340,7 +375,8 @@ module _ (d : DocumentState) (playable : IsPlayable d) where
 
     asked_later : (choice roles : ℕ) → Asks choice roles → choice ≤ roles
     asked_later choice roles (inl (rest, loses)) = no_later choice roles loses
-    asked_later choice roles (inr (tree, is, same)) = omega (arith, same)
+    asked_later choice roles (inr (inl (tree, is, same))) = omega (arith, same)
+    asked_later choice roles (inr (inr (x, (aged, quiet, aging, is, later)))) = greater choice roles quiet later
 
     -- what is lost at this time asks for what its row says
     asks_by : (r : Row) → row_at v ≡ r → HasOwnBounds r
@@ -372,17 +408,17 @@ module _ (d : DocumentState) (playable : IsPlayable d) where
         inl (rest, inr (inr (inl (turns, refl, refl))))
     asks_by TreeCutOff row own =
         let (rest, tree) = tree_cut n playable.network all b at late well row in
-        inr ((rest, inl tree), refl, refl)
+        inr (inl ((rest, inl tree), refl, refl))
     asks_by TreeTurned row own =
         let (rest, tree) = tree_turned n playable.network all b at late well row in
-        inr ((rest, inr tree), refl, refl)
+        inr (inl ((rest, inr tree), refl, refl))
     asks_by FailedHeard row own =
         let (rest, fails) = heard n playable.network all b at late well (inl row) in
         inl (
           rest,
           inr (inr (inr (inl (
             fails,
-            (v.held, silence_span (pace_of n), inr (held fails, refl), inl (refl, refl)),
+            (v.held, silence_span (pace_of n), inr (held_heard fails, refl), inl (refl, refl)),
           )))),
         )
     asks_by FailureCutsOff row own =
@@ -391,9 +427,18 @@ module _ (d : DocumentState) (playable : IsPlayable d) where
           rest,
           inr (inr (inr (inl (
             fails,
-            (v.held, silence_span (pace_of n), inr (held fails, refl), inr (refl, refl)),
+            (v.held, silence_span (pace_of n), inr (held_heard fails, refl), inr (refl, refl)),
           )))),
         )
+    asks_by PowerCutsTrees row own =
+        let (x, used) = power_cuts n playable.network all b at late well row in
+        inr (inr (x, (0, 0, inl (used, refl, refl), omega arith, omega arith)))
+    asks_by FailureCutsTrees row own =
+        let x = failure_cuts n playable.network all b at late well row in
+        inr (inr (
+          x,
+          (v.held, silence_span (pace_of n), inr (held_trees x.fails, refl), refl, refl),
+        ))
     asks_by AnyLosses row own =
         let (rest, loses, roles) = any_losses n playable.network all b at late row in
         inl (rest, inr (inr (inr (inr (loses, refl, roles (any_loss_span n loss v.paths))))))
@@ -433,8 +478,8 @@ module _ (d : DocumentState) (playable : IsPlayable d) where
           sooner = x.sooner;
           sound = rest_so s it settles;
           rest = it.rest;
-          exact = subst (λ es. max (at + s.roles) (last_set es + largest_interval (pace_of n)) + window_span n.params
-              + (sync_paths n es).systems * (n.params.threshold + n.params.residence)
+          exact = subst (λ es. max (at + s.choice) (arrived_by (longest_delay n es) (last_set es))
+              + window_span n.params + (sync_paths n es).systems * (n.params.threshold + n.params.residence)
               ≤ s.exact_from) (sym (parted all b.at at playable.events.in_order late between)) it.exact;
         }
 

@@ -15,7 +15,10 @@ mod LivesOnLemmas
 mod LostLinkLemmas
 mod OneLostLemmas
 mod TreeTestLemmas
+mod TreeBelowLemmas
 mod TreeLemmas
+mod CutTreesLemmas
+mod TurnedTreeTestLemmas
 mod TurnedTreeLemmas
 mod TreeEventLemmas
 mod TurnedLemmas
@@ -23,6 +26,7 @@ mod SilentLemmas
 mod RowBoundLemmas
 mod RowReasonLemmas
 mod StartRowLemmas
+mod RowTestLemmas
 mod RowLemmas
 mod AnyLossLemmas
 pub mod ChoiceLemmas

@@ -4,7 +4,6 @@ use Rattle.std.proofs.Common.{◌≡◌, ◌≤◌, ◌⊎◌, inl, inr, ◌+◌
 use Rattle.std.specs.Prelude.{⊤, ◌==◌, not, max, if◌then◌else◌}
 use Rattle.std.proofs.lemmas.Bool.{eqb-false, eqb-true}
 use Rattle.gptp_lists.proofs.MappedLemmas.{some_same}
-use Rattle.gptp_setup.specs.SettlingParams.{largest_interval}
 use Rattle.gptp_scenario.specs.Calm.{NothingLapses}
 use Rattle.gptp_scenario.specs.Network.{NetworkState, pace_of}
 use Rattle.gptp_scenario.specs.SettlingAtOnce.{settling_span_at_once}
@@ -13,12 +12,12 @@ use Rattle.gptp_scenario.specs.SyncWait.{sync_paths}
 use Rattle.gptp_scenario.specs.declared.change.Timed.{Timed}
 use Rattle.gptp_scenario.specs.declared.sync_wait.SyncPaths.{SyncPaths}
 use Rattle.gptp_topology.specs.After.{is_calm}
-use Rattle.gptp_how_soon.specs.Bounds.{aged_echo_span, choice_by, choice_of_row, gone_by, roles_after_losses, roles_by, roles_of_row, settled, sound_by, sound_of_row}
+use Rattle.gptp_how_soon.specs.Bounds.{aged_echo_span, arrived_by, choice_by, choice_of_row, gone_by, roles_after_losses, roles_by, roles_of_row, settled, sound_by, sound_of_row}
 use Rattle.gptp_how_soon.specs.Kinds.{sets_link}
 use Rattle.gptp_how_soon.specs.Times.{View, gained_at, loss_at, row_at, settling_time}
 use Rattle.gptp_how_soon.specs.declared.bounds.Loss.{Loss}
 use Rattle.gptp_how_soon.specs.declared.bounds.Row.{Row}
-use Rattle.gptp_how_soon.specs.declared.bounds.Row.TheVariants.{AnyLosses, AnyPast, CutOff, FailedEnd, FailedHeard, FailureCutsOff, Gained, LostEnd, LostPower, Lowered, OneTurned, PowerCutsOff, TreeCutOff, TreeTurned, Unchanged}
+use Rattle.gptp_how_soon.specs.declared.bounds.Row.TheVariants.{AnyLosses, AnyPast, CutOff, FailedEnd, FailedHeard, FailureCutsOff, FailureCutsTrees, Gained, LostEnd, LostPower, Lowered, OneTurned, PowerCutsOff, PowerCutsTrees, TreeCutOff, TreeTurned, Unchanged}
 use Rattle.gptp_how_soon.specs.declared.bounds.Settling.{Settling}
 use Rattle.gptp_settling_time.specs.HowSoon.{BoundsChoice}
 use Rattle.gptp_topology.proofs.RestLemmas.{calm_from}
@@ -38,6 +37,8 @@ past_row FailureCutsOff = AnyPast
 past_row OneTurned = AnyPast
 past_row TreeCutOff = AnyPast
 past_row TreeTurned = AnyPast
+past_row PowerCutsTrees = AnyPast
+past_row FailureCutsTrees = AnyPast
 past_row AnyLosses = AnyPast
 past_row Gained = Gained
 
@@ -71,6 +72,8 @@ bounds_choice n Sharp loss events row gained calm unchanged is_gained =
     by_row off OneTurned is = inl refl
     by_row off TreeCutOff is = inl refl
     by_row off TreeTurned is = inl refl
+    by_row off PowerCutsTrees is = inl refl
+    by_row off FailureCutsTrees is = inl refl
     by_row off AnyLosses is = inl refl
     by_row off Unchanged is = inr (unchanged is)
     by_row off Gained is = inr (is_gained is off)
@@ -126,6 +129,8 @@ choice_or_own n loss paths row gained = by (n.params.sync_timeout == 0) refl row
     by true is OneTurned = inr (eqb-true n.params.sync_timeout 0 is, tt, refl, refl)
     by true is TreeCutOff = inr (eqb-true n.params.sync_timeout 0 is, tt, refl, refl)
     by true is TreeTurned = inr (eqb-true n.params.sync_timeout 0 is, tt, refl, refl)
+    by true is PowerCutsTrees = inr (eqb-true n.params.sync_timeout 0 is, tt, refl, refl)
+    by true is FailureCutsTrees = inr (eqb-true n.params.sync_timeout 0 is, tt, refl, refl)
     by true is AnyLosses = inr (eqb-true n.params.sync_timeout 0 is, tt, refl, refl)
 
 -- All is sound by that bound. Or nothing lapses, and it is sooner after a loss.
@@ -135,7 +140,7 @@ IsSoundSooner n loss paths row sound =
     ⊎ (((row ≡ FailedEnd) × (sound ≡ max (silence_span (pace_of n)) (gone_by n loss.paths_before loss.used_before)))
     ⊎ (((row ≡ Lowered) × (sound ≡ max (echo_span (pace_of n) paths) (gone_by n paths loss.used_before)))
     ⊎ (((row ≡ CutOff) × (sound ≡ max (2 * way_span paths) (gone_by n paths loss.used_before)))
-    ⊎ (((row ≡ OneTurned) × (sound ≡ 2 * way_span paths + echo_span (pace_of n) paths))
+    ⊎ ((((row ≡ OneTurned) ⊎ (row ≡ TreeTurned)) × (sound ≡ 2 * way_span paths + echo_span (pace_of n) paths))
     ⊎ ((((row ≡ LostPower) ⊎ (row ≡ PowerCutsOff)) × (max (echo_span (pace_of n) paths) paths.delay ≤ sound))
     ⊎ ((((row ≡ FailedHeard) ⊎ (row ≡ FailureCutsOff)) × (aged_echo_span n loss paths ≤ sound))
     ⊎ (((row ≡ AnyLosses) × (sound ≡ roles_after_losses n loss paths))
@@ -161,12 +166,16 @@ sound_or_sooner n loss paths row gained = by (n.params.sync_timeout == 0) refl r
     by true is AnyPast = inl refl
     by true is Unchanged = inl refl
     by true is Gained = inl refl
-    by true is TreeTurned = inl refl
+    by true is PowerCutsTrees = inl refl
+    by true is FailureCutsTrees = inl refl
     by true is LostEnd = inr (eqb-true n.params.sync_timeout 0 is, inl (refl, refl))
     by true is FailedEnd = inr (eqb-true n.params.sync_timeout 0 is, inr (inl (refl, refl)))
     by true is Lowered = inr (eqb-true n.params.sync_timeout 0 is, inr (inr (inl (refl, refl))))
     by true is CutOff = inr (eqb-true n.params.sync_timeout 0 is, inr (inr (inr (inl (refl, refl)))))
-    by true is OneTurned = inr (eqb-true n.params.sync_timeout 0 is, inr (inr (inr (inr (inl (refl, refl))))))
+    by true is OneTurned =
+        inr (eqb-true n.params.sync_timeout 0 is, inr (inr (inr (inr (inl (inl refl, refl))))))
+    by true is TreeTurned =
+        inr (eqb-true n.params.sync_timeout 0 is, inr (inr (inr (inr (inl (inr refl, refl))))))
     by true is LostPower =
         inr (eqb-true n.params.sync_timeout 0 is, inr (inr (inr (inr (inr (inl (inl refl, omega arith)))))))
     by true is PowerCutsOff =
@@ -187,7 +196,7 @@ pub record IsTelling (n : NetworkState) (v : View) (s : Settling) : Type 0 where
   pub sound : s.sound ≡ sound_by n (loss_at v) v.paths (row_at v) (gained_at n v)
   pub roles : s.roles ≡ roles_by n (loss_at v) v.paths (row_at v) (gained_at n v)
   pub rest : s.sound ≤ s.rest
-  pub exact : max (v.at + s.roles) (v.last_set + largest_interval (pace_of n)) + window_span n.params
+  pub exact : max (v.at + s.choice) (arrived_by v.longest v.last_set) + window_span n.params
       + v.paths.systems * (n.params.threshold + n.params.residence)
       ≤ s.exact_from
 
@@ -195,7 +204,9 @@ pub tells : (n : NetworkState) (v : View) (s : Settling) → (settling_time n v)
 tells n v s is = by v.calm refl is
   where
     it : Settling
-    it = settled n v.at v.last_set (loss_at v) v.paths (sets_link v.told) (row_at v) (gained_at n v)
+    it =
+        settled n v.at (arrived_by v.longest v.last_set) (loss_at v) v.paths (sets_link v.told) (row_at v)
+        (gained_at n v)
 
     by : (calm : Bool) → v.calm ≡ calm → (if calm then Some it else None) ≡ Some s → IsTelling n v s
     by true calm told =
@@ -206,7 +217,7 @@ tells n v s is = by v.calm refl is
           sound = ap (λ (x : Settling). x.sound) (sym same);
           roles = ap (λ (x : Settling). x.roles) (sym same);
           rest = subst (λ (x : Settling). x.sound ≤ x.rest) same (omega arith);
-          exact = subst (λ (x : Settling). max (v.at + x.roles) (v.last_set + largest_interval (pace_of n))
+          exact = subst (λ (x : Settling). max (v.at + x.choice) (arrived_by v.longest v.last_set)
               + window_span n.params + v.paths.systems * (n.params.threshold + n.params.residence)
               ≤ x.exact_from) same (omega arith);
         }

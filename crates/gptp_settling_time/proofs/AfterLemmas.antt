@@ -20,7 +20,7 @@ use Rattle.gptp_world.specs.Transitions.{ActTrace}
 use Rattle.gptp_network.specs.Document.{DocumentState}
 use Rattle.gptp_report.specs.Transitions.{Unfolds}
 use Rattle.gptp_invariants.specs.ChoiceCalm.{sync_paths_of}
-use Rattle.gptp_invariants.specs.ChoiceSettled.{Settled}
+use Rattle.gptp_invariants.specs.ChoiceSettled.{ChoiceStands, Settled}
 use Rattle.gptp_invariants.specs.WorldBounded.{IsBoundedWorld}
 use Rattle.gptp_invariants.specs.WorldCalmFor.{IsCalmFor, at_once_span, span_over}
 use Rattle.gptp_invariants.specs.WorldStanding.{snapshot_of}
@@ -30,9 +30,8 @@ use Rattle.gptp_invariants.proofs.WorldStandsLemmas.{stands_well}
 use Rattle.gptp_theorem.specs.PlayedLaws.{IsPlayable}
 use Rattle.gptp_theorem.proofs.CalmLemmas.{pace_stands, quiet_stands}
 use Rattle.gptp_theorem.proofs.SyncPathLemmas.{paths_stand}
-use Rattle.gptp_settling_time.specs.ChoiceAlone.{ChoiceStands}
 use Rattle.gptp_settling_time.specs.Exactly.{SettlesBy}
-use Rattle.gptp_settling_time.specs.InTurn.{Aging, AnyPast, BeginsBy, ChoosesAfter, Cleared, Fallen, Gained, Heard, IsTakenAs, Left, Lost, Past, RestsFrom, SettlesAfter, Starting, Turned, TurnedTree}
+use Rattle.gptp_settling_time.specs.InTurn.{Aging, AnyPast, BeginsBy, ChoosesAfter, Cleared, Fallen, Gained, Heard, IsTakenAs, Left, Lost, Past, RestsFrom, SettlesAfter, Split, Starting, Turned, TurnedTree}
 use Rattle.gptp_settling_time.proofs.AgingToLemmas.{IsAgingTo, aging_to_act, aging_to_chooses, aging_to_claimed, aging_to_later, aging_to_settled}
 use Rattle.gptp_settling_time.proofs.BegunLemmas.{begun_keeps}
 use Rattle.gptp_settling_time.proofs.ClaimedToLemmas.{IsClaimedTo, claimed_act, claimed_later, claimed_settled}
@@ -41,10 +40,12 @@ use Rattle.gptp_settling_time.proofs.KeptToLemmas.{IsNewsTo, KeepsTo, keeps_act,
 use Rattle.gptp_settling_time.proofs.LeftToLemmas.{IsLeftTo, left_to_act, left_to_chooses, left_to_later, left_to_settled}
 use Rattle.gptp_settling_time.proofs.FallenToLemmas.{IsFallenTo, fallen_to_act, fallen_to_claimed, fallen_to_later, fallen_to_settled}
 use Rattle.gptp_settling_time.proofs.LostToLemmas.{IsLostTo, lost_to_act, lost_to_chooses, lost_to_claimed, lost_to_later, lost_to_settled}
-use Rattle.gptp_settling_time.proofs.TurnedTreeToLemmas.{IsTurnedTreeTo, turned_tree_to_act, turned_tree_to_later, turned_tree_to_settled}
+use Rattle.gptp_settling_time.proofs.TurnedTreeToLemmas.{IsTurnedTreeTo, turned_tree_to_act, turned_tree_to_claimed, turned_tree_to_later, turned_tree_to_settled}
+use Rattle.gptp_settling_time.proofs.SplitToLemmas.{IsSplitTo, split_to_act, split_to_chooses, split_to_later, split_to_settled}
 use Rattle.gptp_settling_time.proofs.TurnedToLemmas.{IsTurnedTo, turned_to_act, turned_to_claimed, turned_to_later, turned_to_settled}
 use Rattle.gptp_settling_time.proofs.StartEventLemmas.{IsStartingTo, begun_soon_claimed, begun_soon_news, starting_act, starting_begins, starting_later}
 use Rattle.gptp_settling_time.proofs.TimedNewsLemmas.{CanSettle, has_settled}
+use Rattle.gptp_invariants.proofs.ChoiceSettledLemmas.{choice_stands}
 
 -- what is so of a world after these events, by what its network came from
 abbrev pub IsAfter : DocumentState → List Timed → Past → WorldState → Type 0
@@ -58,6 +59,7 @@ IsAfter d events (Fallen silent now) w = IsFallenTo d events silent now w
 IsAfter d events (TurnedTree silent now) w = IsTurnedTreeTo d events silent now w
 IsAfter d events (Cleared since silent right old) w = IsClearedTo d events since silent right old w
 IsAfter d events (Aging ago aged silent) w = IsAgingTo d ago events aged silent w
+IsAfter d events (Split ago gone silent) w = IsSplitTo d ago events gone silent w
 IsAfter d events (Lost since most silent) w = IsLostTo d events since most silent w
 
 module _ (d : DocumentState) (events : List Timed) where
@@ -72,6 +74,7 @@ module _ (d : DocumentState) (events : List Timed) where
   after_keeps (TurnedTree silent now) w so = so.keeps
   after_keeps (Cleared since silent right old) w so = so.keeps
   after_keeps (Aging ago aged silent) w so = so.keeps
+  after_keeps (Split ago gone silent) w so = so.keeps
   after_keeps (Lost since most silent) w so = so.keeps
 
   pub after_later : (past : Past) (w : WorldState) (time : ℕ) → w.time ≤ time → NothingBefore time w.net.pending
@@ -89,6 +92,8 @@ module _ (d : DocumentState) (events : List Timed) where
       w time later first so
   after_later (Aging ago aged silent) w time later first so =
       aging_to_later d ago events aged silent w time later first so
+  after_later (Split ago gone silent) w time later first so =
+      split_to_later d ago events gone silent w time later first so
   after_later (Lost since most silent) w time later first so =
       lost_to_later d events since most silent w time later first so
 
@@ -114,6 +119,8 @@ module _ (d : DocumentState) (events : List Timed) where
       cleared_to_act d events since silent right old answers t fate drawn w next was so
   after_act answers (Aging ago aged silent) t fate drawn w next was so =
       aging_to_act d ago events aged silent answers t fate drawn w next was so
+  after_act answers (Split ago gone silent) t fate drawn w next was so =
+      split_to_act d ago events gone silent answers t fate drawn w next was so
   after_act answers (Lost since most silent) t fate drawn w next was so =
       lost_to_act d events since most silent answers t fate drawn w next was so
 
@@ -130,11 +137,13 @@ module _ (d : DocumentState) (playable : IsPlayable d) (events : List Timed) (w 
   rests_from (Left silent) start none so = absurd none
   rests_from (Turned silent now) start rest so = turned_to_claimed d events silent now w start so playable rest
   rests_from (Fallen silent now) start rest so = fallen_to_claimed d events silent now w start so playable rest
-  rests_from (TurnedTree silent now) start none so = absurd none
+  rests_from (TurnedTree silent now) start (rest, later) so =
+      turned_tree_to_claimed d events silent now w start so playable rest
   rests_from (Cleared since silent right old) start rest so =
       cleared_to_claimed d events since silent right old w start so playable rest
   rests_from (Aging ago aged silent) start rest so =
       aging_to_claimed d ago events aged silent w start so playable rest
+  rests_from (Split ago gone silent) start none so = absurd none
   rests_from (Lost since most silent) start rest so =
       lost_to_claimed d events since most silent w start so playable rest
 
@@ -167,6 +176,7 @@ begins_after answers d playable fate until first w ts k (Fallen silent now) none
 begins_after answers d playable fate until first w ts k (TurnedTree silent now) none = absurd none
 begins_after answers d playable fate until first w ts k (Cleared since silent right old) none = absurd none
 begins_after answers d playable fate until first w ts k (Aging ago aged silent) none = absurd none
+begins_after answers d playable fate until first w ts k (Split ago gone silent) none = absurd none
 begins_after answers d playable fate until first w ts k (Lost since most silent) none = absurd none
 
 -- ---- it settles
@@ -270,27 +280,26 @@ module _ (d : DocumentState) (playable : IsPlayable d) (all : List Timed) (calm 
       aging_to_settled d ago all aged silent w so playable calm off (inl (omega (arith, passed, on)))
   after_settles (Aging ago aged silent) so (off, inr used) =
       aging_to_settled d ago all aged silent w so playable calm off (inr used)
+  after_settles (Split ago gone silent) so (off, passed, late) =
+      split_to_settled d ago all gone silent w so playable calm off
+      (subst (λ (x : SyncPaths). gone + 2 * (pred x.systems * x.delay) ≤ w.time) (paths so.keeps)
+      (omega (arith, passed, on)))
+      (elim late [ inl now ↦ inl (omega (arith, now, on)) | inr used ↦ inr used ])
   after_settles (Lost since most silent) so (off, passed, inl late) =
       lost_to_settled d all since most silent w so playable (omega (arith, passed, on)) (inl (omega (arith, late, on)))
   after_settles (Lost since most silent) so (off, passed, inr used) =
       lost_to_settled d all since most silent w so playable (omega (arith, passed, on)) (inr used)
 
-  -- a settled system has its settled choice
-  chooses_so : Settled w → ChoiceStands w
-  chooses_so so place station here live near =
-      let x = so place station here live near in
-      record { root = x.root; steps = x.steps; slave = x.slave; parent = x.parent }
-
   pub after_chooses : (past : Past) → IsAfter d all past w → ChoosesAfter d.network all past settled → ChoiceStands w
-  after_chooses AnyPast so settles = chooses_so (after_settles AnyPast so settles).0
+  after_chooses AnyPast so settles = choice_stands w (after_settles AnyPast so settles).0
   after_chooses Starting so none = absurd none
-  after_chooses (Gained start) so settles = chooses_so (after_settles (Gained start) so settles).0
-  after_chooses (Heard start) so settles = chooses_so (after_settles (Heard start) so settles).0
+  after_chooses (Gained start) so settles = choice_stands w (after_settles (Gained start) so settles).0
+  after_chooses (Heard start) so settles = choice_stands w (after_settles (Heard start) so settles).0
   after_chooses (Left silent) so off = left_to_chooses d all silent w so playable calm off
-  after_chooses (Turned silent now) so settles = chooses_so (after_settles (Turned silent now) so settles).0
-  after_chooses (Fallen silent now) so settles = chooses_so (after_settles (Fallen silent now) so settles).0
+  after_chooses (Turned silent now) so settles = choice_stands w (after_settles (Turned silent now) so settles).0
+  after_chooses (Fallen silent now) so settles = choice_stands w (after_settles (Fallen silent now) so settles).0
   after_chooses (TurnedTree silent now) so settles =
-      chooses_so (after_settles (TurnedTree silent now) so settles).0
+      choice_stands w (after_settles (TurnedTree silent now) so settles).0
   after_chooses (Cleared since silent right old) so off =
       left_to_chooses d all silent w (cleared_left d all since silent right old w so) playable calm off
   after_chooses (Aging ago aged silent) so (off, inl gone) =
@@ -299,5 +308,9 @@ module _ (d : DocumentState) (playable : IsPlayable d) (all : List Timed) (calm 
       aging_to_chooses d ago all aged silent w so playable calm off (inr (inl (omega (arith, late, on))))
   after_chooses (Aging ago aged silent) so (off, inr (inr used)) =
       aging_to_chooses d ago all aged silent w so playable calm off (inr (inr used))
+  after_chooses (Split ago gone silent) so (off, passed) =
+      split_to_chooses d ago all gone silent w so playable calm off
+      (subst (λ (x : SyncPaths). gone + 2 * (pred x.systems * x.delay) ≤ w.time) (paths so.keeps)
+      (omega (arith, passed, on)))
   after_chooses (Lost since most silent) so (off, passed) =
       lost_to_chooses d all since most silent w so playable (omega (arith, passed, on))

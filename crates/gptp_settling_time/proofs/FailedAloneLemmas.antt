@@ -40,7 +40,7 @@ use Rattle.gptp_invariants.specs.DelayElsewhere.{IsOtherSystem}
 use Rattle.gptp_invariants.specs.DelayFirstAt.{IsFirstAt}
 use Rattle.gptp_invariants.specs.DelayLinkView.{LinkPlace, pair}
 use Rattle.gptp_invariants.specs.DelayMeasured.{LinkIsMeasured, LinkStandsAt, StationIsLiveAt}
-use Rattle.gptp_invariants.specs.FailedUnanswered.{IsFailedAmong, IsLastAnswered, IsUnansweredAt, StandsUnanswered}
+use Rattle.gptp_invariants.specs.FailedUnanswered.{IsFailedAmong, IsLastAnswered, IsUnansweredAt, StandsUnanswered, silent_view}
 use Rattle.gptp_invariants.specs.WorldNews.{AreReadyBy, AreSilentBy, IsSilentBy}
 use Rattle.gptp_invariants.specs.WorldSound.{IsSoundWorld}
 use Rattle.gptp_invariants.specs.WorldStanding.{live_stations, snapshot_of, standing_system}
@@ -61,7 +61,7 @@ use Rattle.gptp_settling_time.proofs.FitsLemmas.{IsLeftUnmoved, UnlinkedHoldNoth
 use Rattle.gptp_settling_time.proofs.FarEndLemmas.{HasAllBut}
 use Rattle.gptp_settling_time.proofs.LeftClaimedLemmas.{HaveAskedLong, IsLeftAlways, left_network}
 use Rattle.gptp_settling_time.proofs.ReducedLemmas.{IsReduced, reduced_itself}
-use Rattle.gptp_settling_time.proofs.ReplyDueLemmas.{last_begins}
+use Rattle.gptp_settling_time.proofs.ReplyDueLemmas.{last_begins, last_begins_seen}
 use Rattle.gptp_settling_time.proofs.SettledSeenLemmas.{IsSettledSeen, sound_fits, wired_as}
 use Rattle.gptp_settling_time.proofs.UnlinkedLemmas.{LostAreFarther, far_holds_none}
 use Rattle.gptp_settling_time.proofs.WidenedLemmas.{ready_first}
@@ -330,6 +330,17 @@ module _ (p : SettlingParams) (number : ℕ) (w : WorldState) (draws : List Draw
         pub last_still : (first : ℕ) (x : IsFirstAt first at w) → IsLastAnswered (pair at w x.link).asker.asked at w'
         last_still first x =
             last_begins p w w' is' changed first at x
+            (ap (λ cs. slice_get cs at.link) channels_now ∙ x.link.here)
+            (stays at.asking x.link.asking.station x.link.asking.here asked.apart)
+            (subst (λ (c : Channel). IsFailedAmong at.answering (receiver at.direction c).clock w'.stations)
+            (same_there w.net.channels at.link s.channel x.link.channel here_before x.link.here) s.answering)
+
+        -- the port is seen to ask as it did
+        pub last_still_seen : (first : ℕ) (x : IsFirstAt first at w)
+            → (silent_view at w' (last_still first x).link).asker ≡ (pair at w x.link).asker
+        unfolding last_still
+        last_still_seen first x =
+            last_begins_seen p w w' is' changed first at x
             (ap (λ cs. slice_get cs at.link) channels_now ∙ x.link.here)
             (stays at.asking x.link.asking.station x.link.asking.here asked.apart)
             (subst (λ (c : Channel). IsFailedAmong at.answering (receiver at.direction c).clock w'.stations)

@@ -1,5 +1,5 @@
 -- A choice bound of a time gives what the network came from then, and when it has settled by that.
-use Rattle.std.proofs.Common.{◌≡◌, ◌⊎◌, inl, inr, ◌<◌, ◌≤◌, ◌+◌, ◌*◌, ℕ, suc, List, [], ◌∷◌, ◌++◌, refl, sym, ap, subst, ◌∙◌, append_assoc, max, arith}
+use Rattle.std.proofs.Common.{◌≡◌, ◌⊎◌, inl, inr, ◌<◌, ◌≤◌, ◌+◌, ◌*◌, ℕ, suc, List, [], ◌∷◌, ◌++◌, refl, sym, ap, subst, ◌∙◌, append_assoc, max, min, arith}
 use Rattle.std.specs.List.{AllByRecursion}
 use Rattle.std.proofs.Math.Nat.{le-max_left, le-max_right}
 use native.Mathlib.Decide.{dec_le}
@@ -13,8 +13,8 @@ use Rattle.gptp_scenario.specs.declared.change.Timed.{Timed}
 use Rattle.gptp_network.specs.Document.{DocumentState}
 use Rattle.gptp_network.specs.Events.{AreInOrder}
 use Rattle.gptp_network.specs.Snapshot.{events_by}
-use Rattle.gptp_settling_time.specs.HowSoon.{AreGainEvents, AreHeardEvents, AreReadyAtStart, AreStartEvents, BoundsAging, BoundsAnyLoss, BoundsEvents, BoundsLoss, BoundsStart, IsChoiceAloneBound, IsChoiceBound, IsChoiceBoundAfter, IsLossBoundAfter, IsRestBoundAfter, EachEvent, NoneBetween, OneEvent, RestsAfterLoss, events_at}
-use Rattle.gptp_settling_time.specs.InTurn.{Aging, AnyPast, AreCapableSoon, BeginsBy, ChoosesAfter, ChoosesByEvents, ComesByEvents, EventLeads, Fallen, FallsCalm, FlightIsGone, Gained, Heard, LeadOn, LeadsByTree, Left, Lost, Past, SettlesAfter, SettlesByEvents, Starting, StartsWith, TellsNothing, Turned, TurnedTree, TurnsTreeCalm, UsedVaryLittle}
+use Rattle.gptp_settling_time.specs.HowSoon.{AreGainEvents, AreHeardEvents, AreReadyAtStart, AreStartEvents, BoundsAging, BoundsAnyLoss, BoundsEvents, BoundsLoss, BoundsStart, IsChoiceAloneBound, IsChoiceBound, IsChoiceBoundAfter, IsLossBoundAfter, IsRestBoundAfter, EachEvent, NoneBetween, OneEvent, RestsAfterLoss, events_at, BoundsSplit, FailsTreesFirst}
+use Rattle.gptp_settling_time.specs.InTurn.{Aging, AnyPast, AreCapableSoon, BeginsBy, ChoosesAfter, ChoosesByEvents, ComesByEvents, EventLeads, Fallen, FallsCalm, FlightIsGone, Gained, Heard, LeadOn, LeadsByTree, Left, Lost, Past, SettlesAfter, SettlesByEvents, Split, Starting, StartsWith, TellsNothing, Turned, TurnedTree, TurnsTreeCalm, UsedVaryLittle, turned_echo_span}
 use Rattle.gptp_settling_time.specs.TreeLosses.{LowersTree, TurnsTreeLink}
 use Rattle.gptp_settling_time.specs.Losses.{AgesWithin, FailsHeard, LowersLink, LowersUnused, TurnsLink, UpIsUsed}
 use Rattle.gptp_settling_time.proofs.CalmLessLemmas.{fails_calm}
@@ -22,7 +22,7 @@ use Rattle.gptp_settling_time.proofs.CutLemmas.{IsBy, all_by}
 use Rattle.gptp_settling_time.proofs.MomentLemmas.{all_at, last_by, parted}
 use Rattle.gptp_settling_time.proofs.LeadOnLemmas.{HasRested, HasSettled, IsLed, after_idle, any_leads, gains_led, heard_led, idle_led, lead_as, leads_on, led_as, next, rested_so, settled_later, taken_later, wider_led}
 use Rattle.gptp_settling_time.proofs.LosesLeadLemmas.{LosesBy, any_rests, loses_by}
-use Rattle.gptp_settling_time.proofs.LossLeadLemmas.{IsLeftBy, dead_lead, heard_lead, loss_leads, settles_chooses, tree_leads, turn_leads}
+use Rattle.gptp_settling_time.proofs.LossLeadLemmas.{IsLeftBy, dead_lead, heard_lead, loss_leads, settles_chooses, splits_lead, tree_leads, turn_leads}
 use Rattle.gptp_settling_time.proofs.LossRestLemmas.{cleared_led, last_at}
 use Rattle.gptp_settling_time.proofs.SilentSpanLemmas.{none_silent}
 
@@ -299,12 +299,47 @@ module _ (n : NetworkState) (network : IsNetwork n) (off : NothingLapses n.param
           );
         }
 
+    -- or once the tree has turned and traces are told anew
+    turn_followed : (then rest : ℕ) → IsCalm n before_now → IsCalm n (events_by time all)
+        → IsFollowedTo n before_now last then → last + then + largest_interval (pace_of n) < time
+        → OneEvent (TurnsTreeLink n) before_now at_now → rest ≡ turned_echo_span n (events_by time all)
+        → IsFollowedTo n (events_by time all) time rest
+    turn_followed then rest calm_then calm before soon turns is =
+        let (silent, lead) = turns_on then calm_then before soon turns in
+        let start : ℕ = suc (time + way_span (sync_paths n (events_by time all))) in
+        let over : start + way_span (sync_paths n (events_by time all)) ≤ suc (time + rest) = omega (arith, is) in
+        record {
+          first = before.first;
+          begins = before.begins;
+          last = TurnedTree silent time;
+          lead = lead;
+          settles = (
+            Heard start,
+            inr (
+              start,
+              refl,
+              (
+                record {
+                  calm = calm;
+                  off = off;
+                  told = omega (arith, is);
+                  later = omega arith;
+                  over = over;
+                },
+                omega arith,
+              ),
+            ),
+            over,
+          );
+        }
+
   bound_calm : (earlier : List ℕ) (time rest : ℕ) → IsRestBoundAfter n all earlier time rest
       → IsCalm n (events_by time all)
   bound_calm [] time rest (start, (calm, is)) = calm
   bound_calm (last ∷ earlier) time rest (inl (later, between, (calm, is))) = calm
   bound_calm (last ∷ earlier) time rest (inr (inl (later, between, calm, nothing, before, loses))) = calm
-  bound_calm (last ∷ earlier) time rest (inr (inr (later, between, calm, nothing, before, falls, asks))) = calm
+  bound_calm (last ∷ earlier) time rest (inr (inr (inl (later, between, calm, nothing, before, falls, asks)))) = calm
+  bound_calm (last ∷ earlier) time rest (inr (inr (inr (later, between, calm, nothing, before, turns, asks)))) = calm
 
   followed : (earlier : List ℕ) (time rest : ℕ) → IsRestBoundAfter n all earlier time rest
       → IsFollowedTo n (events_by time all) time rest
@@ -324,9 +359,13 @@ module _ (n : NetworkState) (network : IsNetwork n) (off : NothingLapses n.param
       loss_followed last time later between then rest (bound_calm earlier last then bound)
       (followed earlier last then bound) soon calm loses
   followed (last ∷ earlier) time rest
-      (inr (inr (later, between, calm, nothing, (then, bound, soon), lowers, (gone, flight, is)))) =
+      (inr (inr (inl (later, between, calm, nothing, (then, bound, soon), lowers, (gone, flight, is))))) =
       fall_followed last time later between then rest gone (bound_calm earlier last then bound) calm
       (followed earlier last then bound) soon lowers flight is
+  followed (last ∷ earlier) time rest
+      (inr (inr (inr (later, between, calm, nothing, (then, bound, soon), turns, is)))) =
+      turn_followed last time later between then rest (bound_calm earlier last then bound) calm
+      (followed earlier last then bound) soon turns is
 
   -- a choice bound is one by which the network has come to rest
   choice_rests : (earlier : List ℕ) (time choice : ℕ) → IsChoiceBoundAfter n all earlier time choice
@@ -418,16 +457,16 @@ module _ (d : DocumentState) (network : IsNetwork d.network) (order : AreInOrder
             → choice ≡ 2 * way_span (sync_paths n (earlier ++ event ∷ now)) → roles ≡ choice → IsLost
         turned (other ∷ rest) same none is_choice roles_same = absurd none
         turned [] same turns is_choice roles_same =
-            let x = turn_leads n earlier event seen then
+            let (silent, leads) = turn_leads n earlier event seen then
             (record { turns = turns; calm = calm_then; off = off }) in
             let paths : choice ≡ 2 * way_span (sync_paths n (events_by time d.events)) =
             is_choice ∙ ap (λ es. 2 * way_span (sync_paths n es)) (sym parts) in
-            let past : Past = Turned x.silent event.at in
+            let past : Past = Turned silent event.at in
             record {
               first = before.first;
               begins = before.begins;
               last = past;
-              lead = led past past x.leads
+              lead = led past past leads
                   (subst (λ es. LeadOn n (earlier ++ event ∷ []) past es past) (sym same) refl);
               calm = calm;
               settles = λ settled late. (off, omega (arith, here, paths, roles_same, late));
@@ -570,6 +609,87 @@ module _ (d : DocumentState) (network : IsNetwork d.network) (order : AreInOrder
           chooses = λ settled late. (off, omega (arith, is_choice, late));
         }
 
+    -- trees are, as a system fails
+    splits_by : (last choice_then : ℕ) (now : List Timed) → NothingLapses d.network.params
+        → events_at time d.events ≡ now → events_by time d.events ≡ events_by last d.events ++ now
+        → IsCalm d.network (events_by last d.events) → IsCalm d.network (events_by time d.events)
+        → IsFollowedTo d.network (events_by last d.events) last choice_then
+        → last + choice_then + largest_interval (pace_of d.network) < time
+        → FailsTreesFirst d.network (events_by last d.events) now
+        → BoundsSplit d.network choice roles (events_by last d.events) now → IsLost
+    splits_by last choice_then [] off is parts calm_then calm before soon none bounds = absurd none
+    splits_by last choice_then (event ∷ now) off is parts calm_then calm before soon (fails, others)
+        (held, quiet, bounds, is_choice, is_roles) = by bounds
+      where
+        n : NetworkState
+        n = d.network
+
+        earlier : List Timed
+        earlier = events_by last d.events
+
+        abbrev silence : ℕ
+        silence = silence_span (pace_of n)
+
+        all_here : AllByRecursion (λ (t : Timed). t.at ≡ time) (event ∷ now)
+        all_here = subst (AllByRecursion (λ (t : Timed). t.at ≡ time)) is (all_at time d.events)
+
+        here : event.at ≡ time
+        here = all_here.0
+
+        others_here : AllByRecursion (λ (t : Timed). t.at ≡ event.at) now
+        others_here = subst (λ at. AllByRecursion (λ (t : Timed). t.at ≡ at) now) (sym here) all_here.1
+
+        past : ℕ → Past
+        past span = Split earlier (suc (event.at + min span silence)) (suc (event.at + silence))
+
+        lead : (span : ℕ) → AgesWithin n earlier (earlier ++ event ∷ now) event.at span
+            → LeadOn n [] before.first (events_by time d.events) (past span)
+        lead span within =
+            let over = last_by last d.events in
+            let (seen, taken, settled) = before.settles in
+            subst (λ es. LeadOn n [] before.first es (past span)) (sym parts)
+            (leads_on n [] before.first before.last (past span) earlier (event ∷ now) before.lead
+            (lead_as n earlier event now before.last seen (past span)
+            (taken_later n earlier before.last seen (suc (last + choice_then)) event.at (omega (arith, soon, here))
+            taken)
+            (splits_lead n earlier event now seen (suc (last + choice_then)) span off calm_then settled
+            (omega (arith, over)) (omega (arith, soon, here)) fails others others_here within)))
+
+        paths : choice ≡ held + 2 * way_span (sync_paths n (events_by time d.events))
+        paths = is_choice ∙ ap (λ es. held + 2 * way_span (sync_paths n es)) (sym parts)
+
+        lost : (span : ℕ) → AgesWithin n earlier (earlier ++ event ∷ now) event.at span → min span silence ≤ held
+            → (silence ≤ quiet) ⊎ UpIsUsed n (events_by time d.events) → IsLost
+        lost span within less dark =
+            let chosen = le-max_left choice quiet in
+            let asked = le-max_right choice quiet in
+            record {
+              first = before.first;
+              begins = before.begins;
+              last = past span;
+              lead = lead span within;
+              calm = calm;
+              settles = λ settled late. (
+                off,
+                omega (arith, here, paths, less, is_roles, chosen, late),
+                elim dark [
+                  | inl soon_dark ↦ inl (omega (arith, here, soon_dark, is_roles, asked, late))
+                  | inr used ↦ inr used
+                ],
+              );
+              chooses = λ settled late. (off, omega (arith, here, paths, less, late));
+            }
+
+        by : BoundsAging n earlier (event ∷ now) held quiet → IsLost
+        by (inl (used, is_none, is_quiet)) =
+            lost 0 (none_silent n earlier (earlier ++ event ∷ now) event.at 0 used) (omega arith)
+            (inr (subst (UpIsUsed n) (sym parts) used))
+        by (inr ((span, within, is_held), is_quiet)) =
+            lost span
+            (subst (λ t. AgesWithin n earlier (earlier ++ event ∷ now) t span)
+            (last_at earlier event now time all_here ∙ sym here) within)
+            (omega (arith, is_held)) (inl (omega (arith, is_quiet)))
+
     lost_after : (earlier : List ℕ) → IsLossBoundAfter d.network d.events earlier time choice roles → IsLost
     lost_after [] none = absurd none
     lost_after (last ∷ earlier)
@@ -578,10 +698,15 @@ module _ (d : DocumentState) (network : IsNetwork d.network) (order : AreInOrder
         (bound_calm d.network network off d.events order earlier last choice_then bound) calm
         (followed d.network network off d.events order earlier last choice_then bound) soon (inl lowers) is_choice same
     lost_after (last ∷ earlier)
-        (inr (inr (less, between, calm, off, (choice_then, bound, soon), turns, (is_choice, same)))) =
+        (inr (inr (inl (less, between, calm, off, (choice_then, bound, soon), turns, (is_choice, same))))) =
         tree_by last choice_then less between off
         (bound_calm d.network network off d.events order earlier last choice_then bound) calm
         (followed d.network network off d.events order earlier last choice_then bound) soon (inr turns) is_choice same
+    lost_after (last ∷ earlier)
+        (inr (inr (inr (less, between, calm, off, (choice_then, bound, soon), fails, bounds)))) =
+        splits_by last choice_then (events_at time d.events) off refl (parted d.events last time order less between)
+        (bound_calm d.network network off d.events order earlier last choice_then bound) calm
+        (followed d.network network off d.events order earlier last choice_then bound) soon fails bounds
     lost_after (last ∷ earlier) (inl (less, between, calm, off, (choice_then, bound, soon), loses)) =
         lost_by last choice_then (events_at time d.events) off refl (parted d.events last time order less between)
         (bound_calm d.network network off d.events order earlier last choice_then bound) calm

@@ -26,7 +26,7 @@ use Rattle.gptp_settling_time.specs.Losses.{AnnouncesAt, IsHoldSpan}
 use Rattle.gptp_settling_time.proofs.AgesByLemmas.{ByLink, by_map}
 use Rattle.gptp_settling_time.proofs.AgesByWorldLemmas.{OverWay, StaysLongest, StaysNamed, WorldAgesBy, by_live}
 use Rattle.gptp_settling_time.proofs.AgingClaimedLemmas.{stay_of}
-use Rattle.gptp_settling_time.proofs.FailedHeardLemmas.{AgesByLink}
+use Rattle.gptp_settling_time.proofs.FailedAgesLemmas.{AgesByLink}
 use Rattle.gptp_settling_time.proofs.GainLemmas.{named_as}
 use Rattle.gptp_settling_time.proofs.NamedWorldLemmas.{old_by}
 use Rattle.gptp_settling_time.proofs.SilentLinksLemmas.{AgesOver, over_begins}
@@ -38,7 +38,7 @@ number_in logs (suc i) log there = In-slice_get log logs i there
 
 module _ (n : NetworkState) (made : List Timed) (w : WorldState) (is : IsWorld (pace_of n) w)
     (stands : StandsAsPlanned n made w) (largest : IsLog (largest_of n)) where
-  -- at what a port of the network announces, it does in the world
+  -- a port announces in the world at the interval that the network has for it
   record IsNamedAt (port : PortId) (log : ℤ) : Type 0 where
     named : log_of w.stations (port_identity_number port) ≡ log
     within : IsLogUpTo (largest_of n) log
@@ -65,7 +65,7 @@ module _ (n : NetworkState) (made : List Timed) (w : WorldState) (is : IsWorld (
         });
       }
 
-  -- as long as what was held or in flight at the last change may be there still it is held for the longest span
+  -- while what was held or in flight at the last change may be there still the network says the longest span
   pub longest_short : (old_by (pace_of n) w ≤ w.time → ⊥) → (port : PortId) (span held : ℕ)
       → StaysLongest (pace_of n) (port_identity_number port) span → IsHoldSpan n made w.time port held → span ≤ held
   longest_short early port span held stays (inl longest) = omega (arith, stays, longest)
@@ -73,7 +73,7 @@ module _ (n : NetworkState) (made : List Timed) (w : WorldState) (is : IsWorld (
       let last = stands.last in
       absurd (early (omega (arith, over, last)))
 
-  -- and anyway for that of the port's own interval
+  -- after that what the port's own interval names is no longer than it says
   pub named_short : (port : PortId) (span held : ℕ) → StaysNamed (pace_of n) w (port_identity_number port) span
       → IsHoldSpan n made w.time port held → span ≤ held
   named_short port span held stays (inl longest) =

@@ -14,7 +14,7 @@ use Rattle.gptp_scenario.specs.declared.change.Change.TheVariants.{LinkDown, Lin
 use Rattle.gptp_scenario.specs.declared.change.Timed.{Timed}
 use Rattle.gptp_scenario.specs.declared.sync_wait.SyncPaths.{SyncPaths}
 use Rattle.gptp_settling_time.specs.HowSoon.{AfterIdleEvents, AreGainEvents, AreHeardEvents, AreWiderEvents, EachEvent, IsGainEvent, IsGainToo, IsHeardEvent, IsHeardToo, IsIdleEvent, IsStillEvent, TurnsUnused}
-use Rattle.gptp_settling_time.specs.InTurn.{Aging, AnyPast, Cleared, EventLeads, Fallen, Gained, HasSettledAnyhow, HasSettledHeard, HasSettledSince, Heard, IsTakenAs, LeadOn, LeavesSettled, Left, Lost, MakesNothing, Past, RestsFrom, SettlesAfter, Starting, Turned, TurnedTree, TurnsInVain, WidensLink}
+use Rattle.gptp_settling_time.specs.InTurn.{Aging, AnyPast, Cleared, EventLeads, Fallen, Gained, HasSettledAnyhow, HasSettledHeard, HasSettledSince, HasToldAnew, Heard, IsTakenAs, LeadOn, LeavesSettled, Left, Lost, MakesNothing, Past, RestsFrom, SettlesAfter, Split, Starting, Turned, TurnedTree, TurnsInVain, WidensLink}
 use Rattle.gptp_settling_time.specs.Losses.{LeavesChoice}
 use Rattle.gptp_settling_time.proofs.MadeLemmas.{adds_later}
 use Rattle.gptp_settling_time.proofs.SamePathsLemmas.{idle_paths, priority_paths, turned_paths}
@@ -54,6 +54,7 @@ HasSettled n events (Fallen silent now) time = ⊥
 HasSettled n events (TurnedTree silent now) time = ⊥
 HasSettled n events (Cleared begun silent right old) time = ⊥
 HasSettled n events (Aging ago aged silent) time = ⊥
+HasSettled n events (Split ago gone silent) time = ⊥
 HasSettled n events (Lost since most silent) time = ⊥
 
 pub settled_later : (n : NetworkState) (events : List Timed) (past : Past) (time later : ℕ) → time ≤ later
@@ -69,6 +70,7 @@ settled_later n events (Fallen silent now) time later less is = absurd is
 settled_later n events (TurnedTree silent now) time later less is = absurd is
 settled_later n events (Cleared begun silent right old) time later less is = absurd is
 settled_later n events (Aging ago aged silent) time later less is = absurd is
+settled_later n events (Split ago gone silent) time later less is = absurd is
 settled_later n events (Lost since most silent) time later less is = absurd is
 
 -- or it has so as it may be taken
@@ -80,22 +82,24 @@ pub taken_later : (n : NetworkState) (events : List Timed) (past seen : Past) (t
 taken_later n events past seen time later less (inl same) = inl same
 taken_later n events past seen time later less (inr (start, same, rests)) = inr (start, same, by past rests)
   where
-    by : (past : Past) → RestsFrom n events past time start → RestsFrom n events past later start
-    by AnyPast none = absurd none
-    by Starting none = absurd none
-    by (Gained since) none = absurd none
-    by (Heard since) none = absurd none
-    by (Left silent) none = absurd none
-    by (Turned silent now) is =
+    anew : (turned : ℕ) → HasToldAnew n events turned start time → HasToldAnew n events turned start later
+    anew turned is =
         let over = is.over in
         record {
           calm = is.calm;
           off = is.off;
           told = let told = is.told in omega (arith, told, less);
           later = is.later;
-          unlinked = is.unlinked;
           over = omega (arith, over, less);
         }
+
+    by : (past : Past) → RestsFrom n events past time start → RestsFrom n events past later start
+    by AnyPast none = absurd none
+    by Starting none = absurd none
+    by (Gained since) none = absurd none
+    by (Heard since) none = absurd none
+    by (Left silent) none = absurd none
+    by (Turned silent now) is = anew now is
     by (Fallen silent now) is =
         let gone = is.gone in
         let over = is.over in
@@ -108,7 +112,7 @@ taken_later n events past seen time later less (inr (start, same, rests)) = inr 
           gone = omega (arith, gone, less);
           over = omega (arith, over, less);
         }
-    by (TurnedTree silent now) none = absurd none
+    by (TurnedTree silent now) (is, later) = (anew now is, later)
     by (Cleared begun silent right old) is =
         let gone = is.gone in
         let over = is.over in
@@ -137,6 +141,7 @@ taken_later n events past seen time later less (inr (start, same, rests)) = inr 
           unlinked = omega (arith, unlinked, less);
           over = omega (arith, over, less);
         }
+    by (Split ago gone silent) none = absurd none
     by (Lost begun most silent) is =
         let over = is.over in
         record {
@@ -166,6 +171,7 @@ settled_so n events (Fallen silent now) time off is = absurd is
 settled_so n events (TurnedTree silent now) time off is = absurd is
 settled_so n events (Cleared begun silent right old) time off is = absurd is
 settled_so n events (Aging ago aged silent) time off is = absurd is
+settled_so n events (Split ago gone silent) time off is = absurd is
 settled_so n events (Lost since most silent) time off is = absurd is
 
 -- what has come to rest has settled
@@ -186,9 +192,10 @@ rested_so n events past time off (seen, inr (start, same, rests), is) = by past 
         let later = rest.later in
         let over = rest.over in
         (off, omega (arith, later, over))
-    by (TurnedTree silent now) none = absurd none
+    by (TurnedTree silent now) (rest, later) = let told = rest.told in (off, omega (arith, told))
     by (Cleared begun silent right old) rest = (off, rest.unlinked)
     by (Aging ago aged silent) rest = (off, inl rest.unlinked)
+    by (Split ago gone silent) none = absurd none
     by (Lost begun most silent) rest =
         let later = rest.later in
         let over = rest.over in
@@ -250,6 +257,7 @@ module _ (n : NetworkState) (made : List Timed) (event : Timed) where
   gain_leads (TurnedTree silent now) next settled less gain = absurd settled
   gain_leads (Cleared begun silent right old) next settled less gain = absurd settled
   gain_leads (Aging ago aged silent) next settled less gain = absurd settled
+  gain_leads (Split ago gone silent) next settled less gain = absurd settled
   gain_leads (Lost since most silent) next settled less gain = absurd settled
 
   heard_leads : (past : Past) (next : ℕ) → HasSettled n made past event.at → IsHeardEvent n next made event
@@ -268,6 +276,7 @@ module _ (n : NetworkState) (made : List Timed) (event : Timed) where
   heard_leads (TurnedTree silent now) next settled heard = absurd settled
   heard_leads (Cleared begun silent right old) next settled heard = absurd settled
   heard_leads (Aging ago aged silent) next settled heard = absurd settled
+  heard_leads (Split ago gone silent) next settled heard = absurd settled
   heard_leads (Lost since most silent) next settled heard = absurd settled
 
   -- what makes nothing of what stands leads from a network that has settled to one that has settled by then, as if its
@@ -293,6 +302,7 @@ module _ (n : NetworkState) (made : List Timed) (event : Timed) where
     way_over (TurnedTree silent now) settled = absurd settled
     way_over (Cleared begun silent right old) settled = absurd settled
     way_over (Aging ago aged silent) settled = absurd settled
+    way_over (Split ago gone silent) settled = absurd settled
     way_over (Lost begun most silent) settled = absurd settled
 
     pub same_paths : IsStillEvent n made event → sync_paths n more ≡ sync_paths n made
@@ -319,6 +329,7 @@ module _ (n : NetworkState) (made : List Timed) (event : Timed) where
       idle_leads (TurnedTree silent now) settled = absurd settled
       idle_leads (Cleared begun silent right old) settled = absurd settled
       idle_leads (Aging ago aged silent) settled = absurd settled
+      idle_leads (Split ago gone silent) settled = absurd settled
       idle_leads (Lost begun most silent) settled = absurd settled
 
       pub idle_settled : (past : Past) → HasSettled n made past event.at → HasSettled n more (Heard since) event.at
@@ -489,6 +500,7 @@ module _ (n : NetworkState) (network : IsNetwork n) where
     widens_leads made event (TurnedTree silent now) settled by here calm is late widens soon = absurd is
     widens_leads made event (Cleared begun silent right old) settled by here calm is late widens soon = absurd is
     widens_leads made event (Aging ago aged silent) settled by here calm is late widens soon = absurd is
+    widens_leads made event (Split ago gone silent) settled by here calm is late widens soon = absurd is
     widens_leads made event (Lost begun most silent) settled by here calm is late widens soon = absurd is
 
     pub wider_led : (made now : List Timed) (past : Past) (settled : ℕ) → AllNow now → IsCalm n made

@@ -33,7 +33,7 @@ use Rattle.gptp_theorem.proofs.CalmLemmas.{quiet_stands}
 use Rattle.gptp_theorem.proofs.SettlingInvariantLemmas.{IsFitEvent, least_of}
 use Rattle.gptp_theorem.proofs.SyncPathLemmas.{paths_stand}
 use Rattle.gptp_settling_time.specs.Gains.{ChangesNothing, LeavesCapable, TakesNothing}
-use Rattle.gptp_settling_time.specs.InTurn.{AddsHeard, AgesSooner, Aging, AnyPast, BettersClock, BringsUp, Cleared, ClearsBy, EventLeads, FailsNow, Fallen, FallsCalm, Gained, HasSettledAnyhow, HasSettledHeard, HasSettledSince, Heard, LeadsByTree, LeavesSettled, LeavesStanding, Left, LosesNow, Lost, LowersUnusedCalm, MakesNothing, Past, RecoversAlone, Starting, TreeNow, Turned, TurnedTree, TurnsInVain, TurnsNow, TurnsTreeCalm, WidensFrom}
+use Rattle.gptp_settling_time.specs.InTurn.{AddsHeard, AgesSooner, Aging, AnyPast, BettersClock, BringsUp, Cleared, ClearsBy, EventLeads, FailsNow, Fallen, FallsCalm, Gained, HasSettledAnyhow, HasSettledHeard, HasSettledSince, Heard, LeadsByTree, LeavesSettled, LeavesStanding, Left, LosesNow, Lost, LowersUnusedCalm, MakesNothing, Past, RecoversAlone, Split, SplitsNow, Starting, TreeNow, Turned, TurnedTree, TurnsInVain, TurnsNow, TurnsTreeCalm, WidensFrom}
 use Rattle.gptp_settling_time.proofs.AgingDownLemmas.{down_ages}
 use Rattle.gptp_settling_time.proofs.AgesByLemmas.{by_map}
 use Rattle.gptp_settling_time.proofs.AgesByWorldLemmas.{WorldAgesBy, aging_by}
@@ -67,6 +67,8 @@ use Rattle.gptp_settling_time.proofs.RestClaimedLemmas.{AreOn, rest_claimed, res
 use Rattle.gptp_settling_time.proofs.SettledClaimedLemmas.{settled_claimed}
 use Rattle.gptp_settling_time.proofs.SettledSeenLemmas.{HasSettledSeen, always_settled}
 use Rattle.gptp_settling_time.proofs.BetterClockLemmas.{better_claimed}
+use Rattle.gptp_settling_time.proofs.SplitMadeLemmas.{split_on, split_sooner, split_to}
+use Rattle.gptp_settling_time.proofs.SplitToLemmas.{IsSplitTo, split_to_later}
 use Rattle.gptp_settling_time.proofs.TurnedToLemmas.{IsTurnedTo}
 use Rattle.gptp_settling_time.proofs.UnmovedLemmas.{unmoved_claimed}
 use Rattle.gptp_settling_time.proofs.WidenedLemmas.{widened_claimed}
@@ -417,6 +419,7 @@ module _ {F : Type 0} (answers : Bounds → ℕ → F → Option ℕ → F → T
     leads_to_heard (TurnedTree silent now) next none so = absurd none
     leads_to_heard (Cleared since silent right old) next none so = absurd none
     leads_to_heard (Aging ago aged silent) next none so = absurd none
+    leads_to_heard (Split ago gone silent) next none so = absurd none
     leads_to_heard (Lost since most silent) next none so = absurd none
 
     -- in each case it has rested
@@ -544,6 +547,7 @@ module _ {F : Type 0} (answers : Bounds → ℕ → F → Option ℕ → F → T
     leads_to_left (TurnedTree silent now) next none so = absurd none
     leads_to_left (Cleared since silent right old) next none so = absurd none
     leads_to_left (Aging ago aged silent) next none so = absurd none
+    leads_to_left (Split ago gone silent) next none so = absurd none
     leads_to_left (Lost since most silent) next none so = absurd none
 
     leads_to_turned : (past : Past) (silent now : ℕ) → EventLeads n made past event (Turned silent now)
@@ -561,6 +565,7 @@ module _ {F : Type 0} (answers : Bounds → ℕ → F → Option ℕ → F → T
     leads_to_turned (TurnedTree start was) silent now none so = absurd none
     leads_to_turned (Cleared since start right old) silent now none so = absurd none
     leads_to_turned (Aging ago aged start) silent now none so = absurd none
+    leads_to_turned (Split ago gone start) silent now none so = absurd none
     leads_to_turned (Lost since most start) silent now none so = absurd none
 
     clears : (start since silent right old : ℕ) → HasRestedSo p start event.at then
@@ -654,6 +659,7 @@ module _ {F : Type 0} (answers : Bounds → ℕ → F → Option ℕ → F → T
         subst (λ t. IsClearedTo d more since t right old w') (sym same)
         (told_anew d playable ago more event.at aged dark since right old w' after time_now last_now
         (ages_on ago aged dark falls so) anew)
+    leads_to_cleared (Split ago gone dark) since silent right old none so = absurd none
     leads_to_cleared (Lost begun most start) since silent right old none so = absurd none
 
     ages : (ago : List Timed) (start aged silent : ℕ) → HasRestedSo p start event.at then → ago ≡ made
@@ -685,6 +691,7 @@ module _ {F : Type 0} (answers : Bounds → ℕ → F → Option ℕ → F → T
           | inl same ↦ subst (λ time. IsAgingTo d old more time start w') (sym same) (ages_on old gone start falls so)
           | inr is ↦ ages_sooner old gone aged start is (ages_on old gone start falls so)
         ]))
+    leads_to_aging (Split old gone start) ago aged silent none so = absurd none
     leads_to_aging (Lost since most start) ago aged silent none so = absurd none
 
     loses_now : (start since most silent : ℕ) → HasRestedSo p start event.at then
@@ -708,6 +715,7 @@ module _ {F : Type 0} (answers : Bounds → ℕ → F → Option ℕ → F → T
     leads_to_lost (TurnedTree start was) since most silent none so = absurd none
     leads_to_lost (Cleared begun start right old) since most silent none so = absurd none
     leads_to_lost (Aging ago aged start) since most silent none so = absurd none
+    leads_to_lost (Split ago gone start) since most silent none so = absurd none
     leads_to_lost (Lost begun delay start) since most silent (more_now, same_since, same_most, same_silent) so =
         loses_more d playable made event then k.draws done w' is k.acts fit.octet refl time_now last_now keeps_then
         after since most silent
@@ -733,6 +741,7 @@ module _ {F : Type 0} (answers : Bounds → ℕ → F → Option ℕ → F → T
     leads_to_gain (TurnedTree silent now) next (inl (nothing, none)) so = absurd none
     leads_to_gain (Cleared since silent right old) next (inl (nothing, none)) so = absurd none
     leads_to_gain (Aging ago aged silent) next (inl (nothing, none)) so = absurd none
+    leads_to_gain (Split ago gone silent) next (inl (nothing, none)) so = absurd none
     leads_to_gain (Lost since most silent) next (inl (nothing, none)) so = absurd none
     leads_to_gain Starting next (inl (nothing, none)) so = absurd none
     leads_to_gain AnyPast next (inr (inl (nothing, stays))) so = absurd stays
@@ -743,6 +752,7 @@ module _ {F : Type 0} (answers : Bounds → ℕ → F → Option ℕ → F → T
     leads_to_gain (TurnedTree silent now) next (inr (inl (nothing, stays))) so = absurd stays
     leads_to_gain (Cleared since silent right old) next (inr (inl (nothing, stays))) so = absurd stays
     leads_to_gain (Aging ago aged silent) next (inr (inl (nothing, stays))) so = absurd stays
+    leads_to_gain (Split ago gone silent) next (inr (inl (nothing, stays))) so = absurd stays
     leads_to_gain (Lost since most silent) next (inr (inl (nothing, stays))) so = absurd stays
     leads_to_gain (Gained start) next (inr (inl (nothing, same))) so = left_news start next nothing same so.news
     leads_to_gain (Heard start) next (inr (inl (nothing, same))) so =
@@ -759,6 +769,7 @@ module _ {F : Type 0} (answers : Bounds → ℕ → F → Option ℕ → F → T
     leads_to_gain (TurnedTree silent now) next (inr (inr none)) so = absurd none
     leads_to_gain (Cleared since silent right old) next (inr (inr none)) so = absurd none
     leads_to_gain (Aging ago aged silent) next (inr (inr none)) so = absurd none
+    leads_to_gain (Split ago gone silent) next (inr (inr none)) so = absurd none
     leads_to_gain (Lost since most silent) next (inr (inr none)) so = absurd none
 
     leads_to_start : (past : Past) → EventLeads n made past event Starting → IsAfter d made past w
@@ -775,6 +786,7 @@ module _ {F : Type 0} (answers : Bounds → ℕ → F → Option ℕ → F → T
     leads_to_start (TurnedTree silent now) none so = absurd none
     leads_to_start (Cleared since silent right old) none so = absurd none
     leads_to_start (Aging ago aged silent) none so = absurd none
+    leads_to_start (Split ago gone silent) none so = absurd none
     leads_to_start (Lost since most silent) none so = absurd none
 
     -- a tree is so moved
@@ -808,6 +820,7 @@ module _ {F : Type 0} (answers : Bounds → ℕ → F → Option ℕ → F → T
       leads_by_tree (TurnedTree start was) silent now none named so = absurd none
       leads_by_tree (Cleared since start right old) silent now none named so = absurd none
       leads_by_tree (Aging ago aged start) silent now none named so = absurd none
+      leads_by_tree (Split ago gone start) silent now none named so = absurd none
       leads_by_tree (Lost since most start) silent now none named so = absurd none
 
     leads_to_fallen : (past : Past) (silent now : ℕ) → EventLeads n made past event (Fallen silent now)
@@ -824,7 +837,55 @@ module _ {F : Type 0} (answers : Bounds → ℕ → F → Option ℕ → F → T
         leads_by_tree (TurnsTreeCalm n made event) (λ x. x.calm) (λ x. x.off) (λ x. x.turns.few)
         (λ silent now. IsTurnedTreeTo d more silent now w') (λ start stood rest named since turns.
         turned_tree_to d playable made event then k.draws done w' k.acts refl time_now keeps_then after start rest stood
-        named since turns)
+        named since turns last_now)
+
+    -- trees are, as a system fails
+    splits : (start stood : ℕ) (ago : List Timed) (gone silent : ℕ) → HasRestedSo p start event.at then
+        → IsNamedFrom p stood w → ago ≡ made → SplitsNow n made event stood gone silent
+        → IsSplitTo d ago more gone silent w'
+    splits start stood ago gone silent rest named same now =
+        subst (λ es. IsSplitTo d es more gone silent w') (sym same)
+        (split_to d playable made event then k.draws done w' k.acts refl time_now keeps_then after start rest stood
+        named gone silent now)
+
+    leads_to_split : (past : Past) (ago : List Timed) (gone silent : ℕ)
+        → EventLeads n made past event (Split ago gone silent) → NamesAfter d made past w → IsAfter d made past w
+        → IsSplitTo d ago more gone silent w'
+    leads_to_split AnyPast ago gone silent (stood, settled, same, now) named so =
+        let passed = settled.passed in
+        let since = now.quiet in
+        splits (last_change made + capability_span p) stood ago gone silent
+        (rested_any (record { calm = settled.calm; passed = omega (arith, passed, since) }))
+        (named stood now.calm now.fails.few (inl (now.off, passed)) now.later) same now
+    leads_to_split Starting ago gone silent none named so = absurd none
+    leads_to_split (Gained start) ago gone silent (stood, settled, same, now) named so =
+        let since = now.quiet in
+        splits start stood ago gone silent (rested_gained start (omega (arith, settled, since)) so.news)
+        (named stood now.calm now.fails.few (inl (now.off, settled)) now.later) same now
+    leads_to_split (Heard start) ago gone silent (stood, settled, same, now) named so =
+        let since = now.quiet in
+        splits start stood ago gone silent (rested_heard start (omega (arith, settled, since)) so.since)
+        (named stood now.calm now.fails.few (now.off, settled) now.later) same now
+    leads_to_split (Left start) ago gone silent none named so = absurd none
+    leads_to_split (Turned start was) ago gone silent none named so = absurd none
+    leads_to_split (Fallen start was) ago gone silent none named so = absurd none
+    leads_to_split (TurnedTree start was) ago gone silent none named so = absurd none
+    leads_to_split (Cleared since start right old) ago gone silent none named so = absurd none
+    leads_to_split (Aging old aged start) ago gone silent none named so = absurd none
+    leads_to_split (Split old was start) ago gone silent (falls, same_ago, same_silent, sooner) named so =
+        let x = split_to_later d old made was start w event.at k.ready.timely.now k.ready.timely.first so in
+        subst (λ es. IsSplitTo d es more gone silent w') (sym same_ago)
+        (subst (λ time. IsSplitTo d old more gone time w') (sym same_silent)
+        (elim sooner [
+          | inl same ↦
+              subst (λ time. IsSplitTo d old more time start w') (sym same)
+              (split_on d playable made event then k.draws done w' k.acts refl time_now keeps_then after old was start
+              falls x)
+          | inr (now, is_gone) ↦
+              split_sooner d playable made event then k.draws done w' k.acts refl time_now keeps_then after old was
+              start falls x gone now is_gone
+        ]))
+    leads_to_split (Lost since most start) ago gone silent none named so = absurd none
 
     pub leads_to : (past next : Past) → EventLeads n made past event next → NamesAfter d made past w
         → IsAfter d made past w → IsAfter d more next w'
@@ -839,4 +900,5 @@ module _ {F : Type 0} (answers : Bounds → ℕ → F → Option ℕ → F → T
     leads_to past (Cleared since silent right old) leads named so = leads_to_cleared past since silent right old
         leads so
     leads_to past (Aging ago aged silent) leads named so = leads_to_aging past ago aged silent leads so
+    leads_to past (Split ago gone silent) leads named so = leads_to_split past ago gone silent leads named so
     leads_to past (Lost since most silent) leads named so = leads_to_lost past since most silent leads so

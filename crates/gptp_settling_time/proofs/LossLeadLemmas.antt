@@ -1,5 +1,6 @@
 -- A loss leads a network that has settled to what is left, or in which a system turns, or that is cleared.
-use Rattle.std.proofs.Common.{List, [], ap, append-nil, append_assoc, arith, inl, inr, refl, subst, suc, sym, ℕ, ◌*◌, ◌++◌, ◌+◌, ◌<◌, ◌∙◌, ◌∷◌, ◌≡◌, ◌≤◌, ◌⊎◌}
+use Rattle.std.proofs.Common.{List, [], ap, append-nil, append_assoc, arith, inl, inr, min, refl, subst, suc, sym, ℕ, ◌*◌, ◌++◌, ◌+◌, ◌<◌, ◌∙◌, ◌∷◌, ◌≡◌, ◌≤◌, ◌⊎◌}
+use Rattle.std.specs.List.{AllByRecursion}
 use Rattle.std.proofs.Math.Nat.{le-max_left}
 use Rattle.gptp_setup.specs.SettlingParams.{largest_interval, longest_span}
 use Rattle.gptp_scenario.specs.Calm.{IsCalm, NothingLapses, last_change}
@@ -8,12 +9,13 @@ use Rattle.gptp_scenario.specs.SettlingTime.{aging_span, capability_span, silenc
 use Rattle.gptp_scenario.specs.SyncWait.{sync_paths}
 use Rattle.gptp_scenario.specs.declared.change.Timed.{Timed}
 use Rattle.gptp_settling_time.specs.HowSoon.{EachEvent, TurnsUnused}
-use Rattle.gptp_settling_time.specs.InTurn.{AgesSooner, Aging, AnyPast, ChoosesAfter, Cleared, EventLeads, FailsCalm, FailsNow, Fallen, Gained, Heard, LeadOn, LeadsByTree, Left, LosesNow, Lost, LowersCalm, Past, SettlesAfter, Starting, Turned, TurnedTree, TurnsCalm}
+use Rattle.gptp_settling_time.specs.InTurn.{AgesSooner, Aging, AnyPast, ChoosesAfter, Cleared, EventLeads, FailsCalm, FailsNow, Fallen, Gained, Heard, IsGoneBy, LeadOn, LeadsByTree, Left, LosesNow, Lost, LowersCalm, Past, SettlesAfter, Split, SplitsNow, Starting, Turned, TurnedTree, TurnsCalm}
 use Rattle.gptp_settling_time.specs.Losses.{AgesWithin, FailsHeard, LowersUnused}
+use Rattle.gptp_settling_time.specs.TreeLosses.{FailsTrees}
 use Rattle.gptp_settling_time.proofs.CalmLessLemmas.{failure_calm, lowers_calm}
 use Rattle.gptp_settling_time.proofs.SamePathsLemmas.{turned_paths}
 use Rattle.gptp_settling_time.proofs.LeadOnLemmas.{HasSettled}
-use Rattle.gptp_settling_time.proofs.SilentSpanLemmas.{failure_within}
+use Rattle.gptp_settling_time.proofs.SilentSpanLemmas.{fail_within, failure_within}
 
 module _ (n : NetworkState) (made : List Timed) (event : Timed) (roles : ℕ) where
   -- after a loss by which no system is moved the network is left so that its choice stands
@@ -62,6 +64,7 @@ module _ (n : NetworkState) (made : List Timed) (event : Timed) (roles : ℕ) wh
   loss_leads (TurnedTree silent now) settled loses = absurd settled
   loss_leads (Cleared begun silent right old) settled loses = absurd settled
   loss_leads (Aging ago aged silent) settled loses = absurd settled
+  loss_leads (Split ago gone silent) settled loses = absurd settled
   loss_leads (Lost since most silent) settled loses = absurd settled
 
 -- after one by which a tree is so moved it is, where the choice had stood for an announce interval
@@ -80,36 +83,41 @@ module _ (n : NetworkState) (made : List Timed) (event : Timed) (stood : ℕ) (l
   tree_leads (TurnedTree silent now) settled moves = absurd settled
   tree_leads (Cleared begun silent right old) settled moves = absurd settled
   tree_leads (Aging ago aged silent) settled moves = absurd settled
+  tree_leads (Split ago gone silent) settled moves = absurd settled
   tree_leads (Lost since most silent) settled moves = absurd settled
+
+-- after one by which trees are cut off, as a system fails, they do too
+module _ (n : NetworkState) (made : List Timed) (event : Timed) (stood : ℕ) where
+  split_leads : (past : Past) (gone silent : ℕ) → HasSettled n made past stood
+      → SplitsNow n made event stood gone silent → EventLeads n made past event (Split made gone silent)
+  split_leads AnyPast gone silent settled now = (stood, settled, refl, now)
+  split_leads Starting gone silent settled now = absurd settled
+  split_leads (Gained start) gone silent settled now = (stood, settled, refl, now)
+  split_leads (Heard start) gone silent settled now = (stood, settled, refl, now)
+  split_leads (Left start) gone silent settled now = absurd settled
+  split_leads (Turned start was) gone silent settled now = absurd settled
+  split_leads (Fallen start was) gone silent settled now = absurd settled
+  split_leads (TurnedTree start was) gone silent settled now = absurd settled
+  split_leads (Cleared begun start right old) gone silent settled now = absurd settled
+  split_leads (Aging ago aged start) gone silent settled now = absurd settled
+  split_leads (Split ago was start) gone silent settled now = absurd settled
+  split_leads (Lost since most start) gone silent settled now = absurd settled
 
 -- after one by which a system turns it has turned
 module _ (n : NetworkState) (made : List Timed) (event : Timed) where
-  pub record IsTurnedBy (past : Past) : Type 0 where
-    pub silent : ℕ
-    pub leads : EventLeads n made past event (Turned silent event.at)
-    pub early : silent ≤ event.at
-
-  pub turn_leads : (past : Past) → HasSettled n made past event.at → TurnsCalm n made event → IsTurnedBy past
-  turn_leads AnyPast settled turns =
-      let passed = settled.passed in
-      let over = le-max_left (capability_span (pace_of n)) (2 * largest_interval (pace_of n)
-      + (sync_paths n made).systems * (longest_span (pace_of n) + (sync_paths n made).delay)) in
-      record {
-        silent = last_change made + capability_span (pace_of n);
-        leads = (settled, (turns, refl, refl));
-        early = omega (arith, passed, over);
-      }
+  pub turn_leads : (past : Past) → HasSettled n made past event.at → TurnsCalm n made event
+      → (silent : ℕ) × EventLeads n made past event (Turned silent event.at)
+  turn_leads AnyPast settled turns = (last_change made + capability_span (pace_of n), (settled, (turns, refl, refl)))
   turn_leads Starting settled turns = absurd settled
-  turn_leads (Gained start) settled turns =
-      record { silent = start; leads = (settled, (turns, refl, refl)); early = omega (arith, settled) }
-  turn_leads (Heard start) settled turns =
-      record { silent = start; leads = (settled, (turns, refl, refl)); early = omega (arith, settled) }
+  turn_leads (Gained start) settled turns = (start, (settled, (turns, refl, refl)))
+  turn_leads (Heard start) settled turns = (start, (settled, (turns, refl, refl)))
   turn_leads (Left silent) settled turns = absurd settled
   turn_leads (Turned silent now) settled turns = absurd settled
   turn_leads (Fallen silent now) settled turns = absurd settled
   turn_leads (TurnedTree silent now) settled turns = absurd settled
   turn_leads (Cleared begun silent right old) settled turns = absurd settled
   turn_leads (Aging ago aged silent) settled turns = absurd settled
+  turn_leads (Split ago gone silent) settled turns = absurd settled
   turn_leads (Lost since most silent) settled turns = absurd settled
 
   -- after one of a system that others hear what they hold of it ages
@@ -125,6 +133,7 @@ module _ (n : NetworkState) (made : List Timed) (event : Timed) where
   ages_leads (TurnedTree start was) aged silent settled now = absurd settled
   ages_leads (Cleared begun start right old) aged silent settled now = absurd settled
   ages_leads (Aging ago gone start) aged silent settled now = absurd settled
+  ages_leads (Split ago gone start) aged silent settled now = absurd settled
   ages_leads (Lost since most start) aged silent settled now = absurd settled
 
   -- after any other it has lost
@@ -140,6 +149,7 @@ module _ (n : NetworkState) (made : List Timed) (event : Timed) where
   loses_leads (TurnedTree start was) since most silent settled now = absurd settled
   loses_leads (Cleared begun start right old) since most silent settled now = absurd settled
   loses_leads (Aging ago aged start) since most silent settled now = absurd settled
+  loses_leads (Split ago gone start) since most silent settled now = absurd settled
   loses_leads (Lost begun delay start) since most silent settled now = absurd settled
 
 -- what settles has its choice
@@ -155,6 +165,7 @@ settles_chooses n events (Fallen silent now) settled so = so
 settles_chooses n events (TurnedTree silent now) settled so = so
 settles_chooses n events (Cleared begun silent right old) settled (off, late) = off
 settles_chooses n events (Aging ago aged silent) settled (off, late) = (off, inr late)
+settles_chooses n events (Split ago gone silent) settled (off, passed, late) = (off, passed)
 settles_chooses n events (Lost since most silent) settled (off, passed, late) = (off, passed)
 
 -- a network that is left stays so where links go down of which an end has failed
@@ -259,6 +270,88 @@ heard_lead n made event (other ∷ now) past span off calm settled fails lowers 
             event.at,
             span,
             refl,
+            subst (λ es. AgesWithin n made es event.at span) (sym (append_assoc made (event ∷ []) (other ∷ now)))
+                within,
+            refl,
+          ),
+    )
+
+-- And what is held of the system goes on to go as trees fall back. All of it is gone as soon as what came over the
+-- links that are silent after all of the events.
+split_on_lead : (n : NetworkState) (ago made now : List Timed) (other : Timed) (time was gone : ℕ)
+    → NothingLapses n.params → IsCalm n made → EachEvent (LowersUnused n) made (other ∷ now)
+    → AllByRecursion (λ (t : Timed). t.at ≡ time) (other ∷ now) → IsGoneBy n ago (made ++ other ∷ now) time gone
+    → LeadOn n made (Split ago was (suc (time + silence_span (pace_of n)))) (other ∷ now)
+    (Split ago gone (suc (time + silence_span (pace_of n))))
+split_on_lead n ago made [] other time was gone off calm (lowers, others) (at, later) is_gone =
+    let silent = suc (time + silence_span (pace_of n)) in (
+      Split ago was silent,
+      inl refl,
+      Split ago gone silent,
+      (
+        record { lowers = lowers; calm = calm; off = off },
+        refl,
+        refl,
+        inr (omega (arith, at), subst (λ t. IsGoneBy n ago (made ++ other ∷ []) t gone) (sym at) is_gone),
+      ),
+      refl,
+    )
+split_on_lead n ago made (event ∷ now) other time was gone off calm (lowers, others) (at, later) is_gone =
+    let silent = suc (time + silence_span (pace_of n)) in (
+      Split ago was silent,
+      inl refl,
+      Split ago was silent,
+      (record { lowers = lowers; calm = calm; off = off }, refl, refl, inl refl),
+      split_on_lead n ago (made ++ other ∷ []) now event time was gone off (lowers_calm n made other off calm lowers)
+          others later
+          (subst (λ es. IsGoneBy n ago es time gone) (sym (append_assoc made (other ∷ []) (event ∷ now))) is_gone),
+    )
+
+-- so it does from when the system fails, once the choice had stood for an announce interval
+pub splits_lead : (n : NetworkState) (made : List Timed) (event : Timed) (now : List Timed) (past : Past)
+    (stood span : ℕ) → NothingLapses n.params → IsCalm n made → HasSettled n made past stood
+    → last_change made < stood → stood + largest_interval (pace_of n) ≤ event.at → FailsTrees n made event
+    → EachEvent (LowersUnused n) (made ++ event ∷ []) now → AllByRecursion (λ (t : Timed). t.at ≡ event.at) now
+    → AgesWithin n made (made ++ event ∷ now) event.at span
+    → LeadOn n made past (event ∷ now)
+    (Split made (suc (event.at + min span (silence_span (pace_of n)))) (suc (event.at + silence_span (pace_of n))))
+splits_lead n made event [] past stood span off calm settled later quiet fails lowers here within =
+    let gone = suc (event.at + min span (silence_span (pace_of n))) in
+    let silent = suc (event.at + silence_span (pace_of n)) in (
+      past,
+      inl refl,
+      Split made gone silent,
+      split_leads n made event stood past gone silent settled (record {
+        fails = fails;
+        later = later;
+        quiet = quiet;
+        calm = calm;
+        off = off;
+        is_gone = (span, within, refl);
+        unanswered = refl;
+      }),
+      refl,
+    )
+splits_lead n made event (other ∷ now) past stood span off calm settled later quiet fails lowers here within =
+    let most = aging_span (pace_of n) (sync_paths n made) in
+    let was = suc (event.at + min most (silence_span (pace_of n))) in
+    let gone = suc (event.at + min span (silence_span (pace_of n))) in
+    let silent = suc (event.at + silence_span (pace_of n)) in (
+      past,
+      inl refl,
+      Split made was silent,
+      split_leads n made event stood past was silent settled (record {
+        fails = fails;
+        later = later;
+        quiet = quiet;
+        calm = calm;
+        off = off;
+        is_gone = (most, fail_within n made event fails.clock fails.act, refl);
+        unanswered = refl;
+      }),
+      split_on_lead n made (made ++ event ∷ []) now other event.at was gone off
+          (failure_calm n made event off calm fails.clock fails.act) lowers here (
+            span,
             subst (λ es. AgesWithin n made es event.at span) (sym (append_assoc made (event ∷ []) (other ∷ now)))
                 within,
             refl,

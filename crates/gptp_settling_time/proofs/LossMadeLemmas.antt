@@ -38,7 +38,8 @@ use Rattle.gptp_settling_time.proofs.FailedAloneLemmas.{all_but, failed_left, le
 use Rattle.gptp_settling_time.proofs.AgedLemmas.{aged_begins}
 use Rattle.gptp_settling_time.proofs.AgesByWorldLemmas.{WorldAgesBy, aging_by}
 use Rattle.gptp_settling_time.proofs.AgingToLemmas.{IsAgingTo}
-use Rattle.gptp_settling_time.proofs.FailedHeardLemmas.{failed_ages_by}
+use Rattle.gptp_settling_time.proofs.FailedAgesLemmas.{failed_ages_by}
+use Rattle.gptp_settling_time.proofs.FailedHeardLemmas.{failed_aging}
 use Rattle.gptp_settling_time.proofs.GoesToLemmas.{echo_to, goes_to}
 use Rattle.gptp_settling_time.proofs.HoldSpanLemmas.{ages_over}
 use Rattle.gptp_settling_time.proofs.KeptToLemmas.{KeepsTo}
@@ -48,8 +49,7 @@ use Rattle.gptp_settling_time.proofs.LostPowerLemmas.{told_anew}
 use Rattle.gptp_settling_time.proofs.LoweredLemmas.{act_left, ends, less as lowered_reduced, ready_on as lowered_ready, stay}
 use Rattle.gptp_settling_time.proofs.SettledSeenLemmas.{HasSettledSeen, IsSettledSeen}
 use Rattle.gptp_settling_time.proofs.SilentLinksLemmas.{AgesOver, over_within}
-use Rattle.gptp_settling_time.proofs.TakenDownLemmas.{told_lives}
-use Rattle.gptp_settling_time.proofs.ToldAnewLemmas.{IsTurnedAlways, anew_begins}
+use Rattle.gptp_settling_time.proofs.TurnedAlwaysLemmas.{IsTurnedAlways, anew_begins}
 use Rattle.gptp_settling_time.proofs.TurnedToLemmas.{IsTurnedTo}
 use Rattle.gptp_settling_time.proofs.TurnsBeginLemmas.{act_turned}
 use Rattle.gptp_settling_time.proofs.WorldMovesLemmas.{cut_off_so, far_end_so, near_so, stays_joined, turns_so}
@@ -324,15 +324,19 @@ module _ (d : DocumentState) (playable : IsPlayable d) (made : List Timed) (even
         let came : Acts (Changing (Fail x.clock)) then draws done w' =
         subst (λ act. Acts act then draws done w') x.act acts in
         let unanswered = now.unanswered in
-        let (since_late, by_link) = failed_ages_by p x.clock then draws done w' world_then after.claim.world came
-        (lives_so n made then keeps.stands world_then.sound x.clock x.live came.1.place came.1.station
-        (record { here = came.1.is.here; named = came.1.is.named }))
+        let lived = lives_so n made then keeps.stands world_then.sound x.clock x.live came.1.place came.1.station
+        (record { here = came.1.is.here; named = came.1.is.named }) in
+        let quiet = (quiet_stands n made then playable.network keeps.stands world_then.sound now.calm).links in
+        let past : start ≤ then.time = omega (arith, over, at_time) in
+        let since_late = failed_aging p x.clock then draws done w' world_then after.claim.world came lived
         (seen_then now.calm now.off) (near_so d playable made then keeps x.few)
         (stays_joined d playable made event then w' keeps after x.moves) rest.sound start late silent
-        keeps.claim.pace keeps.claim.measured after.claim.measured (omega (arith, over, at_time))
-        (omega (arith, over, at_time)) (way_over x.delay x.paths) rest.ready
-        (quiet_stands n made then playable.network keeps.stands world_then.sound now.calm).links rest.silent
-        (omega (arith, at_time, unanswered)) (omega (arith, delay, at_time)) keeps.named in
+        keeps.claim.pace keeps.claim.measured after.claim.measured past (omega (arith, over, at_time))
+        (way_over x.delay x.paths) rest.ready quiet rest.silent
+        (omega (arith, at_time, unanswered)) (omega (arith, delay, at_time)) in
+        let by_link = failed_ages_by p x.clock then draws done w' world_then after.claim.world came lived
+        (seen_then now.calm now.off) rest.sound start keeps.claim.pace keeps.claim.measured past rest.ready quiet
+        rest.silent keeps.named in
         let by : WorldAgesBy p (AgesOver n made more then.time) w' =
         ages_over n made event x.clock x.act then w' world_then keeps.stands after.stands after.claim.world.sound
         keeps.claim.pace.largest by_link in
@@ -391,10 +395,7 @@ module _ (d : DocumentState) (playable : IsPlayable d) (made : List Timed) (even
               (live_ends channel used) x.moved was far best turns
               (near_so d playable more w' after (omega (arith, few, fewer)))
               (end_of channel x.moved moved) (way_over x.delay x.paths) rest.sound)
-              (time ∙ sym at_time) (last ∙ time ∙ sym at_time)
-              (told_lives channel _ draws w'
-              (ends p start x.clock x.port then draws done w' keeps.claim.pace world_then after.claim.world
-              keeps.claim.measured after.claim.measured came up)));
+              (time ∙ sym at_time) (last ∙ time ∙ sym at_time));
         }
       where
         link_wired : LinkSpec → LinkSpec

@@ -12,7 +12,7 @@ use Rattle.gptp_scenario.specs.declared.change.Timed.{Timed}
 use Rattle.gptp_scenario.specs.declared.sync_wait.SyncPaths.{SyncPaths}
 use Rattle.gptp_theorem.proofs.EventLemmas.{last_behind}
 use Rattle.gptp_settling_time.specs.HowSoon.{CutsOneEnd, EachEvent, FailsEndFirst, FailsHeardFirst, LowersOneLink, RestsAfterOneLoss, RestsOnceTold, TurnsOneLink}
-use Rattle.gptp_settling_time.specs.InTurn.{Aging, AnyPast, Cleared, CutsCalm, EventLeads, FailsCalm, FailsNow, Fallen, FlightIsGone, Gained, Heard, LeadOn, Left, Lost, LowersCalm, Past, Starting, Turned, TurnedTree, nearer_echo_span, turned_echo_span}
+use Rattle.gptp_settling_time.specs.InTurn.{Aging, AnyPast, Cleared, CutsCalm, EventLeads, FailsCalm, FailsNow, Fallen, FlightIsGone, Gained, Heard, LeadOn, Left, Lost, LowersCalm, Past, Split, Starting, Turned, TurnedTree, nearer_echo_span, turned_echo_span}
 use Rattle.gptp_settling_time.specs.Losses.{AgesWithin, CutsFarEnd, FailsFarEnd, FailsHeard, LowersLink, LowersUnused, TurnsLink, UpIsUsed}
 use Rattle.gptp_settling_time.proofs.CalmLessLemmas.{failure_calm, fails_calm, lowers_calm}
 use Rattle.gptp_settling_time.proofs.LeftToLemmas.{less_way}
@@ -64,6 +64,7 @@ module _ (n : NetworkState) (made : List Timed) (event : Timed) (gone : ℕ) whe
   cut_leads flight (TurnedTree silent now) settled cuts = absurd settled
   cut_leads flight (Cleared begun silent right last) settled cuts = absurd settled
   cut_leads flight (Aging ago aged silent) settled cuts = absurd settled
+  cut_leads flight (Split ago aged silent) settled cuts = absurd settled
   cut_leads flight (Lost since most silent) settled cuts = absurd settled
 
   -- or as it fails, once the ports beside it have been unanswered for long enough
@@ -101,6 +102,7 @@ module _ (n : NetworkState) (made : List Timed) (event : Timed) (gone : ℕ) whe
   fail_leads flight (TurnedTree silent now) settled fails = absurd settled
   fail_leads flight (Cleared begun silent right last) settled fails = absurd settled
   fail_leads flight (Aging ago aged silent) settled fails = absurd settled
+  fail_leads flight (Split ago aged silent) settled fails = absurd settled
   fail_leads flight (Lost since most silent) settled fails = absurd settled
 
 -- after another such link goes down it is, once right traces are told
@@ -141,6 +143,7 @@ module _ (n : NetworkState) (made : List Timed) (event : Timed) (gone : ℕ)
   right_leads (TurnedTree silent now) settled lowers = absurd settled
   right_leads (Cleared begun silent right last) settled lowers = absurd settled
   right_leads (Aging ago aged silent) settled lowers = absurd settled
+  right_leads (Split ago aged silent) settled lowers = absurd settled
   right_leads (Lost since most silent) settled lowers = absurd settled
 
 -- as a system fails that others hear it is, where each link that is up then is in use
@@ -162,6 +165,7 @@ module _ (n : NetworkState) (made : List Timed) (event : Timed) (aged silent : �
   power_leads (TurnedTree start was) settled = absurd settled
   power_leads (Cleared begun start right last) settled = absurd settled
   power_leads (Aging ago gone start) settled = absurd settled
+  power_leads (Split ago gone start) settled = absurd settled
   power_leads (Lost since most start) settled = absurd settled
 
 -- Else it goes on to age until the last link goes down of which an end has failed, at this time.
@@ -362,16 +366,16 @@ module _ (n : NetworkState) (off : NothingLapses n.params) (time : ℕ) (made no
     turned_led : TurnsLink n made event → others ≡ [] → rest ≡ turned_echo_span n (made ++ now)
         → IsLed n made now past (suc (time + rest))
     turned_led turns alone is =
-        let x = turn_leads n made event past settled_then (record { turns = turns; calm = calm_then; off = off }) in
-        let last : Past = Turned x.silent event.at in
+        let (silent, leads) = turn_leads n made event past settled_then
+        (record { turns = turns; calm = calm_then; off = off }) in
+        let last : Past = Turned silent event.at in
         let before = here in
-        let early = x.early in
         let over : suc event.at + way_span (sync_paths n (made ++ now)) ≤ suc (time + rest) =
         omega (arith, before, is) in
         record {
           last = last;
           lead = subst (λ es. LeadOn n made past es last) (sym (same ∙ ap (λ es. event ∷ es) alone))
-              (past, inl refl, last, x.leads, refl);
+              (past, inl refl, last, leads, refl);
           settles = (
             Heard (suc event.at),
             inr (
@@ -382,7 +386,6 @@ module _ (n : NetworkState) (off : NothingLapses n.params) (time : ℕ) (made no
                 off = off;
                 told = omega (arith, before, is);
                 later = omega arith;
-                unlinked = omega (arith, early);
                 over = over;
               },
             ),

@@ -16,14 +16,13 @@ use Rattle.gptp_world.specs.Transitions.{ActTrace}
 use Rattle.gptp_world.proofs.SettlingInvariantLemmas.{next_octet}
 use Rattle.gptp_network.specs.Document.{DocumentState}
 use Rattle.gptp_invariants.specs.ChoiceCalm.{sync_paths_of}
-use Rattle.gptp_invariants.specs.ChoiceSettled.{Settled}
+use Rattle.gptp_invariants.specs.ChoiceSettled.{ChoiceStands, Settled}
 use Rattle.gptp_invariants.specs.WorldBounded.{IsBoundedWorld}
 use Rattle.gptp_invariants.specs.WorldNews.{AreSilentBy}
 use Rattle.gptp_invariants.proofs.WorldNewsLemmas.{silent_from_now}
 use Rattle.gptp_theorem.specs.PlayedLaws.{IsPlayable}
 use Rattle.gptp_theorem.proofs.SyncPathLemmas.{paths_stand}
 use Rattle.gptp_theorem.proofs.CalmKeptLemmas.{no_change}
-use Rattle.gptp_settling_time.specs.ChoiceAlone.{ChoiceStands}
 use Rattle.gptp_settling_time.specs.InTurn.{HasToldAll}
 use Rattle.gptp_settling_time.specs.Losses.{UpIsUsed}
 use Rattle.gptp_settling_time.proofs.ClaimedToLemmas.{IsClaimedTo}

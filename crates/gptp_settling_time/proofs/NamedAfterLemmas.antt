@@ -20,7 +20,7 @@ use Rattle.gptp_invariants.proofs.ChoiceSeenActLemmas.{acts_seen}
 use Rattle.gptp_invariants.proofs.WorldNewsCourseLemmas.{later_keeps}
 use Rattle.gptp_theorem.specs.PlayedLaws.{IsPlayable}
 use Rattle.gptp_theorem.proofs.CalmKeptLemmas.{no_change}
-use Rattle.gptp_settling_time.specs.InTurn.{Aging, AnyPast, ChoosesAfter, Cleared, Fallen, Gained, Heard, IsTakenAs, Left, Lost, Past, RestsFrom, Starting, Turned, TurnedTree}
+use Rattle.gptp_settling_time.specs.InTurn.{Aging, AnyPast, ChoosesAfter, Cleared, Fallen, Gained, Heard, IsTakenAs, Left, Lost, Past, RestsFrom, Split, Starting, Turned, TurnedTree}
 use Rattle.gptp_settling_time.proofs.AfterLemmas.{IsAfter, after_act, after_chooses, after_keeps, after_later}
 use Rattle.gptp_settling_time.proofs.KeptToLemmas.{KeepsTo}
 use Rattle.gptp_settling_time.proofs.NamedLemmas.{IsNamedFrom, named_before, named_step}
@@ -115,7 +115,8 @@ chooses_as n events (Turned silent now) time start stood rest (off, over) =
     let later = rest.later in (off, omega (arith, later, over))
 chooses_as n events (Fallen silent now) time start stood rest (off, over) =
     let later = rest.later in (off, omega (arith, later, over))
-chooses_as n events (TurnedTree silent now) time start stood none (off, over) = absurd none
+chooses_as n events (TurnedTree silent now) time start stood (rest, later) (off, over) =
+    (off, omega (arith, later, over))
 chooses_as n events (Cleared since silent right old) time start stood rest (off, over) = off
 chooses_as n events (Aging ago aged silent) time start stood rest (off, over) =
     let later = rest.later in (
@@ -125,6 +126,7 @@ chooses_as n events (Aging ago aged silent) time start stood rest (off, over) =
         | inr quiet ↦ inr (inl (omega (arith, quiet, later, over)))
       ],
     )
+chooses_as n events (Split ago gone silent) time start stood none (off, over) = absurd none
 chooses_as n events (Lost since most silent) time start stood rest (off, over) =
     let later = rest.later in (off, omega (arith, later, over))
 

@@ -14,13 +14,13 @@ use Rattle.gptp_bmca_machine.specs.Frame.{Announce, AnnounceFrame, Lane, Spellin
 use Rattle.gptp_bmca_machine.specs.SoundLaws.{AllAreNear}
 use Rattle.gptp_bmca_machine.specs.Station.{MachineState, Station}
 use Rattle.gptp_bmca_machine.specs.Touch.{StationTouch}
+use Rattle.gptp_invariants.specs.ChoiceSettled.{ChoiceStands}
 use Rattle.gptp_invariants.specs.ChoiceSettlesAsMachine.{IsWorld}
 use Rattle.gptp_invariants.specs.ChoiceView.{says_announce, view}
 use Rattle.gptp_invariants.specs.WorldStanding.{snapshot_of}
 use Rattle.gptp_invariants.proofs.ChoiceCalmKeptLemmas.{KeepsNetwork, same_snapshot}
 use Rattle.gptp_invariants.proofs.ChoicePlaceLemmas.{station_from}
 use Rattle.gptp_invariants.proofs.WorldStandsLemmas.{stands_well}
-use Rattle.gptp_settling_time.specs.ChoiceAlone.{ChoiceStands}
 use Rattle.gptp_settling_time.proofs.DueLemmas.{due_by_interval}
 
 -- ---- of the machine

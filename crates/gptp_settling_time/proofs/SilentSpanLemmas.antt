@@ -12,6 +12,8 @@ use Rattle.gptp_scenario.specs.InUse.{greatest_delay, is_used, lives}
 use Rattle.gptp_scenario.specs.Network.{IsEnd, NetworkState, pace_of}
 use Rattle.gptp_scenario.specs.SettlingTime.{aging_span}
 use Rattle.gptp_scenario.specs.SyncWait.{sync_paths}
+use Rattle.gptp_scenario.specs.declared.change.Act.TheVariants.{Change as Changing}
+use Rattle.gptp_scenario.specs.declared.change.Change.TheVariants.{Fail}
 use Rattle.gptp_scenario.specs.declared.change.Timed.{Timed}
 use Rattle.gptp_scenario.specs.declared.network.LinkSpec.{LinkSpec}
 use Rattle.gptp_scenario.specs.declared.network.SystemSpec.{SystemSpec}
@@ -72,12 +74,17 @@ within_delay n made events time stay place v failed there (used, up, end, gone) 
     (longest_span (pace_of n), inl refl, omega (arith, most, same))
 
 -- as they do where a system fails
-pub failure_within : (n : NetworkState) (made : List Timed) (event : Timed) → FailsHeard n made event
+pub fail_within : (n : NetworkState) (made : List Timed) (event : Timed) (clock : ℕ)
+    → event.act ≡ Changing (Fail clock)
     → AgesWithin n made (made ++ event ∷ []) event.at (aging_span (pace_of n) (sync_paths n made))
-failure_within n made event fails =
+fail_within n made event clock act =
     within_delay n made (made ++ event ∷ []) event.at (λ v.
     ap (λ (u : LinkSpec). u.bounds.max)
-    (link_behind made event v ∙ ap (λ act. link_acted act (link_after made v)) fails.act))
+    (link_behind made event v ∙ ap (λ a. link_acted a (link_after made v)) act))
+
+pub failure_within : (n : NetworkState) (made : List Timed) (event : Timed) → FailsHeard n made event
+    → AgesWithin n made (made ++ event ∷ []) event.at (aging_span (pace_of n) (sync_paths n made))
+failure_within n made event fails = fail_within n made event fails.clock fails.act
 
 -- and where then links go down
 lowers_stay : (n : NetworkState) (made now : List Timed) → EachEvent (LowersUnused n) made now → (v : LinkSpec)

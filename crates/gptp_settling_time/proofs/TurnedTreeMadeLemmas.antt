@@ -1,5 +1,5 @@
 -- A link goes down by which a tree turns to its one way out, in a world of a document whose choice had stood.
-use Rattle.std.proofs.Common.{List, [], arith, inl, inr, subst, ℕ, ◌++◌, ◌+◌, ◌∷◌, ◌≡◌, ◌≤◌, ◌⊎◌, slice_get, Some}
+use Rattle.std.proofs.Common.{List, [], arith, inl, inr, subst, sym, ℕ, ◌++◌, ◌∙◌, ◌+◌, ◌∷◌, ◌≡◌, ◌≤◌, ◌⊎◌, slice_get, Some}
 use Rattle.gptp_graph.specs.PathBound.{path_bound}
 use Rattle.gptp_graph.specs.Snapshot.{Snapshot, System, port_of}
 use Rattle.gptp_links.specs.Fate.{Draw}
@@ -12,7 +12,6 @@ use Rattle.gptp_scenario.specs.declared.change.Act.TheVariants.{Change as Changi
 use Rattle.gptp_scenario.specs.declared.change.Change.TheVariants.{LinkDown}
 use Rattle.gptp_scenario.specs.declared.change.Timed.{Timed}
 use Rattle.gptp_scenario.specs.declared.network.LinkSpec.{LinkSpec}
-use Rattle.gptp_system.specs.State.{clock}
 use Rattle.gptp_model.specs.Acts.{Acts}
 use Rattle.gptp_model.specs.World.{WorldState, port_id}
 use Rattle.gptp_model.specs.declared.done.Done.{Done}
@@ -28,7 +27,7 @@ use Rattle.gptp_theorem.proofs.AlikeLemmas.{best as alike_best, clock_among, dis
 use Rattle.gptp_settling_time.specs.InTurn.{TurnsTreeCalm}
 use Rattle.gptp_settling_time.specs.TreeLosses.{IsTurnedTree, TurnsTreeLink}
 use Rattle.gptp_settling_time.proofs.TurnedTreeActLemmas.{act_turns_tree}
-use Rattle.gptp_settling_time.proofs.TurnedTreeLemmas.{IsTurnedTreeAlways}
+use Rattle.gptp_settling_time.proofs.TurnedTreeRestLemmas.{IsTurnedTreeAnew, tree_anew_begins}
 use Rattle.gptp_settling_time.proofs.FallDownLemmas.{FlightNames}
 use Rattle.gptp_settling_time.proofs.TurnedTreeToLemmas.{IsTurnedTreeTo}
 use Rattle.gptp_settling_time.proofs.GainLemmas.{up_so}
@@ -118,14 +117,15 @@ module _ (d : DocumentState) (playable : IsPlayable d) (made : List Timed) (even
   came : Acts (Changing (LinkDown x.clock x.port)) then draws done w'
   came = subst (λ act. Acts act then draws done w') x.act acts
 
-  pub turned_tree_to : IsTurnedTreeTo d more start event.at w'
-  turned_tree_to =
+  pub turned_tree_to : w'.last_change ≡ w'.time → IsTurnedTreeTo d more start event.at w'
+  turned_tree_to changed =
       let over = rest.over in
       let (tree, last, out, best, base, depth, is) = turns_so in
       record {
         keeps = after;
         before = snapshot_of then;
-        since = subst (λ t. IsTurnedTreeAlways p (snapshot_of then) start t w') at_time
+        since = subst (λ t. IsTurnedTreeAnew p (snapshot_of then) start t w') at_time
+            (tree_anew_begins p (snapshot_of then) start then.time w'
             (act_turns_tree p start x.clock x.port then draws done w' keeps.claim.pace keeps.claim.world
             after.claim.world keeps.claim.measured after.claim.measured came
             (up_so n made then keeps.stands (port_id x.clock x.port)
@@ -135,7 +135,8 @@ module _ (d : DocumentState) (playable : IsPlayable d) (made : List Timed) (even
             moves.calm moves.off came.1.channel (link x.clock x.port came (IsUsed n.systems made) x.used))
             tree x.top x.other last out best base depth is (few x.paths x.few)
             (link x.clock x.port came (λ (u : LinkSpec). ((u.a.clock ≡ x.top) × (u.b.clock ≡ x.other))
-            ⊎ ((u.b.clock ≡ x.top) × (u.a.clock ≡ x.other))) x.ends) late rest.sound names);
+            ⊎ ((u.b.clock ≡ x.top) × (u.a.clock ≡ x.other))) x.ends) late rest.sound names)
+            (time ∙ sym at_time) (changed ∙ time ∙ sym at_time));
       }
     where
       seen : IsSettledSeen p then

@@ -21,6 +21,9 @@
 -- - By the one event a link goes down that so cuts a tree off, or turns one to its one way out, an announce interval
 --   after the time before has come to rest. Choice and roles ask for twice the greatest delay for each system of a
 --   path but one.
+-- - By the first event a system fails and so cuts trees off, an announce interval after the time before has come to
+--   rest, and no other comes but such links. The choice asks for what others hold of it to age, and then for twice the
+--   greatest delay for each system of a path but one. Roles stand then too, once no port beside it is capable.
 -- - By the events anything is taken away, whatever is moved. The choice asks for the longest receipt timeout and the
 --   greatest delay for each system of a path, and then for an announce interval and the greatest delay for each but
 --   one. Roles stand then too, once the ports beside a system that failed aren't capable any more.
@@ -53,7 +56,7 @@ use Rattle.gptp_network.specs.Snapshot.{events_by}
 use Rattle.gptp_settling_time.specs.Gains.{ChangesNothing, EndHasFailed, LeavesCapable, TakesNothing}
 use Rattle.gptp_settling_time.specs.InTurn.{AddsHeard, BettersClock, FlightIsGone, MakesNothing, NoneUsed, TellsNothing, UsedVaryLittle, WidensLink, turned_echo_span}
 use Rattle.gptp_settling_time.specs.Losses.{AgesWithin, CutsFarEnd, FailsFarEnd, FailsHeard, LeavesChoice, LosesAny, LowersLink, LowersUnused, TurnsLink, UpIsUsed}
-use Rattle.gptp_settling_time.specs.TreeLosses.{LowersTree, TurnsTreeLink}
+use Rattle.gptp_settling_time.specs.TreeLosses.{FailsTrees, LowersTree, TurnsTreeLink}
 
 -- ---- times
 
@@ -282,6 +285,13 @@ RolesAfterLoss n made now choice roles =
     ((NoneFails n made now ⊎ UpIsUsed n (made ++ now)) × (roles ≡ choice))
     ⊎ (roles ≡ max choice (silence_span (pace_of n)))
 
+-- By the first of them a system fails, which so cuts trees off. By the others links go down that are up, and of which
+-- an end has failed.
+abbrev pub FailsTreesFirst : NetworkState → List Timed → List Timed → Type 0
+FailsTreesFirst n made [] = ⊥
+FailsTreesFirst n made (event ∷ events) =
+    FailsTrees n made event × EachEvent (LowersUnused n) (made ++ event ∷ []) events
+
 -- ---- what a loss asks for
 
 -- After a link goes down by which no system is moved but such as are cut off, choice and roles stand at once; where it
@@ -363,6 +373,26 @@ TurnsNext n = TreeNext n (TurnsTreeLink n)
 abbrev pub BoundsTree : NetworkState → ℕ → ℕ → List Timed → Type 0
 BoundsTree n choice roles events = (choice ≡ 2 * way_span (sync_paths n events)) × (roles ≡ choice)
 
+-- By the first event of a time a system fails, which so cuts trees off, and they ask for what `Asks` says. Nothing
+-- lapses for want of Sync. The network is calm. They come an announce interval after the time before has come to rest,
+-- by one of its bounds.
+abbrev pub SplitsNext : NetworkState → List Timed → (ℕ → Type 0) → ℕ → ℕ → (List Timed → List Timed → Type 0) → Type 0
+SplitsNext n events Then last time Asks =
+    (last < time)
+    × NoneBetween events last time
+    × IsCalm n (events_by time events)
+    × NothingLapses n.params
+    × ((then : ℕ) × Then then × (last + then + largest_interval (pace_of n) < time))
+    × FailsTreesFirst n (events_by last events) (events_at time events)
+    × Asks (events_by last events) (events_at time events)
+
+-- Each tree drops the best of before within a way, once nothing is held of the failed system, and settles within
+-- another.
+abbrev pub BoundsSplit : NetworkState → ℕ → ℕ → List Timed → List Timed → Type 0
+BoundsSplit n choice roles made now =
+    (aged : ℕ) × (silent : ℕ) × BoundsAging n made now aged silent
+    × (choice ≡ aged + 2 * way_span (sync_paths n (made ++ now))) × (roles ≡ max choice silent)
+
 -- ---- rest
 
 -- How much later a network has come to rest after a system failed that others hear. At once right traces are told where
@@ -408,14 +438,17 @@ RestsTree n rest events =
     (gone : ℕ) × FlightIsGone n events gone × (rest ≡ max (2 * way_span (sync_paths n events)) gone)
 
 -- By so much later than a time the network has come to rest, by the times before it, the latest first: it has settled,
--- and nothing that is held, or in flight, names what is gone. The first time of all is 0.
+-- and nothing that is held, or in flight, names what is gone. The first time of all is 0. After a tree has turned right
+-- traces have to be told anew, as where one system is moved.
 abbrev pub IsRestBoundAfter : NetworkState → List Timed → List ℕ → ℕ → ℕ → Type 0
 IsRestBoundAfter n events [] time rest = BoundsFirst n events time rest
 IsRestBoundAfter n events (last ∷ earlier) time rest =
     BoundsNext n events (λ then. IsRestBoundAfter n events earlier last then) last time rest
     ⊎ (LosesNext n events (λ then. IsRestBoundAfter n events earlier last then) last time
     (λ made now. RestsAfterLoss n made now rest)
-    ⊎ FallsNext n events (λ then. IsRestBoundAfter n events earlier last then) last time (RestsTree n rest))
+    ⊎ (FallsNext n events (λ then. IsRestBoundAfter n events earlier last then) last time (RestsTree n rest)
+    ⊎ TurnsNext n events (λ then. IsRestBoundAfter n events earlier last then) last time
+    (λ all. rest ≡ turned_echo_span n all)))
 
 -- ---- bounds
 
@@ -432,7 +465,9 @@ IsLossBoundAfter n events (last ∷ earlier) time choice roles =
     LosesNext n events (λ then. IsRestBoundAfter n events earlier last then) last time
     (λ made now. BoundsLoss n made now choice roles)
     ⊎ (FallsNext n events (λ then. IsRestBoundAfter n events earlier last then) last time (BoundsTree n choice roles)
-    ⊎ TurnsNext n events (λ then. IsRestBoundAfter n events earlier last then) last time (BoundsTree n choice roles))
+    ⊎ (TurnsNext n events (λ then. IsRestBoundAfter n events earlier last then) last time (BoundsTree n choice roles)
+    ⊎ SplitsNext n events (λ then. IsRestBoundAfter n events earlier last then) last time
+    (λ made now. BoundsSplit n choice roles made now)))
 
 -- a choice bound of a document at a time: by then the choice stands, and the roles do
 abbrev pub IsChoiceBound : DocumentState → ℕ → ℕ → Type 0

@@ -15,12 +15,14 @@
 --   distance since. When what was in flight is gone, and ports without a link aren't capable, the network has come to
 --   rest as if all had been heard.
 -- - TurnedTree: a link went down, by which a tree turned to its one way out. The network settles 1 ns and twice the
---   greatest delay for each system of a path but one later.
+--   greatest delay for each system of a path but one later. It comes to rest as one in which a system turned.
 -- - Fallen: a link went down and so cut a tree off. The network settles 1 ns and twice the greatest delay for each
 --   system of a path but one later. When what was in flight is gone too, it has come to rest as if all had been heard.
 -- - Aging: a system failed that others heard. What they hold of it ages, and the choice stands once that is gone. The
 --   network has come to rest, as if all had been heard, once right traces have been told by distance since, what was in
 --   flight is gone, and ports without a link aren't capable.
+-- - Split: a system failed that others heard, and so cut trees off. What they hold of it goes. The network settles
+--   twice the greatest delay for each system of a path but one later, once ports without a link aren't capable.
 -- - Lost: anything was taken away at one time, whatever was moved. The network settles as one that has gained, once all
 --   that is held is told by live systems over links in use. It has come to rest then, as if all had been heard.
 --
@@ -41,7 +43,7 @@
 -- capable any more, or at once where each link that is up is in use. A network that is left stays so where a link goes
 -- down of which an end has failed. A tree that a link cuts off falls back where what is in flight names the best: where
 -- the choice had stood for an announce interval.
-use Rattle.std.specs.Prelude.{◌≡◌, ◌<◌, ◌≤◌, ◌⊎◌, ◌+◌, ◌*◌, ℕ, ⊤, pred, suc, List, [], ◌∷◌, ◌++◌, Option, Some, slice_get}
+use Rattle.std.specs.Prelude.{◌≡◌, ◌<◌, ◌≤◌, ◌⊎◌, ◌+◌, ◌*◌, ℕ, ⊤, min, pred, suc, List, [], ◌∷◌, ◌++◌, Option, Some, slice_get}
 use Rattle.gptp_lists.specs.Members.{In}
 use Rattle.gptp_vector.specs.declared.port.PortId.{PortId}
 use Rattle.gptp_links.specs.declared.bounds.Bounds.{Bounds}
@@ -67,7 +69,7 @@ use Rattle.gptp_settling_time.specs.Documents.{IsSettledAs}
 use Rattle.gptp_settling_time.specs.Exactly.{SettlesBy}
 use Rattle.gptp_settling_time.specs.Gains.{AreCapableAnyway, AreCapableNext, AreCapableStill, ChangesNothing, EndHasFailed, HasRested, IsDownAfter, IsNoWorse, JoinsLive, LeavesCapable, TakesNothing, UsesNoLink, exchanged_from}
 use Rattle.gptp_settling_time.specs.Losses.{AgesWithin, AreSilentAfter, CutsFarEnd, FailsFarEnd, FailsHeard, LeavesChoice, LosesAny, LowersLink, LowersUnused, TurnsLink, UpIsUsed}
-use Rattle.gptp_settling_time.specs.TreeLosses.{LowersTree, TurnsTreeLink}
+use Rattle.gptp_settling_time.specs.TreeLosses.{FailsTrees, LowersTree, TurnsTreeLink}
 
 -- What a network came from. The numbers are times, but for the second of a loss.
 pub data Past : Type 0 where
@@ -88,6 +90,7 @@ pub data Past : Type 0 where
   Cleared : ℕ → ℕ → ℕ → ℕ → Past
   -- from the first on what is held of the failed system is gone; from the second on ports without a link aren't capable
   Aging : List Timed → ℕ → ℕ → Past
+  Split : List Timed → ℕ → ℕ → Past
   -- at the first something was taken away; what was in flight is gone so much later as the second says; from the third
   -- on ports without a link aren't capable
   Lost : ℕ → ℕ → ℕ → Past
@@ -356,6 +359,7 @@ LeadsToGain n before (Fallen silent time) event next = ⊥
 LeadsToGain n before (TurnedTree silent time) event next = ⊥
 LeadsToGain n before (Cleared since silent right old) event next = ⊥
 LeadsToGain n before (Aging ago aged silent) event next = ⊥
+LeadsToGain n before (Split ago gone silent) event next = ⊥
 LeadsToGain n before (Lost since most silent) event next = ⊥
 
 abbrev pub LeadsToHeard : NetworkState → List Timed → Past → Timed → ℕ → Type 0
@@ -382,6 +386,7 @@ LeadsToHeard n before (Fallen silent time) event next = ⊥
 LeadsToHeard n before (TurnedTree silent time) event next = ⊥
 LeadsToHeard n before (Cleared since silent right old) event next = ⊥
 LeadsToHeard n before (Aging ago aged silent) event next = ⊥
+LeadsToHeard n before (Split ago gone silent) event next = ⊥
 LeadsToHeard n before (Lost since most silent) event next = ⊥
 
 -- a network that had settled is left so
@@ -400,6 +405,7 @@ LeadsToLeft n before (Fallen silent time) event next = ⊥
 LeadsToLeft n before (TurnedTree silent time) event next = ⊥
 LeadsToLeft n before (Cleared since silent right old) event next = ⊥
 LeadsToLeft n before (Aging ago aged silent) event next = ⊥
+LeadsToLeft n before (Split ago gone silent) event next = ⊥
 LeadsToLeft n before (Lost since most silent) event next = ⊥
 
 -- in a network that had settled a system turns by it now
@@ -421,6 +427,7 @@ LeadsToTurned n before (Fallen start now) event silent time = ⊥
 LeadsToTurned n before (TurnedTree start now) event silent time = ⊥
 LeadsToTurned n before (Cleared since start right old) event silent time = ⊥
 LeadsToTurned n before (Aging ago aged start) event silent time = ⊥
+LeadsToTurned n before (Split ago gone start) event silent time = ⊥
 LeadsToTurned n before (Lost since most start) event silent time = ⊥
 
 -- in a network whose choice had stood for an announce interval a tree is so moved by it now
@@ -459,6 +466,7 @@ LeadsToCleared n before (Cleared start dark clean last) event since silent right
     × ((since ≡ start) × (silent ≡ dark) × (right ≡ clean) × (old ≡ last))
 LeadsToCleared n before (Aging ago aged dark) event since silent right old =
     LowersUnusedCalm n before event × (silent ≡ dark) × TellsAnew n (before ++ event ∷ []) event.at since right old
+LeadsToCleared n before (Split ago gone dark) event since silent right old = ⊥
 LeadsToCleared n before (Lost start most dark) event since silent right old = ⊥
 
 -- Where a silent link goes down too what came over it is gone. So all has aged sooner by these events, if others were
@@ -486,6 +494,7 @@ LeadsToAging n before (Cleared since start right old) event ago aged silent = �
 LeadsToAging n before (Aging old gone start) event ago aged silent =
     LowersUnusedCalm n before event × (ago ≡ old) × (silent ≡ start)
     × ((aged ≡ gone) ⊎ AgesSooner n old (before ++ event ∷ []) aged start)
+LeadsToAging n before (Split old gone start) event ago aged silent = ⊥
 LeadsToAging n before (Lost since most start) event ago aged silent = ⊥
 
 -- In a network that had settled something is taken away now. What is in flight comes within a greatest delay.
@@ -517,8 +526,47 @@ LeadsToLost n before (Fallen start now) event since most silent = ⊥
 LeadsToLost n before (TurnedTree start now) event since most silent = ⊥
 LeadsToLost n before (Cleared begun start right old) event since most silent = ⊥
 LeadsToLost n before (Aging ago aged start) event since most silent = ⊥
+LeadsToLost n before (Split ago gone start) event since most silent = ⊥
 LeadsToLost n before (Lost begun delay start) event since most silent =
     LosesMore n before event since silent × (since ≡ begun) × (most ≡ delay) × (silent ≡ start)
+
+-- What others hold of a system that failed at this time is gone by another: it has aged within a span, or the ports
+-- beside the system aren't capable from then on.
+abbrev pub IsGoneBy : NetworkState → List Timed → List Timed → ℕ → ℕ → Type 0
+IsGoneBy n ago events failed gone = (span : ℕ) × AgesWithin n ago events failed span
+    × (gone ≡ suc (failed + min span (silence_span (pace_of n))))
+
+-- In a network whose choice had stood for an announce interval a system fails now, and so cuts trees off.
+pub record SplitsNow (n : NetworkState) (before : List Timed) (event : Timed) (stood gone silent : ℕ) : Type 0 where
+  pub fails : FailsTrees n before event
+  pub later : last_change before < stood
+  pub quiet : stood + largest_interval (pace_of n) ≤ event.at
+  pub calm : IsCalm n before
+  pub off : NothingLapses n.params
+  pub is_gone : IsGoneBy n before (before ++ event ∷ []) event.at gone
+  pub unanswered : silent ≡ suc (event.at + silence_span (pace_of n))
+
+-- A link goes down of which an end has failed. Where the system fails at the same time what is held may be gone sooner.
+abbrev pub LeadsToSplit : NetworkState → List Timed → Past → Timed → List Timed → ℕ → ℕ → Type 0
+LeadsToSplit n before AnyPast event ago gone silent =
+    (stood : ℕ) × HasSettledAnyhow n before stood × (ago ≡ before) × SplitsNow n before event stood gone silent
+LeadsToSplit n before Starting event ago gone silent = ⊥
+LeadsToSplit n before (Gained start) event ago gone silent =
+    (stood : ℕ) × HasSettledSince n before start stood × (ago ≡ before) × SplitsNow n before event stood gone silent
+LeadsToSplit n before (Heard start) event ago gone silent =
+    (stood : ℕ) × HasSettledHeard n before start stood × (ago ≡ before) × SplitsNow n before event stood gone silent
+LeadsToSplit n before (Left start) event ago gone silent = ⊥
+LeadsToSplit n before (Turned start now) event ago gone silent = ⊥
+LeadsToSplit n before (Fallen start now) event ago gone silent = ⊥
+LeadsToSplit n before (TurnedTree start now) event ago gone silent = ⊥
+LeadsToSplit n before (Cleared since start right old) event ago gone silent = ⊥
+LeadsToSplit n before (Aging old aged start) event ago gone silent = ⊥
+LeadsToSplit n before (Split old was start) event ago gone silent =
+    LowersUnusedCalm n before event × (ago ≡ old) × (silent ≡ start)
+    × ((gone ≡ was)
+    ⊎ ((start ≡ suc (event.at + silence_span (pace_of n)))
+    × IsGoneBy n old (before ++ event ∷ []) event.at gone))
+LeadsToSplit n before (Lost since most start) event ago gone silent = ⊥
 
 -- from a gain, and from what is heard, the start stays
 abbrev pub StaysFrom : Past → ℕ → Type 0
@@ -532,6 +580,7 @@ StaysFrom (Fallen silent time) next = ⊥
 StaysFrom (TurnedTree silent time) next = ⊥
 StaysFrom (Cleared since silent right old) next = ⊥
 StaysFrom (Aging ago aged silent) next = ⊥
+StaysFrom (Split ago gone silent) next = ⊥
 StaysFrom (Lost since most silent) next = ⊥
 
 -- nothing is told as the network starts, and this is the last event then
@@ -546,6 +595,7 @@ StartsFrom n before (Fallen silent time) event next = ⊥
 StartsFrom n before (TurnedTree silent time) event next = ⊥
 StartsFrom n before (Cleared since silent right old) event next = ⊥
 StartsFrom n before (Aging ago aged silent) event next = ⊥
+StartsFrom n before (Split ago gone silent) event next = ⊥
 StartsFrom n before (Lost since most silent) event next = ⊥
 
 -- nothing is told as the network starts, nor after this event
@@ -560,6 +610,7 @@ StartsStill (Fallen silent time) event = ⊥
 StartsStill (TurnedTree silent time) event = ⊥
 StartsStill (Cleared since silent right old) event = ⊥
 StartsStill (Aging ago aged silent) event = ⊥
+StartsStill (Split ago gone silent) event = ⊥
 StartsStill (Lost since most silent) event = ⊥
 
 abbrev pub EventLeads : NetworkState → List Timed → Past → Timed → Past → Type 0
@@ -578,6 +629,7 @@ EventLeads n before past event (TurnedTree silent time) =
 EventLeads n before past event (Cleared since silent right old) = LeadsToCleared n before past event since silent right
     old
 EventLeads n before past event (Aging ago aged silent) = LeadsToAging n before past event ago aged silent
+EventLeads n before past event (Split ago gone silent) = LeadsToSplit n before past event ago gone silent
 EventLeads n before past event (Lost since most silent) = LeadsToLost n before past event since most silent
 
 -- ---- rest
@@ -593,21 +645,20 @@ pub record HasCleared (n : NetworkState) (events : List Timed) (since silent old
   pub unlinked : (silent ≤ time) ⊎ UpIsUsed n events
   pub over : HasSettledHeard n events start time
 
--- So much later than a system turned traces are told anew: the network has settled within two ways, each the greatest
--- delay for each system of a path but one, and then they are by distance.
+-- So much later than a system or a tree turned traces are told anew: the network has settled within two ways, each the
+-- greatest delay for each system of a path but one, and then they are by distance.
 abbrev pub turned_echo_span : NetworkState → List Timed → ℕ
 turned_echo_span n events =
     2 * way_span (sync_paths n events) + echo_span (pace_of n) (sync_paths n events)
 
--- A network in which a system turned at a time has come to rest by another, as one whose ports are capable from a later
--- start on. Traces are told anew, and what was in flight is gone by then. Ports without a link aren't capable from the
--- start on. And the greatest delay has passed since the start for each system of a path but one.
-pub record HasToldAnew (n : NetworkState) (events : List Timed) (silent turned start time : ℕ) : Type 0 where
+-- A network in which a system or a tree turned at a time has come to rest by another, as one whose ports are capable
+-- from a later start on. Traces are told anew, and what was in flight is gone by then. And the greatest delay has
+-- passed since the start for each system of a path but one.
+pub record HasToldAnew (n : NetworkState) (events : List Timed) (turned start time : ℕ) : Type 0 where
   pub calm : IsCalm n events
   pub off : NothingLapses n.params
   pub told : turned + turned_echo_span n events < time
   pub later : turned < start
-  pub unlinked : silent ≤ start
   pub over : HasSettledHeard n events start time
 
 -- A network in which a system failed that others heard has come to rest by a time, as one whose ports are capable from
@@ -648,10 +699,13 @@ pub record HasToldAll (n : NetworkState) (events : List Timed) (since most silen
   pub unlinked : (silent ≤ time) ⊎ UpIsUsed n events
   pub over : HasSettledHeard n events start time
 
--- by this time it has come to rest, as one whose ports are capable from this start on
+-- By this time it has come to rest, as one whose ports are capable from this start on. A tree that turned had dropped
+-- what it told before by then.
 abbrev pub RestsFrom : NetworkState → List Timed → Past → ℕ → ℕ → Type 0
-RestsFrom n events (Turned silent turned) time start = HasToldAnew n events silent turned start time
+RestsFrom n events (Turned silent turned) time start = HasToldAnew n events turned start time
 RestsFrom n events (Fallen silent fallen) time start = HasFallenBack n events fallen start time
+RestsFrom n events (TurnedTree silent turned) time start =
+    HasToldAnew n events turned start time × (turned + way_span (sync_paths n events) < start)
 RestsFrom n events (Cleared since silent right old) time start = HasCleared n events since silent old start time
 RestsFrom n events (Aging ago aged silent) time start = HasAged n events aged silent start time
 RestsFrom n events (Lost since most silent) time start = HasToldAll n events since most silent start time
@@ -685,6 +739,7 @@ BeginsBy n (Fallen silent time) = ⊥
 BeginsBy n (TurnedTree silent time) = ⊥
 BeginsBy n (Cleared since silent right old) = ⊥
 BeginsBy n (Aging ago aged silent) = ⊥
+BeginsBy n (Split ago gone silent) = ⊥
 BeginsBy n (Lost since most silent) = ⊥
 
 -- By this time a calm network has settled after these events. From any past the span has to pass, the sharper one where
@@ -716,6 +771,10 @@ SettlesAfter n events (Cleared since silent right old) settled = NothingLapses n
     ((silent ≤ settled) ⊎ UpIsUsed n events)
 SettlesAfter n events (Aging ago aged silent) settled =
     NothingLapses n.params × ((silent ≤ settled) ⊎ UpIsUsed n events)
+SettlesAfter n events (Split ago gone silent) settled =
+    NothingLapses n.params
+    × (gone + 2 * way_span (sync_paths n events) ≤ settled)
+    × ((silent ≤ settled) ⊎ UpIsUsed n events)
 SettlesAfter n events (Lost since most silent) settled =
     NothingLapses n.params
     × (suc (since + loss_span (pace_of n) (sync_paths n events) most) ≤ settled)
@@ -735,6 +794,8 @@ ChoosesAfter n events (TurnedTree silent time) settled = SettlesAfter n events (
 ChoosesAfter n events (Cleared since silent right old) settled = NothingLapses n.params
 ChoosesAfter n events (Aging ago aged silent) settled =
     NothingLapses n.params × ((aged ≤ settled) ⊎ ((silent ≤ settled) ⊎ UpIsUsed n events))
+ChoosesAfter n events (Split ago gone silent) settled =
+    NothingLapses n.params × (gone + 2 * way_span (sync_paths n events) ≤ settled)
 ChoosesAfter n events (Lost since most silent) settled =
     NothingLapses n.params × (suc (since + loss_span (pace_of n) (sync_paths n events) most) ≤ settled)
 

@@ -14,7 +14,7 @@ returns-clause-is c =
     c.in_ok-moves.moves
     c.args.paths
     c.as_slice-told.result.now c.as_slice-standings.result.now c.as_slice-used.result.now c.as_slice-new.result.now
-    c.ready-ready.result c.heard.result c.way_span.result c.row_of.result c.times_by.result
+    c.ready-ready.result c.heard.result c.way_span.result c.arrived_by.result c.row_of.result c.times_by.result
     c.up_is_used-all_used.result
     c.times_by.ensures.is c.leaves_silent.ensures c.held_among.ensures.is
     c.own_intervals-own.ensures c.row_of.ensures
@@ -27,4 +27,4 @@ returns-clause-is c =
     c.as_slice-told.ensures.value c.as_slice-standings.ensures.value c.as_slice-used.ensures.value
     c.requires.paths
     (turned (is_some c.args.self.now.before) c.is_none-first.result c.is_none-first.ensures)
-    c.up_is_used-all_used.ensures
+    c.up_is_used-all_used.ensures c.arrived_by.ensures.is
