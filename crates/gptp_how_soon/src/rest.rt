@@ -240,7 +240,6 @@ fn failed_row(far: bool, any: bool, used: bool) -> Row
     }
 }
 
-/// What is known of a time, by whether it is from rest, whether it is the first, and what its events do: whether they
 /// What is known of a time, by whether it is from rest, whether it is the first, what its events do, whom they move,
 /// and whether each link that is up then is in use.
 pub(crate) fn row_of(
