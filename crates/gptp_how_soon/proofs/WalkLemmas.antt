@@ -129,6 +129,7 @@ module _ (n : NetworkState) (network : IsNetwork n) where
       → moves_seen n w at ≡ moves_at n made now w.before at
   moves_are made now w at so =
       let used = so.used in
+      let paths = so.paths in
       let ends = so.ends in
       let told = so.told in
       let systems_before = so.systems_before in
@@ -136,6 +137,7 @@ module _ (n : NetworkState) (network : IsNetwork n) where
       let standings = so.tables.standings in
       rw (
         used,
+        paths,
         ends,
         told,
         systems,

@@ -24,14 +24,14 @@ rested_by b at (Some s) = nat_lt (b.at + s.rest) at
 abbrev pub rested : SettlingTime → ℕ → Bool
 rested b at = rested_by b at b.settling
 
--- and so much more has passed
-abbrev pub rested_for_by : ℕ → SettlingTime → ℕ → Option Settling → Bool
-rested_for_by span b at None = false
-rested_for_by span b at (Some s) = nat_lt (b.at + (s.rest + span)) at
+-- all that was held and in flight then was sound so much before this one
+abbrev pub sound_for_by : ℕ → SettlingTime → ℕ → Option Settling → Bool
+sound_for_by span b at None = false
+sound_for_by span b at (Some s) = nat_lt (b.at + (s.sound + span)) at
 
-abbrev pub has_rested_for : ℕ → Option SettlingTime → ℕ → Bool
-has_rested_for span None at = false
-has_rested_for span (Some b) at = rested_for_by span b at b.settling
+abbrev pub was_sound_for : ℕ → Option SettlingTime → ℕ → Bool
+was_sound_for span None at = false
+was_sound_for span (Some b) at = sound_for_by span b at b.settling
 
 -- Events are followed where what each does is, and no system both fails and recovers.
 abbrev pub are_events_followed : List Told → Bool

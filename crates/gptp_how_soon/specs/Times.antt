@@ -6,9 +6,8 @@ use Rattle.std.specs.Prelude.{ℕ, ◌+◌, ◌≤◌, ◌<◌, ⊤, ◌==◌, �
 use Rattle.std.specs.List.{AllByRecursion, find}
 use Rattle.std.specs.Option.{is_some}
 use Rattle.gptp_setup.specs.Intervals.{IsMoment}
-use Rattle.gptp_setup.specs.SettlingParams.{largest_interval}
 use Rattle.gptp_scenario.specs.Calm.{last_change}
-use Rattle.gptp_scenario.specs.Network.{NetworkState, pace_of}
+use Rattle.gptp_scenario.specs.Network.{NetworkState}
 use Rattle.gptp_scenario.specs.SettlingTime.{way_span}
 use Rattle.gptp_scenario.specs.SyncWait.{sync_paths}
 use Rattle.gptp_scenario.specs.declared.change.Act.{Act}
@@ -28,7 +27,7 @@ use Rattle.gptp_how_soon.specs.CutTrees.{cuts_trees_after}
 use Rattle.gptp_how_soon.specs.Far.{are_far_after, cut_far_ends_after, up_is_used}
 use Rattle.gptp_how_soon.specs.Kinds.{sets_bounds, sets_link, takes_one, told_by}
 use Rattle.gptp_how_soon.specs.Links.{longest_delay, new_links}
-use Rattle.gptp_how_soon.specs.Rest.{has_rested_for, heard_at_once, is_from_rest, leaves_silent, row_of}
+use Rattle.gptp_how_soon.specs.Rest.{heard_at_once, is_from_rest, leaves_silent, row_of, was_sound_for}
 use Rattle.gptp_how_soon.specs.Silent.{held_after, own_intervals}
 use Rattle.gptp_how_soon.specs.Tree.{cuts_tree_after}
 use Rattle.gptp_how_soon.specs.Turned.{turns_one_after}
@@ -125,9 +124,9 @@ moves_at n made now before at = record {
   any = moves_some n made (made ++ now);
   cut = cut_far_ends_after n made (made ++ now);
   turned = turns_one_after n made (made ++ now);
-  falls = has_rested_for (largest_interval (pace_of n)) before at && cuts_tree_after n made (made ++ now);
-  tree_turns = has_rested_for (largest_interval (pace_of n)) before at && turns_tree_after n made (made ++ now);
-  trees_fall = has_rested_for (largest_interval (pace_of n)) before at && cuts_trees_after n made (made ++ now);
+  falls = was_sound_for (sync_paths n made).delay before at && cuts_tree_after n made (made ++ now);
+  tree_turns = was_sound_for (sync_paths n made).delay before at && turns_tree_after n made (made ++ now);
+  trees_fall = was_sound_for (sync_paths n made).delay before at && cuts_trees_after n made (made ++ now);
   far = are_far_after n made (told_of n made now);
   held = held_after n (own_intervals n before at) made (made ++ now);
 }

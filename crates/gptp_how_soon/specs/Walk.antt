@@ -2,8 +2,7 @@
 use Rattle.std.specs.Prelude.{◌≡◌, ◌≤◌, ℕ, Bool, ◌++◌, ◌∷◌, [], ◌==◌, ◌&&◌, not, max, if◌then◌else◌, map, List, Some, None, IsTrue}
 use Rattle.std.specs.List.{find}
 use Rattle.std.specs.Option.{is_some}
-use Rattle.gptp_setup.specs.SettlingParams.{largest_interval}
-use Rattle.gptp_scenario.specs.Network.{NetworkState, pace_of}
+use Rattle.gptp_scenario.specs.Network.{NetworkState}
 use Rattle.gptp_scenario.specs.declared.change.Act.{Act}
 use Rattle.gptp_topology.specs.After.{Stand}
 use Rattle.gptp_topology.specs.Course.{cable_is_used, named}
@@ -14,7 +13,7 @@ use Rattle.gptp_how_soon.specs.CutTrees.{cuts_trees}
 use Rattle.gptp_how_soon.specs.Far.{all_cut_far_ends, are_far, up_is_used}
 use Rattle.gptp_how_soon.specs.Kinds.{sets_bounds, takes_one, told_by}
 use Rattle.gptp_how_soon.specs.Links.{delay_set, longest_among, lost_among, new_among}
-use Rattle.gptp_how_soon.specs.Rest.{has_rested_for}
+use Rattle.gptp_how_soon.specs.Rest.{was_sound_for}
 use Rattle.gptp_how_soon.specs.Silent.{heard_links, held_among, own_intervals}
 use Rattle.gptp_how_soon.specs.Times.{View, settling_time}
 use Rattle.gptp_how_soon.specs.Tree.{cuts_tree}
@@ -101,13 +100,13 @@ moves_seen n w at = record {
   turned = turns_one (systems_in w.tables.nodes.items) (lost_seen w)
       (ends_in_use w.ends.items w.used_before.items) (ends_in_use w.ends.items (used_now w)) (chosen_before w)
       (chosen_now w);
-  falls = has_rested_for (largest_interval (pace_of n)) w.before at
+  falls = was_sound_for w.paths_before.delay w.before at
       && cuts_tree (systems_in w.tables.nodes.items) (lost_seen w) (ends_in_use w.ends.items (used_now w))
       (chosen_before w) (chosen_now w);
-  tree_turns = has_rested_for (largest_interval (pace_of n)) w.before at
+  tree_turns = was_sound_for w.paths_before.delay w.before at
       && turns_tree (systems_in w.tables.nodes.items) (lost_seen w) (ends_in_use w.ends.items (used_now w))
       (chosen_before w) (chosen_now w);
-  trees_fall = has_rested_for (largest_interval (pace_of n)) w.before at
+  trees_fall = was_sound_for w.paths_before.delay w.before at
       && cuts_trees (systems_in w.tables.nodes.items) (lost_seen w) (ends_in_use w.ends.items (used_now w))
       (chosen_before w) (chosen_now w);
   far = are_far w.systems_before.items (chosen_before w) (ends_in_use w.ends.items w.used_before.items) w.told.items;

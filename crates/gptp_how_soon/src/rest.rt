@@ -2,7 +2,7 @@
 
 ghost use Rattle.std.specs.Prelude.{◌≡◌, ◌≤◌, ◌+◌, ◌*◌, nat_lt};
 ghost use Rattle.gptp_scenario.specs.SettlingTime.{way_span};
-ghost use Rattle.gptp_how_soon.specs.Rest.{are_events_followed, are_losses_followed, are_recoveries_followed, are_turns_followed, asks_who_is_moved, heard_at_once, is_failing_followed, failed_row, has_rested_for, is_from_rest, is_lowering_followed, is_wider_followed, keeps_paths, leaves_silent, rested, row_of, settles_wider_by};
+ghost use Rattle.gptp_how_soon.specs.Rest.{are_events_followed, are_losses_followed, are_recoveries_followed, are_turns_followed, asks_who_is_moved, heard_at_once, is_failing_followed, failed_row, is_from_rest, is_lowering_followed, is_wider_followed, keeps_paths, leaves_silent, rested, row_of, settles_wider_by, was_sound_for};
 
 use crate::bounds::{Row, SettlingTime, way_span};
 use crate::kinds::{
@@ -23,7 +23,7 @@ pub struct Moves {
     pub cut: bool,
     /// Whether they move one alone, and that turns.
     pub turned: bool,
-    /// Whether they cut off a tree, an announce interval after all came to rest.
+    /// Whether they cut off a tree, the greatest delay after all was sound.
     pub falls: bool,
     /// Whether then a tree turns by one other link.
     pub tree_turns: bool,
@@ -53,15 +53,15 @@ fn rested(before: &SettlingTime, at: u64) -> bool
     }
 }
 
-/// Whether it had come to rest so much before it, in ns.
-pub(crate) fn has_rested_for(span: u64, before: Option<SettlingTime>, at: u64) -> bool
-    ensures { result ≡ has_rested_for span before at }
+/// Whether all that was held and in flight was sound so much before it, in ns.
+pub(crate) fn was_sound_for(span: u64, before: Option<SettlingTime>, at: u64) -> bool
+    ensures { result ≡ was_sound_for span before at }
 {
     match before {
         Some(before) => match before.settling {
             Some(settling) => {
-                let rest = u128::from(settling.rest) + u128::from(span);
-                u128::from(before.at) + rest < u128::from(at)
+                let sound = u128::from(settling.sound) + u128::from(span);
+                u128::from(before.at) + sound < u128::from(at)
             }
             None => false,
         },

@@ -8,7 +8,7 @@ ghost use Rattle.gptp_how_soon.specs.Rest.{no_moves};
 ghost use Rattle.gptp_how_soon.specs.Walk.{IsFirstWalk, WalkGoesOn, WalkPasses, moves_seen, view_seen};
 
 use crate::bounds::{
-    Loss, SettlingTime, announce_interval, arrived_by, heard, ready, times_by, way_span,
+    Loss, SettlingTime, arrived_by, heard, ready, times_by, way_span,
 };
 use crate::chosen::{
     Chosen, Ends, any_counted, any_moved, choose, copy_systems, ends_in_use, ends_of,
@@ -18,7 +18,7 @@ use crate::far::{all_cut_far_ends, are_far, up_is_used};
 use crate::kinds::{Told, sets_bounds, sets_link, takes_one, tell};
 use crate::links::{delay_set, longest_among, lost_among, mark_used, new_links};
 use crate::rest::{
-    Moves, asks_who_is_moved, has_rested_for, heard_at_once, is_from_rest, leaves_silent, row_of,
+    Moves, asks_who_is_moved, heard_at_once, is_from_rest, leaves_silent, row_of, was_sound_for,
 };
 use crate::silent::{heard_links, held_among, own_intervals};
 use crate::tree::cuts_tree;
@@ -126,7 +126,7 @@ impl Walk {
         let now = choose(alloc, &systems, &links)?;
         let joined = takes_one(&self.told);
         let turned = turns_one(alloc, &systems, &lost, &links_before, &links, &before, &now)?;
-        let rested = has_rested_for(announce_interval(network), self.before, at);
+        let sound = was_sound_for(self.paths_before.delay, self.before, at);
         let own = own_intervals(network, self.before, at);
         let heard = heard_links(alloc, &systems, &before, &self.used_before, &self.ends)?;
         Ok(Moves {
@@ -134,9 +134,9 @@ impl Walk {
             any: any_moved(&systems, &before, &now),
             cut: all_cut_far_ends(&systems, &before, &links_before, &links, &lost),
             turned,
-            falls: rested && cuts_tree(&systems, &lost, &links, &before, &now),
-            tree_turns: rested && turns_tree(&systems, &lost, &links, &before, &now),
-            trees_fall: rested && cuts_trees(&systems, &lost, &links, &before, &now),
+            falls: sound && cuts_tree(&systems, &lost, &links, &before, &now),
+            tree_turns: sound && turns_tree(&systems, &lost, &links, &before, &now),
+            trees_fall: sound && cuts_trees(&systems, &lost, &links, &before, &now),
             far: are_far(&self.systems_before, &before, &links_before, &self.told),
             held: held_among(network, own, &heard, &self.tables.standings),
         })
