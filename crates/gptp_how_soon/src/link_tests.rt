@@ -255,33 +255,6 @@ fn a_tree_that_a_link_cuts_off_settles_within_two_ways(rt: HostRuntime) -> Resul
 }
 
 #[test]
-fn a_tree_may_fall_off_as_soon_as_all_rests(rt: HostRuntime) -> Result<(), Fail> {
-    // A line rests 1_000_003_460 ns after its start: two exchanges, a way and a delay.
-    for (case, at, choice) in [
-        ("at the end of that", 1_000_003_460, 15_000_000_820),
-        ("behind it", 1_000_003_461, 1_640),
-    ] {
-        let mut event = String::new(rt.alloc());
-        write!(
-            event,
-            "[[event]]\nat = {at}\nkind = \"link_down\"\nclock = \"000000000000000a\"\nport = 1\n"
-        )?;
-        let times = joined(
-            rt.alloc(),
-            &["a", "b", "c", "d"],
-            &[
-                ("a", "1", "b", "1"),
-                ("b", "2", "c", "1"),
-                ("c", "2", "d", "1"),
-            ],
-            event.as_str(),
-        )?;
-        assert_eq!(rt; soon(&times, at).map(|bound| bound.0), Some(choice), "{case}");
-    }
-    Ok(())
-}
-
-#[test]
 fn the_slowest_link_may_go_down(rt: HostRuntime) -> Result<(), Fail> {
     // It is wider first. The one moves no system; by the other one turns, and ways take what links take that are left.
     for (case, port, bound) in [

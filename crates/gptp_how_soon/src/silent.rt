@@ -212,13 +212,7 @@ fn held_one(network: &Network, own: bool, heard: bool, standing: &Standing) -> u
 }
 
 /// The same over the link at a place, if there is one.
-fn held_at(
-    network: &Network,
-    own: bool,
-    heard: bool,
-    standings: &[Standing],
-    place: usize,
-) -> u64
+fn held_at(network: &Network, own: bool, heard: bool, standings: &[Standing], place: usize) -> u64
     ensures is { result ≡ held_at network.now own heard (slice_get standings.now place) }
     ensures bound { result ≤ 4112000000000 }
 {

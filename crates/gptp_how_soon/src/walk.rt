@@ -7,9 +7,7 @@ ghost use Rattle.gptp_how_soon.specs.Times.{settling_time};
 ghost use Rattle.gptp_how_soon.specs.Rest.{no_moves};
 ghost use Rattle.gptp_how_soon.specs.Walk.{IsFirstWalk, WalkGoesOn, WalkPasses, moves_seen, view_seen};
 
-use crate::bounds::{
-    Loss, SettlingTime, arrived_by, heard, ready, times_by, way_span,
-};
+use crate::bounds::{Loss, SettlingTime, arrived_by, heard, ready, times_by, way_span};
 use crate::chosen::{
     Chosen, Ends, any_counted, any_moved, choose, copy_systems, ends_in_use, ends_of,
 };
