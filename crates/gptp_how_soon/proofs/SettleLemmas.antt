@@ -153,8 +153,8 @@ module _ (n : NetworkState) (at arrived : ℕ) (paths_before paths : SyncPaths) 
           (ap counts_held is ∙ held_asked from_rest first paths_before paths told moves asks)
 
 pub settled_so : (n : NetworkState) (w : Walk) (at : ℕ) (first followed from_rest calm sets used_now silent : Bool)
-    (moves : Moves) (paths : SyncPaths) (told : List Told) (standings : List Standing) (used : List Bool) (new : List Cable)
-    (soon heard way arrived : ℕ) (row : Row) (time : SettlingTime)
+    (moves : Moves) (paths : SyncPaths) (told : List Told) (standings : List Standing) (used : List Bool)
+    (new : List Cable) (soon heard way arrived : ℕ) (row : Row) (time : SettlingTime)
     → time
     ≡ times_by n at arrived (record {
       paths_before = w.paths_before;
@@ -191,6 +191,6 @@ settled_so n w at first followed from_rest calm sets used_now silent moves paths
     e0
     ∙ ap (λ (m : Moves). time_by n at arrived w.paths_before paths w.all_used_before used_now silent calm sets
     (soon + heard + way) m.held row) e2
-    ∙ same_held n at arrived w.paths_before paths w.all_used_before used_now silent calm sets (soon + heard + way) from_rest
-    first told (moves_seen n w at) row row_is in
+    ∙ same_held n at arrived w.paths_before paths w.all_used_before used_now silent calm sets (soon + heard + way)
+    from_rest first told (moves_seen n w at) row row_is in
     rw (time_is, ea, eu, es, row_is, e3, e4, e5, e6, e7, e8, e9, e10, e11, e12, e13, e14, e15) refl

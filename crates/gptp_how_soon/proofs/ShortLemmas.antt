@@ -134,8 +134,8 @@ module _ (n : NetworkState) (network : IsNetwork n) (paths : SyncPaths) (few : p
     quiet : (choice : ℕ) → choice ≤ 195000000000000 → quiet_by n loss choice ≤ 195000000000000
     quiet choice less =
         let most = silence_most in
-        either_most loss.silent (max choice (silence_span (pace_of n))) choice 195000000000000 (omega (arith, less, most))
-        less
+        either_most loss.silent (max choice (silence_span (pace_of n))) choice 195000000000000
+        (omega (arith, less, most)) less
 
     roles_lost : quiet_by n loss (any_loss_span n loss paths) ≤ 195000000000000
     roles_lost = let l = losses loss soon in quiet (any_loss_span n loss paths) (omega (arith, l))

@@ -6,7 +6,7 @@ use Rattle.std.specs.Prelude.{ℕ, ◌+◌, ◌*◌, ◌&&◌, ◌||◌, nat_le,
 use Rattle.std.specs.List.{list_all, list_any}
 use Rattle.gptp_scenario.specs.SettlingTime.{way_span}
 use Rattle.gptp_scenario.specs.declared.sync_wait.SyncPaths.{SyncPaths}
-use Rattle.gptp_how_soon.specs.Kinds.{are_heard, begins_wider, brings_nothing, fails_and_recovers, fails_first, first_wider_by, is_better, is_gain, is_loss, is_other, is_recovery, is_wider, leaves_links, lowers_one, lowers_unused, makes_nothing, tells_nothing}
+use Rattle.gptp_how_soon.specs.Kinds.{are_heard, begins_wider, brings_nothing, fails_and_recovers, fails_one, first_wider_by, is_better, is_gain, is_loss, is_other, is_recovery, is_wider, leaves_links, lowers_one, lowers_unused, makes_nothing, tells_nothing}
 use Rattle.gptp_how_soon.specs.declared.bounds.Row.{Row}
 use Rattle.gptp_how_soon.specs.declared.bounds.Row.TheVariants.{AnyLosses, AnyPast, CutOff, FailedEnd, FailedHeard, FailureCutsOff, FailureCutsTrees, Gained, Lowered, OneTurned, TreeCutOff, TreeTurned, Unchanged}
 use Rattle.gptp_how_soon.specs.declared.bounds.Settling.{Settling}
@@ -24,14 +24,17 @@ rested_by b at (Some s) = nat_lt (b.at + s.rest) at
 abbrev pub rested : SettlingTime → ℕ → Bool
 rested b at = rested_by b at b.settling
 
--- all that was held and in flight then was sound so much before this one
-abbrev pub sound_for_by : ℕ → SettlingTime → ℕ → Option Settling → Bool
-sound_for_by span b at None = false
-sound_for_by span b at (Some s) = nat_lt (b.at + (s.sound + span)) at
+-- All that was in flight as the time before became sound has come by this one: after an announce interval; or after the
+-- greatest delay of a link in use, where by then all has come that was in flight as a link was last set.
+abbrev pub has_come_by : ℕ → ℕ → ℕ → SettlingTime → ℕ → Option Settling → Bool
+has_come_by interval delay arrived b at None = false
+has_come_by interval delay arrived b at (Some s) =
+    nat_lt (b.at + s.sound + interval) at
+    || (nat_lt (b.at + s.sound + delay) at && nat_le arrived (b.at + s.sound))
 
-abbrev pub was_sound_for : ℕ → Option SettlingTime → ℕ → Bool
-was_sound_for span None at = false
-was_sound_for span (Some b) at = sound_for_by span b at b.settling
+abbrev pub has_come : ℕ → ℕ → ℕ → Option SettlingTime → ℕ → Bool
+has_come interval delay arrived None at = false
+has_come interval delay arrived (Some b) at = has_come_by interval delay arrived b at b.settling
 
 -- Events are followed where what each does is, and no system both fails and recovers.
 abbrev pub are_events_followed : List Told → Bool
@@ -69,13 +72,12 @@ keeps_paths paths_before paths =
     nat_le paths_before.systems 255 && nat_le paths.delay paths_before.delay
     && nat_le paths.systems paths_before.systems
 
--- Then a link that goes down by the one event of a time is followed. So is a system that fails, alone or as it loses
--- its power.
+-- Then one link that goes down is followed. So is one system that fails, alone or as it loses its power.
 abbrev pub is_lowering_followed : SyncPaths → SyncPaths → List Told → Bool
 is_lowering_followed paths_before paths told = keeps_paths paths_before paths && lowers_one told
 
 abbrev pub is_failing_followed : SyncPaths → SyncPaths → List Told → Bool
-is_failing_followed paths_before paths told = keeps_paths paths_before paths && fails_first told
+is_failing_followed paths_before paths told = keeps_paths paths_before paths && fails_one told
 
 -- Time 0 is from rest where its events, if any, leave it so that nothing is told.
 abbrev pub is_from_rest : ℕ → ℕ → SyncPaths → SyncPaths → List Told → Option SettlingTime → Bool
