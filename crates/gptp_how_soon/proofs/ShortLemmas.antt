@@ -191,7 +191,7 @@ module _ (n : NetworkState) (network : IsNetwork n) (paths : SyncPaths) (few : p
         by OneTurned = let w = way in let e = echo in omega (arith, w, e)
         by TreeCutOff = let w = way in let g = gone paths short in omega (arith, w, g)
         by TreeTurned = let w = way in let e = echo in omega (arith, w, e)
-        by FailureCutsTrees = at_once
+        by FailureCutsTrees = roles_lost
         by AnyLosses = roles_lost
         by Gained = early
 

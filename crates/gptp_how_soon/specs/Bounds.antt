@@ -134,7 +134,8 @@ aged_echo_span n loss paths =
 -- gone. After a far end or a tree is cut off, or a far end fails, only what was in flight does; of one that fails by
 -- links of before too. After a link goes down by which no system is moved traces have to be told anew first. So they do
 -- once the choice stands where one system or a tree turns, or one fails that others heard. After losses without a row
--- of their own all is sound once roles stand. After others it is as soon as the choice stands from any past.
+-- of their own all is sound once roles stand; and no later where trees are cut off. After others it is as soon as the
+-- choice stands from any past.
 abbrev pub sound_of_row : NetworkState → Loss → SyncPaths → Row → ℕ → ℕ
 sound_of_row n loss paths AnyPast gained = settling_span_at_once (pace_of n) paths
 sound_of_row n loss paths Unchanged gained = 0
@@ -147,7 +148,7 @@ sound_of_row n loss paths FailureCutsOff gained =
 sound_of_row n loss paths OneTurned gained = 2 * way_span paths + echo_span (pace_of n) paths
 sound_of_row n loss paths TreeCutOff gained = max (2 * way_span paths) (gone_by n paths loss.used_before)
 sound_of_row n loss paths TreeTurned gained = 2 * way_span paths + echo_span (pace_of n) paths
-sound_of_row n loss paths FailureCutsTrees gained = settling_span_at_once (pace_of n) paths
+sound_of_row n loss paths FailureCutsTrees gained = quiet_by n loss (any_loss_span n loss paths)
 sound_of_row n loss paths AnyLosses gained = quiet_by n loss (any_loss_span n loss paths)
 sound_of_row n loss paths Gained gained = gained
 

@@ -381,7 +381,7 @@ fn sound_by(network: &Network, loss: Loss, paths: SyncPaths, row: Row, gained: u
     let gone = gone_by(network, paths, loss.used_before);
     let gone_before = gone_by(network, loss.paths_before, loss.used_before);
     match row {
-        Row::AnyPast | Row::FailureCutsTrees => settling_span_at_once(network, paths),
+        Row::AnyPast => settling_span_at_once(network, paths),
         Row::Unchanged => 0,
         Row::Lowered => echo_span(network, paths).max(gone),
         Row::CutOff | Row::TreeCutOff => (2 * way_span(paths)).max(gone),
@@ -392,7 +392,9 @@ fn sound_by(network: &Network, loss: Loss, paths: SyncPaths, row: Row, gained: u
             aged.max(aged_echo_span(network, loss, paths))
         }
         Row::OneTurned | Row::TreeTurned => 2 * way_span(paths) + echo_span(network, paths),
-        Row::AnyLosses => quiet_by(network, loss, any_loss_span(network, loss, paths)),
+        Row::AnyLosses | Row::FailureCutsTrees => {
+            quiet_by(network, loss, any_loss_span(network, loss, paths))
+        }
         Row::Gained => gained,
     }
 }
