@@ -1,7 +1,7 @@
 //! What each event of a time does, by what stands just before it.
 
 ghost use Rattle.std.specs.Prelude.{◌≡◌, ◌++◌, ◌∷◌, [], false, OnOk};
-ghost use Rattle.std.specs.List.{list_all, list_any};
+ghost use Rattle.std.specs.List.{count_by, list_all, list_any};
 ghost use Rattle.gptp_how_soon.specs.Kinds.{are_heard, begins_wider, brings_nothing, first_wider_by, is_wider, kind_of_link_set, wider_by, fails_and_recovers, fails_one, fails_or_idle, is_fail, is_failing, is_recover, is_better, is_failure_of_same, is_gain, is_link_down, is_lowering, is_unused, leaves_links, lowers_one, lowers_or_idle, lowers_unused, makes_nothing, tells_nothing, is_heard_too, is_idle, is_loss, is_other, is_priority1, is_link_up, is_recovery, is_recovery_of, kind_of, kind_of_change, kind_of_failure, kind_of_link_down, kind_of_link_up, kind_of_priority1, kind_of_recovery, recovers, sets_bounds, sets_link, is_link_set, takes_one, told_by, what_of, what_of_change};
 
 use gptp_scenario::{Act, Change};
@@ -466,12 +466,25 @@ fn lowers_or_idle(told: &Told) -> bool
     is_lowering(told) || is_idle(told)
 }
 
+/// Whether each of these events is so.
+fn all_lower_or_idle(told: &[Told]) -> bool
+    ensures { result ≡ list_all lowers_or_idle told.now }
+{
+    told.iter().all(|one| lowers_or_idle(one))
+}
+
+/// By how many of these events a link in use goes down.
+fn count_lowering(told: &[Told]) -> usize
+    ensures { result ≡ count_by is_lowering told.now }
+{
+    told.iter().filter(|one| is_lowering(one)).count()
+}
+
 /// Whether a link in use goes down by one of these events, and all others change nothing.
 pub(crate) fn lowers_one(told: &[Told]) -> bool
     ensures { result ≡ lowers_one told.now }
 {
-    told.iter().all(|one| lowers_or_idle(one))
-        && told.iter().filter(|one| is_lowering(one)).count() == 1
+    all_lower_or_idle(told) && count_lowering(told) == 1
 }
 
 /// Whether a live system fails by it, or a link goes down of which an end has failed, or it changes nothing.
@@ -481,13 +494,26 @@ fn fails_or_idle(told: &Told) -> bool
     is_failing(told) || lowers_unused(told) || is_idle(told)
 }
 
+/// Whether each of these events is so.
+fn all_fail_or_idle(told: &[Told]) -> bool
+    ensures { result ≡ list_all fails_or_idle told.now }
+{
+    told.iter().all(|one| fails_or_idle(one))
+}
+
+/// By how many of these events a live system fails.
+fn count_failing(told: &[Told]) -> usize
+    ensures { result ≡ count_by is_failing told.now }
+{
+    told.iter().filter(|one| is_failing(one)).count()
+}
+
 /// Whether a live system fails by one of these events, and by the others links go down of which an end has failed, or
 /// they change nothing.
 pub(crate) fn fails_one(told: &[Told]) -> bool
     ensures { result ≡ fails_one told.now }
 {
-    told.iter().all(|one| fails_or_idle(one))
-        && told.iter().filter(|one| is_failing(one)).count() == 1
+    all_fail_or_idle(told) && count_failing(told) == 1
 }
 
 /// Whether one link or one system is taken away by these events.
