@@ -109,7 +109,7 @@ module _ (d : DocumentState) (playable : IsPlayable d) (made : List Timed) (even
         (dead_reduced p before silent x.clock x.port then draws done w' after.claim.world after.claim.measured fell
         left quiet falls.off was_there
         (unused_so n made then keeps.stands keeps.claim.world.sound end x.failed))
-        quiet past fallen_left
+        quiet (omega (arith, past, at_time)) fallen_left
         (asked_on p before silent x.clock x.port then draws done w' after.claim.world after.claim.measured fell left
         quiet falls.off was_there
         (unused_so n made then keeps.stands keeps.claim.world.sound end x.failed) since is.asked)

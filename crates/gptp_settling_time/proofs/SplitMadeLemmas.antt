@@ -235,7 +235,7 @@ module _ (d : DocumentState) (playable : IsPlayable d) (made : List Timed) (even
     abbrev y : LowersUnused n made event
     y = falls.lowers
 
-    end : PortId
+    abbrev end : PortId
     end = port_id y.clock y.port
 
     lowered : Acts (Changing (LinkDown y.clock y.port)) then draws done w'
