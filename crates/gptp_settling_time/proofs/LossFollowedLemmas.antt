@@ -84,14 +84,14 @@ module _ (d : DocumentState) (network : IsNetwork d.network) (order : AreInOrder
 
         -- by the first the network is left, and the others leave it so
         left : (span : ℕ) (x : IsLeftBy n earlier event span seen)
-            → LeadOn n (earlier ++ event ∷ []) (Left x.silent) now (Left x.silent)
+            → LeadOn n (earlier ++ event ∷ []) (Left earlier x.silent) now (Left earlier x.silent)
             → ((settled : ℕ) → time + roles < settled
-            → SettlesAfter n (events_by time d.events) (Left x.silent) settled) → IsLost
+            → SettlesAfter n (events_by time d.events) (Left earlier x.silent) settled) → IsLost
         left span x others settles = record {
           first = before.first;
           begins = before.begins;
-          last = Left x.silent;
-          lead = led (Left x.silent) (Left x.silent) x.leads others;
+          last = Left earlier x.silent;
+          lead = led (Left earlier x.silent) (Left earlier x.silent) x.leads others;
           calm = calm;
           settles = settles;
           chooses = λ settled late. off;
@@ -103,7 +103,9 @@ module _ (d : DocumentState) (network : IsNetwork d.network) (order : AreInOrder
             let x = loss_leads n earlier event 0 seen then
             (inl (record { lowers = lowers; calm = calm_then; off = off }, refl)) in
             let over = x.over in
-            left 0 x (subst (λ es. LeadOn n (earlier ++ event ∷ []) (Left x.silent) es (Left x.silent)) (sym same) refl)
+            left 0 x
+            (subst (λ es. LeadOn n (earlier ++ event ∷ []) (Left earlier x.silent) es (Left earlier x.silent))
+            (sym same) refl)
             (λ settled late. (off, inl (omega (arith, over, here, late))))
 
         -- by the one event a system turns
@@ -213,12 +215,12 @@ module _ (d : DocumentState) (network : IsNetwork d.network) (order : AreInOrder
             (inr (record { fails = fails; calm = calm_then; off = off }, refl)) in
             let over = x.over in
             left span x
-            (dead_lead n (earlier ++ event ∷ []) now x.silent off (fails_calm n earlier event off calm_then fails)
+            (dead_lead n earlier (earlier ++ event ∷ []) now x.silent off (fails_calm n earlier event off calm_then fails)
             others)
             (λ settled late. (
               off,
               elim after [
-                | inl (used, is_none) ↦ inr (subst (UpIsUsed n) (sym parts) used)
+                | inl (none, is_none) ↦ inr (subst (NoneSilent n earlier) (sym parts) none)
                 | inr long ↦ inl (omega (arith, over, here, long, late))
               ],
             ))
