@@ -11,7 +11,7 @@ use Rattle.gptp_scenario.specs.SyncWait.{sync_paths}
 use Rattle.gptp_scenario.specs.declared.change.Timed.{Timed}
 use Rattle.gptp_network.specs.Events.{AreInOrder}
 use Rattle.gptp_network.specs.Snapshot.{events_by}
-use Rattle.gptp_settling_time.specs.HowSoon.{AreGainEvents, AreHeardEvents, AreReadyAtStart, AreStartEvents, BoundsEvents, BoundsStart, IsChoiceBoundAfter, IsRestBoundAfter, NoneBetween, OneEvent, RestsAfterLoss, events_at}
+use Rattle.gptp_settling_time.specs.HowSoon.{AreGainEvents, AreHeardEvents, AreReadyAtStart, AreStartEvents, BoundsEvents, BoundsStart, events_at, HasArrivedNext, IsRestBoundAfter, NoneBetween, OneEvent, RestsAfterLoss}
 use Rattle.gptp_settling_time.specs.InTurn.{AnyPast, AreCapableSoon, BeginsBy, EventLeads, Fallen, FallsCalm, FlightIsGone, Gained, Heard, LeadOn, LeadsByTree, Past, Starting, StartsWith, TellsNothing, TurnedTree, TurnsTreeCalm, UsedVaryLittle, turned_echo_span}
 use Rattle.gptp_settling_time.specs.TreeLosses.{LowersTree, TurnsTreeLink}
 use Rattle.gptp_settling_time.proofs.CutLemmas.{IsBy, all_by}
@@ -20,6 +20,7 @@ use Rattle.gptp_settling_time.proofs.LeadOnLemmas.{HasRested, HasSettled, IsLed,
 use Rattle.gptp_settling_time.proofs.LosesLeadLemmas.{any_rests}
 use Rattle.gptp_settling_time.proofs.LossLeadLemmas.{tree_leads}
 use Rattle.gptp_settling_time.proofs.LossRestLemmas.{cleared_led}
+use Rattle.gptp_settling_time.proofs.NamedLemmas.{arrives_later}
 
 -- ---- a document
 
@@ -206,9 +207,9 @@ module _ (n : NetworkState) (network : IsNetwork n) (off : NothingLapses n.param
           ]) in
           record { first = before.first; begins = before.begins; last = x; lead = lead; settles = rested }
 
-    -- A tree is moved, an announce interval after the time before has come to rest.
+    -- A tree is moved, once what was sent before the time before had come to rest has arrived.
     module _ (Moves : List Timed → Timed → Type 0) (Calm : Timed → Type 0) (then : ℕ)
-        (before : IsFollowedTo n before_now last then) (soon : last + then + largest_interval (pace_of n) < time)
+        (before : IsFollowedTo n before_now last then) (arrives : HasArrivedNext n all last then time)
         (calm : (event : Timed) → Moves before_now event → Calm event) (Tree : ℕ → ℕ → Past)
         (is_tree : (past : Past) (event : Timed) (silent now : ℕ)
         → LeadsByTree n before_now past event (Calm event) silent now
@@ -222,8 +223,10 @@ module _ (n : NetworkState) (network : IsNetwork n) (off : NothingLapses n.param
           (subst (AllByRecursion (λ (t : Timed). t.at ≡ time)) same (all_at time all)).0 in
           let (seen, taken, is) = before.settles in
           let over = last_by last all in
+          let (arrived, arrive, soon) = arrives in
+          let later = arrives_later n before_now (suc (last + then)) arrived arrive in
           let (silent, leads) = tree_leads n before_now event (suc (last + then)) (omega (arith, over))
-          (omega (arith, soon, here)) (Calm event) seen is (calm event moves) in
+          (arrived, arrive, omega (arith, soon, here)) (Calm event) seen is (calm event moves) in
           let past : Past = Tree silent event.at in (
             silent,
             subst (λ at. LeadOn n [] before.first (events_by time all) (Tree silent at)) here
@@ -231,8 +234,8 @@ module _ (n : NetworkState) (network : IsNetwork n) (off : NothingLapses n.param
                 (sym (parted all last time order less between ∙ ap (λ es. before_now ++ es) same))
                 (leads_on n [] before.first before.last past before_now (event ∷ []) before.lead (
                   seen,
-                  taken_later n before_now before.last seen (suc (last + then)) event.at (omega (arith, soon, here))
-                      taken,
+                  taken_later n before_now before.last seen (suc (last + then)) event.at
+                      (omega (arith, later, soon, here)) taken,
                   past,
                   is_tree seen event silent event.at leads,
                   refl,
@@ -241,30 +244,30 @@ module _ (n : NetworkState) (network : IsNetwork n) (off : NothingLapses n.param
 
     -- it is cut off and falls back
     pub falls_on : (then : ℕ) → IsCalm n before_now → (before : IsFollowedTo n before_now last then)
-        → last + then + largest_interval (pace_of n) < time → OneEvent (LowersTree n) before_now at_now
+        → HasArrivedNext n all last then time → OneEvent (LowersTree n) before_now at_now
         → (silent : ℕ) × LeadOn n [] before.first (events_by time all) (Fallen silent time)
-    falls_on then calm before soon lowers =
-        moves_on (LowersTree n) (FallsCalm n before_now) then before soon
+    falls_on then calm before arrives lowers =
+        moves_on (LowersTree n) (FallsCalm n before_now) then before arrives
         (λ event moves. record { lowers = moves; calm = calm; off = off }) Fallen (λ past event silent now leads. leads)
         at_now refl lowers
 
     -- or it turns to its one way out
     pub turns_on : (then : ℕ) → IsCalm n before_now → (before : IsFollowedTo n before_now last then)
-        → last + then + largest_interval (pace_of n) < time → OneEvent (TurnsTreeLink n) before_now at_now
+        → HasArrivedNext n all last then time → OneEvent (TurnsTreeLink n) before_now at_now
         → (silent : ℕ) × LeadOn n [] before.first (events_by time all) (TurnedTree silent time)
-    turns_on then calm before soon turns =
-        moves_on (TurnsTreeLink n) (TurnsTreeCalm n before_now) then before soon
+    turns_on then calm before arrives turns =
+        moves_on (TurnsTreeLink n) (TurnsTreeCalm n before_now) then before arrives
         (λ event moves. record { turns = moves; calm = calm; off = off }) TurnedTree
         (λ past event silent now leads. leads) at_now refl turns
 
     -- it has come to rest once the tree has settled and what was in flight is gone
     fall_followed : (then rest gone : ℕ) → IsCalm n before_now → IsCalm n (events_by time all)
-        → IsFollowedTo n before_now last then → last + then + largest_interval (pace_of n) < time
+        → IsFollowedTo n before_now last then → HasArrivedNext n all last then time
         → OneEvent (LowersTree n) before_now at_now → FlightIsGone n (events_by time all) gone
         → rest ≡ max (2 * way_span (sync_paths n (events_by time all))) gone
         → IsFollowedTo n (events_by time all) time rest
-    fall_followed then rest gone calm_then calm before soon lowers flight is =
-        let (silent, lead) = falls_on then calm_then before soon lowers in
+    fall_followed then rest gone calm_then calm before arrives lowers flight is =
+        let (silent, lead) = falls_on then calm_then before arrives lowers in
         let way : ℕ = way_span (sync_paths n (events_by time all)) in
         let start : ℕ = suc (time + way) in
         let ways = le-max_left (2 * way) gone in
@@ -296,11 +299,11 @@ module _ (n : NetworkState) (network : IsNetwork n) (off : NothingLapses n.param
 
     -- or once the tree has turned and traces are told anew
     turn_followed : (then rest : ℕ) → IsCalm n before_now → IsCalm n (events_by time all)
-        → IsFollowedTo n before_now last then → last + then + largest_interval (pace_of n) < time
+        → IsFollowedTo n before_now last then → HasArrivedNext n all last then time
         → OneEvent (TurnsTreeLink n) before_now at_now → rest ≡ turned_echo_span n (events_by time all)
         → IsFollowedTo n (events_by time all) time rest
-    turn_followed then rest calm_then calm before soon turns is =
-        let (silent, lead) = turns_on then calm_then before soon turns in
+    turn_followed then rest calm_then calm before arrives turns is =
+        let (silent, lead) = turns_on then calm_then before arrives turns in
         let start : ℕ = suc (time + way_span (sync_paths n (events_by time all))) in
         let over : start + way_span (sync_paths n (events_by time all)) ≤ suc (time + rest) = omega (arith, is) in
         record {

@@ -3,7 +3,6 @@ use Rattle.std.proofs.Common.{◌≡◌, ◌⊎◌, inl, inr, ◌<◌, ◌≤◌
 use Rattle.std.specs.List.{AllByRecursion}
 use Rattle.std.proofs.Math.Nat.{le-max_left, le-max_right}
 use native.Mathlib.Decide.{dec_le}
-use Rattle.gptp_setup.specs.SettlingParams.{largest_interval}
 use Rattle.gptp_scenario.specs.Calm.{IsCalm, NothingLapses}
 use Rattle.gptp_scenario.specs.Network.{IsNetwork, NetworkState, pace_of}
 use Rattle.gptp_scenario.specs.SettlingTime.{loss_span, silence_span, way_span}
@@ -12,7 +11,7 @@ use Rattle.gptp_scenario.specs.declared.change.Timed.{Timed}
 use Rattle.gptp_network.specs.Document.{DocumentState}
 use Rattle.gptp_network.specs.Events.{AreInOrder}
 use Rattle.gptp_network.specs.Snapshot.{events_by}
-use Rattle.gptp_settling_time.specs.HowSoon.{BoundsAging, BoundsAnyLoss, BoundsLoss, IsLossBoundAfter, EachEvent, NoneBetween, OneEvent, events_at, BoundsSplit, FailsTreesFirst}
+use Rattle.gptp_settling_time.specs.HowSoon.{BoundsAging, BoundsAnyLoss, BoundsLoss, BoundsSplit, EachEvent, events_at, FailsTreesFirst, HasArrivedNext, IsLossBoundAfter, NoneBetween, OneEvent}
 use Rattle.gptp_settling_time.specs.InTurn.{Aging, BeginsBy, ChoosesAfter, EventLeads, Fallen, LeadOn, Left, Lost, Past, SettlesAfter, Split, Turned, TurnedTree}
 use Rattle.gptp_settling_time.specs.TreeLosses.{LowersTree, TurnsTreeLink}
 use Rattle.gptp_settling_time.specs.Losses.{AgesWithin, FailsHeard, LowersLink, LowersUnused, TurnsLink, UpIsUsed}
@@ -24,6 +23,7 @@ use Rattle.gptp_settling_time.proofs.LossLeadLemmas.{IsLeftBy, dead_lead, heard_
 use Rattle.gptp_settling_time.proofs.LossRestLemmas.{last_at}
 use Rattle.gptp_settling_time.proofs.SilentSpanLemmas.{none_silent}
 use Rattle.gptp_settling_time.proofs.FollowedLemmas.{IsFollowedTo, bound_calm, falls_on, followed, turns_on}
+use Rattle.gptp_settling_time.proofs.NamedLemmas.{arrives_later}
 
 -- The times of a document up to this one lead to a loss, after which the choice and the roles stand so much later.
 module _ (d : DocumentState) (network : IsNetwork d.network) (order : AreInOrder d.events) (time choice roles : ℕ)
@@ -236,13 +236,13 @@ module _ (d : DocumentState) (network : IsNetwork d.network) (order : AreInOrder
     tree_by : (last choice_then : ℕ) (less : last < time) (between : NoneBetween d.events last time)
         → NothingLapses d.network.params → IsCalm d.network (events_by last d.events)
         → IsCalm d.network (events_by time d.events) → IsFollowedTo d.network (events_by last d.events) last choice_then
-        → last + choice_then + largest_interval (pace_of d.network) < time
+        → HasArrivedNext d.network d.events last choice_then time
         → OneEvent (LowersTree d.network) (events_by last d.events) (events_at time d.events)
         ⊎ OneEvent (TurnsTreeLink d.network) (events_by last d.events) (events_at time d.events)
         → choice ≡ 2 * way_span (sync_paths d.network (events_by time d.events)) → roles ≡ choice → IsLost
-    tree_by last choice_then less between off calm_then calm before soon (inl lowers) is_choice same =
+    tree_by last choice_then less between off calm_then calm before arrives (inl lowers) is_choice same =
         let (silent, lead) = falls_on d.network network off d.events order last time less between choice_then calm_then
-        before soon lowers in
+        before arrives lowers in
         record {
           first = before.first;
           begins = before.begins;
@@ -252,9 +252,9 @@ module _ (d : DocumentState) (network : IsNetwork d.network) (order : AreInOrder
           settles = λ settled late. (off, omega (arith, is_choice, same, late));
           chooses = λ settled late. (off, omega (arith, is_choice, late));
         }
-    tree_by last choice_then less between off calm_then calm before soon (inr turns) is_choice same =
+    tree_by last choice_then less between off calm_then calm before arrives (inr turns) is_choice same =
         let (silent, lead) = turns_on d.network network off d.events order last time less between choice_then calm_then
-        before soon turns in
+        before arrives turns in
         record {
           first = before.first;
           begins = before.begins;
@@ -270,17 +270,17 @@ module _ (d : DocumentState) (network : IsNetwork d.network) (order : AreInOrder
         → events_at time d.events ≡ now → events_by time d.events ≡ events_by last d.events ++ now
         → IsCalm d.network (events_by last d.events) → IsCalm d.network (events_by time d.events)
         → IsFollowedTo d.network (events_by last d.events) last choice_then
-        → last + choice_then + largest_interval (pace_of d.network) < time
+        → HasArrivedNext d.network d.events last choice_then time
         → FailsTreesFirst d.network (events_by last d.events) now
         → BoundsSplit d.network choice roles (events_by last d.events) now → IsLost
-    splits_by last choice_then [] off is parts calm_then calm before soon none bounds = absurd none
-    splits_by last choice_then (event ∷ now) off is parts calm_then calm before soon (fails, others)
+    splits_by last choice_then [] off is parts calm_then calm before arrives none bounds = absurd none
+    splits_by last choice_then (event ∷ now) off is parts calm_then calm before (arrived, arrives, soon) (fails, others)
         (held, quiet, bounds, is_choice, is_roles) = by bounds
       where
         n : NetworkState
         n = d.network
 
-        earlier : List Timed
+        abbrev earlier : List Timed
         earlier = events_by last d.events
 
         abbrev silence : ℕ
@@ -302,14 +302,15 @@ module _ (d : DocumentState) (network : IsNetwork d.network) (order : AreInOrder
             → LeadOn n [] before.first (events_by time d.events) (past span)
         lead span within =
             let over = last_by last d.events in
+            let later = arrives_later n earlier (suc (last + choice_then)) arrived arrives in
             let (seen, taken, settled) = before.settles in
             subst (λ es. LeadOn n [] before.first es (past span)) (sym parts)
             (leads_on n [] before.first before.last (past span) earlier (event ∷ now) before.lead
             (lead_as n earlier event now before.last seen (past span)
-            (taken_later n earlier before.last seen (suc (last + choice_then)) event.at (omega (arith, soon, here))
-            taken)
-            (splits_lead n earlier event now seen (suc (last + choice_then)) span off calm_then settled
-            (omega (arith, over)) (omega (arith, soon, here)) fails others others_here within)))
+            (taken_later n earlier before.last seen (suc (last + choice_then)) event.at
+            (omega (arith, later, soon, here)) taken)
+            (splits_lead n earlier event now seen (suc (last + choice_then)) arrived span off calm_then settled
+            (omega (arith, over)) arrives (omega (arith, soon, here)) fails others others_here within)))
 
         paths : choice ≡ held + 2 * way_span (sync_paths n (events_by time d.events))
         paths = is_choice ∙ ap (λ es. held + 2 * way_span (sync_paths n es)) (sym parts)
