@@ -133,7 +133,7 @@ module _ (d : DocumentState) (playable : IsPlayable d) (made : List Timed) (even
   leads_to_split (Turned start was) ago gone silent none named so = absurd none
   leads_to_split (Fallen start was) ago gone silent none named so = absurd none
   leads_to_split (TurnedTree start was) ago gone silent none named so = absurd none
-  leads_to_split (Cleared was made since start right old) ago gone silent none named so = absurd none
+  leads_to_split (Cleared was since start right old) ago gone silent none named so = absurd none
   leads_to_split (Aging old aged start) ago gone silent none named so = absurd none
   leads_to_split (Split old was start) ago gone silent (falls, same_ago, same_silent, sooner) named so =
       subst (λ es. IsSplitTo d es more gone silent w') (sym same_ago)
