@@ -589,16 +589,16 @@ module _ {F : Type 0} (answers : Bounds → ℕ → F → Option ℕ → F → T
         after.claim.world after.claim.measured came then_so.since quiet falls.off
         (up_so n made then keeps_then.stands end x.up came.1.place came.1.channel came.1.is)
         (unused_so n made then keeps_then.stands world.sound end x.failed)
-        (AgesOver n ago made then_so.failed) then_so.by in
+        (AgesOver n then_so.before ago made then_so.failed) then_so.by in
         let world' = after.claim.world in
-        let by : WorldAgesBy p (AgesOver n ago more then_so.failed) w' =
+        let by : WorldAgesBy p (AgesOver n then_so.before ago more then_so.failed) w' =
         λ links. by_map says_announce (snapshot_of w') (stay_of p)
-        (λ port until. AgesOver n ago made then_so.failed port until × IsUpAt w' port)
-        (AgesOver n ago more then_so.failed) (view w')
+        (λ port until. AgesOver n then_so.before ago made then_so.failed port until × IsUpAt w' port)
+        (AgesOver n then_so.before ago more then_so.failed) (view w')
         (λ port until unlinked (is_over, is_up).
-        over_down n ago made event x w' after.stands world'.sound world'.encodable then_so.failed port until is_over
-        is_up)
-        (by_up p w' world' (AgesOver n ago made then_so.failed) by_down links) in
+        over_down n ago made event x w' after.stands world'.sound world'.encodable then_so.before then_so.failed port
+        until is_over is_up)
+        (by_up p w' world' (AgesOver n then_so.before ago made then_so.failed) by_down links) in
         record {
           keeps = after;
           before = then_so.before;
@@ -615,10 +615,10 @@ module _ {F : Type 0} (answers : Bounds → ℕ → F → Option ℕ → F → T
     ages_sooner ago gone aged silent (failed, span, same, within, is) so =
         let unanswered = so.unanswered in
         let time : failed ≡ so.failed = omega (arith, same, unanswered) in
-        let since = aging_by p so.before gone silent (AgesOver n ago more so.failed) aged w' so.since so.by
-        (λ port until is_over.
-        let less = over_within n ago more so.failed span (subst (λ t. AgesWithin n ago more t span) time within) port
-        until is_over in
+        let since = aging_by p so.before gone silent (AgesOver n so.before ago more so.failed) aged w' so.since so.by
+        (λ port until heard is_over.
+        let less = over_within n so.before ago more so.failed span
+        (subst (λ t. AgesWithin n ago more t span) time within) port until heard is_over in
         omega (arith, less, is, time)) in
         record {
           keeps = so.keeps;

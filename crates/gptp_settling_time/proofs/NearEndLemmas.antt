@@ -24,6 +24,7 @@ use Rattle.gptp_bmca_machine.proofs.RestLemmas.{is_master}
 use Rattle.gptp_bmca_machine.proofs.StillLemmas.{StillSettles, chooses_still, clear_at, live_before}
 use Rattle.gptp_settling_time.specs.Losses.{IsUnmoved}
 use Rattle.gptp_settling_time.proofs.AgingLemmas.{HeardNearer, HearersHoldNothing}
+use Rattle.gptp_settling_time.proofs.AtRestLemmas.{IsNearer, either}
 use Rattle.gptp_settling_time.proofs.FitsLemmas.{UnlinkedHoldNothing}
 use Rattle.gptp_settling_time.proofs.UnlinkedLemmas.{IsFarther}
 
@@ -31,6 +32,14 @@ use Rattle.gptp_settling_time.proofs.UnlinkedLemmas.{IsFarther}
 abbrev pub NearEndsStay : Snapshot → Snapshot → Type 0
 NearEndsStay g g' = (from to : PortIdentity) → Joins g from to → In to.clock (clocks g') → (IsLinked g' to → ⊥)
     → IsFarther g from to → IsUnmoved g g' to.clock
+
+-- what led to a port that heard a nearer system is nearer, or as near and has the lower clock
+pub heard_nearer : (g : Snapshot) → IsWellFormed g → (from to : PortIdentity) → Joins g from to → HeardNearer g to
+    → IsNearer g from to
+heard_nearer g well from to joins heard = elim (either g well from to joins) [
+  | inl farther ↦ absurd (heard from joins farther)
+  | inr nearer ↦ nearer
+]
 
 -- ---- where one system is lost
 
