@@ -1,7 +1,10 @@
 -- A world since a system failed that others hear, and so cut trees off. What they hold of it goes until a time, and
 -- then each tree has left the root of before within a way. They settle once each distance has had its time.
-use Rattle.std.proofs.Common.{◌≡◌, ◌⊎◌, ◌<◌, ◌≤◌, ℕ, suc, List, Some, None, slice_get, refl, sym, ap, subst, ◌∙◌, inl, inr, arith}
-use Rattle.gptp_graph.specs.Snapshot.{IsLinked, Joins, PortIdentity, Snapshot, port_of}
+use Rattle.std.proofs.Common.{◌≡◌, ◌⊎◌, ◌<◌, ◌≤◌, ℕ, suc, List, Some, slice_get, refl, sym, ap, subst, ◌∙◌, inl, inr, arith}
+use Rattle.gptp_lists.specs.Members.{In}
+use Rattle.gptp_graph.specs.Snapshot.{IsLinked, Joins, PortIdentity, Snapshot, clocks, port_of}
+use Rattle.gptp_graph.proofs.DistanceLemmas.{IsDistance-clock, IsDistance-unique}
+use Rattle.gptp_graph.proofs.SystemLemmas.{In-clocks}
 use Rattle.gptp_links.specs.Fate.{Draw}
 use Rattle.gptp_scenario.specs.Calm.{NothingLapses}
 use Rattle.gptp_scenario.specs.Params.{KeepPace}
@@ -16,10 +19,10 @@ use Rattle.gptp_bmca_machine.specs.Acts.{MachineSteps}
 use Rattle.gptp_bmca_machine.specs.Calm.{Calm}
 use Rattle.gptp_bmca_machine.specs.Frame.{Lane}
 use Rattle.gptp_bmca_machine.specs.EarlyPorts.{ClaimsWhenReady}
-use Rattle.gptp_bmca_machine.specs.Facts.{StationFacts}
-use Rattle.gptp_bmca_machine.specs.LossLaws.{IsAfterLoss}
+use Rattle.gptp_bmca_machine.specs.Facts.{StationFacts, station_system}
+use Rattle.gptp_bmca_machine.specs.LossLaws.{IsAfterLoss, Unmoved}
 use Rattle.gptp_bmca_machine.specs.Network.{IsSettlingNetwork, Network, network_setting, since}
-use Rattle.gptp_bmca_machine.specs.Station.{Disabled, HoldsAt, MachineState, Received, Station as SeenStation}
+use Rattle.gptp_bmca_machine.specs.Station.{MachineState}
 use Rattle.gptp_bmca_machine.proofs.FallLemmas.{UnlinkedHoldNone}
 use Rattle.gptp_bmca_machine.proofs.LinkStepLemmas.{lives_at}
 use Rattle.gptp_bmca_machine.proofs.TimesLemmas.{times_fit}
@@ -29,7 +32,6 @@ use Rattle.gptp_invariants.specs.ChoiceView.{says_announce, view}
 use Rattle.gptp_invariants.specs.WorldEncodableLaws.{SetsAnOctet}
 use Rattle.gptp_invariants.specs.WorldStanding.{snapshot_of}
 use Rattle.gptp_invariants.proofs.ChoiceCalmKeptLemmas.{KeepsNetwork, acts_keep, delay_kept, links_quiet, same_snapshot}
-use Rattle.gptp_invariants.proofs.ChoicePlaceLemmas.{station_from}
 use Rattle.gptp_invariants.proofs.ChoiceSeenActLemmas.{acts_seen}
 use Rattle.gptp_invariants.proofs.ChoiceSettlesAsMachineLemmas.{kept_back, paths_bound}
 use Rattle.gptp_invariants.proofs.WorldNewsCourseLemmas.{later_keeps}
@@ -37,13 +39,14 @@ use Rattle.gptp_invariants.proofs.WorldOutlineLemmas.{acts_time}
 use Rattle.gptp_invariants.proofs.WorldStandsLemmas.{stands_well}
 use Rattle.gptp_settling_time.proofs.AgesByLemmas.{UnlinkedAgeBy, by_all, by_kept}
 use Rattle.gptp_settling_time.proofs.AgesByWorldLemmas.{WorldAgesBy}
-use Rattle.gptp_settling_time.proofs.AgingLemmas.{aged_gone}
-use Rattle.gptp_settling_time.proofs.AgingClaimedLemmas.{aging_facts, aging_network, named_in, same_aging, stay_of}
-use Rattle.gptp_settling_time.proofs.AlwaysClaimedLemmas.{IsStanding, calm_timed, start_calm, start_network}
+use Rattle.gptp_settling_time.proofs.AgingLemmas.{HeardNearer, HearersHoldNothing, aged_gone}
+use Rattle.gptp_settling_time.proofs.AgingClaimedLemmas.{aging_after, aging_facts, aging_network, named_in, off_none, same_aging, stay_of}
+use Rattle.gptp_settling_time.proofs.AlwaysClaimedLemmas.{IsStanding, calm_timed}
 use Rattle.gptp_settling_time.proofs.EmptiedLemmas.{older_after, older_calm}
 use Rattle.gptp_settling_time.proofs.FallAlwaysLemmas.{fallen_by, settles_by}
 use Rattle.gptp_settling_time.proofs.FitsLemmas.{UnlinkedHoldNothing}
-use Rattle.gptp_settling_time.proofs.LeftClaimedLemmas.{HaveAskedBy, HaveAskedLong, asked_acts, asked_heard, asked_later, bare_calm, left_calm, left_network, standing_acts, standing_later}
+use Rattle.gptp_settling_time.proofs.LeftClaimedLemmas.{HaveAskedBy, HaveAskedLong, asked_acts, asked_later, left_calm, left_network, standing_acts, standing_later}
+use Rattle.gptp_settling_time.proofs.NearEndLemmas.{near_ends_hold_none, near_ends_stay}
 use Rattle.gptp_settling_time.proofs.LinkBetweenLemmas.{IsLinkBetween, SameSenders, between_kept, lane_between, senders_kept}
 use Rattle.gptp_settling_time.proofs.OffForGoodLemmas.{AreOffForGood, GoOnOff, good_acts, good_later, stays_disabled}
 use Rattle.gptp_settling_time.proofs.SplitLemmas.{IsSplit, SplitSettles, SplitState, SplitStaysOff, SplitsBack, split_settles_on, splits_on, timed_split}
