@@ -111,8 +111,8 @@ module _ (p : SettlingParams) (silent : ℕ) (w : WorldState) (standing : IsStan
 -- ---- the claim
 
 -- What is claimed of a world since such a failure: what it holds at ports without a link that heard a nearer system
--- ages before a time. All that it holds and that is in flight fits the snapshot of before, and each unmoved system tells
--- its root and steps. Those beside a farther one are unmoved.
+-- ages before a time. All that it holds and that is in flight fits the snapshot of before, and each unmoved system
+-- tells its root and steps. One that lost its link to a farther one is unmoved.
 pub record IsAgingAlways (p : SettlingParams) (g : Snapshot) (aged silent : ℕ) (w : WorldState) : Type 0 where
   pub standing : IsStanding p silent w
   pub asked : HaveAskedLong w

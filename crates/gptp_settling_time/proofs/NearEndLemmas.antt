@@ -1,5 +1,5 @@
--- One system fails. Who was joined to it and no farther from the best keeps its best and its distance, since no shortest
--- path to it leads through that system. It tells over the link, and so holds nothing that came over it.
+-- One system fails. Who was joined to it and no farther from the best keeps its best and its distance, since no
+-- shortest path to it leads through that system. It tells over the link, and so holds nothing that came over it.
 use Rattle.std.proofs.Common.{◌≡◌, ◌≢◌, ◌<◌, ◌≤◌, ℕ, zero, suc, true, List, [], ◌∷◌, Some, slice_get, sym, subst, ◌∙◌, inl, inr, arith}
 use Rattle.gptp_lists.specs.Members.{In}
 use Rattle.gptp_graph.specs.Best.{IsBest}

@@ -248,8 +248,8 @@ module _ (p : SettlingParams) (g : Snapshot) (By : PortIdentity → ℕ → Type
         (λ linked. bare (subst (λ c. IsLinked n.graph (port_of c (suc i))) clock'
         (subst (λ h. IsLinked h (port_of u'.clock (suc i))) graph' linked))) held
 
-    -- Once that time is over nothing is received at ports without a link of moved systems: they heard a nearer one, since
-    -- they would be unmoved beside a farther one.
+    -- Once that time is over moved systems hold nothing at ports without a link: those heard a nearer system, for who
+    -- lost its link to a farther one is unmoved.
     none' : UnlinkedHoldNone g n start (view w')
     none' over v u place r moved at live clock bare holds = elim may [
       | inl soon ↦
