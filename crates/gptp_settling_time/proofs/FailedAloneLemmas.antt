@@ -379,8 +379,8 @@ module _ (p : SettlingParams) (number : ℕ) (w : WorldState) (draws : List Draw
         ]
 
     -- it is gone, and no link is at it any more
-    dead : In number (clocks g') → ⊥
-    dead known =
+    not_left : In number (clocks g') → ⊥
+    not_left known =
         let (s, member, named) = system_of g' number known in
         let at = live_from w'.stations s member in
         let old = stood at.place at.station at.here at.live in
@@ -389,12 +389,12 @@ module _ (p : SettlingParams) (number : ℕ) (w : WorldState) (draws : List Draw
         (clock_is ∙ sym k.is.named))
 
     pub none_joined : (a b : PortIdentity) → Joins g' a b → a.clock ≢ number
-    none_joined a b joins same = dead (subst (λ c. In c (clocks g')) same (Joins-clock g' a b well' joins))
+    none_joined a b joins same = not_left (subst (λ c. In c (clocks g')) same (Joins-clock g' a b well' joins))
 
     -- so it is of each network that has what is left
     pub loses_it : (n : Network) → n.graph ≡ g' → LosesSystem g n number
     loses_it n graph = record {
-      dead = λ known. dead (subst (λ h. In number (clocks h)) graph known);
+      dead = λ known. not_left (subst (λ h. In number (clocks h)) graph known);
       others = λ v known. elim (lives_still v known) [
         | inl is_it ↦ inr is_it
         | inr still ↦ inl (subst (λ h. In v (clocks h)) (sym graph) still)

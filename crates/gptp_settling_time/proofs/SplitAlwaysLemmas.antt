@@ -101,7 +101,7 @@ module _ (p : SettlingParams) (silent : ℕ) (w : WorldState) (standing : IsStan
       aged_gone says_announce g (network_setting (aging_network p silent w)) (stay_of p) gone (view w)
       (aging_facts p silent w standing asked quiet)
       (by_all says_announce g (snapshot_of w) (stay_of p) By gone (view w) most (by quiet)) now
-  hearers_none g By gone by (inr soon) now i s place r there live unlinked heard =
+  hearers_none g By gone by (inr soon) now = λ i s place r there live unlinked heard.
       off_none p silent w standing asked quiet (omega (arith, soon, now)) i s place r there live unlinked
 
   -- nor at any other: what came from a farther system wasn't taken
