@@ -10,7 +10,6 @@ use Rattle.gptp_scenario.specs.Calm.{NothingLapses}
 use Rattle.gptp_scenario.specs.declared.change.Act.TheVariants.{Change as Changing}
 use Rattle.gptp_scenario.specs.declared.change.Change.TheVariants.{LinkDown}
 use Rattle.gptp_setup.specs.SettlingParams.{SettlingParams}
-use Rattle.gptp_system.specs.State.{clock}
 use Rattle.gptp_model.specs.Acts.{Acts, AtLink}
 use Rattle.gptp_model.specs.Changing.{GoesDownIf, IsChannel, taken_down}
 use Rattle.gptp_model.specs.declared.done.Done.{Done}
