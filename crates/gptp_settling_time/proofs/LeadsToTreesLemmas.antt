@@ -1,5 +1,5 @@
 -- An event leads a world that had rested, and whose choice had stood, to one in which trees of systems are moved.
-use Rattle.std.proofs.Common.{List, [], arith, inl, inr, subst, sym, ℕ, ◌++◌, ◌+◌, ◌∷◌, ◌≡◌, ◌≤◌}
+use Rattle.std.proofs.Common.{List, [], arith, inl, inr, subst, sym, ℕ, ◌++◌, ◌+◌, ◌<◌, ◌∷◌, ◌≡◌, ◌≤◌}
 use Rattle.gptp_links.specs.Fate.{Draw}
 use Rattle.gptp_setup.specs.SettlingParams.{SettlingParams}
 use Rattle.gptp_scenario.specs.Calm.{IsCalm, NothingLapses, last_change}

@@ -3,7 +3,7 @@ use Rattle.std.proofs.Common.{◌≡◌, ◌⊎◌, inl, inr, ◌<◌, ◌≤◌
 use Rattle.std.specs.List.{AllByRecursion}
 use Rattle.std.proofs.Math.Nat.{le-max_left, le-max_right}
 use native.Mathlib.Decide.{dec_le}
-use Rattle.gptp_scenario.specs.Calm.{IsCalm, NothingLapses}
+use Rattle.gptp_scenario.specs.Calm.{IsCalm, NothingLapses, last_change}
 use Rattle.gptp_scenario.specs.Network.{IsNetwork, NetworkState, pace_of}
 use Rattle.gptp_scenario.specs.SettlingTime.{loss_span, silence_span, way_span}
 use Rattle.gptp_scenario.specs.SyncWait.{sync_paths}
@@ -281,11 +281,8 @@ module _ (d : DocumentState) (network : IsNetwork d.network) (order : AreInOrder
         n : NetworkState
         n = d.network
 
-        abbrev earlier : List Timed
+        earlier : List Timed
         earlier = events_by last d.events
-
-        abbrev silence : ℕ
-        silence = silence_span (pace_of n)
 
         all_here : AllByRecursion (λ (t : Timed). t.at ≡ time) (event ∷ now)
         all_here = subst (AllByRecursion (λ (t : Timed). t.at ≡ time)) is (all_at time d.events)
@@ -297,12 +294,14 @@ module _ (d : DocumentState) (network : IsNetwork d.network) (order : AreInOrder
         others_here = subst (λ at. AllByRecursion (λ (t : Timed). t.at ≡ at) now) (sym here) all_here.1
 
         past : ℕ → Past
-        past span = Split earlier (suc (event.at + min span silence)) (suc (event.at + silence))
+        past span =
+            Split earlier (suc (event.at + min span (silence_span (pace_of n))))
+            (suc (event.at + silence_span (pace_of n)))
 
         lead : (span : ℕ) → AgesWithin n earlier (earlier ++ event ∷ now) event.at span
             → LeadOn n [] before.first (events_by time d.events) (past span)
         lead span within =
-            let over = last_by last d.events in
+            let over : last_change earlier ≤ last = last_by last d.events in
             let later = arrives_later n earlier (suc (last + choice_then)) arrived arrives in
             let (seen, taken, settled) = before.settles in
             subst (λ es. LeadOn n [] before.first es (past span)) (sym parts)
@@ -316,8 +315,9 @@ module _ (d : DocumentState) (network : IsNetwork d.network) (order : AreInOrder
         paths : choice ≡ held + 2 * way_span (sync_paths n (events_by time d.events))
         paths = is_choice ∙ ap (λ es. held + 2 * way_span (sync_paths n es)) (sym parts)
 
-        lost : (span : ℕ) → AgesWithin n earlier (earlier ++ event ∷ now) event.at span → min span silence ≤ held
-            → (silence ≤ quiet) ⊎ NoneSilent n earlier (events_by time d.events) → IsLost
+        lost : (span : ℕ) → AgesWithin n earlier (earlier ++ event ∷ now) event.at span
+            → min span (silence_span (pace_of n)) ≤ held
+            → (silence_span (pace_of n) ≤ quiet) ⊎ NoneSilent n earlier (events_by time d.events) → IsLost
         lost span within less dark =
             let chosen = le-max_left choice quiet in
             let asked = le-max_right choice quiet in
