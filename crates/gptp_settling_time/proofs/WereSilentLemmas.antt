@@ -1,5 +1,5 @@
 -- Ports beside failed systems since a loss: they weren't capable as it came, or their links were in use then.
-use Rattle.std.proofs.Common.{◌≡◌, ◌⊎◌, ◌≤◌, ℕ, true, false, List, Some, slice_get, refl, sym, ap, subst, ◌∙◌, inl, inr, arith}
+use Rattle.std.proofs.Common.{◌≡◌, ◌⊎◌, ◌≤◌, ℕ, true, false, List, Option, Some, slice_get, refl, sym, ap, subst, ◌∙◌, inl, inr, arith}
 use Rattle.gptp_lists.proofs.MappedLemmas.{alike, same_there}
 use Rattle.gptp_lists.proofs.PlaceLemmas.{same_place}
 use Rattle.gptp_links.specs.Fate.{Draw}
