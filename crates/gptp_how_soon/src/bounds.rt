@@ -375,9 +375,7 @@ fn sound_by(network: &Network, loss: Loss, paths: SyncPaths, row: Row, gained: u
     let gone = gone_by(network, paths, loss.used_before);
     let gone_before = gone_by(network, loss.paths_before, loss.used_before);
     match row {
-        Row::AnyPast | Row::PowerCutsTrees | Row::FailureCutsTrees => {
-            settling_span_at_once(network, paths)
-        }
+        Row::AnyPast => settling_span_at_once(network, paths),
         Row::Unchanged => 0,
         Row::Lowered => echo_span(network, paths).max(gone),
         Row::CutOff | Row::TreeCutOff => (2 * way_span(paths)).max(gone),
@@ -391,7 +389,9 @@ fn sound_by(network: &Network, loss: Loss, paths: SyncPaths, row: Row, gained: u
             aged.max(aged_echo_span(network, loss, paths))
         }
         Row::OneTurned | Row::TreeTurned => 2 * way_span(paths) + echo_span(network, paths),
-        Row::AnyLosses => roles_after_losses(network, loss, paths),
+        Row::PowerCutsTrees | Row::FailureCutsTrees | Row::AnyLosses => {
+            roles_after_losses(network, loss, paths)
+        }
         Row::Gained => gained,
     }
 }
