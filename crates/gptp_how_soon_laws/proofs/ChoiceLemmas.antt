@@ -33,7 +33,7 @@ use Rattle.gptp_settling_time.proofs.MomentLemmas.{all_at, last_by, parted}
 use Rattle.gptp_settling_time.proofs.WellFormedLemmas.{after_well}
 use Rattle.gptp_how_soon_laws.specs.Choice.{SettlingsAreChoiceBounds}
 use Rattle.gptp_how_soon_laws.proofs.RowBoundLemmas.{HasOwnBounds, IsSoundSooner, IsTelling, bounds_choice, choice_or_own, past_row, sound_or_sooner, tells}
-use Rattle.gptp_how_soon_laws.proofs.RowLemmas.{ComesLate, CutsLate, FailsLate, any_losses, cut_off, failed, failure_cuts, gained, heard, lost_end, lost_power, lowered, power_cuts, tree_cut, tree_turned, turned, unchanged}
+use Rattle.gptp_how_soon_laws.proofs.RowLemmas.{ComesLate, CutsLate, FailsLate, any_losses, cut_off, failed, failure_cuts, gained, heard, losses, lost_end, lost_power, lowered, power_cuts, tree_cut, tree_turned, turned, unchanged}
 use Rattle.gptp_how_soon_laws.proofs.RowTestLemmas.{HasComeToRest}
 use Rattle.gptp_how_soon_laws.proofs.SilentLemmas.{held_for, last_now}
 use Rattle.gptp_how_soon_laws.proofs.StartRowLemmas.{first_past, first_roles, first_sound, never_unchanged, started}
@@ -289,7 +289,7 @@ module _ (d : DocumentState) (playable : IsPlayable d) where
           ))))),
         )
     rests_by sound told (inr (inr (inr (inr (inr (inr (inr (inl (row, is))))))))) =
-        let (rest, loses, roles) = any_losses n playable.network all b at late row in
+        let (rest, loses, roles) = losses n playable.network all b at late row in
         inl (
           rest,
           inr (

@@ -133,6 +133,10 @@ choice_or_own n loss paths row gained = by (n.params.sync_timeout == 0) refl row
     by true is FailureCutsTrees = inr (eqb-true n.params.sync_timeout 0 is, tt, refl, refl)
     by true is AnyLosses = inr (eqb-true n.params.sync_timeout 0 is, tt, refl, refl)
 
+-- all is sound as after any loss
+abbrev pub HasLossSpan : Row → Type 0
+HasLossSpan row = (row ≡ AnyLosses) ⊎ ((row ≡ PowerCutsTrees) ⊎ (row ≡ FailureCutsTrees))
+
 -- All is sound by that bound. Or nothing lapses, and it is sooner after a loss.
 abbrev pub IsSoundSooner : NetworkState → Loss → SyncPaths → Row → ℕ → Type 0
 IsSoundSooner n loss paths row sound =
@@ -143,7 +147,7 @@ IsSoundSooner n loss paths row sound =
     ⊎ ((((row ≡ OneTurned) ⊎ (row ≡ TreeTurned)) × (sound ≡ 2 * way_span paths + echo_span (pace_of n) paths))
     ⊎ ((((row ≡ LostPower) ⊎ (row ≡ PowerCutsOff)) × (max (echo_span (pace_of n) paths) paths.delay ≤ sound))
     ⊎ ((((row ≡ FailedHeard) ⊎ (row ≡ FailureCutsOff)) × (aged_echo_span n loss paths ≤ sound))
-    ⊎ (((row ≡ AnyLosses) × (sound ≡ roles_after_losses n loss paths))
+    ⊎ ((HasLossSpan row × (sound ≡ roles_after_losses n loss paths))
     ⊎ ((row ≡ TreeCutOff) × (sound ≡ max (2 * way_span paths) (gone_by n paths loss.used_before))))))))))
 
 pub sound_or_sooner : (n : NetworkState) (loss : Loss) (paths : SyncPaths) (row : Row)
@@ -156,6 +160,9 @@ sound_or_sooner n loss paths row gained = by (n.params.sync_timeout == 0) refl r
     span : ℕ
     span = settling_span_with (pace_of n) paths paths.systems
 
+    of_loss : (r : Row) → HasLossSpan r → IsSoundSooner n loss paths r (roles_after_losses n loss paths)
+    of_loss r is = inr (inr (inr (inr (inr (inr (inr (inl (is, refl))))))))
+
     by : (off : Bool) → (n.params.sync_timeout == 0) ≡ off → (r : Row)
         → (cond (not off) span (sound_of_row n loss paths r gained)
         ≡ cond (not off) span (choice_of_row n loss paths (past_row r) gained))
@@ -166,8 +173,6 @@ sound_or_sooner n loss paths row gained = by (n.params.sync_timeout == 0) refl r
     by true is AnyPast = inl refl
     by true is Unchanged = inl refl
     by true is Gained = inl refl
-    by true is PowerCutsTrees = inl refl
-    by true is FailureCutsTrees = inl refl
     by true is LostEnd = inr (eqb-true n.params.sync_timeout 0 is, inl (refl, refl))
     by true is FailedEnd = inr (eqb-true n.params.sync_timeout 0 is, inr (inl (refl, refl)))
     by true is Lowered = inr (eqb-true n.params.sync_timeout 0 is, inr (inr (inl (refl, refl))))
@@ -184,8 +189,9 @@ sound_or_sooner n loss paths row gained = by (n.params.sync_timeout == 0) refl r
         inr (eqb-true n.params.sync_timeout 0 is, inr (inr (inr (inr (inr (inr (inl (inl refl, omega arith))))))))
     by true is FailureCutsOff =
         inr (eqb-true n.params.sync_timeout 0 is, inr (inr (inr (inr (inr (inr (inl (inr refl, omega arith))))))))
-    by true is AnyLosses =
-        inr (eqb-true n.params.sync_timeout 0 is, inr (inr (inr (inr (inr (inr (inr (inl (refl, refl)))))))))
+    by true is AnyLosses = inr (eqb-true n.params.sync_timeout 0 is, of_loss AnyLosses (inl refl))
+    by true is PowerCutsTrees = inr (eqb-true n.params.sync_timeout 0 is, of_loss PowerCutsTrees (inr (inl refl)))
+    by true is FailureCutsTrees = inr (eqb-true n.params.sync_timeout 0 is, of_loss FailureCutsTrees (inr (inr refl)))
     by true is TreeCutOff =
         inr (eqb-true n.params.sync_timeout 0 is, inr (inr (inr (inr (inr (inr (inr (inr (refl, refl)))))))))
 

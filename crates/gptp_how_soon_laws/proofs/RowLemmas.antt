@@ -32,7 +32,7 @@ use Rattle.gptp_settling_time.specs.TreeLosses.{LowersTree, TurnsTreeLink}
 use Rattle.gptp_settling_time.proofs.CutLemmas.{all_by}
 use Rattle.gptp_settling_time.proofs.LeadOnLemmas.{all_still}
 use Rattle.gptp_settling_time.proofs.MomentLemmas.{all_at}
-use Rattle.gptp_how_soon_laws.proofs.AnyLossLemmas.{all_losses, none_fails}
+use Rattle.gptp_how_soon_laws.proofs.AnyLossLemmas.{all_losses, failing_loses, none_fails}
 use Rattle.gptp_how_soon_laws.proofs.GainLemmas.{AreFollowed, AreTurnsFollowed}
 use Rattle.gptp_how_soon_laws.proofs.GainedLemmas.{all_gained, all_heard, all_idle, all_wider}
 use Rattle.gptp_how_soon_laws.proofs.FailedLemmas.{fails_end_first, fails_heard_first, used_up}
@@ -42,6 +42,7 @@ use Rattle.gptp_how_soon_laws.proofs.LoweredLemmas.{GoesDown, lowers_one_link, o
 use Rattle.gptp_how_soon_laws.proofs.TreeEventLemmas.{lowers_tree, turns_tree_by}
 use Rattle.gptp_how_soon_laws.proofs.TurnedLemmas.{turns_one_link}
 use Rattle.gptp_how_soon_laws.proofs.UnmovedLemmas.{AreWell, all_still_unmoved}
+use Rattle.gptp_how_soon_laws.proofs.RowBoundLemmas.{HasLossSpan}
 use Rattle.gptp_how_soon_laws.proofs.RowReasonLemmas.{ReasonOf, Tests, reason_of}
 use Rattle.gptp_how_soon_laws.proofs.RowTestLemmas.{HasComeToRest, at_most, counts_all, counts_joined, failing_takes, leaves_all, longest_within, lowering_takes, not_both, over_before, rested_for_so, rested_so}
 
@@ -506,21 +507,40 @@ module _ (n : NetworkState) (network : IsNetwork n) (events : List Timed) (b : S
 
   -- Or there are losses, and nothing is brought. Then roles stand with the choice; or no sooner than no port beside a
   -- system that fails is left capable.
-  pub any_losses : row_at v ≡ AnyLosses
-      → HasComeToRest b at × LosesEvents n made now
+  abbrev pub LosesSome : Type 0
+  LosesSome =
+      HasComeToRest b at × LosesEvents n made now
       × ((choice : ℕ) → RolesAfterLoss n made now choice
       (if leaves_silent v.used v.told then max choice (silence_span (pace_of n)) else choice))
-  any_losses row =
-      let (from, loss, only) = why AnyLosses row in (
-        (from_rest from).rested,
-        all_losses n network made now only loss,
-        by only v.used (list_any is_failing v.told) refl refl,
-      )
+
+  loses_some : is_from_rest v.longest at v.paths_before v.paths v.told (Some b) ≡ true
+      → list_all brings_nothing v.told ≡ true → list_any is_loss v.told ≡ true → LosesSome
+  loses_some from only loss = (
+    (from_rest from).rested,
+    all_losses n network made now only loss,
+    by v.used (list_any is_failing v.told) refl refl,
+  )
     where
-      by : list_all brings_nothing v.told ≡ true → (used failing : Bool) → v.used ≡ used
-          → list_any is_failing v.told ≡ failing → (choice : ℕ)
+      by : (used failing : Bool) → v.used ≡ used → list_any is_failing v.told ≡ failing → (choice : ℕ)
           → RolesAfterLoss n made now choice
           (if not used && failing then max choice (silence_span (pace_of n)) else choice)
-      by only true failing used none choice = inl (inr (used_up n network (made ++ now) used), refl)
-      by only false false used none choice = inl (inl (none_fails n network made now only none), refl)
-      by only false true used none choice = inr refl
+      by true failing used none choice = inl (inr (used_up n network (made ++ now) used), refl)
+      by false false used none choice = inl (inl (none_fails n network made now only none), refl)
+      by false true used none choice = inr refl
+
+  pub any_losses : row_at v ≡ AnyLosses → LosesSome
+  any_losses row = let (from, loss, only) = why AnyLosses row in loses_some from only loss
+
+  -- so it is where a system fails and cuts trees off
+  trees_lose : is_from_rest v.longest at v.paths_before v.paths v.told (Some b) ≡ true
+      → (is_failing_followed v.paths_before v.paths v.told && v.moves.trees_fall) ≡ true → LosesSome
+  trees_lose from trees =
+      let (followed, fall) = and_parts (is_failing_followed v.paths_before v.paths v.told) v.moves.trees_fall trees in
+      let (keeps, fails) = and_parts (keeps_paths v.paths_before v.paths) (fails_first v.told) followed in
+      let (only, loss) = failing_loses v.told fails in
+      loses_some from only loss
+
+  pub losses : HasLossSpan (row_at v) → LosesSome
+  losses (inl row) = any_losses row
+  losses (inr (inl row)) = let (from, trees, used) = why PowerCutsTrees row in trees_lose from trees
+  losses (inr (inr row)) = let (from, trees) = why FailureCutsTrees row in trees_lose from trees
