@@ -1,6 +1,6 @@
 -- What is told of each time of a document is so: its choice and roles are choice bounds or loss bounds. The network has
 -- come to rest by a rest bound.
-use Rattle.std.proofs.Common.{◌≡◌, ◌<◌, ◌≤◌, ◌⊎◌, inl, inr, ◌+◌, ◌*◌, max, ℕ, Bool, true, false, cond, List, [], ◌∷◌, ◌++◌, Some, None, refl, sym, ap, subst, ◌∙◌, arith}
+use Rattle.std.proofs.Common.{◌≡◌, ◌<◌, ◌≤◌, ◌⊎◌, inl, inr, ◌+◌, ◌*◌, max, ℕ, Bool, true, false, cond, List, [], ◌∷◌, ◌++◌, Some, None, suc, refl, sym, ap, subst, ◌∙◌, arith}
 use Rattle.std.specs.Prelude.{◌==◌, min, nat_le, nat_lt}
 use Rattle.std.specs.List.{AllByRecursion}
 use Rattle.std.proofs.lemmas.Bool.{eqb-false, eqb-true}
@@ -26,7 +26,7 @@ use Rattle.gptp_how_soon.specs.declared.bounds.Row.{Row}
 use Rattle.gptp_how_soon.specs.declared.bounds.Row.TheVariants.{AnyLosses, AnyPast, CutOff, FailedEnd, FailedHeard, FailureCutsOff, FailureCutsTrees, Gained, LostEnd, LostPower, Lowered, OneTurned, PowerCutsOff, PowerCutsTrees, TreeCutOff, TreeTurned, Unchanged}
 use Rattle.gptp_how_soon.specs.declared.bounds.Settling.{Settling}
 use Rattle.gptp_how_soon.specs.declared.bounds.SettlingTime.{SettlingTime}
-use Rattle.gptp_settling_time.specs.HowSoon.{BoundsAging, BoundsAnyLoss, BoundsChoice, BoundsEvents, BoundsLoss, BoundsSplit, BoundsStart, BoundsTree, FailsHeardFirst, FailsTreesFirst, HeldFor, IsChoiceBoundAfter, IsLossBoundAfter, IsRestBoundAfter, NoneBetween, RestsAfterLoss, RestsTree, TreeNext}
+use Rattle.gptp_settling_time.specs.HowSoon.{BoundsAging, BoundsAnyLoss, BoundsChoice, BoundsEvents, BoundsLoss, BoundsSplit, BoundsStart, BoundsTree, FailsHeardFirst, FailsTreesFirst, HasArrivedNext, HeldFor, IsChoiceBoundAfter, IsLossBoundAfter, IsRestBoundAfter, NoneBetween, RestsAfterLoss, RestsTree, TreeNext}
 use Rattle.gptp_settling_time.specs.InTurn.{FlightIsGone, turned_echo_span}
 use Rattle.gptp_settling_time.specs.TreeLosses.{LowersTree, TurnsTreeLink}
 use Rattle.gptp_settling_time.proofs.MomentLemmas.{all_at, last_by, parted}
@@ -210,21 +210,24 @@ module _ (d : DocumentState) (playable : IsPlayable d) where
     held_trees : FailsTreesFirst n made now → HeldFor n made now v.held
     held_trees fails = held (some_now (FailsTreesFirst n made) (λ none. none) fails)
 
+    -- what was in flight as the time before was sound has arrived an announce interval later
+    come : (sound rest : ℕ) → sound ≤ rest → b.at + (rest + largest_interval (pace_of n)) < at
+        → HasArrivedNext n all b.at sound at
+    come sound rest less passed =
+        (suc (b.at + sound) + largest_interval (pace_of n), inl refl, omega (arith, less, passed))
+
     -- an event of this kind comes an announce interval after the time before has come to rest, and all ask for this
     tree_next : (Is : List Timed → Timed → Type 0) (Asks : List Timed → Type 0) → IsCalm n (events_by at all)
         → NothingLapses n.params → (rest : HasComeToRest b at) → ComesLate n playable.network all b at late Is rest
         → Asks (made ++ now)
         → TreeNext n Is all (λ then. IsRestBoundAfter n all earlier b.at then) b.at at Asks
     tree_next Is Asks calm off rest tree asks =
-        let bound = (sound_before rest).0 in
-        let then = so rest.settling rest.is in
-        let less = then.rest in
-        let passed = tree.longer in (
+        let bound = (sound_before rest).0 in (
           late,
           between,
           calm,
           off,
-          (rest.settling.sound, bound, omega (arith, less, passed)),
+          (rest.settling.sound, bound, come rest.settling.sound rest.settling.rest (so rest.settling rest.is).rest tree.longer),
           tree.lowers,
           subst Asks (sym (parted all b.at at playable.events.in_order late between)) asks,
         )
@@ -343,14 +346,12 @@ module _ (d : DocumentState) (playable : IsPlayable d) where
         (choice, roles))))
     lost s settles off (inr (inr (x, splits))) =
         let then = so x.rest.settling x.rest.is in
-        let less = then.rest in
-        let passed = x.longer in
         inr (inr (inr (
           late,
           between,
           settles.2.0,
           off,
-          (x.rest.settling.sound, then.sound, omega (arith, less, passed)),
+          (x.rest.settling.sound, then.sound, come x.rest.settling.sound x.rest.settling.rest then.rest x.longer),
           x.fails,
           splits,
         )))
