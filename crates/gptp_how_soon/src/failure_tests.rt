@@ -63,24 +63,21 @@ fn a_system_that_others_hear_costs_the_choice_what_they_hold_it_for(
 #[test]
 fn what_is_held_ages_by_the_interval_of_its_port(rt: HostRuntime) -> Result<(), Fail> {
     // d announces twice a second, the others once. Its interval counts once an announce interval and the longest
-    // receipt timeout have passed since the start.
-    for (case, at, choice) in [
-        ("its own interval", 4_000_000_001, 1_500_000_410),
-        ("too soon for it", 4_000_000_000, 3_000_000_410),
+    // receipt timeout have passed since the start. c alone hears it, by the second port.
+    for (case, announce, at, choice) in [
+        ("its own interval", "[-1, -1]", 4_000_000_001, 1_500_000_410),
+        ("too soon for it", "[-1, -1]", 4_000_000_000, 3_000_000_410),
+        ("that of another port", "[1, -1]", 8_000_000_001, 1_500_000_410),
     ] {
         let mut text = String::new(rt.alloc());
         text.push_str("version = 2\n[network]\npdelay = -1\n")?;
-        for (clock, more) in [
-            ("a", "priority1 = 128"),
-            ("b", ""),
-            ("c", ""),
-            ("d", "announce = [-1, -1]"),
-        ] {
+        for (clock, more) in [("a", "priority1 = 128"), ("b", ""), ("c", ""), ("d", "")] {
             writeln!(
                 text,
                 "[[system]]\nclock = \"000000000000000{clock}\"\nports = 2\n{more}"
             )?;
         }
+        writeln!(text, "announce = {announce}")?;
         for (a, b) in [("a", "b"), ("b", "c"), ("c", "d"), ("d", "a")] {
             writeln!(
                 text,

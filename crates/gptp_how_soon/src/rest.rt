@@ -31,6 +31,9 @@ pub struct Moves {
     pub trees_fall: bool,
     /// Whether those that they name were far ends.
     pub far: bool,
+    /// For how long it counts what others hold of a system that fails, in ns; 0 where no link is left silent whose far
+    /// end lives.
+    pub held: u64,
 }
 
 /// Whether a time is later than another by more than a span.
