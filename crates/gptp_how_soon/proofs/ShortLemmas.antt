@@ -182,8 +182,8 @@ module _ (n : NetworkState) (network : IsNetwork n) (paths : SyncPaths) (few : p
         by OneTurned = let w = way in let e = echo in omega (arith, w, e)
         by TreeCutOff = let w = way in let g = gone paths short in omega (arith, w, g)
         by TreeTurned = let w = way in let e = echo in omega (arith, w, e)
-        by PowerCutsTrees = at_once
-        by FailureCutsTrees = at_once
+        by PowerCutsTrees = roles_lost
+        by FailureCutsTrees = roles_lost
         by AnyLosses = roles_lost
         by Gained = early
 

@@ -136,7 +136,8 @@ aged_echo_span n loss paths =
 -- links of before too. Where ports beside it may still be capable roles have to stand too. After a link goes down by
 -- which no system is moved, or a system that others heard loses its power, traces have to be told anew first. So they
 -- do once the choice stands where one system or a tree turns, or one fails that others heard. After losses without a
--- row of their own all is sound once roles stand. After others it is as soon as the choice stands from any past.
+-- row of their own all is sound once roles stand, and no later where a failure cuts trees off. After others it is as
+-- soon as the choice stands from any past.
 abbrev pub sound_of_row : NetworkState → Loss → SyncPaths → Row → ℕ → ℕ
 sound_of_row n loss paths AnyPast gained = settling_span_at_once (pace_of n) paths
 sound_of_row n loss paths Unchanged gained = 0
@@ -153,8 +154,8 @@ sound_of_row n loss paths FailureCutsOff gained = max (loss.held + 2 * way_span 
 sound_of_row n loss paths OneTurned gained = 2 * way_span paths + echo_span (pace_of n) paths
 sound_of_row n loss paths TreeCutOff gained = max (2 * way_span paths) (gone_by n paths loss.used_before)
 sound_of_row n loss paths TreeTurned gained = 2 * way_span paths + echo_span (pace_of n) paths
-sound_of_row n loss paths PowerCutsTrees gained = settling_span_at_once (pace_of n) paths
-sound_of_row n loss paths FailureCutsTrees gained = settling_span_at_once (pace_of n) paths
+sound_of_row n loss paths PowerCutsTrees gained = roles_after_losses n loss paths
+sound_of_row n loss paths FailureCutsTrees gained = roles_after_losses n loss paths
 sound_of_row n loss paths AnyLosses gained = roles_after_losses n loss paths
 sound_of_row n loss paths Gained gained = gained
 

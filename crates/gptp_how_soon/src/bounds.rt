@@ -376,9 +376,7 @@ fn sound_by(network: &Network, loss: Loss, paths: SyncPaths, row: Row, gained: u
     let gone = gone_by(network, paths, loss.used_before);
     let gone_before = gone_by(network, loss.paths_before, loss.used_before);
     match row {
-        Row::AnyPast | Row::PowerCutsTrees | Row::FailureCutsTrees => {
-            settling_span_at_once(network, paths)
-        }
+        Row::AnyPast => settling_span_at_once(network, paths),
         Row::Unchanged => 0,
         Row::Lowered => echo_span(network, paths).max(gone),
         Row::CutOff | Row::TreeCutOff => (2 * way_span(paths)).max(gone),
@@ -392,7 +390,9 @@ fn sound_by(network: &Network, loss: Loss, paths: SyncPaths, row: Row, gained: u
             aged.max(aged_echo_span(network, loss, paths))
         }
         Row::OneTurned | Row::TreeTurned => 2 * way_span(paths) + echo_span(network, paths),
-        Row::AnyLosses => roles_after_losses(network, loss, paths),
+        Row::PowerCutsTrees | Row::FailureCutsTrees | Row::AnyLosses => {
+            roles_after_losses(network, loss, paths)
+        }
         Row::Gained => gained,
     }
 }
@@ -459,6 +459,16 @@ pub(crate) fn arrived_by(at: u64, longest: u64, last_set: Option<u64>) -> u64
 {
     match last_set {
         Some(last) => last + longest,
+        None => 0,
+    }
+}
+
+/// The same where nothing is known of these times.
+pub(crate) fn arrived_before(longest: u64, last_set: Option<u64>) -> u128
+    ensures { result ≡ arrived_by longest last_set }
+{
+    match last_set {
+        Some(last) => u128::from(last) + u128::from(longest),
         None => 0,
     }
 }
