@@ -61,6 +61,10 @@ pub mod SettledClaimedLemmas
 pub mod WorldMovesLemmas
 pub mod LossMadeLemmas
 pub mod AfterLemmas
+pub mod RestedSoLemmas
+pub mod LeadsToHeardLemmas
+pub mod LeadsToLossLemmas
+pub mod LeadsToTreesLemmas
 pub mod LeadsLemmas
 pub mod InTurnLemmas
 pub mod UnchangedLemmas
@@ -68,6 +72,8 @@ pub mod ExactInTurnLemmas
 pub mod SamePathsLemmas
 pub mod MomentLemmas
 pub mod FollowedLemmas
+pub mod LossFollowedLemmas
+pub mod BoundSettlesLemmas
 pub mod ChoiceBoundLemmas
 pub mod ReactsLemmas
 pub mod SettledSeenLemmas

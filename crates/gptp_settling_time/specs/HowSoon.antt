@@ -18,12 +18,12 @@
 --   twice the greatest delay for each system of a path but one.
 -- - By the first event a system fails that others hear, and no other comes but such links. The choice stands once what
 --   they hold of it has aged, or once no port beside it is capable. Roles stand by the latter.
--- - By the one event a link goes down that so cuts a tree off, or turns one to its one way out, an announce interval
---   after the time before has come to rest. Choice and roles ask for twice the greatest delay for each system of a
---   path but one.
--- - By the first event a system fails and so cuts trees off, an announce interval after the time before has come to
---   rest, and no other comes but such links. The choice asks for what others hold of it to age, and then for twice the
---   greatest delay for each system of a path but one. Roles stand then too, once no port beside it is capable.
+-- - By the one event a link goes down that so cuts a tree off, or turns one to its one way out, once what was sent
+--   before the time before had come to rest has arrived. Choice and roles ask for twice the greatest delay for each
+--   system of a path but one.
+-- - By the first event a system fails and so cuts trees off, once that has arrived, and no other comes but such links.
+--   The choice asks for what others hold of it to age, and then for twice the greatest delay for each system of a path
+--   but one. Roles stand then too, once no port beside it is capable.
 -- - By the events anything is taken away, whatever is moved. The choice asks for the longest receipt timeout and the
 --   greatest delay for each system of a path, and then for an announce interval and the greatest delay for each but
 --   one. Roles stand then too, once the ports beside a system that failed aren't capable any more.
@@ -53,6 +53,7 @@ use Rattle.gptp_scenario.specs.declared.sync_wait.SyncPaths.{SyncPaths}
 use Rattle.gptp_model.specs.World.{port_id}
 use Rattle.gptp_network.specs.Document.{DocumentState}
 use Rattle.gptp_network.specs.Snapshot.{events_by}
+use Rattle.gptp_settling_time.specs.Arrivals.{HasArrivedBy}
 use Rattle.gptp_settling_time.specs.Gains.{ChangesNothing, EndHasFailed, LeavesCapable, TakesNothing}
 use Rattle.gptp_settling_time.specs.InTurn.{AddsHeard, BettersClock, FlightIsGone, MakesNothing, NoneUsed, TellsNothing, UsedVaryLittle, WidensLink, turned_echo_span}
 use Rattle.gptp_settling_time.specs.Losses.{AgesWithin, CutsFarEnd, FailsFarEnd, FailsHeard, LeavesChoice, LosesAny, LowersLink, LowersUnused, TurnsLink, UpIsUsed}
@@ -347,9 +348,17 @@ LosesNext n events Then last time Asks =
     × ((then : ℕ) × Then then × (last + then < time))
     × Asks (events_by last events) (events_at time events)
 
+-- What was sent until so much later than a time has arrived by another.
+abbrev pub HasArrivedNext : NetworkState → List Timed → ℕ → ℕ → ℕ → Type 0
+HasArrivedNext n events last then time =
+    (arrived : ℕ) × HasArrivedBy n (events_by last events) (suc (last + then)) arrived × (arrived ≤ time)
+
+-- So has what was sent until the time before had come to rest, by one of its bounds.
+abbrev pub ComesAfterRest : NetworkState → List Timed → (ℕ → Type 0) → ℕ → ℕ → Type 0
+ComesAfterRest n events Then last time = (then : ℕ) × Then then × HasArrivedNext n events last then time
+
 -- By the one event of a time a tree is so moved, and all events up to it ask for what `Asks` says. Nothing lapses for
--- want of Sync. The network is calm. The event comes an announce interval after the time before has come to rest, by
--- one of its bounds.
+-- want of Sync. The network is calm. What was sent before the time before had come to rest has arrived.
 abbrev pub TreeNext : NetworkState → (List Timed → Timed → Type 0) → List Timed → (ℕ → Type 0) → ℕ → ℕ
     → (List Timed → Type 0) → Type 0
 TreeNext n Moves events Then last time Asks =
@@ -357,7 +366,7 @@ TreeNext n Moves events Then last time Asks =
     × NoneBetween events last time
     × IsCalm n (events_by time events)
     × NothingLapses n.params
-    × ((then : ℕ) × Then then × (last + then + largest_interval (pace_of n) < time))
+    × ComesAfterRest n events Then last time
     × OneEvent Moves (events_by last events) (events_at time events)
     × Asks (events_by time events)
 
@@ -374,15 +383,14 @@ abbrev pub BoundsTree : NetworkState → ℕ → ℕ → List Timed → Type 0
 BoundsTree n choice roles events = (choice ≡ 2 * way_span (sync_paths n events)) × (roles ≡ choice)
 
 -- By the first event of a time a system fails, which so cuts trees off, and they ask for what `Asks` says. Nothing
--- lapses for want of Sync. The network is calm. They come an announce interval after the time before has come to rest,
--- by one of its bounds.
+-- lapses for want of Sync. The network is calm. What was sent before the time before had come to rest has arrived.
 abbrev pub SplitsNext : NetworkState → List Timed → (ℕ → Type 0) → ℕ → ℕ → (List Timed → List Timed → Type 0) → Type 0
 SplitsNext n events Then last time Asks =
     (last < time)
     × NoneBetween events last time
     × IsCalm n (events_by time events)
     × NothingLapses n.params
-    × ((then : ℕ) × Then then × (last + then + largest_interval (pace_of n) < time))
+    × ComesAfterRest n events Then last time
     × FailsTreesFirst n (events_by last events) (events_at time events)
     × Asks (events_by last events) (events_at time events)
 

@@ -42,7 +42,7 @@
 -- too, where a system fails that is the far end of each of its links. Then roles stand once the ports beside it aren't
 -- capable any more, or at once where each link that is up is in use. A network that is left stays so where a link goes
 -- down of which an end has failed. A tree that a link cuts off falls back where what is in flight names the best: where
--- the choice had stood for an announce interval.
+-- what was sent before the choice stood has arrived.
 use Rattle.std.specs.Prelude.{◌≡◌, ◌<◌, ◌≤◌, ◌⊎◌, ◌+◌, ◌*◌, ℕ, ⊤, min, pred, suc, List, [], ◌∷◌, ◌++◌, Option, Some, slice_get}
 use Rattle.gptp_lists.specs.Members.{In}
 use Rattle.gptp_vector.specs.declared.port.PortId.{PortId}
@@ -64,6 +64,7 @@ use Rattle.gptp_network.specs.Document.{DocumentState}
 use Rattle.gptp_network.specs.Snapshot.{events_by}
 use Rattle.gptp_report.specs.Transitions.{ActTrace, Unfolds}
 use Rattle.gptp_theorem.specs.PlayedLaws.{IsPlayable}
+use Rattle.gptp_settling_time.specs.Arrivals.{HasArrivedBy}
 use Rattle.gptp_settling_time.specs.ChoiceAlone.{ChoiceStandsAs}
 use Rattle.gptp_settling_time.specs.Documents.{IsSettledAs}
 use Rattle.gptp_settling_time.specs.Exactly.{SettlesBy}
@@ -430,10 +431,11 @@ LeadsToTurned n before (Aging ago aged start) event silent time = ⊥
 LeadsToTurned n before (Split ago gone start) event silent time = ⊥
 LeadsToTurned n before (Lost since most start) event silent time = ⊥
 
--- in a network whose choice had stood for an announce interval a tree is so moved by it now
+-- In a network whose choice stands a tree is so moved by it now. What was sent before the choice stood has arrived.
 abbrev pub TreeNow : NetworkState → List Timed → Timed → Type 0 → ℕ → ℕ → ℕ → ℕ → Type 0
 TreeNow n before event Moves start stood silent time =
-    (last_change before < stood) × (stood + largest_interval (pace_of n) ≤ event.at)
+    (last_change before < stood)
+    × ((arrived : ℕ) × HasArrivedBy n before stood arrived × (arrived ≤ event.at))
     × Moves × (silent ≡ start) × (time ≡ event.at)
 
 abbrev pub LeadsByTree : NetworkState → List Timed → Past → Timed → Type 0 → ℕ → ℕ → Type 0
@@ -536,11 +538,14 @@ abbrev pub IsGoneBy : NetworkState → List Timed → List Timed → ℕ → ℕ
 IsGoneBy n ago events failed gone = (span : ℕ) × AgesWithin n ago events failed span
     × (gone ≡ suc (failed + min span (silence_span (pace_of n))))
 
--- In a network whose choice had stood for an announce interval a system fails now, and so cuts trees off.
+-- In a network whose choice stands a system fails now, and so cuts trees off. What was sent before the choice stood has
+-- arrived.
 pub record SplitsNow (n : NetworkState) (before : List Timed) (event : Timed) (stood gone silent : ℕ) : Type 0 where
   pub fails : FailsTrees n before event
   pub later : last_change before < stood
-  pub quiet : stood + largest_interval (pace_of n) ≤ event.at
+  pub arrived : ℕ
+  pub arrives : HasArrivedBy n before stood arrived
+  pub quiet : arrived ≤ event.at
   pub calm : IsCalm n before
   pub off : NothingLapses n.params
   pub is_gone : IsGoneBy n before (before ++ event ∷ []) event.at gone
