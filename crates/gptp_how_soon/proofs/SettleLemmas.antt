@@ -72,7 +72,7 @@ same_row from_rest first before paths told moves used =
 -- ---- what others hold
 
 -- rows by which it counts for how long others hold something
-counts_held : Row → Bool
+abbrev counts_held : Row → Bool
 counts_held FailedHeard = true
 counts_held FailureCutsOff = true
 counts_held FailureCutsTrees = true

@@ -24,14 +24,17 @@ rested_by b at (Some s) = nat_lt (b.at + s.rest) at
 abbrev pub rested : SettlingTime → ℕ → Bool
 rested b at = rested_by b at b.settling
 
--- and so much more has passed
-abbrev pub rested_for_by : ℕ → SettlingTime → ℕ → Option Settling → Bool
-rested_for_by span b at None = false
-rested_for_by span b at (Some s) = nat_lt (b.at + (s.rest + span)) at
+-- All that was in flight as the time before became sound has come by this one: after an announce interval; or after the
+-- greatest delay of a link in use, where by then all has come that was in flight as a link was last set.
+abbrev pub has_come_by : ℕ → ℕ → ℕ → SettlingTime → ℕ → Option Settling → Bool
+has_come_by interval delay arrived b at None = false
+has_come_by interval delay arrived b at (Some s) =
+    nat_lt (b.at + s.sound + interval) at
+    || (nat_lt (b.at + s.sound + delay) at && nat_le arrived (b.at + s.sound))
 
-abbrev pub has_rested_for : ℕ → Option SettlingTime → ℕ → Bool
-has_rested_for span None at = false
-has_rested_for span (Some b) at = rested_for_by span b at b.settling
+abbrev pub has_come : ℕ → ℕ → ℕ → Option SettlingTime → ℕ → Bool
+has_come interval delay arrived None at = false
+has_come interval delay arrived (Some b) at = has_come_by interval delay arrived b at b.settling
 
 -- Events are followed where what each does is, and no system both fails and recovers.
 abbrev pub are_events_followed : List Told → Bool

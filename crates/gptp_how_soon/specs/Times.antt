@@ -28,7 +28,7 @@ use Rattle.gptp_how_soon.specs.CutTrees.{cuts_trees_after}
 use Rattle.gptp_how_soon.specs.Far.{are_far_after, cut_far_ends_after, up_is_used}
 use Rattle.gptp_how_soon.specs.Kinds.{sets_bounds, sets_link, takes_one, told_by}
 use Rattle.gptp_how_soon.specs.Links.{longest_delay, new_links}
-use Rattle.gptp_how_soon.specs.Rest.{has_rested_for, heard_at_once, is_from_rest, leaves_silent, row_of}
+use Rattle.gptp_how_soon.specs.Rest.{has_come, heard_at_once, is_from_rest, leaves_silent, row_of}
 use Rattle.gptp_how_soon.specs.Silent.{held_after, own_intervals}
 use Rattle.gptp_how_soon.specs.Tree.{cuts_tree_after}
 use Rattle.gptp_how_soon.specs.Turned.{turns_one_after}
@@ -118,6 +118,15 @@ last_of (t ∷ ts) = Some (last_change (t ∷ ts))
 abbrev pub last_set : List Timed → Option ℕ
 last_set events = last_of (filter (λ (t : Timed). sets_bounds t.act) events)
 
+-- by when what was in flight as one of these events last set a link has arrived
+abbrev pub arrived_after : NetworkState → List Timed → ℕ
+arrived_after n events = arrived_by (longest_delay n events) (last_set events)
+
+-- so has all that was in flight as the time of the last of these events became sound
+abbrev pub has_come_after : NetworkState → List Timed → Option SettlingTime → ℕ → Bool
+has_come_after n made before at =
+    has_come (largest_interval (pace_of n)) (sync_paths n made).delay (arrived_after n made) before at
+
 -- at a time, after the events made before and those of that time now
 abbrev pub moves_at : NetworkState → List Timed → List Timed → Option SettlingTime → ℕ → Moves
 moves_at n made now before at = record {
@@ -125,9 +134,9 @@ moves_at n made now before at = record {
   any = moves_some n made (made ++ now);
   cut = cut_far_ends_after n made (made ++ now);
   turned = turns_one_after n made (made ++ now);
-  falls = has_rested_for (largest_interval (pace_of n)) before at && cuts_tree_after n made (made ++ now);
-  tree_turns = has_rested_for (largest_interval (pace_of n)) before at && turns_tree_after n made (made ++ now);
-  trees_fall = has_rested_for (largest_interval (pace_of n)) before at && cuts_trees_after n made (made ++ now);
+  falls = has_come_after n made before at && cuts_tree_after n made (made ++ now);
+  tree_turns = has_come_after n made before at && turns_tree_after n made (made ++ now);
+  trees_fall = has_come_after n made before at && cuts_trees_after n made (made ++ now);
   far = are_far_after n made (told_of n made now);
   held = held_after n (own_intervals n before at) made (made ++ now);
 }

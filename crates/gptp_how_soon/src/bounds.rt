@@ -463,6 +463,16 @@ pub(crate) fn arrived_by(at: u64, longest: u64, last_set: Option<u64>) -> u64
     }
 }
 
+/// The same where nothing is known of these times.
+pub(crate) fn arrived_before(longest: u64, last_set: Option<u64>) -> u128
+    ensures { result ≡ arrived_by longest last_set }
+{
+    match last_set {
+        Some(last) => u128::from(last) + u128::from(longest),
+        None => 0,
+    }
+}
+
 /// The bounds at a time, where what was in flight as a link was last set has arrived by another.
 fn settled(
     network: &Network,

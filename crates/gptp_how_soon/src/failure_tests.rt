@@ -67,7 +67,12 @@ fn what_is_held_ages_by_the_interval_of_its_port(rt: HostRuntime) -> Result<(), 
     for (case, announce, at, choice) in [
         ("its own interval", "[-1, -1]", 4_000_000_001, 1_500_000_410),
         ("too soon for it", "[-1, -1]", 4_000_000_000, 3_000_000_410),
-        ("that of another port", "[1, -1]", 8_000_000_001, 1_500_000_410),
+        (
+            "that of another port",
+            "[1, -1]",
+            8_000_000_001,
+            1_500_000_410,
+        ),
     ] {
         let mut text = String::new(rt.alloc());
         text.push_str("version = 2\n[network]\npdelay = -1\n")?;

@@ -1,8 +1,8 @@
 //! Whether a time is from rest, so that what its events do says how soon the choice stands.
 
-ghost use Rattle.std.specs.Prelude.{◌≡◌, ◌≤◌, ◌+◌, ◌*◌, nat_lt};
+ghost use Rattle.std.specs.Prelude.{◌≡◌, ◌≤◌, ◌+◌, ◌*◌, ◌&&◌, ◌||◌, nat_le, nat_lt};
 ghost use Rattle.gptp_scenario.specs.SettlingTime.{way_span};
-ghost use Rattle.gptp_how_soon.specs.Rest.{are_events_followed, are_losses_followed, are_recoveries_followed, are_turns_followed, asks_who_is_moved, heard_at_once, is_failing_followed, failed_row, has_rested_for, is_from_rest, is_lowering_followed, is_wider_followed, keeps_paths, leaves_silent, rested, row_of, settles_wider_by};
+ghost use Rattle.gptp_how_soon.specs.Rest.{are_events_followed, are_losses_followed, are_recoveries_followed, are_turns_followed, asks_who_is_moved, heard_at_once, is_failing_followed, failed_row, has_come, is_from_rest, is_lowering_followed, is_wider_followed, keeps_paths, leaves_silent, rested, row_of, settles_wider_by};
 
 use crate::bounds::{Row, SettlingTime, way_span};
 use crate::kinds::{
@@ -23,7 +23,7 @@ pub struct Moves {
     pub cut: bool,
     /// Whether they move one alone, and that turns.
     pub turned: bool,
-    /// Whether they cut off a tree, an announce interval after all came to rest.
+    /// Whether they cut off a tree, once all that was in flight as all became sound has come.
     pub falls: bool,
     /// Whether then a tree turns by one other link.
     pub tree_turns: bool,
@@ -53,16 +53,31 @@ fn rested(before: &SettlingTime, at: u64) -> bool
     }
 }
 
-/// Whether it had come to rest so much before it, in ns.
-pub(crate) fn has_rested_for(span: u64, before: Option<SettlingTime>, at: u64) -> bool
-    ensures { result ≡ has_rested_for span before at }
+/// Whether all that was in flight at a time has come by another, where it is sound so much later than the first: after
+/// an announce interval, or after the greatest delay of a link in use, if what was in flight as a link was last set has
+/// arrived by then.
+fn comes_by(last: u64, sound: u64, interval: u64, delay: u64, arrived: u128, at: u64) -> bool
+    ensures { result
+        ≡ (nat_lt (last + sound + interval) at || (nat_lt (last + sound + delay) at && nat_le arrived (last + sound))) }
+{
+    let sound = u128::from(last) + u128::from(sound);
+    sound + u128::from(interval) < u128::from(at)
+        || (sound + u128::from(delay) < u128::from(at) && arrived <= sound)
+}
+
+/// The same of what was in flight as the time before became sound.
+pub(crate) fn has_come(
+    interval: u64,
+    delay: u64,
+    arrived: u128,
+    before: Option<SettlingTime>,
+    at: u64,
+) -> bool
+    ensures { result ≡ has_come interval delay arrived before at }
 {
     match before {
         Some(before) => match before.settling {
-            Some(settling) => {
-                let rest = u128::from(settling.rest) + u128::from(span);
-                u128::from(before.at) + rest < u128::from(at)
-            }
+            Some(settling) => comes_by(before.at, settling.sound, interval, delay, arrived, at),
             None => false,
         },
         None => false,

@@ -161,11 +161,11 @@ fn hears(systems: &[System], before: &[Chosen], one: usize, other: usize) -> boo
     is_live(systems, one) && is_nearer_at(systems, before, other, one)
 }
 
-/// Whether so it is of an end of a link.
-fn hears_over(systems: &[System], before: &[Chosen], ends: Option<Ends>) -> bool
-    ensures { result ≡ hears_over systems.now before.now ends }
+/// Whether so it is of an end of the link at a place, if there is one.
+fn hears_over(systems: &[System], before: &[Chosen], ends: &[Ends], place: usize) -> bool
+    ensures { result ≡ hears_over systems.now before.now (slice_get ends.now place) }
 {
-    match ends {
+    match ends.get(place) {
         Some(ends) => {
             hears(systems, before, ends.a, ends.b) || hears(systems, before, ends.b, ends.a)
         }
@@ -193,7 +193,7 @@ pub(crate) fn heard_links(
 {
     let mut heard = Vec::new(alloc);
     for place in 0..used_before.len() {
-        let hears = hears_over(systems, before, ends.get(place).copied());
+        let hears = hears_over(systems, before, ends, place);
         heard.push(is_heard(used_before[place], hears))?;
     }
     Ok(heard)
@@ -212,13 +212,7 @@ fn held_one(network: &Network, own: bool, heard: bool, standing: &Standing) -> u
 }
 
 /// The same over the link at a place, if there is one.
-fn held_at(
-    network: &Network,
-    own: bool,
-    heard: bool,
-    standings: &[Standing],
-    place: usize,
-) -> u64
+fn held_at(network: &Network, own: bool, heard: bool, standings: &[Standing], place: usize) -> u64
     ensures is { result ≡ held_at network.now own heard (slice_get standings.now place) }
     ensures bound { result ≤ 4112000000000 }
 {
