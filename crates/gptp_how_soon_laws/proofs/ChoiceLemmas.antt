@@ -1,6 +1,6 @@
 -- What is told of each time of a document is so: its choice and roles are choice bounds or loss bounds. The network has
 -- come to rest by a rest bound.
-use Rattle.std.proofs.Common.{◌≡◌, ◌<◌, ◌≤◌, ◌⊎◌, inl, inr, ◌+◌, ◌*◌, max, ℕ, Bool, true, false, cond, List, [], ◌∷◌, ◌++◌, Some, None, suc, refl, sym, ap, subst, ◌∙◌, arith}
+use Rattle.std.proofs.Common.{◌≡◌, ◌<◌, ◌≤◌, ◌⊎◌, inl, inr, ◌+◌, ◌*◌, max, ℕ, Bool, true, false, cond, List, [], ◌∷◌, ◌++◌, Some, None, refl, sym, ap, subst, ◌∙◌, arith}
 use Rattle.std.specs.Prelude.{◌==◌, min, nat_le, nat_lt}
 use Rattle.std.specs.List.{AllByRecursion}
 use Rattle.std.proofs.lemmas.Bool.{eqb-false, eqb-true}
@@ -26,7 +26,7 @@ use Rattle.gptp_how_soon.specs.declared.bounds.Row.{Row}
 use Rattle.gptp_how_soon.specs.declared.bounds.Row.TheVariants.{AnyLosses, AnyPast, CutOff, FailedEnd, FailedHeard, FailureCutsOff, FailureCutsTrees, Gained, LostEnd, LostPower, Lowered, OneTurned, PowerCutsOff, PowerCutsTrees, TreeCutOff, TreeTurned, Unchanged}
 use Rattle.gptp_how_soon.specs.declared.bounds.Settling.{Settling}
 use Rattle.gptp_how_soon.specs.declared.bounds.SettlingTime.{SettlingTime}
-use Rattle.gptp_settling_time.specs.HowSoon.{BoundsAging, BoundsAnyLoss, BoundsChoice, BoundsEvents, BoundsLoss, BoundsSplit, BoundsStart, BoundsTree, FailsHeardFirst, FailsTreesFirst, HasArrivedNext, HeldFor, IsChoiceBoundAfter, IsLossBoundAfter, IsRestBoundAfter, NoneBetween, RestsAfterLoss, RestsTree, TreeNext}
+use Rattle.gptp_settling_time.specs.HowSoon.{BoundsAging, BoundsAnyLoss, BoundsChoice, BoundsEvents, BoundsLoss, BoundsSplit, BoundsStart, BoundsTree, FailsHeardFirst, FailsTreesFirst, HeldFor, IsChoiceBoundAfter, IsLossBoundAfter, IsRestBoundAfter, NoneBetween, RestsAfterLoss, RestsTree, TreeNext}
 use Rattle.gptp_settling_time.specs.InTurn.{FlightIsGone, turned_echo_span}
 use Rattle.gptp_settling_time.specs.TreeLosses.{LowersTree, TurnsTreeLink}
 use Rattle.gptp_settling_time.proofs.MomentLemmas.{all_at, last_by, parted}
@@ -187,8 +187,9 @@ module _ (d : DocumentState) (playable : IsPlayable d) where
 
     -- what others hold of a system that fails has aged so much later
     held : (now ≡ [] → ⊥) → HeldFor n made now v.moves.held
-    held some = held_for n playable.network made now (well made now refl) (own_intervals n (Some b) at)
-        (late_so now some (all_at at all))
+    held some =
+        held_for n playable.network made now (own_intervals n (Some b) at) (late_so now some (all_at at all))
+        (well made now refl)
       where
         late_so : (events : List Timed) → (events ≡ [] → ⊥)
             → AllByRecursion (λ (t : Timed). t.at ≡ at) events → own_intervals n (Some b) at ≡ true
@@ -211,27 +212,20 @@ module _ (d : DocumentState) (playable : IsPlayable d) where
     held_trees : FailsTreesFirst n made now → HeldFor n made now v.moves.held
     held_trees fails = held (some_now (FailsTreesFirst n made) (λ none. none) fails)
 
-    -- what was in flight as the time before was sound has arrived an announce interval later
-    come : (sound rest : ℕ) → sound ≤ rest → b.at + (rest + largest_interval (pace_of n)) < at
-        → HasArrivedNext n all b.at sound at
-    come sound rest less passed =
-        (suc (b.at + sound) + largest_interval (pace_of n), inl refl, omega (arith, less, passed))
-
-    -- an event of this kind comes an announce interval after the time before has come to rest, and all ask for this
+    -- an event of this kind comes once what was in flight has arrived, and all ask for this
     tree_next : (Is : List Timed → Timed → Type 0) (Asks : List Timed → Type 0) → IsCalm n (events_by at all)
         → NothingLapses n.params → (rest : HasComeToRest b at) → ComesLate n playable.network all b at late Is rest
         → Asks (made ++ now)
         → TreeNext n Is all (λ then. IsRestBoundAfter n all earlier b.at then) b.at at Asks
-    tree_next Is Asks calm off rest tree asks =
-        let bound = (sound_before rest).0 in (
-          late,
-          between,
-          calm,
-          off,
-          (rest.settling.sound, bound, come rest.settling.sound rest.settling.rest (so rest.settling rest.is).rest tree.longer),
-          tree.lowers,
-          subst Asks (sym (parted all b.at at playable.events.in_order late between)) asks,
-        )
+    tree_next Is Asks calm off rest tree asks = (
+      late,
+      between,
+      calm,
+      off,
+      (rest.settling.sound, (sound_before rest).0, tree.come),
+      tree.lowers,
+      subst Asks (sym (parted all b.at at playable.events.in_order late between)) asks,
+    )
 
     -- it comes to rest so after a loss, after a tree is cut off, or after one turns
     abbrev Rests : ℕ → Type 0
@@ -322,8 +316,7 @@ module _ (d : DocumentState) (playable : IsPlayable d) where
           ⊎ ((roles : ℕ) × IsLossBoundAfter n all (b.at ∷ earlier) at s.choice roles)
       sooner : s.choice ≤ s.roles
 
-    -- What a loss asks for from rest, or a tree that falls off or turns an announce interval later, or a failure that
-    -- cuts trees off.
+    -- What a loss asks for from rest, or a tree that falls off or turns, or a failure that cuts trees off.
     abbrev Asks : ℕ → ℕ → Type 0
     Asks choice roles =
         (HasComeToRest b at × BoundsLoss n made now choice roles)
@@ -346,13 +339,12 @@ module _ (d : DocumentState) (playable : IsPlayable d) where
         inr (inr (inl (tree_next (TurnsTreeLink n) (BoundsTree n s.choice s.roles) settles.2.0 off rest tree
         (choice, roles))))
     lost s settles off (inr (inr (x, splits))) =
-        let then = so x.rest.settling x.rest.is in
         inr (inr (inr (
           late,
           between,
           settles.2.0,
           off,
-          (x.rest.settling.sound, then.sound, come x.rest.settling.sound x.rest.settling.rest then.rest x.longer),
+          (x.rest.settling.sound, (sound_before x.rest).0, x.come),
           x.fails,
           splits,
         )))

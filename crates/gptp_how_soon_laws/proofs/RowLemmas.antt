@@ -1,5 +1,5 @@
 -- What is told of a time after the first one, by its row, is so by its events.
-use Rattle.std.proofs.Common.{◌≡◌, ◌<◌, ◌≤◌, ◌⊎◌, inl, inr, ◌+◌, ◌*◌, ℕ, Bool, true, false, cond, List, [], ◌∷◌, ◌++◌, Option, Some, None, refl, sym, ap, subst, ◌∙◌, arith}
+use Rattle.std.proofs.Common.{◌≡◌, ◌<◌, ◌≤◌, ◌⊎◌, inl, inr, ◌+◌, ◌*◌, ℕ, Bool, true, false, cond, List, [], ◌∷◌, ◌++◌, Option, Some, None, suc, refl, sym, ap, subst, ◌∙◌, arith}
 use Rattle.std.specs.Prelude.{◌&&◌, ◌||◌, not, if◌then◌else◌, nat_le, nat_lt, max}
 use Rattle.std.specs.List.{list_all, list_any}
 use Rattle.std.proofs.lemmas.Bool.{and_parts, not-true, or_cases, or_parts}
@@ -16,8 +16,8 @@ use Rattle.gptp_how_soon.specs.Bounds.{is_hard_to_hear, gone_by}
 use Rattle.gptp_how_soon.specs.Chosen.{moves_joined}
 use Rattle.gptp_how_soon.specs.CutTrees.{cuts_trees_after}
 use Rattle.gptp_how_soon.specs.Kinds.{are_heard, brings_nothing, fails_and_recovers, fails_first, is_better, is_failing, is_gain, is_idle, is_loss, is_other, is_recovery, leaves_links, lowers_one, lowers_unused, makes_nothing, recovers, takes_one, begins_wider, first_wider_by, is_wider}
-use Rattle.gptp_how_soon.specs.Rest.{are_events_followed, are_losses_followed, are_recoveries_followed, are_turns_followed, has_rested_for, heard_at_once, is_failing_followed, is_from_rest, is_lowering_followed, keeps_paths, leaves_silent, rested, is_wider_followed, settles_wider_by}
-use Rattle.gptp_how_soon.specs.Times.{View, events_at, gained_at, ready_at, row_at, view_at}
+use Rattle.gptp_how_soon.specs.Rest.{are_events_followed, are_losses_followed, are_recoveries_followed, are_turns_followed, heard_at_once, is_failing_followed, is_from_rest, is_lowering_followed, keeps_paths, leaves_silent, rested, is_wider_followed, settles_wider_by}
+use Rattle.gptp_how_soon.specs.Times.{View, events_at, gained_at, has_come_after, ready_at, row_at, view_at}
 use Rattle.gptp_how_soon.specs.Tree.{cuts_tree_after}
 use Rattle.gptp_how_soon.specs.TurnedTree.{turns_tree_after}
 use Rattle.gptp_how_soon.specs.declared.bounds.Row.{Row}
@@ -25,6 +25,7 @@ use Rattle.gptp_how_soon.specs.declared.bounds.Row.TheVariants.{AnyLosses, CutOf
 use Rattle.gptp_how_soon.specs.declared.bounds.Settling.{Settling}
 use Rattle.gptp_how_soon.specs.declared.bounds.SettlingTime.{SettlingTime}
 use Rattle.gptp_how_soon.specs.declared.kinds.Told.{Told}
+use Rattle.gptp_settling_time.specs.Arrivals.{HasArrivedBy}
 use Rattle.gptp_settling_time.specs.HowSoon.{AreWiderEvents, BoundsGains, CutsOneEnd, EachEvent, FailsEndFirst, FailsHeardFirst, FailsTreesFirst, IsStillEvent, LosesEvents, LowersOneLink, OneEvent, RolesAfterLoss, TurnsOneLink}
 use Rattle.gptp_settling_time.specs.InTurn.{FlightIsGone}
 use Rattle.gptp_settling_time.specs.Losses.{LowersLink, UpIsUsed}
@@ -33,6 +34,7 @@ use Rattle.gptp_settling_time.proofs.CutLemmas.{all_by}
 use Rattle.gptp_settling_time.proofs.LeadOnLemmas.{all_still}
 use Rattle.gptp_settling_time.proofs.MomentLemmas.{all_at}
 use Rattle.gptp_how_soon_laws.proofs.AnyLossLemmas.{all_losses, failing_loses, none_fails}
+use Rattle.gptp_how_soon_laws.proofs.ArrivedLemmas.{has_come_so, longest_within}
 use Rattle.gptp_how_soon_laws.proofs.GainLemmas.{AreFollowed, AreTurnsFollowed}
 use Rattle.gptp_how_soon_laws.proofs.GainedLemmas.{all_gained, all_heard, all_idle, all_wider}
 use Rattle.gptp_how_soon_laws.proofs.FailedLemmas.{fails_end_first, fails_heard_first, used_up}
@@ -44,7 +46,7 @@ use Rattle.gptp_how_soon_laws.proofs.TurnedLemmas.{turns_one_link}
 use Rattle.gptp_how_soon_laws.proofs.UnmovedLemmas.{AreWell, all_still_unmoved}
 use Rattle.gptp_how_soon_laws.proofs.RowBoundLemmas.{HasLossSpan}
 use Rattle.gptp_how_soon_laws.proofs.RowReasonLemmas.{ReasonOf, Tests, reason_of}
-use Rattle.gptp_how_soon_laws.proofs.RowTestLemmas.{HasComeToRest, at_most, counts_all, counts_joined, failing_takes, leaves_all, longest_within, lowering_takes, not_both, over_before, rested_for_so, rested_so}
+use Rattle.gptp_how_soon_laws.proofs.RowTestLemmas.{HasComeToRest, at_most, counts_all, counts_joined, failing_takes, leaves_all, lowering_takes, not_both, over_before, rested_so}
 
 module _ (n : NetworkState) (network : IsNetwork n) (events : List Timed) (b : SettlingTime) (at : ℕ)
     (late : b.at < at) where
@@ -406,42 +408,41 @@ module _ (n : NetworkState) (network : IsNetwork n) (events : List Timed) (b : S
       let x = keeps_so keeps in
       ((from_rest from).rested, turns_one_link n network made now well one x.delay x.paths x.few lowers)
 
-  -- an event of this kind comes an announce interval after all came to rest
+  -- what was in flight as the time before was sound has arrived
+  abbrev pub HasCome : HasComeToRest b at → Type 0
+  HasCome rest =
+      (arrived : ℕ) × HasArrivedBy n made (suc (b.at + rest.settling.sound)) arrived × (arrived ≤ at)
+
+  -- an event of this kind comes then
   pub record ComesLate (Is : List Timed → Timed → Type 0) (rest : HasComeToRest b at) : Type 0 where
     pub lowers : OneEvent Is made now
-    pub longer : b.at + (rest.settling.rest + largest_interval (pace_of n)) < at
+    pub come : HasCome rest
 
   -- by which a tree is cut off
   pub record CutsLate (rest : HasComeToRest b at) : Type 0 where
     pub comes : ComesLate (LowersTree n) rest
     pub flight : FlightIsGone n (made ++ now) (gone_by n v.paths v.used_before)
 
-  -- an event of this kind comes an announce interval after all came to rest, and paths get no longer
+  -- events of this kind come then, and paths get no longer
   late_by : (kind : List Told → Bool) (test : Bool) → (keeps_paths v.paths_before v.paths && kind v.told
-      && (has_rested_for (largest_interval (pace_of n)) (Some b) at && test)) ≡ true
-      → KeepsPaths × (kind v.told ≡ true) × (test ≡ true)
-      × ((rest : HasComeToRest b at) → b.at + (rest.settling.rest + largest_interval (pace_of n)) < at)
+      && (has_come_after n made (Some b) at && test)) ≡ true
+      → KeepsPaths × (kind v.told ≡ true) × (test ≡ true) × ((rest : HasComeToRest b at) → HasCome rest)
   late_by kind test is =
-      let late_test : Bool = has_rested_for (largest_interval (pace_of n)) (Some b) at in
-      let (followed, both) =
-      and_parts (keeps_paths v.paths_before v.paths && kind v.told) (late_test && test) is in
+      let come : Bool = has_come_after n made (Some b) at in
+      let (followed, both) = and_parts (keeps_paths v.paths_before v.paths && kind v.told) (come && test) is in
       let (keeps, one) = and_parts (keeps_paths v.paths_before v.paths) (kind v.told) followed in
-      let (late_is, so) = and_parts late_test test both in (
-        keeps_so keeps,
-        one,
-        so,
-        λ rest. rested_for_so (largest_interval (pace_of n)) b at rest.settling rest.is late_is,
-      )
+      let (come_is, so) = and_parts come test both in
+      (keeps_so keeps, one, so, λ rest. has_come_so n made b at rest.settling rest.is come_is)
 
   pub tree_cut : AreWell n (made ++ now) → row_at v ≡ TreeCutOff → (rest : HasComeToRest b at) × CutsLate rest
   tree_cut well row =
       let (from, falls) = why TreeCutOff row in
-      let (x, lowers, tree, longer) = late_by lowers_one (cuts_tree_after n made (made ++ now)) falls in
+      let (x, lowers, tree, come) = late_by lowers_one (cuts_tree_after n made (made ++ now)) falls in
       let rest = (from_rest from).rested in
       let one = lowers_tree n network made now well x.delay x.paths x.few lowers tree in (
         rest,
         record {
-          comes = record { lowers = one; longer = longer rest };
+          comes = record { lowers = one; come = come rest };
           flight = flight_on (one_as (LowersTree n) GoesDown made now (λ event l. (l.clock, l.port, l.act)) one);
         },
       )
@@ -451,29 +452,29 @@ module _ (n : NetworkState) (network : IsNetwork n) (events : List Timed) (b : S
       → (rest : HasComeToRest b at) × ComesLate (TurnsTreeLink n) rest
   tree_turned well row =
       let (from, turns) = why TreeTurned row in
-      let (x, lowers, tree, longer) = late_by lowers_one (turns_tree_after n made (made ++ now)) turns in
+      let (x, lowers, tree, come) = late_by lowers_one (turns_tree_after n made (made ++ now)) turns in
       let rest = (from_rest from).rested in (
         rest,
         record {
           lowers = turns_tree_by n network made now well x.delay x.paths x.few lowers tree;
-          longer = longer rest;
+          come = come rest;
         },
       )
 
   -- or a system fails and cuts trees off
   pub record FailsLate : Type 0 where
     pub rest : HasComeToRest b at
-    pub longer : b.at + (rest.settling.rest + largest_interval (pace_of n)) < at
+    pub come : HasCome rest
     pub fails : FailsTreesFirst n made now
 
   fails_late : is_from_rest v.longest at v.paths_before v.paths v.told (Some b) ≡ true → AreWell n (made ++ now)
       → (is_failing_followed v.paths_before v.paths v.told && v.moves.trees_fall) ≡ true → FailsLate
   fails_late from well trees =
-      let (x, one, cut, longer) = late_by fails_first (cuts_trees_after n made (made ++ now)) trees in
+      let (x, one, cut, come) = late_by fails_first (cuts_trees_after n made (made ++ now)) trees in
       let rest = (from_rest from).rested in
       record {
         rest = rest;
-        longer = longer rest;
+        come = come rest;
         fails = fails_trees_first n network made now well cut x.delay x.paths x.few one;
       }
 
