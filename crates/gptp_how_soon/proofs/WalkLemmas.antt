@@ -20,6 +20,7 @@ use Rattle.gptp_how_soon.specs.Far.{up_is_used}
 use Rattle.gptp_how_soon.specs.Kinds.{sets_bounds, told_by}
 use Rattle.gptp_how_soon.specs.Links.{delay_set, longest_delay, longest_set, lost_among, new_among}
 use Rattle.gptp_how_soon.specs.Times.{last_of, last_set, moves_at, told_at, told_of, view_at}
+use Rattle.gptp_how_soon.specs.Silent.{any_silent}
 use Rattle.gptp_how_soon.specs.Walk.{IsFirstWalk, WalkGoesOn, WalkPasses, moves_seen, view_seen}
 use Rattle.gptp_how_soon.specs.declared.bounds.SettlingTime.{SettlingTime}
 use Rattle.gptp_how_soon.specs.declared.chosen.Ends.{Ends}
@@ -171,6 +172,7 @@ module _ (n : NetworkState) (network : IsNetwork n) where
         told = so.told i;
         moves = moves_are made now w at so i;
         used = up_is_used (so.tables.standings i);
+        silent = any_silent (so.used i) (so.tables.standings i);
         paths = crossed_is n network (made ++ now) w.tables so.tables i;
         calm = calm_is n network (made ++ now) w.tables so.tables i;
       }

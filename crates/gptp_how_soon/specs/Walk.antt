@@ -16,7 +16,7 @@ use Rattle.gptp_how_soon.specs.Far.{all_cut_far_ends, are_far, up_is_used}
 use Rattle.gptp_how_soon.specs.Kinds.{sets_bounds, takes_one, told_by}
 use Rattle.gptp_how_soon.specs.Links.{delay_set, longest_among, lost_among, new_among}
 use Rattle.gptp_how_soon.specs.Rest.{has_come}
-use Rattle.gptp_how_soon.specs.Silent.{heard_links, held_among, own_intervals}
+use Rattle.gptp_how_soon.specs.Silent.{any_silent, heard_links, held_among, own_intervals}
 use Rattle.gptp_how_soon.specs.Times.{View, settling_time}
 use Rattle.gptp_how_soon.specs.Tree.{cuts_tree}
 use Rattle.gptp_how_soon.specs.Turned.{turns_one}
@@ -139,6 +139,7 @@ view_seen n w at = record {
   told = w.told.items;
   moves = moves_seen n w at;
   used = up_is_used w.tables.standings.items;
+  silent = any_silent w.used_before.items w.tables.standings.items;
   paths = marked_paths w.tables.marks.items w.tables.nodes.items;
   calm = are_calm n.params (marked_paths w.tables.marks.items w.tables.nodes.items) w.tables.marks.items;
 }

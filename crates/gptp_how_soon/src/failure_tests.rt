@@ -215,6 +215,31 @@ fn a_far_end_that_loses_its_power_costs_nothing(rt: HostRuntime) -> Result<(), F
 }
 
 #[test]
+fn a_link_that_was_silent_before_costs_the_roles_nothing(rt: HostRuntime) -> Result<(), Fail> {
+    // c hangs, so that b's link to it stays up. Then d fails, the far end of its link to a.
+    const DOWN: &str =
+        "[[event]]\nat = 60000000000\nkind = \"link_down\"\nclock = \"000000000000000d\"\nport = ";
+    for (case, power, roles) in [
+        ("it hangs", false, 11_000_000_000),
+        ("it loses its power", true, 0),
+    ] {
+        let mut events = String::new(rt.alloc());
+        events.push_str(
+            "[[event]]\nat = 30000000000\nkind = \"fail\"\nclock = \"000000000000000c\"\n",
+        )?;
+        events.push_str(
+            "[[event]]\nat = 60000000000\nkind = \"fail\"\nclock = \"000000000000000d\"\n",
+        )?;
+        if power {
+            writeln!(events, "{DOWN}1\n{DOWN}2")?;
+        }
+        let times = ring(rt.alloc(), events.as_str())?;
+        assert_eq!(rt; bounds(&times, 60_000_000_000), Some((0, roles)), "{case}");
+    }
+    Ok(())
+}
+
+#[test]
 fn an_end_station_may_be_left_without_a_link(rt: HostRuntime) -> Result<(), Fail> {
     // No link is left, so nothing has a way to go. What b heard of a ages.
     for (case, events, bound) in [

@@ -5,7 +5,7 @@ ghost use Rattle.std.specs.Option.{option_and_then};
 ghost use Rattle.gptp_setup.specs.Intervals.{IsLog, interval_of};
 ghost use Rattle.gptp_setup.specs.SettlingParams.{longest_span};
 ghost use Rattle.gptp_scenario.specs.Network.{pace_of};
-ghost use Rattle.gptp_how_soon.specs.Silent.{heard_links, hears, hears_over, held_among, held_at, held_end, held_from, held_one, held_over, hold_span, is_live, log_by, log_from, log_if, own_intervals};
+ghost use Rattle.gptp_how_soon.specs.Silent.{any_silent, heard_links, hears, hears_over, held_among, held_at, held_end, held_from, held_one, held_over, hold_span, is_live, is_silent, is_silent_at, log_by, log_from, log_if, own_intervals};
 
 use crate::bounds::{SettlingTime, announce_interval, silence_span};
 use crate::chosen::{Chosen, Ends};
@@ -197,6 +197,35 @@ pub(crate) fn heard_links(
         heard.push(is_heard(used_before[place], hears))?;
     }
     Ok(heard)
+}
+
+/// Whether a link is silent, by whether it was in use before.
+fn is_silent(used_before: bool, standing: &Standing) -> bool
+    ensures { result ≡ is_silent used_before standing.now }
+{
+    let one_lives = (standing.a_lives && !standing.b_lives)
+        || (standing.b_lives && !standing.a_lives);
+    used_before && standing.cable.up && one_lives
+}
+
+/// Whether the link at a place is, if there is one.
+fn is_silent_at(used_before: &[bool], standings: &[Standing], place: usize) -> bool
+    ensures { result ≡ is_silent_at used_before.now standings.now place }
+{
+    match used_before.get(place) {
+        Some(used_before) => match standings.get(place) {
+            Some(standing) => is_silent(*used_before, standing),
+            None => false,
+        },
+        None => false,
+    }
+}
+
+/// Whether one of these links is silent, by which of them were in use before.
+pub(crate) fn any_silent(used_before: &[bool], standings: &[Standing]) -> bool
+    ensures { result ≡ any_silent used_before.now standings.now }
+{
+    (0..used_before.len()).any(|place| is_silent_at(used_before, standings, place))
 }
 
 /// The same where its far end hears it, and it is up; else 0.

@@ -18,10 +18,8 @@ use crate::cut_trees::cuts_trees;
 use crate::far::{all_cut_far_ends, are_far, up_is_used};
 use crate::kinds::{Told, sets_bounds, sets_link, takes_one, tell};
 use crate::links::{delay_set, longest_among, lost_among, mark_used, new_links};
-use crate::rest::{
-    Moves, asks_who_is_moved, has_come, heard_at_once, is_from_rest, leaves_silent, row_of,
-};
-use crate::silent::{heard_links, held_among, own_intervals};
+use crate::rest::{Moves, asks_who_is_moved, has_come, heard_at_once, is_from_rest, row_of};
+use crate::silent::{any_silent, heard_links, held_among, own_intervals};
 use crate::tree::cuts_tree;
 use crate::turned::turns_one;
 use crate::turned_tree::turns_tree;
@@ -212,11 +210,11 @@ impl Walk {
         let from_rest = is_from_rest(self.longest, at, paths_before, paths, told, self.before);
         let asked = asks_who_is_moved(from_rest, paths_before, paths, told);
         let moves = self.moves_if(alloc, network, at, asked)?;
-        let all_used = up_is_used(standings);
         let loss = Loss {
             paths_before,
             used_before: self.all_used_before,
-            silent: leaves_silent(all_used, told),
+            used: up_is_used(standings),
+            silent: any_silent(used, standings),
             held: moves.held,
         };
         Ok(times_by(
@@ -227,7 +225,7 @@ impl Walk {
             paths,
             self.tables.is_calm(network, paths),
             sets_link(told),
-            row_of(from_rest, first, paths_before, paths, told, moves, all_used),
+            row_of(from_rest, first, paths_before, paths, told, moves),
             gained,
         ))
     }
