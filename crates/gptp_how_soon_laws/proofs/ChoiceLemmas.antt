@@ -1,7 +1,7 @@
 -- What is told of each time of a document is so: its choice and roles are choice bounds or loss bounds. The network has
 -- come to rest by a rest bound.
 use Rattle.std.proofs.Common.{◌≡◌, ◌<◌, ◌≤◌, ◌⊎◌, inl, inr, ◌+◌, ◌*◌, max, ℕ, Bool, true, false, cond, List, [], ◌∷◌, ◌++◌, Some, None, refl, sym, ap, subst, ◌∙◌, arith}
-use Rattle.std.specs.Prelude.{◌==◌, min, nat_le, nat_lt}
+use Rattle.std.specs.Prelude.{◌==◌, if◌then◌else◌, min, nat_le, nat_lt}
 use Rattle.std.specs.List.{AllByRecursion}
 use Rattle.std.proofs.lemmas.Bool.{eqb-false, eqb-true}
 use Rattle.std.proofs.lemmas.Bool.Decides.{nat_tests}
@@ -17,25 +17,27 @@ use Rattle.gptp_network.specs.Document.{DocumentState}
 use Rattle.gptp_network.specs.Snapshot.{events_by}
 use Rattle.gptp_network.proofs.SnapshotLemmas.{from_filter}
 use Rattle.gptp_theorem.specs.PlayedLaws.{IsPlayable}
-use Rattle.gptp_how_soon.specs.Bounds.{aged_echo_span, any_loss_span, arrived_by, choice_by, choice_of_row, gone_by, roles_of_row, sound_by}
+use Rattle.gptp_how_soon.specs.Bounds.{aged_by, aged_echo_span, any_loss_span, arrived_by, choice_by, choice_of_row, gone_by, quiet_by, roles_of_row, sound_by}
 use Rattle.gptp_how_soon.specs.Links.{longest_delay}
 use Rattle.gptp_how_soon.specs.Silent.{own_intervals}
 use Rattle.gptp_how_soon.specs.Times.{View, events_at, gained_at, last_set, loss_at, ready_at, row_at, settling_time, settling_times, settling_times_from, time_at, view_at}
 use Rattle.gptp_how_soon.specs.declared.bounds.Loss.{Loss}
 use Rattle.gptp_how_soon.specs.declared.bounds.Row.{Row}
-use Rattle.gptp_how_soon.specs.declared.bounds.Row.TheVariants.{AnyLosses, AnyPast, CutOff, FailedEnd, FailedHeard, FailureCutsOff, FailureCutsTrees, Gained, LostEnd, LostPower, Lowered, OneTurned, PowerCutsOff, PowerCutsTrees, TreeCutOff, TreeTurned, Unchanged}
+use Rattle.gptp_how_soon.specs.declared.bounds.Row.TheVariants.{AnyLosses, AnyPast, CutOff, FailedEnd, FailedHeard, FailureCutsOff, FailureCutsTrees, Gained, Lowered, OneTurned, TreeCutOff, TreeTurned, Unchanged}
 use Rattle.gptp_how_soon.specs.declared.bounds.Settling.{Settling}
 use Rattle.gptp_how_soon.specs.declared.bounds.SettlingTime.{SettlingTime}
-use Rattle.gptp_settling_time.specs.HowSoon.{BoundsAging, BoundsAnyLoss, BoundsChoice, BoundsEvents, BoundsLoss, BoundsSplit, BoundsStart, BoundsTree, FailsHeardFirst, FailsTreesFirst, HeldFor, IsChoiceBoundAfter, IsLossBoundAfter, IsRestBoundAfter, NoneBetween, RestsAfterLoss, RestsTree, TreeNext}
+use Rattle.gptp_settling_time.specs.HowSoon.{BoundsAging, BoundsAnyLoss, BoundsChoice, BoundsEvents, BoundsLoss, BoundsSplit, BoundsStart, BoundsTree, FailsHeardFirst, FailsTreesFirst, HeldFor, IsChoiceBoundAfter, IsLossBoundAfter, IsRestBoundAfter, NoneBetween, RestsAfterLoss, RestsOnceTold, RestsTree, RolesAfterFailure, TreeNext}
 use Rattle.gptp_settling_time.specs.InTurn.{FlightIsGone, turned_echo_span}
+use Rattle.gptp_settling_time.specs.Losses.{NoneSilent}
 use Rattle.gptp_settling_time.specs.TreeLosses.{LowersTree, TurnsTreeLink}
 use Rattle.gptp_settling_time.proofs.MomentLemmas.{all_at, last_by, parted}
 use Rattle.gptp_settling_time.proofs.WellFormedLemmas.{after_well}
 use Rattle.gptp_how_soon_laws.specs.Choice.{SettlingsAreChoiceBounds}
+use Rattle.gptp_how_soon_laws.proofs.FailedLemmas.{used_up}
 use Rattle.gptp_how_soon_laws.proofs.RowBoundLemmas.{HasOwnBounds, IsSoundSooner, IsTelling, bounds_choice, choice_or_own, past_row, sound_or_sooner, tells}
-use Rattle.gptp_how_soon_laws.proofs.RowLemmas.{ComesLate, CutsLate, FailsLate, any_losses, cut_off, failed, failure_cuts, gained, heard, losses, lost_end, lost_power, lowered, power_cuts, tree_cut, tree_turned, turned, unchanged}
+use Rattle.gptp_how_soon_laws.proofs.RowLemmas.{ComesLate, CutsLate, FailsLate, cut_off, failed, failure_cuts, gained, heard, losses, lowered, none_left, tree_cut, tree_turned, turned, unchanged}
 use Rattle.gptp_how_soon_laws.proofs.RowTestLemmas.{HasComeToRest}
-use Rattle.gptp_how_soon_laws.proofs.SilentLemmas.{held_for, last_now}
+use Rattle.gptp_how_soon_laws.proofs.SilentLemmas.{held_for, last_now, none_ages, used_silent}
 use Rattle.gptp_how_soon_laws.proofs.StartRowLemmas.{first_past, first_roles, first_sound, never_unchanged, started}
 use Rattle.gptp_how_soon_laws.proofs.UnmovedLemmas.{AreWell}
 use Rattle.gptp_how_soon_laws.proofs.TimesLemmas.{AreTimes, later_times, times_after, times_parts}
@@ -206,11 +208,48 @@ module _ (d : DocumentState) (playable : IsPlayable d) where
     some_now : (Are : List Timed → Type 0) → (Are [] → ⊥) → Are now → now ≡ [] → ⊥
     some_now Are none are same = none (subst Are same are)
 
-    held_heard : FailsHeardFirst n made now → HeldFor n made now v.moves.held
-    held_heard fails = held (some_now (FailsHeardFirst n made) (λ none. none) fails)
+    -- nothing has to age where no lost link is silent
+    aged : (now ≡ [] → ⊥) → HeldFor n made now (aged_by loss)
+    aged some = by v.silent refl
+      where
+        by : (silent : Bool) → v.silent ≡ silent → HeldFor n made now (if silent then v.moves.held else 0)
+        by true is = held some
+        by false is =
+            let none = none_left n playable.network all b at late is in
+            (0, none_ages n made (made ++ now) (last_change (made ++ now)) none, omega arith)
 
-    held_trees : FailsTreesFirst n made now → HeldFor n made now v.moves.held
-    held_trees fails = held (some_now (FailsTreesFirst n made) (λ none. none) fails)
+    -- and roles stand then, or once ports at silent links are off
+    aging : (now ≡ [] → ⊥) → BoundsAging n made now (aged_by loss) (quiet_by n loss (aged_by loss))
+    aging some = by v.silent refl
+      where
+        by : (silent : Bool) → v.silent ≡ silent
+            → BoundsAging n made now (if silent then v.moves.held else 0)
+            (if silent then max (if silent then v.moves.held else 0) (silence_span (pace_of n))
+            else if silent then v.moves.held else 0)
+        by true is =
+            let (span, ages, least) = held some in
+            inr ((span, ages, least), omega (arith, least))
+        by false is = inl (none_left n playable.network all b at late is, refl, refl)
+
+    -- so they do where the choice stands later
+    quiet_later : (more : ℕ)
+        → quiet_by n loss (aged_by loss + more) ≡ max (aged_by loss + more) (quiet_by n loss (aged_by loss))
+    quiet_later more = by v.silent
+      where
+        by : (silent : Bool)
+            → (if silent then max ((if silent then v.moves.held else 0) + more) (silence_span (pace_of n))
+            else (if silent then v.moves.held else 0) + more)
+            ≡ max ((if silent then v.moves.held else 0) + more)
+            (if silent then max (if silent then v.moves.held else 0) (silence_span (pace_of n))
+            else if silent then v.moves.held else 0)
+        by true = omega arith
+        by false = omega arith
+
+    some_heard : FailsHeardFirst n made now → now ≡ [] → ⊥
+    some_heard = some_now (FailsHeardFirst n made) (λ none. none)
+
+    some_trees : FailsTreesFirst n made now → now ≡ [] → ⊥
+    some_trees = some_now (FailsTreesFirst n made) (λ none. none)
 
     -- an event of this kind comes once what was in flight has arrived, and all ask for this
     tree_next : (Is : List Timed → Timed → Type 0) (Asks : List Timed → Type 0) → IsCalm n (events_by at all)
@@ -218,14 +257,14 @@ module _ (d : DocumentState) (playable : IsPlayable d) where
         → Asks (made ++ now)
         → TreeNext n Is all (λ then. IsRestBoundAfter n all earlier b.at then) b.at at Asks
     tree_next Is Asks calm off rest tree asks = (
-      late,
-      between,
-      calm,
-      off,
-      (rest.settling.sound, (sound_before rest).0, tree.come),
-      tree.lowers,
-      subst Asks (sym (parted all b.at at playable.events.in_order late between)) asks,
-    )
+          late,
+          between,
+          calm,
+          off,
+          (rest.settling.sound, (sound_before rest).0, tree.come),
+          tree.lowers,
+          subst Asks (sym (parted all b.at at playable.events.in_order late between)) asks,
+        )
 
     -- it comes to rest so after a loss, after a tree is cut off, or after one turns
     abbrev Rests : ℕ → Type 0
@@ -252,41 +291,48 @@ module _ (d : DocumentState) (playable : IsPlayable d) where
     rests_by : (sound : ℕ) → sound ≡ sound_by n loss v.paths (row_at v) (gained_at n v)
         → IsSoundSooner n loss v.paths (row_at v) (sound_by n loss v.paths (row_at v) (gained_at n v)) → Rests sound
     rests_by sound told (inl (row, is)) =
-        let x = lost_end n playable.network all b at late well row in
-        let flight = subst (FlightIsGone n made) (sym (told ∙ is)) x.flight in
-        inl (x.rested, inl (inr (inl (x.fails, inl (x.used, flight)))))
-    rests_by sound told (inr (inl (row, is))) =
         let (rest, fails, flight) = failed n playable.network all b at late well row in
-        inl (rest, inl (inr (inl (fails, inr (gone_by n v.paths_before v.used_before, flight, told ∙ is)))))
-    rests_by sound told (inr (inr (inl (row, is)))) =
+        inl (rest, inl (inr (inl (fails, by v.used refl flight (told ∙ is)))))
+      where
+        gone : ℕ
+        gone = gone_by n v.paths_before v.used_before
+
+        by : (used : Bool) → v.used ≡ used → FlightIsGone n made gone
+            → sound ≡ (if used then gone else max (silence_span (pace_of n)) gone)
+            → (NoneSilent n made (made ++ now) × FlightIsGone n made sound)
+            ⊎ ((time : ℕ) × FlightIsGone n made time × (sound ≡ max (silence_span (pace_of n)) time))
+        by true used flight same =
+            inl (used_silent n made (made ++ now) (used_up n playable.network (made ++ now) used),
+            subst (FlightIsGone n made) (sym same) flight)
+        by false used flight same = inr (gone, flight, same)
+    rests_by sound told (inr (inl (row, is))) =
         let (rest, lowers, flight) = lowered n playable.network all b at late well row in
         inl (rest, inl (inr (inr (inl (lowers, (gone_by n v.paths v.used_before, flight, told ∙ is))))))
-    rests_by sound told (inr (inr (inr (inl (row, is))))) =
+    rests_by sound told (inr (inr (inl (row, is)))) =
         let x = cut_off n playable.network all b at late well row in
         inl (x.rested, inl (inl (x.cuts, (gone_by n v.paths v.used_before, x.flight, told ∙ is))))
-    rests_by sound told (inr (inr (inr (inr (inl (inr row, is)))))) =
+    rests_by sound told (inr (inr (inr (inl (inr row, is))))) =
         let (rest, tree) = tree_turned n playable.network all b at late well row in
         inr (inr (rest, tree, told ∙ is))
-    rests_by sound told (inr (inr (inr (inr (inl (inl row, is)))))) =
+    rests_by sound told (inr (inr (inr (inl (inl row, is))))) =
         let (rest, turns) = turned n playable.network all b at late well row in
         inl (rest, inl (inr (inr (inr (inl (turns, told ∙ is))))))
-    rests_by sound told (inr (inr (inr (inr (inr (inl (row, long))))))) =
-        let (rest, fails, used) = lost_power n playable.network all b at late well row in
-        let late : max (echo_span (pace_of n) v.paths) v.paths.delay ≤ sound =
-        subst (λ t. max (echo_span (pace_of n) v.paths) v.paths.delay ≤ t) (sym told) long in
-        inl (rest, inl (inr (inr (inr (inr (fails, inl (used, late)))))))
-    rests_by sound told (inr (inr (inr (inr (inr (inr (inl (row, long)))))))) =
+    rests_by sound told (inr (inr (inr (inr (inl (row, long)))))) =
         let (rest, fails) = heard n playable.network all b at late well row in
-        let late : aged_echo_span n loss v.paths ≤ sound =
-        subst (λ t. aged_echo_span n loss v.paths ≤ t) (sym told) long in
-        inl (
-          rest,
-          inl (inr (inr (inr (inr (
-            fails,
-            inr (largest_interval (pace_of n), inr refl, (v.moves.held, held_heard fails, late)),
-          ))))),
-        )
-    rests_by sound told (inr (inr (inr (inr (inr (inr (inr (inl (row, is))))))))) =
+        inl (rest, inl (inr (inr (inr (inr (
+          fails,
+          by (some_heard fails) v.used refl (subst (λ t. aged_echo_span n loss v.paths ≤ t) (sym told) long),
+        ))))))
+      where
+        by : (now ≡ [] → ⊥) → (used : Bool) → v.used ≡ used
+            → (if used then max (echo_span (pace_of n) v.paths) v.paths.delay
+            else max (silence_span (pace_of n))
+            (aged_by loss + 1 + max (echo_span (pace_of n) v.paths) (largest_interval (pace_of n))))
+            ≤ sound
+            → RestsOnceTold n made now sound
+        by some true used late_then = inl (used_up n playable.network (made ++ now) used, late_then)
+        by some false used late_then = inr (largest_interval (pace_of n), inr refl, (aged_by loss, aged some, late_then))
+    rests_by sound told (inr (inr (inr (inr (inr (inl (row, is))))))) =
         let (rest, loses, roles) = losses n playable.network all b at late row in
         inl (
           rest,
@@ -296,7 +342,7 @@ module _ (d : DocumentState) (playable : IsPlayable d) where
                 (loses, refl, roles (any_loss_span n loss v.paths)),
           ),
         )
-    rests_by sound told (inr (inr (inr (inr (inr (inr (inr (inr (row, is))))))))) =
+    rests_by sound told (inr (inr (inr (inr (inr (inr (row, is))))))) =
         let (rest, tree) = tree_cut n playable.network all b at late well row in inr (inl (rest, tree, told ∙ is))
 
     -- it has come to rest as soon as it settles from any past, or sooner after a loss
@@ -385,18 +431,14 @@ module _ (d : DocumentState) (playable : IsPlayable d) where
     asks_by CutOff row own =
         let x = cut_off n playable.network all b at late well row in
         inl (x.rested, inl (x.lowers, refl, inr (x.cuts, refl)))
-    asks_by LostEnd row own =
-        let x = lost_end n playable.network all b at late well row in
-        inl (x.rested, inr (inl (x.fails, refl, inl (x.used, refl))))
     asks_by FailedEnd row own =
         let (rest, fails, flight) = failed n playable.network all b at late well row in
-        inl (rest, inr (inl (fails, refl, inr refl)))
-    asks_by LostPower row own =
-        let (rest, fails, used) = lost_power n playable.network all b at late well (inl row) in
-        inl (rest, inr (inr (inr (inl (fails, (0, 0, inl (used, refl, refl), inl (refl, refl)))))))
-    asks_by PowerCutsOff row own =
-        let (rest, fails, used) = lost_power n playable.network all b at late well (inr row) in
-        inl (rest, inr (inr (inr (inl (fails, (0, 0, inl (used, refl, refl), inr (omega arith, omega arith)))))))
+        inl (rest, inr (inl (fails, refl, by v.silent refl)))
+      where
+        by : (silent : Bool) → v.silent ≡ silent
+            → RolesAfterFailure n made now (if silent then max 0 (silence_span (pace_of n)) else 0)
+        by true is = inr (omega arith)
+        by false is = inl (none_left n playable.network all b at late is, refl)
     asks_by OneTurned row own =
         let (rest, turns) = turned n playable.network all b at late well row in
         inl (rest, inr (inr (inl (turns, refl, refl))))
@@ -408,33 +450,35 @@ module _ (d : DocumentState) (playable : IsPlayable d) where
         inr (inl ((rest, inr tree), refl, refl))
     asks_by FailedHeard row own =
         let (rest, fails) = heard n playable.network all b at late well (inl row) in
-        inl (
-          rest,
-          inr (inr (inr (inl (
-            fails,
-            (v.moves.held, silence_span (pace_of n), inr (held_heard fails, refl), inl (refl, refl)),
-          )))),
-        )
+        inl (rest, inr (inr (inr (inl (
+          fails,
+          (aged_by loss, quiet_by n loss (aged_by loss), aging (some_heard fails), inl (refl, refl)),
+        )))))
     asks_by FailureCutsOff row own =
         let (rest, fails) = heard n playable.network all b at late well (inr row) in
-        inl (
-          rest,
-          inr (inr (inr (inl (
-            fails,
-            (v.moves.held, silence_span (pace_of n), inr (held_heard fails, refl), inr (refl, refl)),
-          )))),
-        )
-    asks_by PowerCutsTrees row own =
-        let (x, used) = power_cuts n playable.network all b at late well row in
-        inr (inr (x, (0, 0, inl (used, refl, refl), omega arith, omega arith)))
+        inl (rest, inr (inr (inr (inl (
+          fails,
+          (
+            aged_by loss,
+            quiet_by n loss (aged_by loss),
+            aging (some_heard fails),
+            inr (refl, quiet_later (2 * way_span v.paths)),
+          ),
+        )))))
     asks_by FailureCutsTrees row own =
         let x = failure_cuts n playable.network all b at late well row in
         inr (inr (
           x,
-          (v.moves.held, silence_span (pace_of n), inr (held_trees x.fails, refl), refl, refl),
+          (
+            aged_by loss,
+            quiet_by n loss (aged_by loss),
+            aging (some_trees x.fails),
+            refl,
+            quiet_later (2 * way_span v.paths),
+          ),
         ))
     asks_by AnyLosses row own =
-        let (rest, loses, roles) = any_losses n playable.network all b at late row in
+        let (rest, loses, roles) = losses n playable.network all b at late (inl row) in
         inl (rest, inr (inr (inr (inr (loses, refl, roles (any_loss_span n loss v.paths))))))
 
     sooner_so : (s : Settling) → IsTelling n v s → IsChoiceBoundAfter n all (b.at ∷ earlier) at settled_by → IsSooner s

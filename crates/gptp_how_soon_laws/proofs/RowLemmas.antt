@@ -12,28 +12,28 @@ use Rattle.gptp_scenario.specs.SettlingTime.{silence_span, way_span}
 use Rattle.gptp_scenario.specs.SyncWait.{sync_paths}
 use Rattle.gptp_scenario.specs.declared.change.Timed.{Timed}
 use Rattle.gptp_network.specs.Snapshot.{events_by}
-use Rattle.gptp_how_soon.specs.Bounds.{is_hard_to_hear, gone_by}
+use Rattle.gptp_how_soon.specs.Bounds.{is_hard_to_hear, gone_by, quiet_by}
 use Rattle.gptp_how_soon.specs.Chosen.{moves_joined}
 use Rattle.gptp_how_soon.specs.CutTrees.{cuts_trees_after}
-use Rattle.gptp_how_soon.specs.Kinds.{are_heard, brings_nothing, fails_and_recovers, fails_first, is_better, is_failing, is_gain, is_idle, is_loss, is_other, is_recovery, leaves_links, lowers_one, lowers_unused, makes_nothing, recovers, takes_one, begins_wider, first_wider_by, is_wider}
-use Rattle.gptp_how_soon.specs.Rest.{are_events_followed, are_losses_followed, are_recoveries_followed, are_turns_followed, heard_at_once, is_failing_followed, is_from_rest, is_lowering_followed, keeps_paths, leaves_silent, rested, is_wider_followed, settles_wider_by}
-use Rattle.gptp_how_soon.specs.Times.{View, events_at, gained_at, has_come_after, ready_at, row_at, view_at}
+use Rattle.gptp_how_soon.specs.Kinds.{are_heard, brings_nothing, fails_and_recovers, fails_first, is_better, is_gain, is_idle, is_loss, is_other, is_recovery, leaves_links, lowers_one, lowers_unused, makes_nothing, recovers, takes_one, begins_wider, first_wider_by, is_wider}
+use Rattle.gptp_how_soon.specs.Rest.{are_events_followed, are_losses_followed, are_recoveries_followed, are_turns_followed, heard_at_once, is_failing_followed, is_from_rest, is_lowering_followed, keeps_paths, rested, is_wider_followed, settles_wider_by}
+use Rattle.gptp_how_soon.specs.Times.{View, events_at, gained_at, has_come_after, loss_at, ready_at, row_at, view_at}
 use Rattle.gptp_how_soon.specs.Tree.{cuts_tree_after}
 use Rattle.gptp_how_soon.specs.TurnedTree.{turns_tree_after}
 use Rattle.gptp_how_soon.specs.declared.bounds.Row.{Row}
-use Rattle.gptp_how_soon.specs.declared.bounds.Row.TheVariants.{AnyLosses, CutOff, FailedEnd, FailedHeard, FailureCutsOff, FailureCutsTrees, Gained, LostEnd, LostPower, Lowered, OneTurned, PowerCutsOff, PowerCutsTrees, TreeCutOff, TreeTurned, Unchanged}
+use Rattle.gptp_how_soon.specs.declared.bounds.Row.TheVariants.{AnyLosses, CutOff, FailedEnd, FailedHeard, FailureCutsOff, FailureCutsTrees, Gained, Lowered, OneTurned, TreeCutOff, TreeTurned, Unchanged}
 use Rattle.gptp_how_soon.specs.declared.bounds.Settling.{Settling}
 use Rattle.gptp_how_soon.specs.declared.bounds.SettlingTime.{SettlingTime}
 use Rattle.gptp_how_soon.specs.declared.kinds.Told.{Told}
 use Rattle.gptp_settling_time.specs.Arrivals.{HasArrivedBy}
 use Rattle.gptp_settling_time.specs.HowSoon.{AreWiderEvents, BoundsGains, CutsOneEnd, EachEvent, FailsEndFirst, FailsHeardFirst, FailsTreesFirst, IsStillEvent, LosesEvents, LowersOneLink, OneEvent, RolesAfterLoss, TurnsOneLink}
 use Rattle.gptp_settling_time.specs.InTurn.{FlightIsGone}
-use Rattle.gptp_settling_time.specs.Losses.{LowersLink, UpIsUsed}
+use Rattle.gptp_settling_time.specs.Losses.{LowersLink, NoneSilent}
 use Rattle.gptp_settling_time.specs.TreeLosses.{LowersTree, TurnsTreeLink}
 use Rattle.gptp_settling_time.proofs.CutLemmas.{all_by}
 use Rattle.gptp_settling_time.proofs.LeadOnLemmas.{all_still}
 use Rattle.gptp_settling_time.proofs.MomentLemmas.{all_at}
-use Rattle.gptp_how_soon_laws.proofs.AnyLossLemmas.{all_losses, failing_loses, none_fails}
+use Rattle.gptp_how_soon_laws.proofs.AnyLossLemmas.{all_losses, failing_loses}
 use Rattle.gptp_how_soon_laws.proofs.ArrivedLemmas.{has_come_so, longest_within}
 use Rattle.gptp_how_soon_laws.proofs.GainLemmas.{AreFollowed, AreTurnsFollowed}
 use Rattle.gptp_how_soon_laws.proofs.GainedLemmas.{all_gained, all_heard, all_idle, all_wider}
@@ -46,6 +46,7 @@ use Rattle.gptp_how_soon_laws.proofs.TurnedLemmas.{turns_one_link}
 use Rattle.gptp_how_soon_laws.proofs.UnmovedLemmas.{AreWell, all_still_unmoved}
 use Rattle.gptp_how_soon_laws.proofs.RowBoundLemmas.{HasLossSpan}
 use Rattle.gptp_how_soon_laws.proofs.RowReasonLemmas.{ReasonOf, Tests, reason_of}
+use Rattle.gptp_how_soon_laws.proofs.SilentLemmas.{none_silent}
 use Rattle.gptp_how_soon_laws.proofs.RowTestLemmas.{HasComeToRest, at_most, counts_all, counts_joined, failing_takes, leaves_all, lowering_takes, not_both, over_before, rested_so}
 
 module _ (n : NetworkState) (network : IsNetwork n) (events : List Timed) (b : SettlingTime) (at : ℕ)
@@ -73,7 +74,6 @@ module _ (n : NetworkState) (network : IsNetwork n) (events : List Timed) (b : S
     far = v.moves.far;
     any = v.moves.any;
     trees = is_failing_followed v.paths_before v.paths v.told && v.moves.trees_fall;
-    used = v.used;
     loss = list_any is_loss v.told;
     only = list_all brings_nothing v.told;
   }
@@ -353,17 +353,6 @@ module _ (n : NetworkState) (network : IsNetwork n) (events : List Timed) (b : S
       let one = lowers_so well lowers in
       ((from_rest from).rested, one, flight_lowered one)
 
-  -- or a system loses its power that others heard
-  pub lost_power : AreWell n (made ++ now) → (row_at v ≡ LostPower) ⊎ (row_at v ≡ PowerCutsOff)
-      → HasComeToRest b at × FailsHeardFirst n made now × UpIsUsed n (made ++ now)
-  lost_power well which =
-      let (from, fails, used) = by which in
-      ((from_rest from).rested, failing_heard well fails, used_up n network (made ++ now) used)
-    where
-      by : (row_at v ≡ LostPower) ⊎ (row_at v ≡ PowerCutsOff) → ReasonOf tests LostPower
-      by (inl row) = why LostPower row
-      by (inr row) = why PowerCutsOff row
-
   -- or it cuts off its far end
   pub record CutsEnd : Type 0 where
     pub rested : HasComeToRest b at
@@ -380,22 +369,6 @@ module _ (n : NetworkState) (network : IsNetwork n) (events : List Timed) (b : S
         cuts = cuts_so well lowers cut;
         lowers = one;
         flight = flight_lowered one;
-      }
-
-  -- or a far end loses its power
-  pub record LosesEnd : Type 0 where
-    pub rested : HasComeToRest b at
-    pub fails : FailsEndFirst n made now
-    pub used : UpIsUsed n (made ++ now)
-    pub flight : FlightIsGone n made (gone_by n v.paths_before v.used_before)
-
-  pub lost_end : AreWell n (made ++ now) → row_at v ≡ LostEnd → LosesEnd
-  lost_end well row =
-      let (from, fails, far, used) = why LostEnd row in record {
-        rested = (from_rest from).rested;
-        fails = failing_end well fails far;
-        used = used_up n network (made ++ now) used;
-        flight = flight_so;
       }
 
   -- or one system turns
@@ -467,9 +440,9 @@ module _ (n : NetworkState) (network : IsNetwork n) (events : List Timed) (b : S
     pub come : HasCome rest
     pub fails : FailsTreesFirst n made now
 
-  fails_late : is_from_rest v.longest at v.paths_before v.paths v.told (Some b) ≡ true → AreWell n (made ++ now)
-      → (is_failing_followed v.paths_before v.paths v.told && v.moves.trees_fall) ≡ true → FailsLate
-  fails_late from well trees =
+  pub failure_cuts : AreWell n (made ++ now) → row_at v ≡ FailureCutsTrees → FailsLate
+  failure_cuts well row =
+      let (from, trees) = why FailureCutsTrees row in
       let (x, one, cut, come) = late_by fails_first (cuts_trees_after n made (made ++ now)) trees in
       let rest = (from_rest from).rested in
       record {
@@ -478,17 +451,7 @@ module _ (n : NetworkState) (network : IsNetwork n) (events : List Timed) (b : S
         fails = fails_trees_first n network made now well cut x.delay x.paths x.few one;
       }
 
-  -- and loses its power
-  pub power_cuts : AreWell n (made ++ now) → row_at v ≡ PowerCutsTrees → FailsLate × UpIsUsed n (made ++ now)
-  power_cuts well row =
-      let (from, trees, used) = why PowerCutsTrees row in
-      (fails_late from well trees, used_up n network (made ++ now) used)
-
-  -- or hangs
-  pub failure_cuts : AreWell n (made ++ now) → row_at v ≡ FailureCutsTrees → FailsLate
-  failure_cuts well row = let (from, trees) = why FailureCutsTrees row in fails_late from well trees
-
-  -- or a far end hangs
+  -- or a far end fails
   pub failed : AreWell n (made ++ now) → row_at v ≡ FailedEnd
       → HasComeToRest b at × FailsEndFirst n made now × FlightIsGone n made (gone_by n v.paths_before v.used_before)
   failed well row =
@@ -506,42 +469,33 @@ module _ (n : NetworkState) (network : IsNetwork n) (events : List Timed) (b : S
       by (inl row) = why FailedHeard row
       by (inr row) = why FailureCutsOff row
 
-  -- Or there are losses, and nothing is brought. Then roles stand with the choice; or no sooner than no port beside a
-  -- system that fails is left capable.
+  -- no lost link is left silent
+  pub none_left : v.silent ≡ false → NoneSilent n made (made ++ now)
+  none_left = none_silent n made (made ++ now)
+
+  -- Or there are losses, and nothing is brought. Then roles stand with the choice; or, where a lost link is silent, no
+  -- sooner than the port at its live end isn't capable any more.
   abbrev pub LosesSome : Type 0
   LosesSome =
       HasComeToRest b at × LosesEvents n made now
-      × ((choice : ℕ) → RolesAfterLoss n made now choice
-      (if leaves_silent v.used v.told then max choice (silence_span (pace_of n)) else choice))
+      × ((choice : ℕ) → RolesAfterLoss n made now choice (quiet_by n (loss_at v) choice))
 
   loses_some : is_from_rest v.longest at v.paths_before v.paths v.told (Some b) ≡ true
       → list_all brings_nothing v.told ≡ true → list_any is_loss v.told ≡ true → LosesSome
-  loses_some from only loss = (
-    (from_rest from).rested,
-    all_losses n network made now only loss,
-    by v.used (list_any is_failing v.told) refl refl,
-  )
+  loses_some from only loss =
+      ((from_rest from).rested, all_losses n network made now only loss, by v.silent refl)
     where
-      by : (used failing : Bool) → v.used ≡ used → list_any is_failing v.told ≡ failing → (choice : ℕ)
-          → RolesAfterLoss n made now choice
-          (if not used && failing then max choice (silence_span (pace_of n)) else choice)
-      by true failing used none choice = inl (inr (used_up n network (made ++ now) used), refl)
-      by false false used none choice = inl (inl (none_fails n network made now only none), refl)
-      by false true used none choice = inr refl
-
-  pub any_losses : row_at v ≡ AnyLosses → LosesSome
-  any_losses row = let (from, loss, only) = why AnyLosses row in loses_some from only loss
+      by : (silent : Bool) → v.silent ≡ silent → (choice : ℕ)
+          → RolesAfterLoss n made now choice (if silent then max choice (silence_span (pace_of n)) else choice)
+      by true is choice = inr refl
+      by false is choice = inl (none_left is, refl)
 
   -- so it is where a system fails and cuts trees off
-  trees_lose : is_from_rest v.longest at v.paths_before v.paths v.told (Some b) ≡ true
-      → (is_failing_followed v.paths_before v.paths v.told && v.moves.trees_fall) ≡ true → LosesSome
-  trees_lose from trees =
+  pub losses : HasLossSpan (row_at v) → LosesSome
+  losses (inl row) = let (from, loss, only) = why AnyLosses row in loses_some from only loss
+  losses (inr row) =
+      let (from, trees) = why FailureCutsTrees row in
       let (followed, fall) = and_parts (is_failing_followed v.paths_before v.paths v.told) v.moves.trees_fall trees in
       let (keeps, fails) = and_parts (keeps_paths v.paths_before v.paths) (fails_first v.told) followed in
       let (only, loss) = failing_loses v.told fails in
       loses_some from only loss
-
-  pub losses : HasLossSpan (row_at v) → LosesSome
-  losses (inl row) = any_losses row
-  losses (inr (inl row)) = let (from, trees, used) = why PowerCutsTrees row in trees_lose from trees
-  losses (inr (inr row)) = let (from, trees) = why FailureCutsTrees row in trees_lose from trees
