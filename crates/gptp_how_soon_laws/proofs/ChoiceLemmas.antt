@@ -37,7 +37,7 @@ use Rattle.gptp_how_soon_laws.proofs.FailedLemmas.{used_up}
 use Rattle.gptp_how_soon_laws.proofs.RowBoundLemmas.{HasOwnBounds, IsSoundSooner, IsTelling, bounds_choice, choice_or_own, past_row, sound_or_sooner, tells}
 use Rattle.gptp_how_soon_laws.proofs.RowLemmas.{ComesLate, CutsLate, FailsLate, cut_off, failed, failure_cuts, gained, heard, losses, lowered, none_left, tree_cut, tree_turned, turned, unchanged}
 use Rattle.gptp_how_soon_laws.proofs.RowTestLemmas.{HasComeToRest}
-use Rattle.gptp_how_soon_laws.proofs.SilentLemmas.{held_for, last_now, none_ages, used_silent}
+use Rattle.gptp_how_soon_laws.proofs.SilentLemmas.{held_for, last_now, none_ages}
 use Rattle.gptp_how_soon_laws.proofs.StartRowLemmas.{first_past, first_roles, first_sound, never_unchanged, started}
 use Rattle.gptp_how_soon_laws.proofs.UnmovedLemmas.{AreWell}
 use Rattle.gptp_how_soon_laws.proofs.TimesLemmas.{AreTimes, later_times, times_after, times_parts}
@@ -292,19 +292,18 @@ module _ (d : DocumentState) (playable : IsPlayable d) where
         → IsSoundSooner n loss v.paths (row_at v) (sound_by n loss v.paths (row_at v) (gained_at n v)) → Rests sound
     rests_by sound told (inl (row, is)) =
         let (rest, fails, flight) = failed n playable.network all b at late well row in
-        inl (rest, inl (inr (inl (fails, by v.used refl flight (told ∙ is)))))
+        inl (rest, inl (inr (inl (fails, by v.silent refl flight (told ∙ is)))))
       where
         gone : ℕ
         gone = gone_by n v.paths_before v.used_before
 
-        by : (used : Bool) → v.used ≡ used → FlightIsGone n made gone
-            → sound ≡ (if used then gone else max (silence_span (pace_of n)) gone)
+        by : (silent : Bool) → v.silent ≡ silent → FlightIsGone n made gone
+            → sound ≡ (if silent then max gone (silence_span (pace_of n)) else gone)
             → (NoneSilent n made (made ++ now) × FlightIsGone n made sound)
             ⊎ ((time : ℕ) × FlightIsGone n made time × (sound ≡ max (silence_span (pace_of n)) time))
-        by true used flight same =
-            inl (used_silent n made (made ++ now) (used_up n playable.network (made ++ now) used),
-            subst (FlightIsGone n made) (sym same) flight)
-        by false used flight same = inr (gone, flight, same)
+        by true silent flight same = inr (gone, flight, omega (arith, same))
+        by false silent flight same =
+            inl (none_left n playable.network all b at late silent, subst (FlightIsGone n made) (sym same) flight)
     rests_by sound told (inr (inl (row, is))) =
         let (rest, lowers, flight) = lowered n playable.network all b at late well row in
         inl (rest, inl (inr (inr (inl (lowers, (gone_by n v.paths v.used_before, flight, told ∙ is))))))
@@ -331,7 +330,8 @@ module _ (d : DocumentState) (playable : IsPlayable d) where
             ≤ sound
             → RestsOnceTold n made now sound
         by some true used late_then = inl (used_up n playable.network (made ++ now) used, late_then)
-        by some false used late_then = inr (largest_interval (pace_of n), inr refl, (aged_by loss, aged some, late_then))
+        by some false used late_then =
+            inr (largest_interval (pace_of n), inr refl, (aged_by loss, aged some, late_then))
     rests_by sound told (inr (inr (inr (inr (inr (inl (row, is))))))) =
         let (rest, loses, roles) = losses n playable.network all b at late row in
         inl (

@@ -12,7 +12,7 @@ use Rattle.gptp_scenario.specs.SyncWait.{sync_paths}
 use Rattle.gptp_scenario.specs.declared.change.Timed.{Timed}
 use Rattle.gptp_scenario.specs.declared.sync_wait.SyncPaths.{SyncPaths}
 use Rattle.gptp_topology.specs.After.{is_calm}
-use Rattle.gptp_how_soon.specs.Bounds.{aged_echo_span, any_loss_span, arrived_by, choice_by, choice_of_row, gone_by, quiet_by, roles_by, roles_of_row, settled, silent_by, sound_by, sound_of_row}
+use Rattle.gptp_how_soon.specs.Bounds.{aged_echo_span, any_loss_span, arrived_by, choice_by, choice_of_row, gone_by, quiet_by, roles_by, roles_of_row, settled, sound_by, sound_of_row}
 use Rattle.gptp_how_soon.specs.Kinds.{sets_link}
 use Rattle.gptp_how_soon.specs.Times.{View, gained_at, loss_at, row_at, settling_time}
 use Rattle.gptp_how_soon.specs.declared.bounds.Loss.{Loss}
@@ -128,7 +128,7 @@ HasLossSpan row = (row ≡ AnyLosses) ⊎ (row ≡ FailureCutsTrees)
 -- All is sound by that bound. Or nothing lapses, and it is sooner after a loss.
 abbrev pub IsSoundSooner : NetworkState → Loss → SyncPaths → Row → ℕ → Type 0
 IsSoundSooner n loss paths row sound =
-    ((row ≡ FailedEnd) × (sound ≡ silent_by n loss (gone_by n loss.paths_before loss.used_before)))
+    ((row ≡ FailedEnd) × (sound ≡ quiet_by n loss (gone_by n loss.paths_before loss.used_before)))
     ⊎ (((row ≡ Lowered) × (sound ≡ max (echo_span (pace_of n) paths) (gone_by n paths loss.used_before)))
     ⊎ (((row ≡ CutOff) × (sound ≡ max (2 * way_span paths) (gone_by n paths loss.used_before)))
     ⊎ ((((row ≡ OneTurned) ⊎ (row ≡ TreeTurned)) × (sound ≡ 2 * way_span paths + echo_span (pace_of n) paths))

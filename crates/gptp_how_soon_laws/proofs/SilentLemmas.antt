@@ -27,7 +27,7 @@ use Rattle.gptp_topology.specs.declared.course.Standing.{Standing}
 use Rattle.gptp_topology.proofs.RestLemmas.{lives_from, lives_to, used_cable}
 use Rattle.gptp_how_soon.specs.Silent.{held_after, held_among, held_end, held_one, held_over, hold_span, is_heard_link, is_silent_at, is_silent_by, log_from, log_if, silent_after, timeout_of}
 use Rattle.gptp_settling_time.specs.HowSoon.{HeldFor}
-use Rattle.gptp_settling_time.specs.Losses.{AgesWithin, AnnouncesAt, IsHoldSpan, IsSilent, NoneSilent, UpIsUsed}
+use Rattle.gptp_settling_time.specs.Losses.{AgesWithin, AnnouncesAt, IsHoldSpan, IsSilent, NoneSilent}
 use Rattle.gptp_how_soon_laws.proofs.LiveEndsLemmas.{counts_heard, two_ends}
 use Rattle.gptp_how_soon_laws.proofs.ReadyLemmas.{none_any}
 use Rattle.gptp_how_soon_laws.proofs.UnmovedLemmas.{place_in_range}
@@ -234,8 +234,8 @@ module _ (n : NetworkState) (made events : List Timed) where
   used_then = map cable_is_used (standings_after n made)
 
   -- one end has failed, and the other lives
-  one_lives : (v : LinkSpec) (failed end : PortId) → IsEnd failed (link_after events v) → IsEnd end (link_after events v)
-      → (IsLive n.systems events failed.clock → ⊥) → IsLive n.systems events end.clock
+  one_lives : (v : LinkSpec) (failed end : PortId) → IsEnd failed (link_after events v)
+      → IsEnd end (link_after events v) → (IsLive n.systems events failed.clock → ⊥) → IsLive n.systems events end.clock
       → ((lives n.systems events v.a.clock && not (lives n.systems events v.b.clock))
       || (lives n.systems events v.b.clock && not (lives n.systems events v.a.clock)))
       ≡ true
@@ -289,15 +289,6 @@ module _ (n : NetworkState) (made events : List Timed) where
   pub none_ages : (time : ℕ) → NoneSilent n made events → AgesWithin n made events time 0
   none_ages time none place v failed there silent far =
       absurd (none place v failed far.end there silent far.is_end far.lives)
-
-  -- where each link that is up is in use none is silent
-  pub used_silent : UpIsUsed n events → NoneSilent n made events
-  used_silent all place v failed end there (used, up, is_failed, none) is_end live =
-      let now = all place v there up in
-      none (elim is_failed [
-        | inl a ↦ subst (λ (p : PortId). IsLive n.systems events p.clock) a now.a
-        | inr b ↦ subst (λ (p : PortId). IsLive n.systems events p.clock) b now.b
-      ])
 
 -- the last change is that of these events, if there is one
 pub last_now : (time : ℕ) (made : List Timed) (event : Timed) (events : List Timed)
