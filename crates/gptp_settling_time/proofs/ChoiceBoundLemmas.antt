@@ -14,7 +14,7 @@ use Rattle.gptp_settling_time.specs.ExactInTurn.{arrived_by}
 use Rattle.gptp_settling_time.specs.Gains.{HasDelaysWithin}
 use Rattle.gptp_settling_time.specs.HowSoon.{IsChoiceAloneBound, NoneBetween}
 use Rattle.gptp_settling_time.proofs.ExactInTurnLemmas.{acts_are_carried_in_turn, acts_are_exact_in_turn, IsCarried}
-use Rattle.gptp_settling_time.proofs.FollowedLemmas.{bound_chooses, bound_settles}
+use Rattle.gptp_settling_time.proofs.LossFollowedLemmas.{bound_chooses, bound_settles}
 use Rattle.gptp_settling_time.proofs.InTurnLemmas.{acts_find_choice_in_turn, acts_find_settled_in_turn}
 use Rattle.gptp_settling_time.proofs.MomentLemmas.{last_by, none_later}
 use Rattle.gptp_settling_time.proofs.UnchangedLemmas.{acts_leave_choice, acts_leave_shown}

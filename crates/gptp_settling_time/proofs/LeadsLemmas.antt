@@ -50,9 +50,9 @@ use Rattle.gptp_settling_time.proofs.DeadDownLemmas.{asked_on, dead_left, reduce
 use Rattle.gptp_settling_time.proofs.FailedDownLemmas.{lowered_claimed, lowered_news}
 use Rattle.gptp_settling_time.proofs.FailedUpLemmas.{raised_claimed, raised_from}
 use Rattle.gptp_settling_time.proofs.FallMadeLemmas.{fallen_to}
-use Rattle.gptp_settling_time.proofs.FallenToLemmas.{IsFallenTo}
+use Rattle.gptp_settling_time.proofs.FallenToLemmas.{IsFallenTo, fallen_to_later}
 use Rattle.gptp_settling_time.proofs.TurnedTreeMadeLemmas.{turned_tree_to}
-use Rattle.gptp_settling_time.proofs.TurnedTreeToLemmas.{IsTurnedTreeTo}
+use Rattle.gptp_settling_time.proofs.TurnedTreeToLemmas.{IsTurnedTreeTo, turned_tree_to_later}
 use Rattle.gptp_settling_time.proofs.NamedAfterLemmas.{NamesAfter}
 use Rattle.gptp_settling_time.proofs.NamedLemmas.{IsNamedFrom}
 use Rattle.gptp_settling_time.proofs.HeardLemmas.{heard_on}
@@ -63,13 +63,14 @@ use Rattle.gptp_settling_time.proofs.MadeLemmas.{adds_later, anyway_ready, had_f
 use Rattle.gptp_settling_time.proofs.NewsClaimedLemmas.{news_claimed, news_on, news_settled}
 use Rattle.gptp_settling_time.proofs.NewsSoonLemmas.{IsNewsFrom, from_later, from_sound, news_now}
 use Rattle.gptp_settling_time.proofs.RecoverAloneLemmas.{recovered_claimed}
+use Rattle.gptp_settling_time.proofs.RepeatedLemmas.{aging_repeated, cleared_repeated, fallen_repeated, left_repeated, lost_repeated, split_repeated, turned_repeated, turned_tree_repeated}
 use Rattle.gptp_settling_time.proofs.RestClaimedLemmas.{AreOn, rest_claimed, rest_on, rest_settled}
 use Rattle.gptp_settling_time.proofs.SettledClaimedLemmas.{settled_claimed}
 use Rattle.gptp_settling_time.proofs.SettledSeenLemmas.{HasSettledSeen, always_settled}
 use Rattle.gptp_settling_time.proofs.BetterClockLemmas.{better_claimed}
 use Rattle.gptp_settling_time.proofs.SplitMadeLemmas.{split_on, split_sooner, split_to}
 use Rattle.gptp_settling_time.proofs.SplitToLemmas.{IsSplitTo, split_to_later}
-use Rattle.gptp_settling_time.proofs.TurnedToLemmas.{IsTurnedTo}
+use Rattle.gptp_settling_time.proofs.TurnedToLemmas.{IsTurnedTo, turned_to_later}
 use Rattle.gptp_settling_time.proofs.UnmovedLemmas.{unmoved_claimed}
 use Rattle.gptp_settling_time.proofs.WidenedLemmas.{widened_claimed}
 use Rattle.gptp_settling_time.proofs.StandsStillLemmas.{StandsStill, claims_stand, from_stands}
@@ -537,11 +538,14 @@ module _ {F : Type 0} (answers : Bounds → ℕ → F → Option ℕ → F → T
     leads_to_left (Left silent) next (falls, same) so =
         let left = left_to_later d made silent w event.at k.ready.timely.now k.ready.timely.first so in
         subst (λ time. IsLeftTo d more time w') (sym same)
-        (record {
-          keeps = after;
-          before = left.before;
-          since = fallen_left left.before silent falls left.since;
-        })
+        (elim falls [
+          | inl lowers ↦ record {
+            keeps = after;
+            before = left.before;
+            since = fallen_left left.before silent lowers left.since;
+          }
+          | inr repeats ↦ left_repeated d playable made event then k.draws done w' is k.acts refl keeps_then after repeats silent left
+        ])
     leads_to_left (Turned silent now) next none so = absurd none
     leads_to_left (Fallen silent now) next none so = absurd none
     leads_to_left (TurnedTree silent now) next none so = absurd none
@@ -560,7 +564,11 @@ module _ {F : Type 0} (answers : Bounds → ℕ → F → Option ℕ → F → T
     leads_to_turned (Heard start) silent now (settled, by) so =
         turns start silent now (rested_heard start settled so.since) by
     leads_to_turned (Left start) silent now none so = absurd none
-    leads_to_turned (Turned start was) silent now none so = absurd none
+    leads_to_turned (Turned start was) silent now (repeats, same, here) so =
+        subst (λ t. IsTurnedTo d more t now w') (sym same)
+        (subst (λ t. IsTurnedTo d more start t w') (sym here)
+        (turned_repeated d playable made event then k.draws done w' is k.acts refl keeps_then after repeats start was
+        (turned_to_later d made start was w event.at k.ready.timely.now k.ready.timely.first so)))
     leads_to_turned (Fallen start was) silent now none so = absurd none
     leads_to_turned (TurnedTree start was) silent now none so = absurd none
     leads_to_turned (Cleared since start right old) silent now none so = absurd none
@@ -644,17 +652,20 @@ module _ {F : Type 0} (answers : Bounds → ℕ → F → Option ℕ → F → T
     leads_to_cleared (Turned start now) since silent right old none so = absurd none
     leads_to_cleared (Fallen start now) since silent right old none so = absurd none
     leads_to_cleared (TurnedTree start now) since silent right old none so = absurd none
-    leads_to_cleared (Cleared start dark clean last) since silent right old (falls, past, (begun, by, is, gone)) so =
+    leads_to_cleared (Cleared start dark clean last) since silent right old (falls, (begun, by, is, gone)) so =
         let x = cleared_to_later d made start dark clean last w event.at k.ready.timely.now k.ready.timely.first so in
         subst (λ t. IsClearedTo d more t silent right old w') (sym begun)
         (subst (λ t. IsClearedTo d more start t right old w') (sym by)
         (subst (λ t. IsClearedTo d more start dark t old w') (sym is)
         (subst (λ t. IsClearedTo d more start dark clean t w') (sym gone)
-        (record {
-          keeps = after;
-          before = x.before;
-          is = fallen_cleared x.before dark falls x.is.left start clean last past x.is;
-        }))))
+        (elim falls [
+          | inl (lowers, past) ↦ record {
+            keeps = after;
+            before = x.before;
+            is = fallen_cleared x.before dark lowers x.is.left start clean last past x.is;
+          }
+          | inr repeats ↦ cleared_repeated d playable made event then k.draws done w' is k.acts refl keeps_then after repeats start dark clean last x
+        ]))))
     leads_to_cleared (Aging ago aged dark) since silent right old (falls, same, anew) so =
         subst (λ t. IsClearedTo d more since t right old w') (sym same)
         (told_anew d playable ago more event.at aged dark since right old w' after time_now last_now
@@ -684,12 +695,17 @@ module _ {F : Type 0} (answers : Bounds → ℕ → F → Option ℕ → F → T
     leads_to_aging (Fallen start was) ago aged silent none so = absurd none
     leads_to_aging (TurnedTree start was) ago aged silent none so = absurd none
     leads_to_aging (Cleared since start right old) ago aged silent none so = absurd none
-    leads_to_aging (Aging old gone start) ago aged silent (falls, same_ago, same_silent, sooner) so =
+    leads_to_aging (Aging old gone start) ago aged silent (same_ago, same_silent, which) so =
         subst (λ es. IsAgingTo d es more aged silent w') (sym same_ago)
         (subst (λ time. IsAgingTo d old more aged time w') (sym same_silent)
-        (elim sooner [
-          | inl same ↦ subst (λ time. IsAgingTo d old more time start w') (sym same) (ages_on old gone start falls so)
-          | inr is ↦ ages_sooner old gone aged start is (ages_on old gone start falls so)
+        (elim which [
+          | inl (falls, inl same) ↦
+              subst (λ time. IsAgingTo d old more time start w') (sym same) (ages_on old gone start falls so)
+          | inl (falls, inr is) ↦ ages_sooner old gone aged start is (ages_on old gone start falls so)
+          | inr (repeats, same) ↦
+              subst (λ time. IsAgingTo d old more time start w') (sym same)
+              (aging_repeated d playable made event then k.draws done w' is k.acts refl keeps_then after repeats old gone start
+              (aging_to_later d old made gone start w event.at k.ready.timely.now k.ready.timely.first so))
         ]))
     leads_to_aging (Split old gone start) ago aged silent none so = absurd none
     leads_to_aging (Lost since most start) ago aged silent none so = absurd none
@@ -716,13 +732,18 @@ module _ {F : Type 0} (answers : Bounds → ℕ → F → Option ℕ → F → T
     leads_to_lost (Cleared begun start right old) since most silent none so = absurd none
     leads_to_lost (Aging ago aged start) since most silent none so = absurd none
     leads_to_lost (Split ago gone start) since most silent none so = absurd none
-    leads_to_lost (Lost begun delay start) since most silent (more_now, same_since, same_most, same_silent) so =
-        loses_more d playable made event then k.draws done w' is k.acts fit.octet refl time_now last_now keeps_then
-        after since most silent
-        (subst (λ t. IsLostAlways p t most silent then) (sym same_since)
-        (subst (λ m. IsLostAlways p begun m silent then) (sym same_most)
-        (subst (λ t. IsLostAlways p begun delay t then) (sym same_silent)
-        (lost_to_later d made begun delay start w event.at k.ready.timely.now k.ready.timely.first so).is))) more_now
+    leads_to_lost (Lost begun delay start) since most silent (which, same_since, same_most, same_silent) so =
+        let lost : IsLostTo d made since most silent then =
+        subst (λ t. IsLostTo d made t most silent then) (sym same_since)
+        (subst (λ m. IsLostTo d made begun m silent then) (sym same_most)
+        (subst (λ t. IsLostTo d made begun delay t then) (sym same_silent)
+        (lost_to_later d made begun delay start w event.at k.ready.timely.now k.ready.timely.first so))) in
+        elim which [
+          | inl more_now ↦
+              loses_more d playable made event then k.draws done w' is k.acts fit.octet refl time_now last_now
+              keeps_then after since most silent lost.is more_now
+          | inr repeats ↦ lost_repeated d playable made event then k.draws done w' is k.acts refl keeps_then after repeats since most silent lost
+        ]
 
     leads_to_gain : (past : Past) (next : ℕ) → EventLeads n made past event (Gained next) → IsAfter d made past w
         → IsNewsFrom p next w'
@@ -825,19 +846,27 @@ module _ {F : Type 0} (answers : Bounds → ℕ → F → Option ℕ → F → T
 
     leads_to_fallen : (past : Past) (silent now : ℕ) → EventLeads n made past event (Fallen silent now)
         → NamesAfter d made past w → IsAfter d made past w → IsFallenTo d more silent now w'
-    leads_to_fallen =
+    leads_to_fallen past silent now (inl leads) =
         leads_by_tree (FallsCalm n made event) (λ x. x.calm) (λ x. x.off) (λ x. x.lowers.few)
         (λ silent now. IsFallenTo d more silent now w') (λ start stood rest named since falls.
         fallen_to d playable made event then k.draws done w' k.acts refl time_now keeps_then after start rest stood
-        named since falls)
+        named since falls) past silent now leads
+    leads_to_fallen past silent now (inr (repeats, same)) named so =
+        fallen_repeated d playable made event then k.draws done w' is k.acts refl keeps_then after repeats silent now
+        (fallen_to_later d made silent now w event.at k.ready.timely.now k.ready.timely.first
+        (subst (λ x. IsAfter d made x w) same so))
 
     leads_to_turned_tree : (past : Past) (silent now : ℕ) → EventLeads n made past event (TurnedTree silent now)
         → NamesAfter d made past w → IsAfter d made past w → IsTurnedTreeTo d more silent now w'
-    leads_to_turned_tree =
+    leads_to_turned_tree past silent now (inl leads) =
         leads_by_tree (TurnsTreeCalm n made event) (λ x. x.calm) (λ x. x.off) (λ x. x.turns.few)
         (λ silent now. IsTurnedTreeTo d more silent now w') (λ start stood rest named since turns.
         turned_tree_to d playable made event then k.draws done w' k.acts refl time_now keeps_then after start rest stood
-        named since turns last_now)
+        named since turns last_now) past silent now leads
+    leads_to_turned_tree past silent now (inr (repeats, same)) named so =
+        turned_tree_repeated d playable made event then k.draws done w' is k.acts refl keeps_then after repeats silent now
+        (turned_tree_to_later d made silent now w event.at k.ready.timely.now k.ready.timely.first
+        (subst (λ x. IsAfter d made x w) same so))
 
     -- trees are, as a system fails
     splits : (start stood : ℕ) (ago : List Timed) (gone silent : ℕ) → HasRestedSo p start event.at then
@@ -872,18 +901,21 @@ module _ {F : Type 0} (answers : Bounds → ℕ → F → Option ℕ → F → T
     leads_to_split (TurnedTree start was) ago gone silent none named so = absurd none
     leads_to_split (Cleared since start right old) ago gone silent none named so = absurd none
     leads_to_split (Aging old aged start) ago gone silent none named so = absurd none
-    leads_to_split (Split old was start) ago gone silent (falls, same_ago, same_silent, sooner) named so =
+    leads_to_split (Split old was start) ago gone silent (same_ago, same_silent, which) named so =
         let x = split_to_later d old made was start w event.at k.ready.timely.now k.ready.timely.first so in
         subst (λ es. IsSplitTo d es more gone silent w') (sym same_ago)
         (subst (λ time. IsSplitTo d old more gone time w') (sym same_silent)
-        (elim sooner [
-          | inl same ↦
+        (elim which [
+          | inl (falls, inl same) ↦
               subst (λ time. IsSplitTo d old more time start w') (sym same)
               (split_on d playable made event then k.draws done w' k.acts refl time_now keeps_then after old was start
               falls x)
-          | inr (now, is_gone) ↦
+          | inl (falls, inr (now, is_gone)) ↦
               split_sooner d playable made event then k.draws done w' k.acts refl time_now keeps_then after old was
               start falls x gone now is_gone
+          | inr (repeats, same) ↦
+              subst (λ time. IsSplitTo d old more time start w') (sym same)
+              (split_repeated d playable made event then k.draws done w' is k.acts refl keeps_then after repeats old was start x)
         ]))
     leads_to_split (Lost since most start) ago gone silent none named so = absurd none
 

@@ -176,7 +176,7 @@ dead_lead n made (event ∷ now) silent off calm (lowers, others) = (
   Left silent,
   inl refl,
   Left silent,
-  (record { lowers = lowers; calm = calm; off = off }, refl),
+  (inl (record { lowers = lowers; calm = calm; off = off }), refl),
   dead_lead n (made ++ event ∷ []) now silent off (lowers_calm n made event off calm lowers) others,
 )
 
@@ -189,7 +189,7 @@ dead_clear n made (event ∷ now) begun silent old off calm (lowers, others) = (
   Cleared begun silent 0 old,
   inl refl,
   Cleared begun silent 0 old,
-  (record { lowers = lowers; calm = calm; off = off }, omega arith, (refl, refl, refl, refl)),
+  (inl (record { lowers = lowers; calm = calm; off = off }, omega arith), (refl, refl, refl, refl)),
   dead_clear n (made ++ event ∷ []) now begun silent old off (lowers_calm n made event off calm lowers) others,
 )
 
@@ -212,14 +212,14 @@ aging_lead n ago made [] other gone aged silent off calm (lowers, others) sooner
   Aging ago gone silent,
   inl refl,
   Aging ago aged silent,
-  (record { lowers = lowers; calm = calm; off = off }, refl, refl, inr sooner),
+  (refl, refl, inl (record { lowers = lowers; calm = calm; off = off }, inr sooner)),
   refl,
 )
 aging_lead n ago made (event ∷ now) other gone aged silent off calm (lowers, others) sooner = (
   Aging ago gone silent,
   inl refl,
   Aging ago gone silent,
-  (record { lowers = lowers; calm = calm; off = off }, refl, refl, inl refl),
+  (refl, refl, inl (record { lowers = lowers; calm = calm; off = off }, inl refl)),
   aging_lead n ago (made ++ other ∷ []) now event gone aged silent off (lowers_calm n made other off calm lowers) others
       (subst (λ es. AgesSooner n ago es aged silent) (sym (append_assoc made (other ∷ []) (event ∷ now))) sooner),
 )
@@ -289,10 +289,12 @@ split_on_lead n ago made [] other time was gone off calm (lowers, others) (at, l
       inl refl,
       Split ago gone silent,
       (
-        record { lowers = lowers; calm = calm; off = off },
         refl,
         refl,
-        inr (omega (arith, at), subst (λ t. IsGoneBy n ago (made ++ other ∷ []) t gone) (sym at) is_gone),
+        inl (
+          record { lowers = lowers; calm = calm; off = off },
+          inr (omega (arith, at), subst (λ t. IsGoneBy n ago (made ++ other ∷ []) t gone) (sym at) is_gone),
+        ),
       ),
       refl,
     )
@@ -301,7 +303,7 @@ split_on_lead n ago made (event ∷ now) other time was gone off calm (lowers, o
       Split ago was silent,
       inl refl,
       Split ago was silent,
-      (record { lowers = lowers; calm = calm; off = off }, refl, refl, inl refl),
+      (refl, refl, inl (record { lowers = lowers; calm = calm; off = off }, inl refl)),
       split_on_lead n ago (made ++ other ∷ []) now event time was gone off (lowers_calm n made other off calm lowers)
           others later
           (subst (λ es. IsGoneBy n ago es time gone) (sym (append_assoc made (other ∷ []) (event ∷ now))) is_gone),

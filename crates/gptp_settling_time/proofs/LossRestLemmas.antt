@@ -200,7 +200,7 @@ power_lead n ago made (event ∷ now) other time aged silent off calm (at, later
       Aging ago aged silent,
       inl refl,
       Aging ago aged silent,
-      (record { lowers = lowers; calm = calm; off = off }, refl, refl, inl refl),
+      (refl, refl, inl (record { lowers = lowers; calm = calm; off = off }, inl refl)),
       subst (λ es. LeadOn n (made ++ other ∷ []) (Aging ago aged silent) (event ∷ now)
           (Cleared time silent (time + 1 + nearer_echo_span n es)
           (time + nearer_echo_span n es + (sync_paths n es).delay))) all

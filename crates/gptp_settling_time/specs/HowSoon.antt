@@ -53,7 +53,7 @@ use Rattle.gptp_scenario.specs.declared.sync_wait.SyncPaths.{SyncPaths}
 use Rattle.gptp_model.specs.World.{port_id}
 use Rattle.gptp_network.specs.Document.{DocumentState}
 use Rattle.gptp_network.specs.Snapshot.{events_by}
-use Rattle.gptp_settling_time.specs.Gains.{ChangesNothing, EndHasFailed, LeavesCapable, TakesNothing}
+use Rattle.gptp_settling_time.specs.Gains.{ChangesNothing, EndHasFailed, LeavesCapable, Repeats, TakesNothing}
 use Rattle.gptp_settling_time.specs.InTurn.{AddsHeard, BettersClock, FlightIsGone, MakesNothing, NoneUsed, TellsNothing, UsedVaryLittle, WidensLink, turned_echo_span}
 use Rattle.gptp_settling_time.specs.Losses.{AgesWithin, CutsFarEnd, FailsFarEnd, FailsHeard, LeavesChoice, LosesAny, LowersLink, LowersUnused, TurnsLink, UpIsUsed}
 use Rattle.gptp_settling_time.specs.TreeLosses.{FailsTrees, LowersTree, TurnsTreeLink}
@@ -124,6 +124,24 @@ abbrev pub AfterIdleEvents : NetworkState → (List Timed → List Timed → Typ
 AfterIdleEvents n Are made [] = Are made []
 AfterIdleEvents n Are made (event ∷ events) =
     Are made (event ∷ events) ⊎ (IsIdleEvent n made event × AfterIdleEvents n Are (made ++ event ∷ []) events)
+
+-- What `Are` says is so of the first of the events, and the others repeat what stands then.
+abbrev pub BeforeRepeats : NetworkState → (List Timed → List Timed → Type 0) → List Timed → List Timed → Type 0
+BeforeRepeats n Are made events = (first : List Timed) × (others : List Timed) × (events ≡ first ++ others)
+    × EachEvent (Repeats n) (made ++ first) others
+    × Are made first
+
+-- So it is of those that are left behind the first ones, which make nothing of what stands. Or a link in use gets wider
+-- delays by the first event of all, in a calm network. It would have settled in time by these too: two more messages of
+-- it, and a way.
+abbrev pub BesideIdle : NetworkState → ℕ → ℕ → (List Timed → List Timed → Type 0) → List Timed → List Timed → Type 0
+BesideIdle n settled time Are made [] = ⊥
+BesideIdle n settled time Are made (event ∷ events) =
+    AfterIdleEvents n (BeforeRepeats n Are) made (event ∷ events)
+    ⊎ ((by : ℕ) × WidensLink n made event by
+    × (settled + 2 * by + way_span (sync_paths n (made ++ event ∷ [])) < time + way_span (sync_paths n made))
+    × IsCalm n (made ++ event ∷ [])
+    × AfterIdleEvents n (BeforeRepeats n Are) (made ++ event ∷ []) events)
 
 -- ---- sharp bounds
 
@@ -344,8 +362,8 @@ LosesNext n events Then last time Asks =
     × NoneBetween events last time
     × IsCalm n (events_by time events)
     × NothingLapses n.params
-    × ((then : ℕ) × Then then × (last + then < time))
-    × Asks (events_by last events) (events_at time events)
+    × ((then : ℕ) × Then then × (last + then < time)
+    × BesideIdle n (last + then) time Asks (events_by last events) (events_at time events))
 
 -- By the one event of a time a tree is so moved, and all events up to it ask for what `Asks` says. Nothing lapses for
 -- want of Sync. The network is calm. The event comes an announce interval after the time before has come to rest, by
@@ -358,7 +376,7 @@ TreeNext n Moves events Then last time Asks =
     × IsCalm n (events_by time events)
     × NothingLapses n.params
     × ((then : ℕ) × Then then × (last + then + largest_interval (pace_of n) < time))
-    × OneEvent Moves (events_by last events) (events_at time events)
+    × BeforeRepeats n (OneEvent Moves) (events_by last events) (events_at time events)
     × Asks (events_by time events)
 
 -- a tree is cut off
@@ -383,8 +401,8 @@ SplitsNext n events Then last time Asks =
     × IsCalm n (events_by time events)
     × NothingLapses n.params
     × ((then : ℕ) × Then then × (last + then + largest_interval (pace_of n) < time))
-    × FailsTreesFirst n (events_by last events) (events_at time events)
-    × Asks (events_by last events) (events_at time events)
+    × BeforeRepeats n (λ made now. FailsTreesFirst n made now × Asks made now) (events_by last events)
+    (events_at time events)
 
 -- Each tree drops the best of before within a way, once nothing is held of the failed system, and settles within
 -- another.

@@ -67,7 +67,7 @@ use Rattle.gptp_theorem.specs.PlayedLaws.{IsPlayable}
 use Rattle.gptp_settling_time.specs.ChoiceAlone.{ChoiceStandsAs}
 use Rattle.gptp_settling_time.specs.Documents.{IsSettledAs}
 use Rattle.gptp_settling_time.specs.Exactly.{SettlesBy}
-use Rattle.gptp_settling_time.specs.Gains.{AreCapableAnyway, AreCapableNext, AreCapableStill, ChangesNothing, EndHasFailed, HasRested, IsDownAfter, IsNoWorse, JoinsLive, LeavesCapable, TakesNothing, UsesNoLink, exchanged_from}
+use Rattle.gptp_settling_time.specs.Gains.{AreCapableAnyway, AreCapableNext, AreCapableStill, ChangesNothing, EndHasFailed, HasRested, IsDownAfter, IsNoWorse, JoinsLive, LeavesCapable, RepeatsNow, TakesNothing, UsesNoLink, exchanged_from}
 use Rattle.gptp_settling_time.specs.Losses.{AgesWithin, AreSilentAfter, CutsFarEnd, FailsFarEnd, FailsHeard, LeavesChoice, LosesAny, LowersLink, LowersUnused, TurnsLink, UpIsUsed}
 use Rattle.gptp_settling_time.specs.TreeLosses.{FailsTrees, LowersTree, TurnsTreeLink}
 
@@ -399,7 +399,8 @@ LeadsToLeft n before (Gained start) event next =
     HasSettledSince n before start event.at × LeavesStanding n before event start next
 LeadsToLeft n before (Heard start) event next =
     HasSettledHeard n before start event.at × LeavesStanding n before event start next
-LeadsToLeft n before (Left silent) event next = LowersUnusedCalm n before event × (next ≡ silent)
+LeadsToLeft n before (Left silent) event next =
+    (LowersUnusedCalm n before event ⊎ RepeatsNow n before event) × (next ≡ silent)
 LeadsToLeft n before (Turned silent time) event next = ⊥
 LeadsToLeft n before (Fallen silent time) event next = ⊥
 LeadsToLeft n before (TurnedTree silent time) event next = ⊥
@@ -422,7 +423,8 @@ LeadsToTurned n before (Gained start) event silent time =
 LeadsToTurned n before (Heard start) event silent time =
     HasSettledHeard n before start event.at × TurnsNow n before event start silent time
 LeadsToTurned n before (Left start) event silent time = ⊥
-LeadsToTurned n before (Turned start now) event silent time = ⊥
+LeadsToTurned n before (Turned start now) event silent time =
+    RepeatsNow n before event × (silent ≡ start) × (time ≡ now)
 LeadsToTurned n before (Fallen start now) event silent time = ⊥
 LeadsToTurned n before (TurnedTree start now) event silent time = ⊥
 LeadsToTurned n before (Cleared since start right old) event silent time = ⊥
@@ -462,7 +464,7 @@ LeadsToCleared n before (Turned start now) event since silent right old = ⊥
 LeadsToCleared n before (Fallen start now) event since silent right old = ⊥
 LeadsToCleared n before (TurnedTree start now) event since silent right old = ⊥
 LeadsToCleared n before (Cleared start dark clean last) event since silent right old =
-    LowersUnusedCalm n before event × (clean ≤ event.at)
+    ((LowersUnusedCalm n before event × (clean ≤ event.at)) ⊎ RepeatsNow n before event)
     × ((since ≡ start) × (silent ≡ dark) × (right ≡ clean) × (old ≡ last))
 LeadsToCleared n before (Aging ago aged dark) event since silent right old =
     LowersUnusedCalm n before event × (silent ≡ dark) × TellsAnew n (before ++ event ∷ []) event.at since right old
@@ -492,8 +494,10 @@ LeadsToAging n before (Fallen start now) event ago aged silent = ⊥
 LeadsToAging n before (TurnedTree start now) event ago aged silent = ⊥
 LeadsToAging n before (Cleared since start right old) event ago aged silent = ⊥
 LeadsToAging n before (Aging old gone start) event ago aged silent =
-    LowersUnusedCalm n before event × (ago ≡ old) × (silent ≡ start)
-    × ((aged ≡ gone) ⊎ AgesSooner n old (before ++ event ∷ []) aged start)
+    (ago ≡ old) × (silent ≡ start)
+    × ((LowersUnusedCalm n before event
+    × ((aged ≡ gone) ⊎ AgesSooner n old (before ++ event ∷ []) aged start))
+    ⊎ (RepeatsNow n before event × (aged ≡ gone)))
 LeadsToAging n before (Split old gone start) event ago aged silent = ⊥
 LeadsToAging n before (Lost since most start) event ago aged silent = ⊥
 
@@ -528,7 +532,8 @@ LeadsToLost n before (Cleared begun start right old) event since most silent = �
 LeadsToLost n before (Aging ago aged start) event since most silent = ⊥
 LeadsToLost n before (Split ago gone start) event since most silent = ⊥
 LeadsToLost n before (Lost begun delay start) event since most silent =
-    LosesMore n before event since silent × (since ≡ begun) × (most ≡ delay) × (silent ≡ start)
+    (LosesMore n before event since silent ⊎ RepeatsNow n before event)
+    × (since ≡ begun) × (most ≡ delay) × (silent ≡ start)
 
 -- What others hold of a system that failed at this time is gone by another: it has aged within a span, or the ports
 -- beside the system aren't capable from then on.
@@ -562,10 +567,12 @@ LeadsToSplit n before (TurnedTree start now) event ago gone silent = ⊥
 LeadsToSplit n before (Cleared since start right old) event ago gone silent = ⊥
 LeadsToSplit n before (Aging old aged start) event ago gone silent = ⊥
 LeadsToSplit n before (Split old was start) event ago gone silent =
-    LowersUnusedCalm n before event × (ago ≡ old) × (silent ≡ start)
+    (ago ≡ old) × (silent ≡ start)
+    × ((LowersUnusedCalm n before event
     × ((gone ≡ was)
     ⊎ ((start ≡ suc (event.at + silence_span (pace_of n)))
-    × IsGoneBy n old (before ++ event ∷ []) event.at gone))
+    × IsGoneBy n old (before ++ event ∷ []) event.at gone)))
+    ⊎ (RepeatsNow n before event × (gone ≡ was)))
 LeadsToSplit n before (Lost since most start) event ago gone silent = ⊥
 
 -- from a gain, and from what is heard, the start stays
@@ -624,8 +631,10 @@ EventLeads n before past event (Left next) = LeadsToLeft n before past event nex
 EventLeads n before past event (Turned silent time) = LeadsToTurned n before past event silent time
 EventLeads n before past event (Fallen silent time) =
     LeadsByTree n before past event (FallsCalm n before event) silent time
+    ⊎ (RepeatsNow n before event × (past ≡ Fallen silent time))
 EventLeads n before past event (TurnedTree silent time) =
     LeadsByTree n before past event (TurnsTreeCalm n before event) silent time
+    ⊎ (RepeatsNow n before event × (past ≡ TurnedTree silent time))
 EventLeads n before past event (Cleared since silent right old) = LeadsToCleared n before past event since silent right
     old
 EventLeads n before past event (Aging ago aged silent) = LeadsToAging n before past event ago aged silent
