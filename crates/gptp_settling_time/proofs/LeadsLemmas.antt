@@ -77,7 +77,6 @@ use Rattle.gptp_settling_time.proofs.StandsStillLemmas.{StandsStill, claims_stan
 use Rattle.gptp_settling_time.proofs.StartEventLemmas.{IsStarting, IsStartingTo, starting_later, starting_made, starts_claimed, starts_news}
 use Rattle.gptp_settling_time.proofs.AfterLemmas.{IsAfter}
 use Rattle.gptp_settling_time.proofs.LossMadeLemmas.{HasRestedSo, aging_so, cleared_to, left_to, turned_so}
-use Rattle.gptp_settling_time.proofs.LostClaimedLemmas.{IsLostAlways}
 use Rattle.gptp_settling_time.proofs.LostMadeLemmas.{loses_first, loses_more, made_still}
 use Rattle.gptp_settling_time.proofs.LostPowerLemmas.{told_anew}
 use Rattle.gptp_settling_time.proofs.LostToLemmas.{IsLostTo, lost_to_later}

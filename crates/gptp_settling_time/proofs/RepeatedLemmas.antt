@@ -3,10 +3,8 @@
 use Rattle.std.proofs.Common.{◌≡◌, ℕ, List, [], ◌∷◌, ◌++◌, sym, ap, subst, ◌∙◌, inl, arith}
 use Rattle.gptp_lists.proofs.SystemSpecLemmas.{In-slice_get}
 use Rattle.gptp_graph.specs.Snapshot.{PortIdentity}
-use Rattle.gptp_vector.specs.declared.port.PortId.{PortId}
 use Rattle.gptp_links.specs.Fate.{Draw}
 use Rattle.gptp_setup.specs.SettlingParams.{SettlingParams}
-use Rattle.gptp_scenario.specs.Change.{link_after}
 use Rattle.gptp_scenario.specs.Network.{IsEnd, NetworkState, pace_of}
 use Rattle.gptp_scenario.specs.declared.change.Act.TheVariants.{Change as Changing}
 use Rattle.gptp_scenario.specs.declared.change.Timed.{Timed}
@@ -15,7 +13,7 @@ use Rattle.gptp_model.specs.Acts.{Acts}
 use Rattle.gptp_model.specs.World.{WorldState}
 use Rattle.gptp_model.specs.declared.done.Done.{Done}
 use Rattle.gptp_network.specs.Document.{DocumentState}
-use Rattle.gptp_invariants.specs.ChoiceView.{port_identity_number, says_announce, view}
+use Rattle.gptp_invariants.specs.ChoiceView.{says_announce, view}
 use Rattle.gptp_invariants.specs.WorldStanding.{snapshot_of}
 use Rattle.gptp_theorem.specs.PlayedLaws.{IsMade, IsPlayable}
 use Rattle.gptp_settling_time.specs.Gains.{ChangesNothing, RepeatsNow}
