@@ -72,13 +72,13 @@ module _ (n : NetworkState) (off : NothingLapses n.params) (events more : List T
       (off, subst (λ x. time + 1 + 2 * way_span x ≤ settled) (sym paths) late)
   settles_same (TurnedTree silent time) settled (off, late) =
       (off, subst (λ x. time + 1 + 2 * way_span x ≤ settled) (sym paths) late)
-  settles_same (Cleared since silent right old) settled (off, dark) = (off, still_dark silent settled dark)
+  settles_same (Cleared first silent right old) settled (off, dark) = (off, still_dark silent settled dark)
   settles_same (Aging ago aged silent) settled (off, dark) = (off, still_dark silent settled dark)
   settles_same (Split ago gone silent) settled (off, late, dark) =
       (off, subst (λ x. gone + 2 * way_span x ≤ settled) (sym paths) late, still_dark silent settled dark)
-  settles_same (Lost since most silent) settled (off, late, dark) = (
+  settles_same (Lost lost_at most silent) settled (off, late, dark) = (
     off,
-    subst (λ x. suc (since + loss_span (pace_of n) x most) ≤ settled) (sym paths) late,
+    subst (λ x. suc (lost_at + loss_span (pace_of n) x most) ≤ settled) (sym paths) late,
     still_dark silent settled dark,
   )
 
@@ -91,13 +91,13 @@ module _ (n : NetworkState) (off : NothingLapses n.params) (events more : List T
   chooses_same (Turned silent time) settled is = settles_same (Turned silent time) settled is
   chooses_same (Fallen silent time) settled is = settles_same (Fallen silent time) settled is
   chooses_same (TurnedTree silent time) settled is = settles_same (TurnedTree silent time) settled is
-  chooses_same (Cleared since silent right old) settled off = off
+  chooses_same (Cleared first silent right old) settled off = off
   chooses_same (Aging ago aged silent) settled (off, inl gone) = (off, inl gone)
   chooses_same (Aging ago aged silent) settled (off, inr dark) = (off, inr (still_dark silent settled dark))
   chooses_same (Split ago gone silent) settled (off, late) =
       (off, subst (λ x. gone + 2 * way_span x ≤ settled) (sym paths) late)
-  chooses_same (Lost since most silent) settled (off, late) =
-      (off, subst (λ x. suc (since + loss_span (pace_of n) x most) ≤ settled) (sym paths) late)
+  chooses_same (Lost lost_at most silent) settled (off, late) =
+      (off, subst (λ x. suc (lost_at + loss_span (pace_of n) x most) ≤ settled) (sym paths) late)
 
   -- ---- rest
 
@@ -119,8 +119,8 @@ module _ (n : NetworkState) (off : NothingLapses n.params) (events more : List T
   rests_same : (past : Past) (time start : ℕ) → RestsFrom n events past time start → RestsFrom n more past time start
   rests_same AnyPast time start none = absurd none
   rests_same Starting time start none = absurd none
-  rests_same (Gained since) time start none = absurd none
-  rests_same (Heard since) time start none = absurd none
+  rests_same (Gained first) time start none = absurd none
+  rests_same (Heard first) time start none = absurd none
   rests_same (Left silent) time start none = absurd none
   rests_same (Turned silent turned) time start is = still_anew turned start time is
   rests_same (Fallen silent fallen) time start is = record {
@@ -134,7 +134,7 @@ module _ (n : NetworkState) (off : NothingLapses n.params) (events more : List T
   }
   rests_same (TurnedTree silent turned) time start (is, later) =
       (still_anew turned start time is, subst (λ x. turned + way_span x < start) (sym paths) later)
-  rests_same (Cleared since silent right old) time start is = record {
+  rests_same (Cleared first silent right old) time start is = record {
     calm = still_calm is.calm;
     off = is.off;
     gone = is.gone;
@@ -157,9 +157,9 @@ module _ (n : NetworkState) (off : NothingLapses n.params) (events more : List T
     over = still_over start time is.over;
   }
   rests_same (Split ago gone silent) time start none = absurd none
-  rests_same (Lost since most silent) time start is = record {
+  rests_same (Lost lost_at most silent) time start is = record {
     off = is.off;
-    later = subst (λ x. since + loss_span (pace_of n) x most < start + way_span x) (sym paths) is.later;
+    later = subst (λ x. lost_at + loss_span (pace_of n) x most < start + way_span x) (sym paths) is.later;
     unlinked = still_dark silent time is.unlinked;
     over = still_over start time is.over;
   }
@@ -178,10 +178,10 @@ module _ (n : NetworkState) (off : NothingLapses n.params) (events more : List T
   settled_same (Turned silent now) time none = absurd none
   settled_same (Fallen silent now) time none = absurd none
   settled_same (TurnedTree silent now) time none = absurd none
-  settled_same (Cleared since silent right old) time none = absurd none
+  settled_same (Cleared first silent right old) time none = absurd none
   settled_same (Aging ago aged silent) time none = absurd none
   settled_same (Split ago gone silent) time none = absurd none
-  settled_same (Lost since most silent) time none = absurd none
+  settled_same (Lost lost_at most silent) time none = absurd none
 
   pub rested_same : (past : Past) (time : ℕ) → HasRested n events past time → HasRested n more past time
   rested_same past time (seen, inl one, is) = (seen, inl one, settled_same seen time is)
@@ -201,10 +201,10 @@ repeat_leads n made event now (Left silent) begun = (inr now, refl)
 repeat_leads n made event now (Turned silent time) begun = (now, refl, refl)
 repeat_leads n made event now (Fallen silent time) begun = inr (now, refl)
 repeat_leads n made event now (TurnedTree silent time) begun = inr (now, refl)
-repeat_leads n made event now (Cleared since silent right old) begun = (inr now, (refl, refl, refl, refl))
+repeat_leads n made event now (Cleared first silent right old) begun = (inr now, (refl, refl, refl, refl))
 repeat_leads n made event now (Aging ago aged silent) begun = (refl, refl, inr (now, refl))
 repeat_leads n made event now (Split ago gone silent) begun = (refl, refl, inr (now, refl))
-repeat_leads n made event now (Lost since most silent) begun = (inr now, refl, refl, refl)
+repeat_leads n made event now (Lost lost_at most silent) begun = (inr now, refl, refl, refl)
 
 module _ (n : NetworkState) (network : IsNetwork n) (off : NothingLapses n.params) (time : ℕ) where
   abbrev AllNow : List Timed → Type 0

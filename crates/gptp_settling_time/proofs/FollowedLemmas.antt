@@ -40,7 +40,7 @@ none_rests n made rest (inl (inr (inl (none, by)))) = none
 none_rests n made rest (inl (inr (inr (inl (none, by))))) = none
 none_rests n made rest (inl (inr (inr (inr (inl (none, by)))))) = none
 none_rests n made rest (inl (inr (inr (inr (inr (none, by)))))) = none
-none_rests n made rest (inr (choice, (none, by))) = none
+none_rests n made rest (inr (choice, (none, is_choice, by))) = none
 
 -- it leads on to where the network has come to rest
 rest_leads : (n : NetworkState) → IsNetwork n → NothingLapses n.params → (time rest : ℕ) (made now : List Timed)
@@ -402,7 +402,7 @@ module _ (n : NetworkState) (network : IsNetwork n) (off : NothingLapses n.param
       → IsCalm n (events_by time all)
   bound_calm [] time rest (start, (calm, is)) = calm
   bound_calm (last ∷ earlier) time rest (inl (later, between, (calm, is))) = calm
-  bound_calm (last ∷ earlier) time rest (inr (inl (later, between, calm, nothing, before, loses))) = calm
+  bound_calm (last ∷ earlier) time rest (inr (inl (later, between, calm, nothing, before))) = calm
   bound_calm (last ∷ earlier) time rest (inr (inr (inl (later, between, calm, nothing, before, falls, asks)))) = calm
   bound_calm (last ∷ earlier) time rest (inr (inr (inr (later, between, calm, nothing, before, turns, asks)))) = calm
 

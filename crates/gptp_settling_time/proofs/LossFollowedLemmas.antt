@@ -12,7 +12,7 @@ use Rattle.gptp_scenario.specs.declared.change.Timed.{Timed}
 use Rattle.gptp_network.specs.Document.{DocumentState}
 use Rattle.gptp_network.specs.Events.{AreInOrder}
 use Rattle.gptp_network.specs.Snapshot.{events_by}
-use Rattle.gptp_settling_time.specs.HowSoon.{BeforeRepeats, BoundsAging, BoundsAnyLoss, BoundsLoss, BoundsSplit, EachEvent, FailsTreesFirst, IsChoiceAloneBound, IsChoiceBound, IsChoiceBoundAfter, IsLossBoundAfter, OneEvent, events_at}
+use Rattle.gptp_settling_time.specs.HowSoon.{BeforeRepeats, BoundsAging, BoundsAnyLoss, BoundsLoss, BoundsSplit, EachEvent, FailsTreesFirst, IsChoiceAloneBound, IsChoiceBound, IsChoiceBoundAfter, IsLossBoundAfter, NoneBetween, OneEvent, events_at}
 use Rattle.gptp_settling_time.specs.InTurn.{Aging, AnyPast, BeginsBy, ChoosesAfter, ChoosesByEvents, ComesByEvents, Fallen, LeadOn, Left, Lost, Past, SettlesAfter, SettlesByEvents, Split, Starting, Turned, TurnedTree}
 use Rattle.gptp_settling_time.specs.Losses.{AgesWithin, FailsHeard, LowersLink, LowersUnused, TurnsLink, UpIsUsed}
 use Rattle.gptp_settling_time.specs.TreeLosses.{LowersTree, TurnsTreeLink}
