@@ -31,7 +31,8 @@ use Rattle.gptp_theorem.specs.PlayedLaws.{IsPlayable}
 use Rattle.gptp_theorem.proofs.CalmLemmas.{quiet_stands}
 use Rattle.gptp_theorem.proofs.SettlingInvariantLemmas.{events_fit, events_made}
 use Rattle.gptp_theorem.proofs.CalmKeptLemmas.{no_change}
-use Rattle.gptp_settling_time.specs.ExactInTurn.{ActsAreExactInTurn, arrived_by}
+use Rattle.gptp_settling_time.specs.Arrivals.{arrived_by}
+use Rattle.gptp_settling_time.specs.ExactInTurn.{ActsAreExactInTurn}
 use Rattle.gptp_settling_time.specs.Exactly.{AreExactFrom}
 use Rattle.gptp_settling_time.specs.Gains.{HasDelaysWithin}
 use Rattle.gptp_settling_time.specs.InTurn.{Aging, AnyPast, ChoosesAfter, ChoosesByEvents, Cleared, Fallen, Gained, Heard, Left, Lost, Past, Split, Starting, Turned, TurnedTree}

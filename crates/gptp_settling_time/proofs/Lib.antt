@@ -61,6 +61,10 @@ pub mod SettledClaimedLemmas
 pub mod WorldMovesLemmas
 pub mod LossMadeLemmas
 pub mod AfterLemmas
+pub mod RestedSoLemmas
+pub mod LeadsToHeardLemmas
+pub mod LeadsToLossLemmas
+pub mod LeadsToTreesLemmas
 pub mod LeadsLemmas
 pub mod InTurnLemmas
 pub mod UnchangedLemmas
@@ -71,6 +75,7 @@ pub mod BesideIdleLemmas
 pub mod FollowedLemmas
 pub mod LossFollowedLemmas
 pub mod RepeatedLemmas
+pub mod BoundSettlesLemmas
 pub mod ChoiceBoundLemmas
 pub mod ReactsLemmas
 pub mod SettledSeenLemmas

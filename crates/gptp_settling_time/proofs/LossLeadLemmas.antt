@@ -8,6 +8,7 @@ use Rattle.gptp_scenario.specs.Network.{NetworkState, pace_of}
 use Rattle.gptp_scenario.specs.SettlingTime.{aging_span, capability_span, silence_span}
 use Rattle.gptp_scenario.specs.SyncWait.{sync_paths}
 use Rattle.gptp_scenario.specs.declared.change.Timed.{Timed}
+use Rattle.gptp_settling_time.specs.Arrivals.{HasArrivedBy}
 use Rattle.gptp_settling_time.specs.HowSoon.{EachEvent, TurnsUnused}
 use Rattle.gptp_settling_time.specs.InTurn.{AgesSooner, Aging, AnyPast, ChoosesAfter, Cleared, EventLeads, FailsCalm, FailsNow, Fallen, Gained, Heard, IsGoneBy, LeadOn, LeadsByTree, Left, LosesNow, Lost, LowersCalm, Past, SettlesAfter, Split, SplitsNow, Starting, Turned, TurnedTree, TurnsCalm}
 use Rattle.gptp_settling_time.specs.Losses.{AgesWithin, FailsHeard, LowersUnused}
@@ -67,9 +68,9 @@ module _ (n : NetworkState) (made : List Timed) (event : Timed) (roles : ℕ) wh
   loss_leads (Split ago gone silent) settled loses = absurd settled
   loss_leads (Lost since most silent) settled loses = absurd settled
 
--- after one by which a tree is so moved it is, where the choice had stood for an announce interval
+-- after one by which a tree is so moved it is, where what was sent before the choice stood has arrived
 module _ (n : NetworkState) (made : List Timed) (event : Timed) (stood : ℕ) (later : last_change made < stood)
-    (quiet : stood + largest_interval (pace_of n) ≤ event.at) (Moves : Type 0) where
+    (quiet : (arrived : ℕ) × HasArrivedBy n made stood arrived × (arrived ≤ event.at)) (Moves : Type 0) where
   pub tree_leads : (past : Past) → HasSettled n made past stood → Moves
       → (silent : ℕ) × LeadsByTree n made past event Moves silent event.at
   tree_leads AnyPast settled moves =
@@ -309,15 +310,15 @@ split_on_lead n ago made (event ∷ now) other time was gone off calm (lowers, o
           (subst (λ es. IsGoneBy n ago es time gone) (sym (append_assoc made (other ∷ []) (event ∷ now))) is_gone),
     )
 
--- so it does from when the system fails, once the choice had stood for an announce interval
+-- so it does from when the system fails, once what was sent before the choice stood has arrived
 pub splits_lead : (n : NetworkState) (made : List Timed) (event : Timed) (now : List Timed) (past : Past)
-    (stood span : ℕ) → NothingLapses n.params → IsCalm n made → HasSettled n made past stood
-    → last_change made < stood → stood + largest_interval (pace_of n) ≤ event.at → FailsTrees n made event
+    (stood arrived span : ℕ) → NothingLapses n.params → IsCalm n made → HasSettled n made past stood
+    → last_change made < stood → HasArrivedBy n made stood arrived → arrived ≤ event.at → FailsTrees n made event
     → EachEvent (LowersUnused n) (made ++ event ∷ []) now → AllByRecursion (λ (t : Timed). t.at ≡ event.at) now
     → AgesWithin n made (made ++ event ∷ now) event.at span
     → LeadOn n made past (event ∷ now)
     (Split made (suc (event.at + min span (silence_span (pace_of n)))) (suc (event.at + silence_span (pace_of n))))
-splits_lead n made event [] past stood span off calm settled later quiet fails lowers here within =
+splits_lead n made event [] past stood arrived span off calm settled later arrives quiet fails lowers here within =
     let gone = suc (event.at + min span (silence_span (pace_of n))) in
     let silent = suc (event.at + silence_span (pace_of n)) in (
       past,
@@ -326,6 +327,8 @@ splits_lead n made event [] past stood span off calm settled later quiet fails l
       split_leads n made event stood past gone silent settled (record {
         fails = fails;
         later = later;
+        arrived = arrived;
+        arrives = arrives;
         quiet = quiet;
         calm = calm;
         off = off;
@@ -334,7 +337,8 @@ splits_lead n made event [] past stood span off calm settled later quiet fails l
       }),
       refl,
     )
-splits_lead n made event (other ∷ now) past stood span off calm settled later quiet fails lowers here within =
+splits_lead n made event (other ∷ now) past stood arrived span off calm settled later arrives quiet fails lowers here
+    within =
     let most = aging_span (pace_of n) (sync_paths n made) in
     let was = suc (event.at + min most (silence_span (pace_of n))) in
     let gone = suc (event.at + min span (silence_span (pace_of n))) in
@@ -345,6 +349,8 @@ splits_lead n made event (other ∷ now) past stood span off calm settled later 
       split_leads n made event stood past was silent settled (record {
         fails = fails;
         later = later;
+        arrived = arrived;
+        arrives = arrives;
         quiet = quiet;
         calm = calm;
         off = off;

@@ -1,6 +1,6 @@
 -- A system fails that others hear, in a world of a document whose choice had stood, and so cuts trees off: they fall
 -- back. Behind that links go down of which an end has failed.
-use Rattle.std.proofs.Common.{◌≡◌, ◌⊎◌, ◌<◌, ◌≤◌, ◌+◌, ◌∷◌, ◌++◌, ℕ, suc, List, [], sym, subst, inl, inr, arith}
+use Rattle.std.proofs.Common.{◌≡◌, ◌⊎◌, ◌<◌, ◌≤◌, ◌+◌, ◌∷◌, ◌++◌, ℕ, suc, List, [], sym, ap, subst, inl, inr, arith}
 use native.Mathlib.Decide.{dec_le}
 use Rattle.gptp_lists.specs.Members.{In}
 use Rattle.gptp_graph.specs.Best.{IsBest}
@@ -32,6 +32,7 @@ use Rattle.gptp_theorem.specs.PlayedLaws.{IsPlayable}
 use Rattle.gptp_theorem.proofs.AlikeLemmas.{best as alike_best, clock_among, distance as alike_distance, turned}
 use Rattle.gptp_theorem.proofs.CalmLemmas.{quiet_stands}
 use Rattle.gptp_theorem.proofs.SyncPathLemmas.{paths_stand}
+use Rattle.gptp_settling_time.specs.Arrivals.{HasArrivedBy}
 use Rattle.gptp_settling_time.specs.InTurn.{IsGoneBy, LowersUnusedCalm, SplitsNow}
 use Rattle.gptp_settling_time.specs.Losses.{LowersUnused}
 use Rattle.gptp_settling_time.specs.TreeLosses.{FailsTrees, IsTreeCutOff, IsUnmovedOrInTree}
@@ -121,8 +122,8 @@ module _ (d : DocumentState) (playable : IsPlayable d) (made : List Timed) (even
   world_then : IsWorld p then
   world_then = keeps.claim.world
 
-  module _ (start : ℕ) (rest : HasRestedSo p start event.at then) (stood : ℕ) (named : IsNamedFrom p stood then)
-      (gone silent : ℕ) (splits : SplitsNow n made event stood gone silent) where
+  module _ (start : ℕ) (rest : HasRestedSo p start event.at then) (stood gone silent : ℕ)
+      (splits : SplitsNow n made event stood gone silent) (named : IsNamedFrom splits.arrived then) where
     abbrev x : FailsTrees n made event
     x = splits.fails
 
@@ -168,10 +169,18 @@ module _ (d : DocumentState) (playable : IsPlayable d) (made : List Timed) (even
 
     -- a delay is over
     late_then : delay_in w' ≤ w'.time
-    late_then =
-        let short : delay_in w' ≤ largest_interval p = delay_short p w' after.claim.world.known in
-        let since = splits.quiet in
-        omega (arith, short, since, time)
+    late_then = by splits.arrives
+      where
+        by : HasArrivedBy n made stood splits.arrived → delay_in w' ≤ w'.time
+        by (inl is) =
+            let short : delay_in w' ≤ largest_interval p = delay_short p w' after.claim.world.known in
+            let since = splits.quiet in
+            omega (arith, short, is, since, time)
+        by (inr (is, within)) =
+            let delay = ap (λ (y : SyncPaths). y.delay) paths_then in
+            let shorter = shorter_then in
+            let since = splits.quiet in
+            omega (arith, shorter, delay, is, since, time)
 
     -- what is in flight names the best
     names_now : FlightNames says_announce (snapshot_of then) (view then)
@@ -226,7 +235,7 @@ module _ (d : DocumentState) (playable : IsPlayable d) (made : List Timed) (even
     abbrev y : LowersUnused n made event
     y = falls.lowers
 
-    end : PortId
+    abbrev end : PortId
     end = port_id y.clock y.port
 
     lowered : Acts (Changing (LinkDown y.clock y.port)) then draws done w'

@@ -1,5 +1,5 @@
 -- Worlds of documents since a system failed that others hear, and so cut trees off.
-use Rattle.std.proofs.Common.{◌≡◌, ◌⊎◌, ◌<◌, ◌≤◌, ◌+◌, ◌*◌, ℕ, pred, suc, Option, List, inl, inr, arith}
+use Rattle.std.proofs.Common.{◌≡◌, ◌⊎◌, ◌<◌, ◌≤◌, ◌+◌, ◌*◌, ℕ, pred, suc, zero, refl, Option, List, inl, inr, arith}
 use native.Mathlib.Decide.{dec_le}
 use Rattle.gptp_graph.specs.PathBound.{path_bound}
 use Rattle.gptp_graph.specs.Snapshot.{PortIdentity, Snapshot}
@@ -90,6 +90,11 @@ pub record IsSplitTo (d : DocumentState) (ago events : List Timed) (gone silent 
   pub some : failed < gone
   pub unanswered : silent ≡ suc (failed + silence_span (pace_of d.network))
 
+-- what is later than some time is 1 ns later than another
+one_before : (gone failed : ℕ) → failed < gone → suc (pred gone) ≡ gone
+one_before zero failed less = absurd (omega (arith, less))
+one_before (suc now) failed less = refl
+
 module _ (d : DocumentState) (ago events : List Timed) (gone silent : ℕ) where
   pub split_to_later : (w : WorldState) (time : ℕ) → w.time ≤ time → NothingBefore time w.net.pending
       → IsSplitTo d ago events gone silent w → IsSplitTo d ago events gone silent (at time w)
@@ -137,11 +142,14 @@ module _ (d : DocumentState) (ago events : List Timed) (gone silent : ℕ) where
     abbrev start : ℕ
     start = pred gone
 
+    one : suc start ≡ gone
+    one = one_before gone so.failed so.some
+
     may : gone ≤ suc start
-    may = let some = so.some in omega (arith, some)
+    may = let same = one in omega (arith, same)
 
     late_now : start + 1 + 2 * (pred (path_bound (snapshot_of w)) * delay_in w) ≤ w.time
-    late_now = let some = so.some in omega (arith, some, late)
+    late_now = let same = one in omega (arith, same, late)
 
     -- its choice stands
     pub split_to_chooses : ChoiceStands w

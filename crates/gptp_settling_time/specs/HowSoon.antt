@@ -18,12 +18,12 @@
 --   twice the greatest delay for each system of a path but one.
 -- - By the first event a system fails that others hear, and no other comes but such links. The choice stands once what
 --   they hold of it has aged, or once no port beside it is capable. Roles stand by the latter.
--- - By the one event a link goes down that so cuts a tree off, or turns one to its one way out, an announce interval
---   after the time before has come to rest. Choice and roles ask for twice the greatest delay for each system of a
---   path but one.
--- - By the first event a system fails and so cuts trees off, an announce interval after the time before has come to
---   rest, and no other comes but such links. The choice asks for what others hold of it to age, and then for twice the
---   greatest delay for each system of a path but one. Roles stand then too, once no port beside it is capable.
+-- - By the one event a link goes down that so cuts a tree off, or turns one to its one way out, once what was sent
+--   before the time before had come to rest has arrived. Choice and roles ask for twice the greatest delay for each
+--   system of a path but one.
+-- - By the first event a system fails and so cuts trees off, once that has arrived, and no other comes but such links.
+--   The choice asks for what others hold of it to age, and then for twice the greatest delay for each system of a path
+--   but one. Roles stand then too, once no port beside it is capable.
 -- - By the events anything is taken away, whatever is moved. The choice asks for the longest receipt timeout and the
 --   greatest delay for each system of a path, and then for an announce interval and the greatest delay for each but
 --   one. Roles stand then too, once the ports beside a system that failed aren't capable any more.
@@ -53,6 +53,7 @@ use Rattle.gptp_scenario.specs.declared.sync_wait.SyncPaths.{SyncPaths}
 use Rattle.gptp_model.specs.World.{port_id}
 use Rattle.gptp_network.specs.Document.{DocumentState}
 use Rattle.gptp_network.specs.Snapshot.{events_by}
+use Rattle.gptp_settling_time.specs.Arrivals.{HasArrivedBy}
 use Rattle.gptp_settling_time.specs.Gains.{ChangesNothing, EndHasFailed, LeavesCapable, Repeats, TakesNothing}
 use Rattle.gptp_settling_time.specs.InTurn.{AddsHeard, BettersClock, FlightIsGone, MakesNothing, NoneUsed, TellsNothing, UsedVaryLittle, WidensLink, turned_echo_span}
 use Rattle.gptp_settling_time.specs.Losses.{AgesWithin, CutsFarEnd, FailsFarEnd, FailsHeard, LeavesChoice, LosesAny, LowersLink, LowersUnused, TurnsLink, UpIsUsed}
@@ -101,6 +102,11 @@ IsHeardToo n next made event = AddsHeard n made event next ⊎ MakesNothing n ma
 -- behind a gain of the same time: another, or what makes nothing of what then stands
 abbrev pub IsGainToo : NetworkState → ℕ → List Timed → Timed → Type 0
 IsGainToo n next made event = IsGainEvent n next made event ⊎ MakesNothing n made event next
+
+-- Behind a failure of the same time: a link goes down that is up, and of which an end has failed; or all stays as it
+-- stands.
+abbrev pub IsDownToo : NetworkState → List Timed → Timed → Type 0
+IsDownToo n made event = LowersUnused n made event ⊎ Repeats n made event
 
 -- this is so of each of the events, by what stands just before it
 abbrev pub EachEvent : (List Timed → Timed → Type 0) → List Timed → List Timed → Type 0
@@ -242,11 +248,11 @@ abbrev pub TurnsOneLink : NetworkState → List Timed → List Timed → Type 0
 TurnsOneLink n = OneEvent (TurnsLink n)
 
 -- By the first of them a system fails that is the far end of each of its links. By the others links go down that are
--- up, and of which an end has failed.
+-- up, and of which an end has failed, or nothing is done.
 abbrev pub FailsEndFirst : NetworkState → List Timed → List Timed → Type 0
 FailsEndFirst n made [] = ⊥
 FailsEndFirst n made (event ∷ events) =
-    FailsFarEnd n made event × EachEvent (LowersUnused n) (made ++ event ∷ []) events
+    FailsFarEnd n made event × EachEvent (IsDownToo n) (made ++ event ∷ []) events
 
 -- how soon the roles stand after them
 abbrev pub RolesAfterFailure : NetworkState → List Timed → ℕ → Type 0
@@ -254,11 +260,11 @@ RolesAfterFailure n events roles =
     (UpIsUsed n events × (roles ≡ 0)) ⊎ (roles ≡ silence_span (pace_of n))
 
 -- By the first of them a system fails that others hear. By the others links go down that are up, and of which an end
--- has failed.
+-- has failed, or nothing is done.
 abbrev pub FailsHeardFirst : NetworkState → List Timed → List Timed → Type 0
 FailsHeardFirst n made [] = ⊥
 FailsHeardFirst n made (event ∷ events) =
-    FailsHeard n made event × EachEvent (LowersUnused n) (made ++ event ∷ []) events
+    FailsHeard n made event × EachEvent (IsDownToo n) (made ++ event ∷ []) events
 
 -- What others hold of it has aged so much later, or no port beside it is capable, whichever is sooner.
 abbrev pub HeldFor : NetworkState → List Timed → List Timed → ℕ → Type 0
@@ -304,11 +310,11 @@ RolesAfterLoss n made now choice roles =
     ⊎ (roles ≡ max choice (silence_span (pace_of n)))
 
 -- By the first of them a system fails, which so cuts trees off. By the others links go down that are up, and of which
--- an end has failed.
+-- an end has failed, or nothing is done.
 abbrev pub FailsTreesFirst : NetworkState → List Timed → List Timed → Type 0
 FailsTreesFirst n made [] = ⊥
 FailsTreesFirst n made (event ∷ events) =
-    FailsTrees n made event × EachEvent (LowersUnused n) (made ++ event ∷ []) events
+    FailsTrees n made event × EachEvent (IsDownToo n) (made ++ event ∷ []) events
 
 -- ---- what a loss asks for
 
@@ -365,9 +371,17 @@ LosesNext n events Then last time Asks =
     × ((then : ℕ) × Then then × (last + then < time)
     × BesideIdle n (last + then) time Asks (events_by last events) (events_at time events))
 
+-- What was sent until so much later than a time has arrived by another.
+abbrev pub HasArrivedNext : NetworkState → List Timed → ℕ → ℕ → ℕ → Type 0
+HasArrivedNext n events last then time =
+    (arrived : ℕ) × HasArrivedBy n (events_by last events) (suc (last + then)) arrived × (arrived ≤ time)
+
+-- So has what was sent until the time before had come to rest, by one of its bounds.
+abbrev pub ComesAfterRest : NetworkState → List Timed → (ℕ → Type 0) → ℕ → ℕ → Type 0
+ComesAfterRest n events Then last time = (then : ℕ) × Then then × HasArrivedNext n events last then time
+
 -- By the one event of a time a tree is so moved, and all events up to it ask for what `Asks` says. Nothing lapses for
--- want of Sync. The network is calm. The event comes an announce interval after the time before has come to rest, by
--- one of its bounds.
+-- want of Sync. The network is calm. What was sent before the time before had come to rest has arrived.
 abbrev pub TreeNext : NetworkState → (List Timed → Timed → Type 0) → List Timed → (ℕ → Type 0) → ℕ → ℕ
     → (List Timed → Type 0) → Type 0
 TreeNext n Moves events Then last time Asks =
@@ -375,7 +389,7 @@ TreeNext n Moves events Then last time Asks =
     × NoneBetween events last time
     × IsCalm n (events_by time events)
     × NothingLapses n.params
-    × ((then : ℕ) × Then then × (last + then + largest_interval (pace_of n) < time))
+    × ComesAfterRest n events Then last time
     × BeforeRepeats n (OneEvent Moves) (events_by last events) (events_at time events)
     × Asks (events_by time events)
 
@@ -392,15 +406,14 @@ abbrev pub BoundsTree : NetworkState → ℕ → ℕ → List Timed → Type 0
 BoundsTree n choice roles events = (choice ≡ 2 * way_span (sync_paths n events)) × (roles ≡ choice)
 
 -- By the first event of a time a system fails, which so cuts trees off, and they ask for what `Asks` says. Nothing
--- lapses for want of Sync. The network is calm. They come an announce interval after the time before has come to rest,
--- by one of its bounds.
+-- lapses for want of Sync. The network is calm. What was sent before the time before had come to rest has arrived.
 abbrev pub SplitsNext : NetworkState → List Timed → (ℕ → Type 0) → ℕ → ℕ → (List Timed → List Timed → Type 0) → Type 0
 SplitsNext n events Then last time Asks =
     (last < time)
     × NoneBetween events last time
     × IsCalm n (events_by time events)
     × NothingLapses n.params
-    × ((then : ℕ) × Then then × (last + then + largest_interval (pace_of n) < time))
+    × ComesAfterRest n events Then last time
     × BeforeRepeats n (λ made now. FailsTreesFirst n made now × Asks made now) (events_by last events)
     (events_at time events)
 

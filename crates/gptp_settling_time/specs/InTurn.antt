@@ -42,7 +42,7 @@
 -- too, where a system fails that is the far end of each of its links. Then roles stand once the ports beside it aren't
 -- capable any more, or at once where each link that is up is in use. A network that is left stays so where a link goes
 -- down of which an end has failed. A tree that a link cuts off falls back where what is in flight names the best: where
--- the choice had stood for an announce interval.
+-- what was sent before the choice stood has arrived.
 use Rattle.std.specs.Prelude.{◌≡◌, ◌<◌, ◌≤◌, ◌⊎◌, ◌+◌, ◌*◌, ℕ, ⊤, min, pred, suc, List, [], ◌∷◌, ◌++◌, Option, Some, slice_get}
 use Rattle.gptp_lists.specs.Members.{In}
 use Rattle.gptp_vector.specs.declared.port.PortId.{PortId}
@@ -64,6 +64,7 @@ use Rattle.gptp_network.specs.Document.{DocumentState}
 use Rattle.gptp_network.specs.Snapshot.{events_by}
 use Rattle.gptp_report.specs.Transitions.{ActTrace, Unfolds}
 use Rattle.gptp_theorem.specs.PlayedLaws.{IsPlayable}
+use Rattle.gptp_settling_time.specs.Arrivals.{HasArrivedBy}
 use Rattle.gptp_settling_time.specs.ChoiceAlone.{ChoiceStandsAs}
 use Rattle.gptp_settling_time.specs.Documents.{IsSettledAs}
 use Rattle.gptp_settling_time.specs.Exactly.{SettlesBy}
@@ -255,6 +256,10 @@ pub record LowersUnusedCalm (n : NetworkState) (before : List Timed) (event : Ti
   pub calm : IsCalm n before
   pub off : NothingLapses n.params
 
+-- so it does, or all stays as it stands
+abbrev pub IsDownNow : NetworkState → List Timed → Timed → Type 0
+IsDownNow n before event = LowersUnusedCalm n before event ⊎ RepeatsNow n before event
+
 -- A link goes down, or a far end fails, and the choice stands. Ports without a link aren't capable from the next time
 -- on. After a link that is the time before. After a system that fails it is when too many of their requests are lost.
 abbrev pub LeavesStanding : NetworkState → List Timed → Timed → ℕ → ℕ → Type 0
@@ -400,7 +405,7 @@ LeadsToLeft n before (Gained start) event next =
 LeadsToLeft n before (Heard start) event next =
     HasSettledHeard n before start event.at × LeavesStanding n before event start next
 LeadsToLeft n before (Left silent) event next =
-    (LowersUnusedCalm n before event ⊎ RepeatsNow n before event) × (next ≡ silent)
+    IsDownNow n before event × (next ≡ silent)
 LeadsToLeft n before (Turned silent time) event next = ⊥
 LeadsToLeft n before (Fallen silent time) event next = ⊥
 LeadsToLeft n before (TurnedTree silent time) event next = ⊥
@@ -432,10 +437,11 @@ LeadsToTurned n before (Aging ago aged start) event silent time = ⊥
 LeadsToTurned n before (Split ago gone start) event silent time = ⊥
 LeadsToTurned n before (Lost since most start) event silent time = ⊥
 
--- in a network whose choice had stood for an announce interval a tree is so moved by it now
+-- In a network whose choice stands a tree is so moved by it now. What was sent before the choice stood has arrived.
 abbrev pub TreeNow : NetworkState → List Timed → Timed → Type 0 → ℕ → ℕ → ℕ → ℕ → Type 0
 TreeNow n before event Moves start stood silent time =
-    (last_change before < stood) × (stood + largest_interval (pace_of n) ≤ event.at)
+    (last_change before < stood)
+    × ((arrived : ℕ) × HasArrivedBy n before stood arrived × (arrived ≤ event.at))
     × Moves × (silent ≡ start) × (time ≡ event.at)
 
 abbrev pub LeadsByTree : NetworkState → List Timed → Past → Timed → Type 0 → ℕ → ℕ → Type 0
@@ -467,7 +473,7 @@ LeadsToCleared n before (Cleared start dark clean last) event since silent right
     ((LowersUnusedCalm n before event × (clean ≤ event.at)) ⊎ RepeatsNow n before event)
     × ((since ≡ start) × (silent ≡ dark) × (right ≡ clean) × (old ≡ last))
 LeadsToCleared n before (Aging ago aged dark) event since silent right old =
-    LowersUnusedCalm n before event × (silent ≡ dark) × TellsAnew n (before ++ event ∷ []) event.at since right old
+    IsDownNow n before event × (silent ≡ dark) × TellsAnew n (before ++ event ∷ []) event.at since right old
 LeadsToCleared n before (Split ago gone dark) event since silent right old = ⊥
 LeadsToCleared n before (Lost start most dark) event since silent right old = ⊥
 
@@ -494,10 +500,8 @@ LeadsToAging n before (Fallen start now) event ago aged silent = ⊥
 LeadsToAging n before (TurnedTree start now) event ago aged silent = ⊥
 LeadsToAging n before (Cleared since start right old) event ago aged silent = ⊥
 LeadsToAging n before (Aging old gone start) event ago aged silent =
-    (ago ≡ old) × (silent ≡ start)
-    × ((LowersUnusedCalm n before event
-    × ((aged ≡ gone) ⊎ AgesSooner n old (before ++ event ∷ []) aged start))
-    ⊎ (RepeatsNow n before event × (aged ≡ gone)))
+    IsDownNow n before event × (ago ≡ old) × (silent ≡ start)
+    × ((aged ≡ gone) ⊎ AgesSooner n old (before ++ event ∷ []) aged start)
 LeadsToAging n before (Split old gone start) event ago aged silent = ⊥
 LeadsToAging n before (Lost since most start) event ago aged silent = ⊥
 
@@ -541,11 +545,14 @@ abbrev pub IsGoneBy : NetworkState → List Timed → List Timed → ℕ → ℕ
 IsGoneBy n ago events failed gone = (span : ℕ) × AgesWithin n ago events failed span
     × (gone ≡ suc (failed + min span (silence_span (pace_of n))))
 
--- In a network whose choice had stood for an announce interval a system fails now, and so cuts trees off.
+-- In a network whose choice stands a system fails now, and so cuts trees off. What was sent before the choice stood has
+-- arrived.
 pub record SplitsNow (n : NetworkState) (before : List Timed) (event : Timed) (stood gone silent : ℕ) : Type 0 where
   pub fails : FailsTrees n before event
   pub later : last_change before < stood
-  pub quiet : stood + largest_interval (pace_of n) ≤ event.at
+  pub arrived : ℕ
+  pub arrives : HasArrivedBy n before stood arrived
+  pub quiet : arrived ≤ event.at
   pub calm : IsCalm n before
   pub off : NothingLapses n.params
   pub is_gone : IsGoneBy n before (before ++ event ∷ []) event.at gone
@@ -567,12 +574,10 @@ LeadsToSplit n before (TurnedTree start now) event ago gone silent = ⊥
 LeadsToSplit n before (Cleared since start right old) event ago gone silent = ⊥
 LeadsToSplit n before (Aging old aged start) event ago gone silent = ⊥
 LeadsToSplit n before (Split old was start) event ago gone silent =
-    (ago ≡ old) × (silent ≡ start)
-    × ((LowersUnusedCalm n before event
+    IsDownNow n before event × (ago ≡ old) × (silent ≡ start)
     × ((gone ≡ was)
     ⊎ ((start ≡ suc (event.at + silence_span (pace_of n)))
-    × IsGoneBy n old (before ++ event ∷ []) event.at gone)))
-    ⊎ (RepeatsNow n before event × (gone ≡ was)))
+    × IsGoneBy n old (before ++ event ∷ []) event.at gone))
 LeadsToSplit n before (Lost since most start) event ago gone silent = ⊥
 
 -- from a gain, and from what is heard, the start stays
