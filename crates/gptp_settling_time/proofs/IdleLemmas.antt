@@ -122,7 +122,7 @@ module _ (w : WorldState) (sound : IsSound w) (draws : List Draw) (w' : WorldSta
   idle_same (Recover number) other idle k =
       let live = idle k.place k.station (record { here = k.is.here; named = k.is.named }) in
       (subst (λ live. RecoversIf live k.place now draws w') live k.so).1
-  idle_same (Priority1 number value) other idle k = absurd (other number value refl)
+  idle_same (Priority1 number value) other idle k = absurd (other number value (λ i. Priority1 number value))
   idle_same (Inject number port octets) other idle k =
       (subst (λ up. InjectsIf up (port_id number port) octets now draws w') (idle k.place k.channel k.is) k.so).1
 

@@ -1,12 +1,14 @@
 -- An event repeats what stands, at the time of the event before: the world stays the very same, and with it all that is
 -- claimed of a loss.
-use Rattle.std.proofs.Common.{◌≡◌, ℕ, List, [], ◌∷◌, ◌++◌, sym, ap, subst, ◌∙◌, inl, arith}
+use Rattle.std.proofs.Common.{◌≡◌, ℕ, suc, true, refl, List, [], ◌∷◌, ◌++◌, sym, ap, subst, ◌∙◌, inl, arith}
 use Rattle.gptp_lists.proofs.SystemSpecLemmas.{In-slice_get}
 use Rattle.gptp_graph.specs.Snapshot.{PortIdentity}
 use Rattle.gptp_links.specs.Fate.{Draw}
 use Rattle.gptp_setup.specs.SettlingParams.{SettlingParams}
 use Rattle.gptp_scenario.specs.Network.{IsEnd, NetworkState, pace_of}
-use Rattle.gptp_scenario.specs.declared.change.Act.TheVariants.{Change as Changing}
+use Rattle.gptp_scenario.specs.declared.change.Act.{Act}
+use Rattle.gptp_scenario.specs.declared.change.Act.TheVariants.{Deliver, Expire, Change as Changing}
+use Rattle.gptp_scenario.specs.declared.change.Change.{Change}
 use Rattle.gptp_scenario.specs.declared.change.Timed.{Timed}
 use Rattle.gptp_scenario.specs.declared.network.LinkSpec.{LinkSpec}
 use Rattle.gptp_model.specs.Acts.{Acts}
@@ -15,7 +17,7 @@ use Rattle.gptp_model.specs.declared.done.Done.{Done}
 use Rattle.gptp_network.specs.Document.{DocumentState}
 use Rattle.gptp_invariants.specs.ChoiceView.{says_announce, view}
 use Rattle.gptp_invariants.specs.WorldStanding.{snapshot_of}
-use Rattle.gptp_theorem.specs.PlayedLaws.{IsMade, IsPlayable}
+use Rattle.gptp_theorem.specs.PlayedLaws.{IsPlayable}
 use Rattle.gptp_settling_time.specs.Gains.{ChangesNothing, RepeatsNow}
 use Rattle.gptp_settling_time.specs.Losses.{IsHoldSpan}
 use Rattle.gptp_settling_time.proofs.AgedLemmas.{AgedIsSound}
@@ -64,8 +66,22 @@ over_same n ago events more same time port until
           → until ≤ suc (time + (u.bounds.max + held))) one over,
     )
 
+-- such an event is a change
+record IsChange (n : NetworkState) (made : List Timed) (event : Timed) : Type 0 where
+  change : Change
+  act : event.act ≡ Changing change
+
+is_change : (n : NetworkState) (made : List Timed) (event : Timed) → ChangesNothing n made event.act
+    → IsChange n made event
+is_change n made event = by event.act refl
+  where
+    by : (act : Act) → event.act ≡ act → ChangesNothing n made act → IsChange n made event
+    by (Deliver link direction) same none = absurd none
+    by (Expire number timer) same none = absurd none
+    by (Changing change) same idle = record { change = change; act = same }
+
 module _ (d : DocumentState) (playable : IsPlayable d) (made : List Timed) (event : Timed) (then : WorldState)
-    (draws : List Draw) (done : Done) (w' : WorldState) (is : IsMade event) (acts : Acts event.act then draws done w')
+    (draws : List Draw) (done : Done) (w' : WorldState) (acts : Acts event.act then draws done w')
     (at_time : then.time ≡ event.at) (keeps : KeepsTo d made then) (after : KeepsTo d (made ++ event ∷ []) w')
     (now : RepeatsNow d.network made event) where
   abbrev n : NetworkState
@@ -76,6 +92,9 @@ module _ (d : DocumentState) (playable : IsPlayable d) (made : List Timed) (even
 
   abbrev more : List Timed
   more = made ++ event ∷ []
+
+  is : IsChange n made event
+  is = is_change n made event now.0.0
 
   -- the last change was at this time already
   moment : then.time ≡ then.last_change
