@@ -2,7 +2,7 @@
 -- claimed of a loss.
 use Rattle.std.proofs.Common.{◌≡◌, ℕ, suc, true, refl, List, [], ◌∷◌, ◌++◌, sym, ap, subst, ◌∙◌, inl, arith}
 use Rattle.gptp_lists.proofs.SystemSpecLemmas.{In-slice_get}
-use Rattle.gptp_graph.specs.Snapshot.{PortIdentity}
+use Rattle.gptp_graph.specs.Snapshot.{PortIdentity, Snapshot}
 use Rattle.gptp_links.specs.Fate.{Draw}
 use Rattle.gptp_setup.specs.SettlingParams.{SettlingParams}
 use Rattle.gptp_scenario.specs.Network.{IsEnd, NetworkState, pace_of}
@@ -46,10 +46,11 @@ use Rattle.gptp_settling_time.proofs.TurnedTreeRestLemmas.{IsTurnedTreeAnew}
 use Rattle.gptp_settling_time.proofs.TurnedTreeToLemmas.{IsTurnedTreeTo}
 
 -- what came over a silent link ages as it did where all links and systems are as they were
-over_same : (n : NetworkState) (ago events more : List Timed) → StandSame n events more → (time : ℕ)
-    (port : PortIdentity) (until : ℕ) → AgesOver n ago events time port until → AgesOver n ago more time port until
-over_same n ago events more same time port until
-    (place, v, failed, there, (used, up, is_end, gone), (end, is_other, port_is), over) =
+over_same : (n : NetworkState) (before : Snapshot) (ago events more : List Timed) → StandSame n events more
+    → (time : ℕ) (port : PortIdentity) (until : ℕ) → AgesOver n before ago events time port until
+    → AgesOver n before ago more time port until
+over_same n before ago events more same time port until
+    (place, v, failed, there, (used, up, is_end, gone), (end, is_other, port_is), far, over) =
     let one = sym (same.links v (In-slice_get v n.links place there)) in (
       place,
       v,
@@ -62,6 +63,16 @@ over_same n ago events more same time port until
         λ lives. gone (same_lives n more events (same_back n events more same) failed.clock lives),
       ),
       (end, subst (IsEnd end) one is_other, port_is),
+      (λ heard.
+          let x = far heard in
+          record {
+            end = x.end;
+            is_end = subst (IsEnd x.end) one x.is_end;
+            lives = same_lives n events more same x.end.clock x.lives;
+            before = x.before;
+            stands = x.stands;
+            farther = x.farther;
+          }),
       subst (λ (u : LinkSpec). (held : ℕ) → IsHoldSpan n ago time failed held
           → until ≤ suc (time + (u.bounds.max + held))) one over,
     )
@@ -165,10 +176,11 @@ module _ (d : DocumentState) (playable : IsPlayable d) (made : List Timed) (even
     sound = subst (AgedIsSound p aged silent) (sym same) so.sound;
     failed = so.failed;
     unanswered = so.unanswered;
-    by = subst (WorldAgesBy p (AgesOver n ago more so.failed)) (sym same) (λ quiet.
-        by_map says_announce (snapshot_of then) (stay_of p) (AgesOver n ago made so.failed)
-        (AgesOver n ago more so.failed) (view then)
-        (λ port until unlinked over. over_same n ago made more alike so.failed port until over) (so.by quiet));
+    by = subst (WorldAgesBy p (AgesOver n so.before ago more so.failed)) (sym same) (λ quiet.
+        by_map says_announce (snapshot_of then) (stay_of p) (AgesOver n so.before ago made so.failed)
+        (AgesOver n so.before ago more so.failed) (view then)
+        (λ port until unlinked over. over_same n so.before ago made more alike so.failed port until over)
+        (so.by quiet));
   }
 
   pub split_repeated : (ago : List Timed) (gone silent : ℕ) → IsSplitTo d ago made gone silent then
@@ -177,16 +189,16 @@ module _ (d : DocumentState) (playable : IsPlayable d) (made : List Timed) (even
     keeps = after;
     before = so.before;
     failed = so.failed;
-    since = subst (IsSplitAlways p so.before By so.failed gone silent) (sym same)
-        (split_by p so.before (GoesOver n ago made so.failed gone silent) so.failed gone silent then so.since By gone
+    since = subst (IsSplitAlways p so.before (GoesOver n so.before ago more so.failed gone silent) so.failed gone silent)
+        (sym same)
+        (split_by p so.before (GoesOver n so.before ago made so.failed gone silent) so.failed gone silent then so.since
+        (GoesOver n so.before ago more so.failed gone silent) gone
         (λ quiet.
-        by_map says_announce (snapshot_of then) (stay_of p) (GoesOver n ago made so.failed gone silent) By (view then)
-        (λ port until unlinked (over, soon). (over_same n ago made more alike so.failed port until over, soon))
-        (so.since.by quiet))
-        (over_gone n ago more so.failed gone silent) so.since.less (inl (omega arith)));
+        by_map says_announce (snapshot_of then) (stay_of p) (GoesOver n so.before ago made so.failed gone silent)
+        (GoesOver n so.before ago more so.failed gone silent) (view then)
+        (λ port until unlinked (over, soon).
+        (over_same n so.before ago made more alike so.failed port until over, soon)) (so.since.by quiet))
+        (over_gone n so.before ago more so.failed gone silent) (inl (omega arith)));
     some = so.some;
     unanswered = so.unanswered;
   }
-    where
-      By : PortIdentity → ℕ → Type 0
-      By = GoesOver n ago more so.failed gone silent
