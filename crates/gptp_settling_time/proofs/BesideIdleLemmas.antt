@@ -202,8 +202,8 @@ repeat_leads n made event now (Turned silent time) begun = (now, refl, refl)
 repeat_leads n made event now (Fallen silent time) begun = inr (now, refl)
 repeat_leads n made event now (TurnedTree silent time) begun = inr (now, refl)
 repeat_leads n made event now (Cleared first silent right old) begun = (inr now, (refl, refl, refl, refl))
-repeat_leads n made event now (Aging ago aged silent) begun = (refl, refl, inr (now, refl))
-repeat_leads n made event now (Split ago gone silent) begun = (refl, refl, inr (now, refl))
+repeat_leads n made event now (Aging ago aged silent) begun = (inr now, refl, refl, inl refl)
+repeat_leads n made event now (Split ago gone silent) begun = (inr now, refl, refl, inl refl)
 repeat_leads n made event now (Lost lost_at most silent) begun = (inr now, refl, refl, refl)
 
 module _ (n : NetworkState) (network : IsNetwork n) (off : NothingLapses n.params) (time : ℕ) where
