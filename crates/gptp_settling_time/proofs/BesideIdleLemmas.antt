@@ -1,10 +1,10 @@
 -- What comes of a loss stays where events come beside it that make nothing of what stands.
-use Rattle.std.proofs.Common.{◌≡◌, ◌⊎◌, inl, inr, ◌<◌, ◌≤◌, ◌+◌, ◌*◌, ℕ, pred, suc, List, [], ◌∷◌, ◌++◌, refl, sym, ap, subst, ◌∙◌, append_assoc, append-nil, arith}
+use Rattle.std.proofs.Common.{true, ◌≡◌, ◌⊎◌, inl, inr, ◌<◌, ◌≤◌, ◌+◌, ◌*◌, ℕ, pred, suc, List, [], ◌∷◌, ◌++◌, refl, sym, ap, subst, ◌∙◌, append_assoc, append-nil, arith}
 use Rattle.std.specs.List.{AllByRecursion}
 use Rattle.gptp_lists.proofs.SystemSpecLemmas.{In-slice_get}
 use Rattle.gptp_scenario.specs.Calm.{IsCalm, IsUsed, NothingLapses, last_change}
 use Rattle.gptp_scenario.specs.Change.{link_after}
-use Rattle.gptp_scenario.specs.Network.{IsNetwork, NetworkState, pace_of}
+use Rattle.gptp_scenario.specs.Network.{IsEnd, IsNetwork, NetworkState, pace_of}
 use Rattle.gptp_scenario.specs.SettlingAtOnce.{settling_span_at_once}
 use Rattle.gptp_scenario.specs.SettlingTime.{loss_span, settling_span_with, way_span}
 use Rattle.gptp_scenario.specs.SyncWait.{sync_paths}
@@ -17,7 +17,7 @@ use Rattle.gptp_settling_time.specs.Exactly.{SettlesBy}
 use Rattle.gptp_settling_time.specs.Gains.{Repeats, RepeatsNow}
 use Rattle.gptp_settling_time.specs.HowSoon.{AfterIdleEvents, BeforeRepeats, BesideIdle, EachEvent}
 use Rattle.gptp_settling_time.specs.InTurn.{Aging, AnyPast, ChoosesAfter, Cleared, EventLeads, Fallen, FlightIsGone, Gained, HasToldAnew, Heard, LeadOn, Left, Lost, Past, RestsFrom, SettlesAfter, Split, Starting, Turned, TurnedTree}
-use Rattle.gptp_settling_time.specs.Losses.{UpIsUsed}
+use Rattle.gptp_settling_time.specs.Losses.{NoneSilent, UpIsUsed}
 use Rattle.gptp_settling_time.proofs.CalmStillLemmas.{alike_calm, idle_calm}
 use Rattle.gptp_settling_time.proofs.LeadOnLemmas.{HasRested, HasSettled, idle_leads, idle_settled, leads_on, settled_later, since, widens_leads}
 use Rattle.gptp_settling_time.proofs.LossRestLemmas.{last_at}
@@ -44,9 +44,24 @@ module _ (n : NetworkState) (off : NothingLapses n.params) (events more : List T
         b = same_lives n events more same (link_after events v).b.clock was.b;
       })
 
-  still_dark : (silent settled : ℕ) → (silent ≤ settled) ⊎ UpIsUsed n events → (silent ≤ settled) ⊎ UpIsUsed n more
-  still_dark silent settled (inl late) = inl late
-  still_dark silent settled (inr used) = inr (still_used used)
+  still_up : (silent settled : ℕ) → (silent ≤ settled) ⊎ UpIsUsed n events → (silent ≤ settled) ⊎ UpIsUsed n more
+  still_up silent settled (inl late) = inl late
+  still_up silent settled (inr used) = inr (still_used used)
+
+  still_none : (ago : List Timed) → NoneSilent n ago events → NoneSilent n ago more
+  still_none ago none place v failed end there (used, up, is_failed, gone) is_end lives =
+      let one = same.links v (In-slice_get v n.links place there) in
+      none place v failed end there (
+        used,
+        subst (λ (u : LinkSpec). u.up ≡ true) one up,
+        subst (IsEnd failed) one is_failed,
+        λ alive. gone (same_lives n events more same failed.clock alive),
+      ) (subst (IsEnd end) one is_end) (same_lives n more events (same_back n events more same) end.clock lives)
+
+  still_dark : (ago : List Timed) (silent settled : ℕ) → (silent ≤ settled) ⊎ NoneSilent n ago events
+      → (silent ≤ settled) ⊎ NoneSilent n ago more
+  still_dark ago silent settled (inl late) = inl late
+  still_dark ago silent settled (inr none) = inr (still_none ago none)
 
   still_gone : (gone : ℕ) → FlightIsGone n events gone → FlightIsGone n more gone
   still_gone gone (inl (used, is)) = inl (still_used used, is ∙ ap (λ (x : SyncPaths). x.delay) (sym paths))
@@ -65,21 +80,21 @@ module _ (n : NetworkState) (off : NothingLapses n.params) (events more : List T
   settles_same (Gained start) settled is = subst (λ x. SettlesBy (pace_of n) x start settled) (sym paths) is
   settles_same (Heard start) settled (off, late) =
       (off, subst (λ (x : SyncPaths). start + pred x.systems * x.delay ≤ settled) (sym paths) late)
-  settles_same (Left silent) settled (off, dark) = (off, still_dark silent settled dark)
+  settles_same (Left ago silent) settled (off, dark) = (off, still_dark ago silent settled dark)
   settles_same (Turned silent time) settled (off, late) =
       (off, subst (λ x. time + 1 + way_span x ≤ settled) (sym paths) late)
   settles_same (Fallen silent time) settled (off, late) =
       (off, subst (λ x. time + 1 + 2 * way_span x ≤ settled) (sym paths) late)
   settles_same (TurnedTree silent time) settled (off, late) =
       (off, subst (λ x. time + 1 + 2 * way_span x ≤ settled) (sym paths) late)
-  settles_same (Cleared first silent right old) settled (off, dark) = (off, still_dark silent settled dark)
-  settles_same (Aging ago aged silent) settled (off, dark) = (off, still_dark silent settled dark)
+  settles_same (Cleared ago first silent right old) settled (off, dark) = (off, still_dark ago silent settled dark)
+  settles_same (Aging ago aged silent) settled (off, dark) = (off, still_dark ago silent settled dark)
   settles_same (Split ago gone silent) settled (off, late, dark) =
-      (off, subst (λ x. gone + 2 * way_span x ≤ settled) (sym paths) late, still_dark silent settled dark)
+      (off, subst (λ x. gone + 2 * way_span x ≤ settled) (sym paths) late, still_dark ago silent settled dark)
   settles_same (Lost lost_at most silent) settled (off, late, dark) = (
     off,
     subst (λ x. suc (lost_at + loss_span (pace_of n) x most) ≤ settled) (sym paths) late,
-    still_dark silent settled dark,
+    still_up silent settled dark,
   )
 
   pub chooses_same : (past : Past) (settled : ℕ) → ChoosesAfter n events past settled → ChoosesAfter n more past settled
@@ -87,13 +102,13 @@ module _ (n : NetworkState) (off : NothingLapses n.params) (events more : List T
   chooses_same Starting settled none = absurd none
   chooses_same (Gained start) settled is = settles_same (Gained start) settled is
   chooses_same (Heard start) settled is = settles_same (Heard start) settled is
-  chooses_same (Left silent) settled off = off
+  chooses_same (Left ago silent) settled off = off
   chooses_same (Turned silent time) settled is = settles_same (Turned silent time) settled is
   chooses_same (Fallen silent time) settled is = settles_same (Fallen silent time) settled is
   chooses_same (TurnedTree silent time) settled is = settles_same (TurnedTree silent time) settled is
-  chooses_same (Cleared first silent right old) settled off = off
+  chooses_same (Cleared ago first silent right old) settled off = off
   chooses_same (Aging ago aged silent) settled (off, inl gone) = (off, inl gone)
-  chooses_same (Aging ago aged silent) settled (off, inr dark) = (off, inr (still_dark silent settled dark))
+  chooses_same (Aging ago aged silent) settled (off, inr dark) = (off, inr (still_dark ago silent settled dark))
   chooses_same (Split ago gone silent) settled (off, late) =
       (off, subst (λ x. gone + 2 * way_span x ≤ settled) (sym paths) late)
   chooses_same (Lost lost_at most silent) settled (off, late) =
@@ -121,7 +136,7 @@ module _ (n : NetworkState) (off : NothingLapses n.params) (events more : List T
   rests_same Starting time start none = absurd none
   rests_same (Gained first) time start none = absurd none
   rests_same (Heard first) time start none = absurd none
-  rests_same (Left silent) time start none = absurd none
+  rests_same (Left ago silent) time start none = absurd none
   rests_same (Turned silent turned) time start is = still_anew turned start time is
   rests_same (Fallen silent fallen) time start is = record {
     calm = still_calm is.calm;
@@ -134,12 +149,12 @@ module _ (n : NetworkState) (off : NothingLapses n.params) (events more : List T
   }
   rests_same (TurnedTree silent turned) time start (is, later) =
       (still_anew turned start time is, subst (λ x. turned + way_span x < start) (sym paths) later)
-  rests_same (Cleared first silent right old) time start is = record {
+  rests_same (Cleared ago first silent right old) time start is = record {
     calm = still_calm is.calm;
     off = is.off;
     gone = is.gone;
     later = is.later;
-    unlinked = still_dark silent time is.unlinked;
+    unlinked = still_dark ago silent time is.unlinked;
     over = still_over start time is.over;
   }
   rests_same (Aging ago aged silent) time start is = record {
@@ -160,7 +175,7 @@ module _ (n : NetworkState) (off : NothingLapses n.params) (events more : List T
   rests_same (Lost lost_at most silent) time start is = record {
     off = is.off;
     later = subst (λ x. lost_at + loss_span (pace_of n) x most < start + way_span x) (sym paths) is.later;
-    unlinked = still_dark silent time is.unlinked;
+    unlinked = still_up silent time is.unlinked;
     over = still_over start time is.over;
   }
 
@@ -174,11 +189,11 @@ module _ (n : NetworkState) (off : NothingLapses n.params) (events more : List T
   settled_same (Gained start) time is =
       subst (λ (x : SyncPaths). start + largest_interval (pace_of n) + pred x.systems * x.delay ≤ time) (sym paths) is
   settled_same (Heard start) time is = still_over start time is
-  settled_same (Left silent) time none = absurd none
+  settled_same (Left ago silent) time none = absurd none
   settled_same (Turned silent now) time none = absurd none
   settled_same (Fallen silent now) time none = absurd none
   settled_same (TurnedTree silent now) time none = absurd none
-  settled_same (Cleared first silent right old) time none = absurd none
+  settled_same (Cleared ago first silent right old) time none = absurd none
   settled_same (Aging ago aged silent) time none = absurd none
   settled_same (Split ago gone silent) time none = absurd none
   settled_same (Lost lost_at most silent) time none = absurd none
@@ -197,11 +212,11 @@ repeat_leads n made event now AnyPast begun = tt
 repeat_leads n made event now Starting begun = absurd (begun refl)
 repeat_leads n made event now (Gained start) begun = inr (inl (inl now.0.0, refl))
 repeat_leads n made event now (Heard start) begun = inr (inr (inl now.0.0, refl))
-repeat_leads n made event now (Left silent) begun = (inr now, refl)
+repeat_leads n made event now (Left ago silent) begun = (inr now, refl, refl)
 repeat_leads n made event now (Turned silent time) begun = (now, refl, refl)
 repeat_leads n made event now (Fallen silent time) begun = inr (now, refl)
 repeat_leads n made event now (TurnedTree silent time) begun = inr (now, refl)
-repeat_leads n made event now (Cleared first silent right old) begun = (inr now, (refl, refl, refl, refl))
+repeat_leads n made event now (Cleared ago first silent right old) begun = (inr now, refl, (refl, refl, refl, refl))
 repeat_leads n made event now (Aging ago aged silent) begun = (inr now, refl, refl, inl refl)
 repeat_leads n made event now (Split ago gone silent) begun = (inr now, refl, refl, inl refl)
 repeat_leads n made event now (Lost lost_at most silent) begun = (inr now, refl, refl, refl)

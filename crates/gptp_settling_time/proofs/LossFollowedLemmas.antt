@@ -15,7 +15,7 @@ use Rattle.gptp_network.specs.Snapshot.{events_by}
 use Rattle.gptp_settling_time.specs.Arrivals.{HasArrivedBy}
 use Rattle.gptp_settling_time.specs.HowSoon.{BeforeRepeats, HasArrivedNext, IsDownToo, BoundsAging, BoundsAnyLoss, BoundsLoss, BoundsSplit, EachEvent, FailsTreesFirst, IsChoiceAloneBound, IsChoiceBound, IsChoiceBoundAfter, IsLossBoundAfter, NoneBetween, OneEvent, events_at}
 use Rattle.gptp_settling_time.specs.InTurn.{Aging, AnyPast, BeginsBy, ChoosesAfter, ChoosesByEvents, ComesByEvents, Fallen, LeadOn, Left, Lost, Past, SettlesAfter, SettlesByEvents, Split, Starting, Turned, TurnedTree}
-use Rattle.gptp_settling_time.specs.Losses.{AgesWithin, FailsHeard, LowersLink, LowersUnused, TurnsLink, UpIsUsed}
+use Rattle.gptp_settling_time.specs.Losses.{AgesWithin, FailsHeard, LowersLink, NoneSilent, TurnsLink}
 use Rattle.gptp_settling_time.specs.TreeLosses.{LowersTree, TurnsTreeLink}
 use Rattle.gptp_settling_time.proofs.BesideIdleLemmas.{LeadsTo, chooses_same, repeats_to, settles_same, split_now}
 use Rattle.gptp_theorem.proofs.EventLemmas.{last_behind}
@@ -75,12 +75,12 @@ module _ (n : NetworkState) (network : IsNetwork n) (off : NothingLapses n.param
 
       -- by the first the network is left, and the others leave it so
       left : (span : ℕ) (x : IsLeftBy n earlier event span seen)
-          → LeadOn n (earlier ++ event ∷ []) (Left x.silent) now (Left x.silent)
+          → LeadOn n (earlier ++ event ∷ []) (Left earlier x.silent) now (Left earlier x.silent)
           → ((settled : ℕ) → time + roles < settled
-          → SettlesAfter n (earlier ++ event ∷ now) (Left x.silent) settled) → IsLostTo earlier (event ∷ now) seen
+          → SettlesAfter n (earlier ++ event ∷ now) (Left earlier x.silent) settled) → IsLostTo earlier (event ∷ now) seen
       left span x others settles = record {
-        last = Left x.silent;
-        lead = (seen, inl refl, Left x.silent, x.leads, others);
+        last = Left earlier x.silent;
+        lead = (seen, inl refl, Left earlier x.silent, x.leads, others);
         so = (settles, λ settled late. off);
       }
 
@@ -91,7 +91,7 @@ module _ (n : NetworkState) (network : IsNetwork n) (off : NothingLapses n.param
           let x = loss_leads n earlier event 0 seen then
           (inl (record { lowers = lowers; calm = calm_then; off = off }, refl)) in
           let over = x.over in
-          left 0 x (subst (λ es. LeadOn n (earlier ++ event ∷ []) (Left x.silent) es (Left x.silent)) (sym same) refl)
+          left 0 x (subst (λ es. LeadOn n (earlier ++ event ∷ []) (Left earlier x.silent) es (Left earlier x.silent)) (sym same) refl)
           (λ settled late. (off, inl (omega (arith, over, here, late))))
 
       -- by the one event a system turns
@@ -122,11 +122,11 @@ module _ (n : NetworkState) (network : IsNetwork n) (off : NothingLapses n.param
       heard : (held quiet : ℕ) → held ≤ choice → quiet ≤ roles → FailsHeard n earlier event
           → EachEvent (IsDownToo n) (earlier ++ event ∷ []) now → BoundsAging n earlier (event ∷ now) held quiet
           → IsLostTo earlier (event ∷ now) seen
-      heard held quiet less quiet_less fails others (inl (used, is_choice, is_roles)) = record {
+      heard held quiet less quiet_less fails others (inl (none, is_choice, is_roles)) = record {
         last = Aging earlier (suc (event.at + 0)) (suc (event.at + silence_span (pace_of n)));
         lead = heard_lead n network off time earlier event now seen 0 calm_then then here fails at.1 others
-            (none_silent n earlier (earlier ++ event ∷ now) event.at 0 used);
-        so = (λ settled late. (off, inr used), λ settled late. (off, inr (inr used)));
+            (none_silent n earlier (earlier ++ event ∷ now) event.at 0 none);
+        so = (λ settled late. (off, inr none), λ settled late. (off, inr (inr none)));
       }
       heard held quiet less quiet_less fails others (inr ((span, within, is_choice), is_roles)) = record {
         last = Aging earlier (suc (event.at + span)) (suc (event.at + silence_span (pace_of n)));
@@ -173,12 +173,12 @@ module _ (n : NetworkState) (network : IsNetwork n) (off : NothingLapses n.param
           (inr (record { fails = fails; calm = calm_then; off = off }, refl)) in
           let over = x.over in
           left span x
-          (dead_lead n network off time (earlier ++ event ∷ []) now x.silent
+          (dead_lead n network off time earlier (earlier ++ event ∷ []) now x.silent
           (fails_calm n earlier event off calm_then fails) (last_behind earlier event ∙ here) at.1 others)
           (λ settled late. (
             off,
             elim after [
-              | inl (used, is_none) ↦ inr used
+              | inl (none, is_none) ↦ inr none
               | inr long ↦ inl (omega (arith, over, here, long, late))
             ],
           ))
@@ -208,7 +208,7 @@ module _ (n : NetworkState) (network : IsNetwork n) (off : NothingLapses n.param
       others_here = subst (λ t. AllByRecursion (λ (u : Timed). u.at ≡ t) now) (sym here) at.1
 
       lost : (span : ℕ) → AgesWithin n made (made ++ event ∷ now) event.at span → min span silence ≤ held
-          → (silence ≤ quiet) ⊎ UpIsUsed n (made ++ event ∷ now) → IsLostTo made (event ∷ now) past
+          → (silence ≤ quiet) ⊎ NoneSilent n made (made ++ event ∷ now) → IsLostTo made (event ∷ now) past
       lost span within less dark =
           let chosen = le-max_left choice quiet in
           let asked = le-max_right choice quiet in
@@ -222,7 +222,7 @@ module _ (n : NetworkState) (network : IsNetwork n) (off : NothingLapses n.param
                 omega (arith, here, is_choice, less, is_roles, chosen, late),
                 elim dark [
                   | inl soon_dark ↦ inl (omega (arith, here, soon_dark, is_roles, asked, late))
-                  | inr used ↦ inr used
+                  | inr none ↦ inr none
                 ],
               ),
               λ settled late. (off, omega (arith, here, is_choice, less, late)),
@@ -230,8 +230,8 @@ module _ (n : NetworkState) (network : IsNetwork n) (off : NothingLapses n.param
           }
 
       by : BoundsAging n made (event ∷ now) held quiet → IsLostTo made (event ∷ now) past
-      by (inl (used, is_none, is_quiet)) =
-          lost 0 (none_silent n made (made ++ event ∷ now) event.at 0 used) (omega arith) (inr used)
+      by (inl (none, is_none, is_quiet)) =
+          lost 0 (none_silent n made (made ++ event ∷ now) event.at 0 none) (omega arith) (inr none)
       by (inr ((span, within, is_held), is_quiet)) =
           lost span
           (subst (λ t. AgesWithin n made (made ++ event ∷ now) t span) (last_at made event now time at ∙ sym here)

@@ -44,6 +44,7 @@ use Rattle.gptp_settling_time.proofs.TurnedAlwaysLemmas.{IsTurnedAlways}
 use Rattle.gptp_settling_time.proofs.TurnedToLemmas.{IsTurnedTo}
 use Rattle.gptp_settling_time.proofs.TurnedTreeRestLemmas.{IsTurnedTreeAnew}
 use Rattle.gptp_settling_time.proofs.TurnedTreeToLemmas.{IsTurnedTreeTo}
+use Rattle.gptp_settling_time.proofs.WereSilentLemmas.{WereSilent}
 
 -- what came over a silent link ages as it did where all links and systems are as they were
 over_same : (n : NetworkState) (before : Snapshot) (ago events more : List Timed) → StandSame n events more
@@ -125,11 +126,12 @@ module _ (d : DocumentState) (playable : IsPlayable d) (made : List Timed) (even
 
   -- ---- what is claimed of it
 
-  pub left_repeated : (silent : ℕ) → IsLeftTo d made silent then → IsLeftTo d more silent w'
-  left_repeated silent so = record {
+  pub left_repeated : (ago : List Timed) (silent : ℕ) → IsLeftTo d ago made silent then → IsLeftTo d ago more silent w'
+  left_repeated ago silent so = record {
     keeps = after;
     before = so.before;
     since = subst (IsLeftAlways p so.before silent) (sym same) so.since;
+    were = subst (WereSilent n ago) (sym same) so.were;
   }
 
   pub turned_repeated : (silent time : ℕ) → IsTurnedTo d made silent time then → IsTurnedTo d more silent time w'
@@ -154,12 +156,13 @@ module _ (d : DocumentState) (playable : IsPlayable d) (made : List Timed) (even
     since = subst (IsTurnedTreeAnew p so.before silent time) (sym same) so.since;
   }
 
-  pub cleared_repeated : (since silent right old : ℕ) → IsClearedTo d made since silent right old then
-      → IsClearedTo d more since silent right old w'
-  cleared_repeated since silent right old so = record {
+  pub cleared_repeated : (ago : List Timed) (since silent right old : ℕ)
+      → IsClearedTo d ago made since silent right old then → IsClearedTo d ago more since silent right old w'
+  cleared_repeated ago since silent right old so = record {
     keeps = after;
     before = so.before;
     is = subst (IsCleared p so.before since silent right old) (sym same) so.is;
+    were = subst (WereSilent n ago) (sym same) so.were;
   }
 
   pub lost_repeated : (since most silent : ℕ) → IsLostTo d made since most silent then
@@ -181,6 +184,7 @@ module _ (d : DocumentState) (playable : IsPlayable d) (made : List Timed) (even
         (AgesOver n so.before ago more so.failed) (view then)
         (λ port until unlinked over. over_same n so.before ago made more alike so.failed port until over)
         (so.by quiet));
+    were = subst (WereSilent n ago) (sym same) so.were;
   }
 
   pub split_repeated : (ago : List Timed) (gone silent : ℕ) → IsSplitTo d ago made gone silent then
@@ -199,6 +203,7 @@ module _ (d : DocumentState) (playable : IsPlayable d) (made : List Timed) (even
         (λ port until unlinked (over, soon).
         (over_same n so.before ago made more alike so.failed port until over, soon)) (so.since.by quiet))
         (over_gone n so.before ago more so.failed gone silent) (inl (omega arith)));
+    were = subst (WereSilent n ago) (sym same) so.were;
     some = so.some;
     unanswered = so.unanswered;
   }
