@@ -1,6 +1,6 @@
 -- What is told of each time of a document is so: its choice and roles are choice bounds or loss bounds. The network has
 -- come to rest by a rest bound.
-use Rattle.std.proofs.Common.{◌≡◌, ◌<◌, ◌≤◌, ◌⊎◌, inl, inr, ◌+◌, ◌*◌, max, ℕ, Bool, true, false, cond, List, [], ◌∷◌, ◌++◌, Some, None, refl, sym, ap, subst, ◌∙◌, arith}
+use Rattle.std.proofs.Common.{◌≡◌, ◌<◌, ◌≤◌, ◌⊎◌, inl, inr, ◌+◌, ◌*◌, max, ℕ, Bool, true, false, cond, List, [], ◌∷◌, ◌++◌, Some, None, append-nil, refl, sym, ap, subst, ◌∙◌, arith}
 use Rattle.std.specs.Prelude.{◌==◌, if◌then◌else◌, min, nat_le, nat_lt}
 use Rattle.std.specs.List.{AllByRecursion}
 use Rattle.std.proofs.lemmas.Bool.{eqb-false, eqb-true}
@@ -26,7 +26,7 @@ use Rattle.gptp_how_soon.specs.declared.bounds.Row.{Row}
 use Rattle.gptp_how_soon.specs.declared.bounds.Row.TheVariants.{AnyLosses, AnyPast, CutOff, FailedEnd, FailedHeard, FailureCutsOff, FailureCutsTrees, Gained, Lowered, OneTurned, TreeCutOff, TreeTurned, Unchanged}
 use Rattle.gptp_how_soon.specs.declared.bounds.Settling.{Settling}
 use Rattle.gptp_how_soon.specs.declared.bounds.SettlingTime.{SettlingTime}
-use Rattle.gptp_settling_time.specs.HowSoon.{BoundsAging, BoundsAnyLoss, BoundsChoice, BoundsEvents, BoundsLoss, BoundsSplit, BoundsStart, BoundsTree, FailsHeardFirst, FailsTreesFirst, HeldFor, IsChoiceBoundAfter, IsLossBoundAfter, IsRestBoundAfter, NoneBetween, RestsAfterLoss, RestsOnceTold, RestsTree, RolesAfterFailure, TreeNext}
+use Rattle.gptp_settling_time.specs.HowSoon.{BeforeRepeats, BesideIdle, BoundsAging, BoundsAnyLoss, BoundsChoice, BoundsEvents, BoundsLoss, BoundsSplit, BoundsStart, BoundsTree, CutsOneEnd, FailsEndFirst, FailsHeardFirst, FailsTreesFirst, HeldFor, IsChoiceBoundAfter, IsLossBoundAfter, IsRestBoundAfter, LosesEvents, LowersOneLink, NoneBetween, OneEvent, RestsAfterLoss, RestsOnceTold, RestsTree, RolesAfterFailure, TreeNext, TurnsOneLink}
 use Rattle.gptp_settling_time.specs.InTurn.{FlightIsGone, turned_echo_span}
 use Rattle.gptp_settling_time.specs.Losses.{NoneSilent}
 use Rattle.gptp_settling_time.specs.TreeLosses.{LowersTree, TurnsTreeLink}
@@ -251,20 +251,49 @@ module _ (d : DocumentState) (playable : IsPlayable d) where
     some_trees : FailsTreesFirst n made now → now ≡ [] → ⊥
     some_trees = some_now (FailsTreesFirst n made) (λ none. none)
 
+    -- no event repeats what stands, nor is one idle
+    alone : (Are : List Timed → List Timed → Type 0) → Are made now → BeforeRepeats n Are made now
+    alone Are is = (now, [], sym (append-nil now), tt, is)
+
+    beside : (settled : ℕ) (Are : List Timed → List Timed → Type 0) → (now ≡ [] → ⊥) → Are made now
+        → BesideIdle n settled at Are made now
+    beside settled Are some is = by now refl
+      where
+        by : (events : List Timed) → now ≡ events → BesideIdle n settled at Are made events
+        by [] none = absurd (some none)
+        by (event ∷ events) same = inl (inl (subst (BeforeRepeats n Are made) same (alone Are is)))
+
+    -- an event comes by which something is taken away
+    some_lost : (choice roles : ℕ) → BoundsLoss n made now choice roles → now ≡ [] → ⊥
+    some_lost choice roles (inl (lowers, same, which)) = some_now (LowersOneLink n made) (λ none. none) lowers
+    some_lost choice roles (inr (inl (fails, none, which))) = some_now (FailsEndFirst n made) (λ none. none) fails
+    some_lost choice roles (inr (inr (inl (turns, is, same)))) = some_now (TurnsOneLink n made) (λ none. none) turns
+    some_lost choice roles (inr (inr (inr (inl (fails, aging))))) = some_heard fails
+    some_lost choice roles (inr (inr (inr (inr (loses, is, later))))) =
+        some_now (LosesEvents n made) (λ none. none) loses
+
+    some_rested : (sound : ℕ) → RestsAfterLoss n made now sound → now ≡ [] → ⊥
+    some_rested sound (inl (inl (cuts, gone))) = some_now (CutsOneEnd n made) (λ none. none) cuts
+    some_rested sound (inl (inr (inl (fails, gone)))) = some_now (FailsEndFirst n made) (λ none. none) fails
+    some_rested sound (inl (inr (inr (inl (lowers, gone))))) = some_now (LowersOneLink n made) (λ none. none) lowers
+    some_rested sound (inl (inr (inr (inr (inl (turns, is)))))) = some_now (TurnsOneLink n made) (λ none. none) turns
+    some_rested sound (inl (inr (inr (inr (inr (fails, told)))))) = some_heard fails
+    some_rested sound (inr (choice, loses, more)) = some_now (LosesEvents n made) (λ none. none) loses
+
     -- an event of this kind comes once what was in flight has arrived, and all ask for this
     tree_next : (Is : List Timed → Timed → Type 0) (Asks : List Timed → Type 0) → IsCalm n (events_by at all)
         → NothingLapses n.params → (rest : HasComeToRest b at) → ComesLate n playable.network all b at late Is rest
         → Asks (made ++ now)
         → TreeNext n Is all (λ then. IsRestBoundAfter n all earlier b.at then) b.at at Asks
     tree_next Is Asks calm off rest tree asks = (
-          late,
-          between,
-          calm,
-          off,
-          (rest.settling.sound, (sound_before rest).0, tree.come),
-          tree.lowers,
-          subst Asks (sym (parted all b.at at playable.events.in_order late between)) asks,
-        )
+      late,
+      between,
+      calm,
+      off,
+      (rest.settling.sound, (sound_before rest).0, tree.come),
+      alone (OneEvent Is) tree.lowers,
+      subst Asks (sym (parted all b.at at playable.events.in_order late between)) asks,
+    )
 
     -- it comes to rest so after a loss, after a tree is cut off, or after one turns
     abbrev Rests : ℕ → Type 0
@@ -279,7 +308,13 @@ module _ (d : DocumentState) (playable : IsPlayable d) where
         → IsRestBoundAfter n all (b.at ∷ earlier) at sound
     rests sound calm off (inl (rest, loses)) =
         let (bound, past) = sound_before rest in
-        inr (inl (late, between, calm, off, (rest.settling.sound, bound, past), loses))
+        inr (inl (late, between, calm, off, (
+          rest.settling.sound,
+          bound,
+          past,
+          beside (b.at + rest.settling.sound) (λ made now. RestsAfterLoss n made now sound) (some_rested sound loses)
+              loses,
+        )))
     rests sound calm off (inr (inl (rest, tree, is))) =
         inr (inr (inl (tree_next (LowersTree n) (RestsTree n sound) calm off rest tree.comes
         (gone_by n v.paths v.used_before, tree.flight, is))))
@@ -377,7 +412,13 @@ module _ (d : DocumentState) (playable : IsPlayable d) where
         → IsLossBoundAfter n all (b.at ∷ earlier) at s.choice s.roles
     lost s settles off (inl (rest, loses)) =
         let (bound, past) = sound_before rest in
-        inl (late, between, settles.2.0, off, (rest.settling.sound, bound, past), loses)
+        inl (late, between, settles.2.0, off, (
+          rest.settling.sound,
+          bound,
+          past,
+          beside (b.at + rest.settling.sound) (λ made now. BoundsLoss n made now s.choice s.roles)
+              (some_lost s.choice s.roles loses) loses,
+        ))
     lost s settles off (inr (inl ((rest, inl tree), choice, roles))) =
         inr (inl (tree_next (LowersTree n) (BoundsTree n s.choice s.roles) settles.2.0 off rest tree.comes
         (choice, roles)))
@@ -391,8 +432,7 @@ module _ (d : DocumentState) (playable : IsPlayable d) where
           settles.2.0,
           off,
           (x.rest.settling.sound, (sound_before x.rest).0, x.come),
-          x.fails,
-          splits,
+          alone (λ made now. FailsTreesFirst n made now × BoundsSplit n s.choice s.roles made now) (x.fails, splits),
         )))
 
     -- what ages does no later than ports beside a failed system are off

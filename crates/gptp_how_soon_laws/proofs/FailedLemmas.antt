@@ -37,7 +37,7 @@ use Rattle.gptp_how_soon.specs.Times.{told_at, told_of}
 use Rattle.gptp_how_soon.specs.declared.chosen.Chosen.{Chosen}
 use Rattle.gptp_how_soon.proofs.ChosenLemmas.{IsAt, at_clock, chosen_there, place_is, settled_choice, touched}
 use Rattle.gptp_how_soon.proofs.RoundsLemmas.{Touches}
-use Rattle.gptp_settling_time.specs.HowSoon.{EachEvent, FailsEndFirst, FailsHeardFirst, TurnsUnused}
+use Rattle.gptp_settling_time.specs.HowSoon.{EachEvent, FailsEndFirst, FailsHeardFirst, IsDownToo, TurnsUnused}
 use Rattle.gptp_settling_time.specs.Losses.{FailsFarEnd, FailsHeard, IsCutOff, IsFarEnd, IsUnmoved, IsUnmovedOrCutOff, LowersUnused, MovesNoneJoined, UpIsUsed}
 use Rattle.gptp_vector.specs.declared.port.PortId.{PortId}
 use Rattle.gptp_scenario.specs.Calm.{IsLive}
@@ -410,6 +410,12 @@ module _ (n : NetworkState) (network : IsNetwork n) where
         | inr used ↦ used
       ])
 
+-- so each goes down behind a failure
+pub down_each : (n : NetworkState) (made now : List Timed) → EachEvent (LowersUnused n) made now
+    → EachEvent (IsDownToo n) made now
+down_each n made [] each = tt
+down_each n made (event ∷ now) (lowers, others) = (inl lowers, down_each n (made ++ event ∷ []) now others)
+
 -- what fails takes no link down
 pub fail_lowers_none : (kind : Kind) (clock : ℕ) (what : What) → is_fail (told clock what kind) ≡ true
     → is_link_down (told clock what kind) ≡ true → ⊥
@@ -456,16 +462,16 @@ module _ (n : NetworkState) (network : IsNetwork n) (made : List Timed) (event :
       subst (λ es. StandsAfter n es h) whole (stands_all n network h first_behind events others stands)
 
   pub heard_first : AreWell n (made ++ event ∷ events) → moves_joined n made (made ++ event ∷ events) ≡ false
-      → FailsHeard n made event × EachEvent (LowersUnused n) first_behind events
+      → FailsHeard n made event × EachEvent (IsDownToo n) first_behind events
   heard_first well unmoved = (
     fails_heard n network made event (made ++ event ∷ events) well
         (λ g stands. well made (event ∷ events) refl g stands) stands_on unmoved first_delay first_paths few parts.0,
-    others,
+    down_each n first_behind events others,
   )
 
   pub end_first : AreWell n (made ++ event ∷ events) → moves_joined n made (made ++ event ∷ events) ≡ false
       → are_far_after n made (told_of n made (event ∷ events)) ≡ true
-      → FailsFarEnd n made event × EachEvent (LowersUnused n) first_behind events
+      → FailsFarEnd n made event × EachEvent (IsDownToo n) first_behind events
   end_first well unmoved far =
       let far_test : Bool = is_far_end (systems_after n made) (chosen_after n made) (used_ends n made)
       (place_of (systems_after n made) t.clock) in
@@ -481,7 +487,7 @@ module _ (n : NetworkState) (network : IsNetwork n) (made : List Timed) (event :
         fails_far_end n network made event (made ++ event ∷ events) well
             (λ g stands. well made (event ∷ events) refl g stands) stands_on unmoved first_delay first_paths few
             parts.0 far_end,
-        others,
+        down_each n first_behind events others,
       )
 
 pub fails_heard_first : (n : NetworkState) (network : IsNetwork n) (made now : List Timed) → AreWell n (made ++ now)
