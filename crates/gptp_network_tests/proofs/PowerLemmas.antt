@@ -17,6 +17,7 @@ use Rattle.gptp_theorem.specs.PlayedLaws.{IsPlayable}
 use Rattle.gptp_theorem.proofs.SettlingInvariantLemmas.{each_there}
 use Rattle.gptp_settling_time.specs.HowSoon.{IsChoiceAloneBound, IsChoiceBound, IsLossBoundAfter}
 use Rattle.gptp_settling_time.specs.Losses.{LowersUnused, UpIsUsed}
+use Rattle.gptp_settling_time.proofs.SilentSpanLemmas.{up_none_silent}
 use Rattle.gptp_network_tests.specs.Ring.{bridge, dark_document, fibre, ring_network}
 use Rattle.gptp_network_tests.proofs.FarLemmas.{event, fails}
 use Rattle.gptp_network_tests.proofs.RingLemmas.{ring_begun}
@@ -194,7 +195,11 @@ lost = inl (
   record { links = links_rest; lapses = inl refl },
   refl,
   (1000003050, (refl, ring_begun), omega arith),
-  inr (inl ((fails, (lowers_first, (lowers_second, tt))), refl, inl (used, refl))),
+  inr (inl (
+    (fails, (lowers_first, (lowers_second, tt))),
+    refl,
+    inl (up_none_silent ring_network [] both_down used, refl),
+  )),
 )
 
 pub dark_choice : IsChoiceAloneBound dark_document 30000000000 0

@@ -15,13 +15,31 @@ use Rattle.gptp_setup.specs.SettlingParams.{largest_interval}
 use Rattle.gptp_theorem.proofs.EventLemmas.{last_behind}
 use Rattle.gptp_settling_time.specs.Exactly.{SettlesBy}
 use Rattle.gptp_settling_time.specs.Gains.{Repeats, RepeatsNow}
-use Rattle.gptp_settling_time.specs.HowSoon.{AfterIdleEvents, BeforeRepeats, BesideIdle, EachEvent}
+use Rattle.gptp_settling_time.specs.HowSoon.{AfterIdleEvents, BeforeRepeats, BesideIdle, EachEvent, IsDownToo}
 use Rattle.gptp_settling_time.specs.InTurn.{Aging, AnyPast, ChoosesAfter, Cleared, EventLeads, Fallen, FlightIsGone, Gained, HasToldAnew, Heard, LeadOn, Left, Lost, Past, RestsFrom, SettlesAfter, Split, Starting, Turned, TurnedTree}
-use Rattle.gptp_settling_time.specs.Losses.{NoneSilent, UpIsUsed}
+use Rattle.gptp_settling_time.specs.Losses.{LowersUnused, NoneSilent, UpIsUsed}
 use Rattle.gptp_settling_time.proofs.CalmStillLemmas.{alike_calm, idle_calm}
 use Rattle.gptp_settling_time.proofs.LeadOnLemmas.{HasRested, HasSettled, idle_leads, idle_settled, leads_on, settled_later, since, widens_leads}
 use Rattle.gptp_settling_time.proofs.LossRestLemmas.{last_at}
 use Rattle.gptp_settling_time.proofs.SamePathsLemmas.{StandSame, idle_same, paths_same, same_alike, same_back, same_itself, same_lives, same_on}
+
+-- ---- no such event is there
+
+-- none comes behind a loss
+pub before_none : (n : NetworkState) (Are : List Timed → List Timed → Type 0) (made now : List Timed) → Are made now
+    → BeforeRepeats n Are made now
+before_none n Are made now is = (now, [], sym (append-nil now), tt, is)
+
+-- nor before it
+pub beside_none : (n : NetworkState) (settled time : ℕ) (Are : List Timed → List Timed → Type 0) (made : List Timed)
+    (event : Timed) (now : List Timed) → Are made (event ∷ now) → BesideIdle n settled time Are made (event ∷ now)
+beside_none n settled time Are made event now is = inl (inl (before_none n Are made (event ∷ now) is))
+
+-- nor beside links that go down behind a failure
+pub down_alone : (n : NetworkState) (made now : List Timed) → EachEvent (LowersUnused n) made now
+    → EachEvent (IsDownToo n) made now
+down_alone n made [] each = tt
+down_alone n made (event ∷ now) (lowers, each) = (inl lowers, down_alone n (made ++ event ∷ []) now each)
 
 -- ---- what settles by events settles by others after which all stands the same
 
@@ -69,8 +87,11 @@ module _ (n : NetworkState) (off : NothingLapses n.params) (events more : List T
 
   pub settles_same : (past : Past) (settled : ℕ) → SettlesAfter n events past settled → SettlesAfter n more past settled
   settles_same AnyPast settled (inl (off, late)) =
-      inl (off, subst (λ t. t + settling_span_at_once (pace_of n) (sync_paths n more) ≤ settled) (sym last)
-      (subst (λ x. last_change events + settling_span_at_once (pace_of n) x ≤ settled) (sym paths) late))
+      inl (
+        off,
+        subst (λ t. t + settling_span_at_once (pace_of n) (sync_paths n more) ≤ settled) (sym last)
+            (subst (λ x. last_change events + settling_span_at_once (pace_of n) x ≤ settled) (sym paths) late),
+      )
   settles_same AnyPast settled (inr late) =
       inr (subst (λ t. t + settling_span_with (pace_of n) (sync_paths n more) (sync_paths n more).systems ≤ settled)
       (sym last)
@@ -265,7 +286,8 @@ split_now time (event ∷ first) others (here, at) =
     let (one, other) = split_now time first others at in ((here, one), other)
 
 module _ (n : NetworkState) (network : IsNetwork n) (off : NothingLapses n.params) (time : ℕ)
-    (So : List Timed → Past → Type 0) (begun : (events : List Timed) (past : Past) → So events past → past ≡ Starting → ⊥)
+    (So : List Timed → Past → Type 0) (begun : (events : List Timed) (past : Past) → So events past → past ≡ Starting →
+    ⊥)
     (same : (events more : List Timed) (past : Past) → StandSame n events more
     → last_change more ≡ last_change events → So events past → So more past) where
   -- others come at this time that repeat what stands
@@ -275,7 +297,8 @@ module _ (n : NetworkState) (network : IsNetwork n) (off : NothingLapses n.param
   repeats_to made first others past last at each x = record {
     last = x.last;
     lead = leads_on n made past x.last x.last first others x.lead
-        (repeats_lead n network off time (made ++ first) others x.last (begun (made ++ first) x.last x.so) last at each);
+        (repeats_lead n network off time (made ++ first) others x.last (begun (made ++ first) x.last x.so) last at
+        each);
     so = subst (λ es. So es x.last) (append_assoc made first others)
         (same (made ++ first) ((made ++ first) ++ others) x.last (repeats_same n network off time (made ++ first) others
         each) (last_on n network off time (made ++ first) others last at ∙ sym last) x.so);
@@ -343,9 +366,11 @@ module _ (n : NetworkState) (network : IsNetwork n) (off : NothingLapses n.param
         → settled < time → IsCalm n made → IsCalm n (made ++ event ∷ now)
         → BesideIdle n settled time Are made (event ∷ now) → LeadsTo n made (event ∷ now) past So
     beside_idle made event now past settled at has soon calm calm_now (inl is) =
-        after_still made (event ∷ now) past at (settled_later n made past (suc settled) time (omega (arith, soon)) has) calm
+        after_still made (event ∷ now) past at (settled_later n made past (suc settled) time (omega (arith, soon)) has)
+        calm
         calm_now is
-    beside_idle made event now past settled (here, at) has soon calm calm_now (inr (by, widens, early, calm_wider, is)) =
+    beside_idle made event now past settled (here, at) has soon calm calm_now (inr (by, widens, early, calm_wider, is))
+        =
         let (next, leads, then) = widens_leads n network off time made event past (suc settled) by here calm has
         (omega (arith, soon)) widens (omega (arith, early)) in
         let x = after_still (made ++ event ∷ []) now (Heard next) at then calm_wider
