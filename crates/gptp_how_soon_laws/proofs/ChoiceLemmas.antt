@@ -1,6 +1,6 @@
 -- What is told of each time of a document is so: its choice and roles are choice bounds or loss bounds. The network has
 -- come to rest by a rest bound.
-use Rattle.std.proofs.Common.{◌≡◌, ◌<◌, ◌≤◌, ◌⊎◌, inl, inr, ◌+◌, ◌*◌, max, ℕ, Bool, true, false, cond, List, [], ◌∷◌, ◌++◌, Some, None, append-nil, refl, sym, ap, subst, ◌∙◌, arith}
+use Rattle.std.proofs.Common.{◌≡◌, ◌<◌, ◌≤◌, ◌⊎◌, inl, inr, ◌+◌, ◌*◌, max, ℕ, Bool, true, false, cond, List, [], ◌∷◌, ◌++◌, Some, None, refl, sym, ap, subst, ◌∙◌, arith}
 use Rattle.std.specs.Prelude.{◌==◌, if◌then◌else◌, min, nat_le, nat_lt}
 use Rattle.std.specs.List.{AllByRecursion}
 use Rattle.std.proofs.lemmas.Bool.{eqb-false, eqb-true}
@@ -26,10 +26,11 @@ use Rattle.gptp_how_soon.specs.declared.bounds.Row.{Row}
 use Rattle.gptp_how_soon.specs.declared.bounds.Row.TheVariants.{AnyLosses, AnyPast, CutOff, FailedEnd, FailedHeard, FailureCutsOff, FailureCutsTrees, Gained, Lowered, OneTurned, TreeCutOff, TreeTurned, Unchanged}
 use Rattle.gptp_how_soon.specs.declared.bounds.Settling.{Settling}
 use Rattle.gptp_how_soon.specs.declared.bounds.SettlingTime.{SettlingTime}
-use Rattle.gptp_settling_time.specs.HowSoon.{BeforeRepeats, BesideIdle, BoundsAging, BoundsAnyLoss, BoundsChoice, BoundsEvents, BoundsLoss, BoundsSplit, BoundsStart, BoundsTree, CutsOneEnd, FailsEndFirst, FailsHeardFirst, FailsTreesFirst, HeldFor, IsChoiceBoundAfter, IsLossBoundAfter, IsRestBoundAfter, LosesEvents, LowersOneLink, NoneBetween, OneEvent, RestsAfterLoss, RestsOnceTold, RestsTree, RolesAfterFailure, TreeNext, TurnsOneLink}
+use Rattle.gptp_settling_time.specs.HowSoon.{BesideIdle, BoundsAging, BoundsAnyLoss, BoundsChoice, BoundsEvents, BoundsLoss, BoundsSplit, BoundsStart, BoundsTree, CutsOneEnd, FailsEndFirst, FailsHeardFirst, FailsTreesFirst, HeldFor, IsChoiceBoundAfter, IsLossBoundAfter, IsRestBoundAfter, LosesEvents, LowersOneLink, NoneBetween, OneEvent, RestsAfterLoss, RestsOnceTold, RestsTree, RolesAfterFailure, TreeNext, TurnsOneLink}
 use Rattle.gptp_settling_time.specs.InTurn.{FlightIsGone, turned_echo_span}
 use Rattle.gptp_settling_time.specs.Losses.{NoneSilent}
 use Rattle.gptp_settling_time.specs.TreeLosses.{LowersTree, TurnsTreeLink}
+use Rattle.gptp_settling_time.proofs.BesideIdleLemmas.{before_none, beside_none}
 use Rattle.gptp_settling_time.proofs.MomentLemmas.{all_at, last_by, parted}
 use Rattle.gptp_settling_time.proofs.WellFormedLemmas.{after_well}
 use Rattle.gptp_how_soon_laws.specs.Choice.{SettlingsAreChoiceBounds}
@@ -251,17 +252,14 @@ module _ (d : DocumentState) (playable : IsPlayable d) where
     some_trees : FailsTreesFirst n made now → now ≡ [] → ⊥
     some_trees = some_now (FailsTreesFirst n made) (λ none. none)
 
-    -- no event repeats what stands, nor is one idle
-    alone : (Are : List Timed → List Timed → Type 0) → Are made now → BeforeRepeats n Are made now
-    alone Are is = (now, [], sym (append-nil now), tt, is)
-
+    -- no event stands beside what is lost
     beside : (settled : ℕ) (Are : List Timed → List Timed → Type 0) → (now ≡ [] → ⊥) → Are made now
         → BesideIdle n settled at Are made now
     beside settled Are some is = by now refl
       where
         by : (events : List Timed) → now ≡ events → BesideIdle n settled at Are made events
         by [] none = absurd (some none)
-        by (event ∷ events) same = inl (inl (subst (BeforeRepeats n Are made) same (alone Are is)))
+        by (event ∷ events) same = beside_none n settled at Are made event events (subst (Are made) same is)
 
     -- an event comes by which something is taken away
     some_lost : (choice roles : ℕ) → BoundsLoss n made now choice roles → now ≡ [] → ⊥
@@ -291,7 +289,7 @@ module _ (d : DocumentState) (playable : IsPlayable d) where
       calm,
       off,
       (rest.settling.sound, (sound_before rest).0, tree.come),
-      alone (OneEvent Is) tree.lowers,
+      before_none n (OneEvent Is) made now tree.lowers,
       subst Asks (sym (parted all b.at at playable.events.in_order late between)) asks,
     )
 
@@ -432,7 +430,8 @@ module _ (d : DocumentState) (playable : IsPlayable d) where
           settles.2.0,
           off,
           (x.rest.settling.sound, (sound_before x.rest).0, x.come),
-          alone (λ made now. FailsTreesFirst n made now × BoundsSplit n s.choice s.roles made now) (x.fails, splits),
+          before_none n (λ made now. FailsTreesFirst n made now × BoundsSplit n s.choice s.roles made now) made now
+              (x.fails, splits),
         )))
 
     -- what ages does no later than ports beside a failed system are off

@@ -50,6 +50,7 @@ use Rattle.gptp_how_soon.specs.declared.kinds.Kind.{Kind}
 use Rattle.gptp_how_soon.specs.declared.kinds.Told.{Told}
 use Rattle.gptp_how_soon.specs.declared.kinds.What.{What}
 use Rattle.gptp_how_soon.specs.declared.kinds.What.TheVariants as whats
+use Rattle.gptp_settling_time.proofs.BesideIdleLemmas.{down_alone}
 use Rattle.gptp_settling_time.proofs.SamePathsLemmas.{is_end, lives_not, map_same, turned_paths}
 use Rattle.gptp_how_soon_laws.proofs.KindLemmas.{told}
 use Rattle.gptp_how_soon_laws.proofs.ToldLemmas.{failure_is, loss_fails, unused_lowers}
@@ -410,12 +411,6 @@ module _ (n : NetworkState) (network : IsNetwork n) where
         | inr used ↦ used
       ])
 
--- so each goes down behind a failure
-pub down_each : (n : NetworkState) (made now : List Timed) → EachEvent (LowersUnused n) made now
-    → EachEvent (IsDownToo n) made now
-down_each n made [] each = tt
-down_each n made (event ∷ now) (lowers, others) = (inl lowers, down_each n (made ++ event ∷ []) now others)
-
 -- what fails takes no link down
 pub fail_lowers_none : (kind : Kind) (clock : ℕ) (what : What) → is_fail (told clock what kind) ≡ true
     → is_link_down (told clock what kind) ≡ true → ⊥
@@ -466,7 +461,7 @@ module _ (n : NetworkState) (network : IsNetwork n) (made : List Timed) (event :
   heard_first well unmoved = (
     fails_heard n network made event (made ++ event ∷ events) well
         (λ g stands. well made (event ∷ events) refl g stands) stands_on unmoved first_delay first_paths few parts.0,
-    down_each n first_behind events others,
+    down_alone n first_behind events others,
   )
 
   pub end_first : AreWell n (made ++ event ∷ events) → moves_joined n made (made ++ event ∷ events) ≡ false
@@ -487,7 +482,7 @@ module _ (n : NetworkState) (network : IsNetwork n) (made : List Timed) (event :
         fails_far_end n network made event (made ++ event ∷ events) well
             (λ g stands. well made (event ∷ events) refl g stands) stands_on unmoved first_delay first_paths few
             parts.0 far_end,
-        down_each n first_behind events others,
+        down_alone n first_behind events others,
       )
 
 pub fails_heard_first : (n : NetworkState) (network : IsNetwork n) (made now : List Timed) → AreWell n (made ++ now)
