@@ -353,8 +353,13 @@ rested act =
       none_between (both_of act) 0 30000000000 ((λ next. omega arith), ((λ next. omega arith), tt)),
       record { links = turned.links_rest; lapses = inl refl },
       refl,
-      (1000003050, (refl, ring_begun), omega arith),
-      inl (inr (inr (inr (inl (turns, told))))),
+      (
+        1000003050,
+        (
+          (refl, ring_begun),
+          (omega arith, inl (inl (event ∷ [], ([], (refl, (tt, inl (inr (inr (inr (inl (turns, told))))))))))),
+        ),
+      ),
     ))
   where
     told : 3000003690
@@ -393,7 +398,7 @@ lost =
       record { links = links_rest; lapses = inl refl },
       refl,
       comes_after (Changing (LinkDown first.clock 2)),
-      lowers,
+      (cut ∷ [], ([], (refl, (tt, lowers)))),
       (ways, refl),
     ))
   where
