@@ -1,5 +1,5 @@
 -- Which links are new at a time, and the link that an act names.
-use Rattle.std.proofs.Common.{◌≡◌, ◌≢◌, ◌<◌, ℕ, Bool, true, false, ◌==◌, ◌&&◌, not, cond, List, [], ◌∷◌, ◌++◌, ◌+◌, zero, suc, append_assoc, drop, filter, get_or, length, map, Option, Some, None, slice_get, refl, sym, ap, ap₂, ◌∙◌, inl, inr, arith}
+use Rattle.std.proofs.Common.{◌≡◌, ◌≢◌, ◌<◌, ◌≤◌, ℕ, Bool, true, false, ◌==◌, ◌&&◌, not, cond, List, [], ◌∷◌, ◌++◌, ◌+◌, zero, suc, append_assoc, drop, filter, get_or, length, map, Option, Some, None, slice_get, refl, sym, ap, ap₂, ◌∙◌, inl, inr, arith}
 use Rattle.std.specs.List.{find}
 use Rattle.std.specs.Option.{option_or}
 use Rattle.std.proofs.lemmas.Bool.{eqb-false}
@@ -8,6 +8,7 @@ use Rattle.gptp_lists.specs.Members.{In}
 use Rattle.gptp_lists.proofs.MappedLemmas.{mapped_there, some_same}
 use Rattle.gptp_lists.proofs.SystemSpecLemmas.{slice_get-In}
 use Rattle.gptp_vector.specs.declared.port.PortId.{PortId}
+use Rattle.gptp_scenario.specs.Allowed.{AreAllowed, IsFitAct}
 use Rattle.gptp_scenario.specs.Change.{link_after}
 use Rattle.gptp_scenario.specs.Network.{IsNetwork, NetworkState}
 use Rattle.gptp_scenario.specs.declared.change.Act.{Act}
@@ -26,8 +27,43 @@ use Rattle.gptp_topology.specs.declared.tables.Tables.{Tables}
 use Rattle.gptp_topology.proofs.CourseLemmas.{same_a, same_b}
 use Rattle.gptp_topology.proofs.NamedLemmas.{not_at}
 use Rattle.gptp_topology.proofs.StandingLemmas.{neighbours_are}
-use Rattle.gptp_how_soon.specs.Links.{is_old_at, is_used_at, is_used_by, lost_among, new_among, new_links, new_one}
+use Rattle.gptp_how_soon.specs.Links.{delay_set, is_old_at, is_used_at, is_used_by, longest_among, longest_delay, longest_set, lost_among, new_among, new_links, new_one}
 use Rattle.gptp_how_soon.specs.Times.{is_standing_named}
+
+-- ---- the greatest delay
+
+-- no link takes longer than sixteen seconds, before all events or by one of them
+links_short : (links : List LinkSpec)
+    → ((place : ℕ) (w : LinkSpec) → slice_get links place ≡ Some w → w.bounds.max ≤ 16000000000)
+    → longest_among (map cable_of links) ≤ 16000000000
+links_short [] each = omega arith
+links_short (w ∷ ws) each =
+    let one = each 0 w refl in let rest = links_short ws (λ place. each (suc place)) in omega (arith, one, rest)
+
+act_short : (act : Act) → IsFitAct act → delay_set act ≤ 16000000000
+act_short (acts.Deliver link direction) fit = omega arith
+act_short (acts.Expire clock timer) fit = omega arith
+act_short (acts.Change (changes.LinkDown clock port)) fit = omega arith
+act_short (acts.Change (changes.LinkUp clock port)) fit = omega arith
+act_short (acts.Change (changes.LinkSet clock port least greatest loss)) fit = fit.short
+act_short (acts.Change (changes.Fail clock)) fit = omega arith
+act_short (acts.Change (changes.Recover clock)) fit = omega arith
+act_short (acts.Change (changes.Priority1 clock value)) fit = omega arith
+act_short (acts.Change (changes.Inject clock port octets)) fit = omega arith
+
+sets_short : (events : List Timed) → AreAllowed events → longest_set events ≤ 16000000000
+sets_short [] allowed = omega arith
+sets_short (t ∷ ts) allowed =
+    let one = act_short t.act (allowed 0 t refl).fit in
+    let rest = sets_short ts (λ place. allowed (suc place)) in
+    omega (arith, one, rest)
+
+pub longest_short : (n : NetworkState) (events : List Timed) → IsNetwork n → AreAllowed events
+    → longest_delay n events ≤ 16000000000
+longest_short n events network allowed =
+    let links = links_short n.links (λ place w there. (network.links place w there).fit.short) in
+    let sets = sets_short events allowed in
+    omega (arith, links, sets)
 
 -- ---- new links
 

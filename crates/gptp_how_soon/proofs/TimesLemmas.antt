@@ -1,6 +1,7 @@
 -- Each time of a document is told, by the one before, as its events are passed.
 use Rattle.std.proofs.Common.{◌≡◌, ◌≤◌, ◌<◌, ℕ, Bool, true, false, ◌==◌, cond, List, [], ◌∷◌, ◌++◌, Option, Some, None, append_assoc, refl, sym, ap, ap₂, subst, ◌∙◌, arith}
 use Rattle.std.specs.List.{AllByRecursion}
+use Rattle.std.specs.Prelude.{IfSome}
 use Rattle.std.proofs.lemmas.Bool.{eq-eqb, eqb-true, eqb-false, ne_eqb}
 use Rattle.std.proofs.lemmas.List.{append-nil}
 use Rattle.gptp_network.specs.declared.keys.TheConstants.{LATEST_EVENT}
@@ -22,6 +23,7 @@ use Rattle.gptp_how_soon.specs.declared.bounds.SettlingTime.{SettlingTime}
 use Rattle.gptp_how_soon.specs.declared.walk.Walk.{Walk}
 use Rattle.gptp_how_soon.proofs.RisingLemmas.{all_earlier, earlier_more, rising_more}
 use Rattle.gptp_how_soon.proofs.WalkLemmas.{WalkStands, stands_first, stands_more, stands_on, view_is}
+use Rattle.gptp_how_soon.proofs.LinksLemmas.{longest_short}
 
 -- ---- the events of a time
 
@@ -163,6 +165,10 @@ module _ (d : DocumentState) (made now : List Timed) (before : Option SettlingTi
 
 -- ---- the walk
 
+-- where a link was last set, that was no later
+abbrev IsSetBy : ℕ → Option ℕ → Type 0
+IsSetBy at last = IfSome last (λ time. time ≤ at)
+
 -- A walk has come to a time of a document, with these events left, and has told these times.
 pub record Walked (d : DocumentState) (left : List Timed) (w : Walk) (at : ℕ) (times : List SettlingTime) : Type 0 where
   pub made : List Timed
@@ -171,7 +177,7 @@ pub record Walked (d : DocumentState) (left : List Timed) (w : Walk) (at : ℕ) 
   pub stands : WalkStands d.network made now w
   pub possible : AllByRecursion (IsEvent d.network) left
   pub early : at ≤ LATEST_EVENT
-  pub set : w.last_set ≤ at
+  pub set : IsSetBy at w.last_set
   pub watched : AllByRecursion IsWatchedShortly times
   pub rising : AreRising times
   pub past : all_earlier at times
@@ -182,9 +188,13 @@ watched_more : (times : List SettlingTime) (time : SettlingTime) → AllByRecurs
 watched_more [] time all one = (one, tt)
 watched_more (t ∷ times) time all one = (all.0, watched_more times time all.1 one)
 
-set_by : (test : Bool) (was at now : ℕ) → was ≤ at → now ≡ cond test at was → now ≤ at
-set_by true was at now early is = omega (arith, is)
-set_by false was at now early is = omega (arith, early, is)
+set_later : (was at : ℕ) (last : Option ℕ) → was ≤ at → IsSetBy was last → IsSetBy at last
+set_later was at None later is = tt
+set_later was at (Some time) later is = let early : time ≤ was = is in omega (arith, early, later)
+
+set_by : (test : Bool) (was now : Option ℕ) (at : ℕ) → IsSetBy at was → now ≡ cond test (Some at) was → IsSetBy at now
+set_by true was now at early is = subst (IsSetBy at) (sym is) (omega arith)
+set_by false was now at early is = subst (IsSetBy at) (sym is) early
 
 shortly : (time : SettlingTime) (at : ℕ) → time.at ≡ at → at ≤ LATEST_EVENT → time.watch ≤ 200000000000000
     → IsWatchedShortly time
@@ -199,7 +209,7 @@ module _ (d : DocumentState) (network : IsNetwork d.network) where
     stands = stands_first d.network network w is;
     possible = events.each;
     early = omega arith;
-    set = let none = is.set in omega (arith, none);
+    set = subst (IsSetBy 0) (sym is.set) tt;
     watched = tt;
     rising = tt;
     past = tt;
@@ -214,6 +224,14 @@ module _ (d : DocumentState) (network : IsNetwork d.network) where
       subst (λ (ps : SyncPaths). ps.delay ≤ 16000000000) (sym so.stands.paths)
       (short_delay d.network so.made network (allowed_before so.made (so.now ++ left) d.events split allowed))
 
+  -- none that a link has had is above sixteen seconds
+  pub longest_walked : (left : List Timed) (w : Walk) (at : ℕ) (times : List SettlingTime) → AreAllowed d.events
+      → Walked d left w at times → w.longest ≤ 16000000000
+  longest_walked left w at times allowed so =
+      subst (λ delay. delay ≤ 16000000000) (sym so.stands.longest)
+      (longest_short d.network (so.made ++ so.now) network
+      (allowed_before (so.made ++ so.now) left d.events so.told.split allowed))
+
   -- an event is passed, once what is before it is told
   pub walked_more : (t : Timed) (left : List Timed) (old told new : Walk) (at : ℕ) (times after : List SettlingTime)
       → Walked d (t ∷ left) old at times → WalkTells d.network at t.at old told times after
@@ -221,9 +239,10 @@ module _ (d : DocumentState) (network : IsNetwork d.network) where
       → Walked d left new t.at after
   walked_more t left old told new at times after so tells passes = by (t.at == at) refl
     where
-      set_early : old.last_set ≤ at → told.last_set ≡ old.last_set → at ≤ t.at → new.last_set ≤ t.at
+      set_early : IsSetBy at old.last_set → told.last_set ≡ old.last_set → at ≤ t.at → IsSetBy t.at new.last_set
       set_early was same later =
-          set_by (sets_bounds t.act) told.last_set t.at new.last_set (omega (arith, was, same, later)) passes.set
+          set_by (sets_bounds t.act) told.last_set new.last_set t.at
+          (subst (IsSetBy t.at) (sym same) (set_later at t.at old.last_set later was)) passes.set
 
       same_time : t.at ≡ at → told ≡ old → after ≡ times → Walked d left new t.at after
       same_time same unmoved none =

@@ -1,5 +1,5 @@
 -- A walk stands as the events so far leave a document.
-use Rattle.std.proofs.Common.{◌≡◌, max, ℕ, List, [], ◌∷◌, ◌++◌, Bool, true, false, cond, filter, map, not, ◌&&◌, append_assoc, refl, sym, ap, ap₂, subst, ◌∙◌, arith}
+use Rattle.std.proofs.Common.{◌≡◌, max, ℕ, List, [], ◌∷◌, ◌++◌, Bool, true, false, cond, filter, map, not, ◌&&◌, Some, append_assoc, refl, sym, ap, ap₂, subst, ◌∙◌, arith}
 use Rattle.std.specs.List.{find}
 use Rattle.std.specs.Option.{is_some}
 use Rattle.std.proofs.lemmas.List.{append-nil}
@@ -19,13 +19,14 @@ use Rattle.gptp_how_soon.specs.Chosen.{ends_among, ends_in_use, ends_of, lost_en
 use Rattle.gptp_how_soon.specs.Far.{up_is_used}
 use Rattle.gptp_how_soon.specs.Kinds.{sets_bounds, told_by}
 use Rattle.gptp_how_soon.specs.Links.{delay_set, longest_delay, longest_set, lost_among, new_among}
-use Rattle.gptp_how_soon.specs.Times.{last_set, moves_at, told_at, told_of, view_at}
-use Rattle.gptp_how_soon.specs.Silent.{held_among, own_intervals}
+use Rattle.gptp_how_soon.specs.Times.{last_of, last_set, moves_at, told_at, told_of, view_at}
+use Rattle.gptp_how_soon.specs.Silent.{any_silent}
 use Rattle.gptp_how_soon.specs.Walk.{IsFirstWalk, WalkGoesOn, WalkPasses, moves_seen, view_seen}
 use Rattle.gptp_how_soon.specs.declared.bounds.SettlingTime.{SettlingTime}
 use Rattle.gptp_how_soon.specs.declared.chosen.Ends.{Ends}
 use Rattle.gptp_how_soon.specs.declared.walk.Walk.{Walk}
 use Rattle.gptp_how_soon.proofs.LinksLemmas.{link_is, new_are}
+use Rattle.gptp_how_soon.proofs.SilentLemmas.{heard_are}
 
 -- after the events made before this time, and those of it so far
 pub record WalkStands (n : NetworkState) (made now : List Timed) (w : Walk) : Type 0 where
@@ -34,6 +35,8 @@ pub record WalkStands (n : NetworkState) (made now : List Timed) (w : Walk) : Ty
   pub tables : Stand n (made ++ now) w.tables
   pub ends : w.ends.items ≡ map (ends_of n) n.links
   pub told : w.told.items ≡ told_of n made now
+  pub set_before : w.set_before ≡ last_set made
+  pub longest_before : w.longest_before ≡ longest_delay n made
   pub systems_before : w.systems_before.items ≡ systems_after n made
   pub used : w.used_before.items ≡ map cable_is_used (standings_after n made)
   pub paths : w.paths_before ≡ sync_paths n made
@@ -49,15 +52,19 @@ last_behind (u ∷ (v ∷ ts)) t = last_behind (v ∷ ts) t
 abbrev sets : Timed → Bool
 sets t = sets_bounds t.act
 
+last_of_behind : (ts : List Timed) (t : Timed) → last_of (ts ++ t ∷ []) ≡ Some t.at
+last_of_behind [] t = refl
+last_of_behind (u ∷ ts) t = ap Some (last_behind (u ∷ ts) t)
+
 set_more : (events : List Timed) (t : Timed)
-    → last_set (events ++ t ∷ []) ≡ cond (sets_bounds t.act) t.at (last_set events)
-set_more events t = ap last_change (filter-append sets events (t ∷ [])) ∙ by (sets_bounds t.act)
+    → last_set (events ++ t ∷ []) ≡ cond (sets_bounds t.act) (Some t.at) (last_set events)
+set_more events t = ap last_of (filter-append sets events (t ∷ [])) ∙ by (sets_bounds t.act)
   where
     by : (test : Bool)
-        → last_change (filter sets events ++ cond test (t ∷ []) [])
-        ≡ cond test t.at (last_change (filter sets events))
-    by true = last_behind (filter sets events) t
-    by false = ap last_change (append-nil (filter sets events))
+        → last_of (filter sets events ++ cond test (t ∷ []) [])
+        ≡ cond test (Some t.at) (last_of (filter sets events))
+    by true = last_of_behind (filter sets events) t
+    by false = ap last_of (append-nil (filter sets events))
 
 -- ---- the greatest delay that a link has had
 
@@ -125,6 +132,9 @@ module _ (n : NetworkState) (network : IsNetwork n) where
       → moves_seen n w at ≡ moves_at n made now w.before at
   moves_are made now w at so =
       let used = so.used in
+      let paths = so.paths in
+      let set = so.set_before in
+      let longest = so.longest_before in
       let ends = so.ends in
       let told = so.told in
       let systems_before = so.systems_before in
@@ -132,6 +142,9 @@ module _ (n : NetworkState) (network : IsNetwork n) where
       let standings = so.tables.standings in
       rw (
         used,
+        paths,
+        set,
+        longest,
         ends,
         told,
         systems,
@@ -140,6 +153,7 @@ module _ (n : NetworkState) (network : IsNetwork n) where
         used_are n made,
         used_are n (made ++ now),
         lost_are n made (made ++ now),
+        heard_are n made (made ++ now),
       ) refl
 
   pub view_is : (made now : List Timed) (w : Walk) (at : ℕ) → WalkStands n made now w
@@ -154,11 +168,11 @@ module _ (n : NetworkState) (network : IsNetwork n) where
         before = w.before;
         paths_before = so.paths i;
         used_before = so.all_used i;
-        held = held_among n (own_intervals n w.before at) (so.used i) (so.tables.standings i);
         new = new i;
         told = so.told i;
         moves = moves_are made now w at so i;
         used = up_is_used (so.tables.standings i);
+        silent = any_silent (so.used i) (so.tables.standings i);
         paths = crossed_is n network (made ++ now) w.tables so.tables i;
         calm = calm_is n network (made ++ now) w.tables so.tables i;
       }
@@ -175,6 +189,8 @@ module _ (n : NetworkState) (network : IsNetwork n) where
             ∙ maps_twice (ends_among (systems_after n [])) cable_of (ends_of n) n.links (λ w. refl);
         systems_before = systems;
         told = is.told;
+        set_before = is.set_before;
+        longest_before = is.longest_before ∙ omega arith;
         used = is.used ∙ ap (map cable_is_used) is.tables.standings;
         paths = is.paths ∙ crossed_is n network [] w.tables is.tables;
         all_used = is.all_used ∙ ap up_is_used is.tables.standings;
@@ -187,7 +203,7 @@ module _ (n : NetworkState) (network : IsNetwork n) where
       → WalkStands n made (now ++ t ∷ []) new
   stands_more made now t old new so passes =
       let joined : (made ++ now) ++ t ∷ [] ≡ made ++ (now ++ t ∷ []) = append_assoc made now (t ∷ []) in record {
-        set = passes.set ∙ ap (cond (sets_bounds t.act) t.at) so.set ∙ sym (set_more (made ++ now) t)
+        set = passes.set ∙ ap (cond (sets_bounds t.act) (Some t.at)) so.set ∙ sym (set_more (made ++ now) t)
             ∙ ap last_set joined;
         longest = passes.longest ∙ ap (max (delay_set t.act)) so.longest ∙ longer n (made ++ now) t
             ∙ ap (longest_delay n) joined;
@@ -198,6 +214,8 @@ module _ (n : NetworkState) (network : IsNetwork n) where
             (ap₂ (told_by t.act) (link_is n network (made ++ now) t.act old.tables so.tables)
             (ap (find (has_clock (named t.act))) (systems_are n (made ++ now) old.tables so.tables)))
             ∙ sym (told_more n made now t);
+        set_before = passes.set_before ∙ so.set_before;
+        longest_before = passes.longest_before ∙ so.longest_before;
         ends = ap (λ (v : _). v.items) passes.ends ∙ so.ends;
         systems_before = ap (λ (v : _). v.items) passes.systems_before ∙ so.systems_before;
         used = ap (λ (v : _). v.items) passes.used ∙ so.used;
@@ -217,6 +235,8 @@ module _ (n : NetworkState) (network : IsNetwork n) where
         tables = subst (λ events. Stand n events new.tables) none
             (subst (Stand n (made ++ now)) (sym on.tables) so.tables);
         told = on.told;
+        set_before = on.set_before ∙ so.set;
+        longest_before = on.longest_before ∙ so.longest;
         ends = ap (λ (v : _). v.items) on.ends ∙ so.ends;
         systems_before = on.systems_before ∙ systems_are n (made ++ now) old.tables so.tables;
         used = on.used ∙ ap (map cable_is_used) so.tables.standings;

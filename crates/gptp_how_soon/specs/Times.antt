@@ -22,13 +22,14 @@ use Rattle.gptp_topology.specs.Tables.{has_clock}
 use Rattle.gptp_topology.specs.Times.{times_of}
 use Rattle.gptp_topology.specs.declared.course.Cable.{Cable}
 use Rattle.gptp_topology.specs.declared.course.Standing.{Standing}
-use Rattle.gptp_how_soon.specs.Bounds.{heard_by, ready, times_by}
+use Rattle.gptp_how_soon.specs.Bounds.{arrived_by, heard_by, ready, times_by}
 use Rattle.gptp_how_soon.specs.Chosen.{moves_counted, moves_some}
+use Rattle.gptp_how_soon.specs.CutTrees.{cuts_trees_after}
 use Rattle.gptp_how_soon.specs.Far.{are_far_after, cut_far_ends_after, up_is_used}
 use Rattle.gptp_how_soon.specs.Kinds.{sets_bounds, sets_link, takes_one, told_by}
 use Rattle.gptp_how_soon.specs.Links.{longest_delay, new_links}
-use Rattle.gptp_how_soon.specs.Rest.{has_rested_for, heard_at_once, is_from_rest, leaves_silent, row_of}
-use Rattle.gptp_how_soon.specs.Silent.{held_after, own_intervals}
+use Rattle.gptp_how_soon.specs.Rest.{has_come, heard_at_once, is_from_rest, row_of}
+use Rattle.gptp_how_soon.specs.Silent.{held_after, own_intervals, silent_after}
 use Rattle.gptp_how_soon.specs.Tree.{cuts_tree_after}
 use Rattle.gptp_how_soon.specs.Turned.{turns_one_after}
 use Rattle.gptp_how_soon.specs.TurnedTree.{turns_tree_after}
@@ -41,22 +42,23 @@ use Rattle.gptp_how_soon.specs.declared.rest.Moves.{Moves}
 -- what is seen of a time
 pub record View : Type 0 where
   pub at : ℕ
-  -- when a link was last set, and the greatest delay that one has had
-  pub last_set : ℕ
+  -- when a link was last set, if one was, and the greatest delay that one has had
+  pub last_set : Option ℕ
   pub longest : ℕ
   -- the time before, what Sync had to cross then, and whether each link that was up was in use
   pub before : Option SettlingTime
   pub paths_before : SyncPaths
   pub used_before : Bool
-  -- for how long it counts what others hold that came over silent links
-  pub held : ℕ
   -- the links that are new at this time, and its events
   pub new : List Cable
   pub told : List Told
-  -- whom they move, of whom such as are cut off don't count where one link or one system is taken away
+  -- whom they move, of whom such as are cut off don't count where one link or one system is taken away, and for how
+  -- long it counts what others hold
   pub moves : Moves
-  -- whether each link that is up is in use, what Sync has to cross, and whether the network is calm
+  -- whether each link that is up is in use, whether one is left silent, what Sync has to cross, and whether the
+  -- network is calm
   pub used : Bool
+  pub silent : Bool
   pub paths : SyncPaths
   pub calm : Bool
 
@@ -79,20 +81,22 @@ gained_at n v = ready_at n v + heard_at n v + way_span v.paths
 abbrev pub row_at : View → Row
 row_at v =
     row_of (is_from_rest v.longest v.at v.paths_before v.paths v.told v.before) (is_first v) v.paths_before v.paths
-    v.told v.moves v.used
+    v.told v.moves
 
 -- what a loss at the time leaves of before
 abbrev pub loss_at : View → Loss
 loss_at v = record {
   paths_before = v.paths_before;
   used_before = v.used_before;
-  silent = leaves_silent v.used v.told;
-  held = v.held;
+  used = v.used;
+  silent = v.silent;
+  held = v.moves.held;
 }
 
 abbrev pub settling_time : NetworkState → View → SettlingTime
 settling_time n v =
-    times_by n v.at v.last_set (loss_at v) v.paths v.calm (sets_link v.told) (row_at v) (gained_at n v)
+    times_by n v.at (arrived_by v.longest v.last_set) (loss_at v) v.paths v.calm (sets_link v.told) (row_at v)
+    (gained_at n v)
 
 -- ---- what is seen
 
@@ -109,9 +113,22 @@ abbrev pub told_of : NetworkState → List Timed → List Timed → List Told
 told_of n made [] = []
 told_of n made (t ∷ ts) = told_at n made t.act ∷ told_of n (made ++ t ∷ []) ts
 
--- when the last of these events was that sets a link, or 0
-abbrev pub last_set : List Timed → ℕ
-last_set events = last_change (filter (λ (t : Timed). sets_bounds t.act) events)
+abbrev pub last_of : List Timed → Option ℕ
+last_of [] = None
+last_of (t ∷ ts) = Some (last_change (t ∷ ts))
+
+-- when the last of these events was that sets a link, if one does
+abbrev pub last_set : List Timed → Option ℕ
+last_set events = last_of (filter (λ (t : Timed). sets_bounds t.act) events)
+
+-- by when what was in flight as one of these events last set a link has arrived
+abbrev pub arrived_after : NetworkState → List Timed → ℕ
+arrived_after n events = arrived_by (longest_delay n events) (last_set events)
+
+-- so has all that was in flight as the time of the last of these events became sound
+abbrev pub has_come_after : NetworkState → List Timed → Option SettlingTime → ℕ → Bool
+has_come_after n made before at =
+    has_come (largest_interval (pace_of n)) (sync_paths n made).delay (arrived_after n made) before at
 
 -- at a time, after the events made before and those of that time now
 abbrev pub moves_at : NetworkState → List Timed → List Timed → Option SettlingTime → ℕ → Moves
@@ -120,9 +137,11 @@ moves_at n made now before at = record {
   any = moves_some n made (made ++ now);
   cut = cut_far_ends_after n made (made ++ now);
   turned = turns_one_after n made (made ++ now);
-  falls = has_rested_for (largest_interval (pace_of n)) before at && cuts_tree_after n made (made ++ now);
-  tree_turns = has_rested_for (largest_interval (pace_of n)) before at && turns_tree_after n made (made ++ now);
+  falls = has_come_after n made before at && cuts_tree_after n made (made ++ now);
+  tree_turns = has_come_after n made before at && turns_tree_after n made (made ++ now);
+  trees_fall = has_come_after n made before at && cuts_trees_after n made (made ++ now);
   far = are_far_after n made (told_of n made now);
+  held = held_after n (own_intervals n before at) made (made ++ now);
 }
 
 abbrev pub view_at : NetworkState → List Timed → List Timed → Option SettlingTime → ℕ → View
@@ -133,11 +152,11 @@ view_at n made now before at = record {
   before = before;
   paths_before = sync_paths n made;
   used_before = up_is_used (standings_after n made);
-  held = held_after n (own_intervals n before at) made (made ++ now);
   new = new_links n made (made ++ now) (not (is_some before));
   told = told_of n made now;
   moves = moves_at n made now before at;
   used = up_is_used (standings_after n (made ++ now));
+  silent = silent_after n made (made ++ now);
   paths = sync_paths n (made ++ now);
   calm = is_calm n (made ++ now);
 }

@@ -7,7 +7,7 @@ ghost use Rattle.gptp_setup.specs.SettlingParams.{largest_interval};
 ghost use Rattle.gptp_scenario.specs.Network.{pace_of};
 ghost use Rattle.gptp_scenario.specs.SettlingAtOnce.{settling_span_at_once};
 ghost use Rattle.gptp_scenario.specs.SettlingTime.{capability_span, echo_span, silence_span, way_span};
-ghost use Rattle.gptp_how_soon.specs.Bounds.{aged_echo_span, any_loss_span, asked_again, choice_by, exact_from, exact_span, gone_by, heard_by, is_again, is_hard_to_hear, ready, retold_by, roles_after_losses, roles_by, set_span, settled, sound_by, times_by, two_exchanges, watch};
+ghost use Rattle.gptp_how_soon.specs.Bounds.{aged_by, aged_echo_span, any_loss_span, arrived_by, asked_again, choice_by, exact_from, exact_span, gone_by, heard_by, is_again, is_hard_to_hear, quiet_by, ready, retold_by, roles_by, set_span, settled, sound_by, times_by, two_exchanges, watch};
 
 use crate::kinds::{Told, recovers};
 use crate::links::varies;
@@ -46,11 +46,13 @@ pub struct SettlingTime {
 pub struct Loss {
     /// What Sync had to cross just before.
     pub paths_before: SyncPaths,
-    /// Whether each link that was up just before was in use.
+    /// Whether each link that was up just before was in use, and whether each that is up then is.
     pub used_before: bool,
-    /// Whether a link may be left silent: a live system fails, and a link is up that isn't in use.
+    pub used: bool,
+    /// Whether a link is left silent: it was in use, and is up, but one of its ends has failed.
     pub silent: bool,
-    /// For how long it counts what others hold of a system that fails, in ns; 0 where no link is left silent.
+    /// For how long it counts what others hold of a system that fails, in ns; 0 where no link is left silent whose far
+    /// end lives, and by rows that don't ask.
     pub held: u64,
 }
 
@@ -65,17 +67,9 @@ pub enum Row {
     Lowered,
     /// By its one event a link goes down that cuts off its far end. No other system is moved.
     CutOff,
-    /// A system fails that was the far end of its links. Each link that is up then is in use, as where it loses its
-    /// power.
-    LostEnd,
-    /// A system fails that was the far end of its links. A link is up then that isn't in use.
+    /// A system fails that was the far end of its links.
     FailedEnd,
-    /// A system fails that others heard, and none is moved. Each link that is up then is in use, as where it loses its
-    /// power.
-    LostPower,
-    /// So it is, but systems are moved, all of which are cut off.
-    PowerCutsOff,
-    /// A system fails that others heard, and none is moved. A link is up then that isn't in use.
+    /// A system fails that others heard, and none is moved.
     FailedHeard,
     /// So it is, but systems are moved, all of which are cut off.
     FailureCutsOff,
@@ -85,6 +79,8 @@ pub enum Row {
     TreeCutOff,
     /// By its one event a link goes down that moves a tree. Its systems keep their root, and get it by one other link.
     TreeTurned,
+    /// A system fails, and all that are moved are trees that it cuts off.
+    FailureCutsTrees,
     /// Some of its events are losses, the others make nothing of what stands, and no other row of a loss is so.
     AnyLosses,
     /// None of its events is a loss.
@@ -239,6 +235,28 @@ fn any_loss_span(network: &Network, loss: Loss, paths: SyncPaths) -> u64
     paths.systems as u64 * turn + interval + way_span(paths)
 }
 
+/// For how long it counts what others hold of a system that fails, in ns.
+fn aged_by(loss: Loss) -> u64
+    requires { loss.held ≤ 4112000000000 }
+    ensures is { result ≡ aged_by loss }
+    ensures bound { result ≤ 4112000000000 }
+{
+    if loss.silent { loss.held } else { 0 }
+}
+
+/// How long roles take after losses, in ns, where the choice takes so much.
+fn quiet_by(network: &Network, loss: Loss, choice: u64) -> u64
+    requires { choice ≤ 110000000000000 }
+    ensures is { result ≡ quiet_by network.now loss choice }
+    ensures bound { result ≤ 110000000000000 }
+{
+    if loss.silent {
+        choice.max(silence_span(network))
+    } else {
+        choice
+    }
+}
+
 /// The bound of the choice, in ns, where that from rest after gains is so much.
 fn choice_by(network: &Network, loss: Loss, paths: SyncPaths, row: Row, gained: u64) -> u64
     requires few { paths.systems ≤ 512 }
@@ -254,29 +272,12 @@ fn choice_by(network: &Network, loss: Loss, paths: SyncPaths, row: Row, gained: 
     }
     match row {
         Row::AnyPast => settling_span_at_once(network, paths),
-        Row::Unchanged | Row::Lowered | Row::LostEnd | Row::FailedEnd | Row::LostPower => 0,
-        Row::FailedHeard => loss.held,
-        Row::FailureCutsOff => loss.held + 2 * way_span(paths),
-        Row::CutOff | Row::PowerCutsOff | Row::OneTurned | Row::TreeCutOff | Row::TreeTurned => 2
-            * way_span(paths),
+        Row::Unchanged | Row::Lowered | Row::FailedEnd => 0,
+        Row::FailedHeard => aged_by(loss),
+        Row::FailureCutsOff | Row::FailureCutsTrees => aged_by(loss) + 2 * way_span(paths),
+        Row::CutOff | Row::OneTurned | Row::TreeCutOff | Row::TreeTurned => 2 * way_span(paths),
         Row::AnyLosses => any_loss_span(network, loss, paths),
         Row::Gained => gained,
-    }
-}
-
-/// How long roles take after losses without a row of their own, in ns.
-fn roles_after_losses(network: &Network, loss: Loss, paths: SyncPaths) -> u64
-    requires few { paths.systems ≤ 512 }
-    requires short { paths.delay ≤ 16000000000 }
-    requires short_before { loss.paths_before.delay ≤ 16000000000 }
-    ensures is { result ≡ roles_after_losses network.now loss paths }
-    ensures bound { result ≤ 110000000000000 }
-{
-    let choice = any_loss_span(network, loss, paths);
-    if loss.silent {
-        choice.max(silence_span(network))
-    } else {
-        choice
     }
 }
 
@@ -295,12 +296,14 @@ fn roles_by(network: &Network, loss: Loss, paths: SyncPaths, row: Row, gained: u
     }
     match row {
         Row::AnyPast => settling_span_at_once(network, paths),
-        Row::Unchanged | Row::Lowered | Row::LostEnd | Row::LostPower => 0,
-        Row::FailedEnd | Row::FailedHeard => silence_span(network),
-        Row::FailureCutsOff => (loss.held + 2 * way_span(paths)).max(silence_span(network)),
-        Row::CutOff | Row::PowerCutsOff | Row::OneTurned | Row::TreeCutOff | Row::TreeTurned => 2
-            * way_span(paths),
-        Row::AnyLosses => roles_after_losses(network, loss, paths),
+        Row::Unchanged | Row::Lowered => 0,
+        Row::FailedEnd => quiet_by(network, loss, 0),
+        Row::FailedHeard => quiet_by(network, loss, aged_by(loss)),
+        Row::FailureCutsOff | Row::FailureCutsTrees => {
+            quiet_by(network, loss, aged_by(loss) + 2 * way_span(paths))
+        }
+        Row::CutOff | Row::OneTurned | Row::TreeCutOff | Row::TreeTurned => 2 * way_span(paths),
+        Row::AnyLosses => quiet_by(network, loss, any_loss_span(network, loss, paths)),
         Row::Gained => gained,
     }
 }
@@ -330,8 +333,8 @@ fn gone_by(network: &Network, paths: SyncPaths, used_before: bool) -> u64
     }
 }
 
-/// By how much later than a system fails that others heard each tells a trace without it, in ns, where a link may be
-/// left silent.
+/// By how much later than a system fails that others heard each tells a trace without it, in ns, and what was in flight
+/// is gone.
 fn aged_echo_span(network: &Network, loss: Loss, paths: SyncPaths) -> u64
     requires few { paths.systems ≤ 512 }
     requires short { paths.delay ≤ 16000000000 }
@@ -339,9 +342,13 @@ fn aged_echo_span(network: &Network, loss: Loss, paths: SyncPaths) -> u64
     ensures is { result ≡ aged_echo_span network.now loss paths }
     ensures bound { result ≤ 21000000000000 }
 {
+    let echo = echo_span(network, paths);
+    if loss.used {
+        return echo.max(paths.delay);
+    }
     network.well_formed();
-    let echo = echo_span(network, paths).max(interval_of(network.largest()));
-    silence_span(network).max(loss.held + 1 + echo)
+    let gone = echo.max(interval_of(network.largest()));
+    silence_span(network).max(aged_by(loss) + 1 + gone)
 }
 
 /// The bound of what is held and in flight, in ns.
@@ -360,21 +367,20 @@ fn sound_by(network: &Network, loss: Loss, paths: SyncPaths, row: Row, gained: u
     let gone = gone_by(network, paths, loss.used_before);
     let gone_before = gone_by(network, loss.paths_before, loss.used_before);
     match row {
-        Row::AnyPast | Row::TreeTurned => settling_span_at_once(network, paths),
+        Row::AnyPast => settling_span_at_once(network, paths),
         Row::Unchanged => 0,
         Row::Lowered => echo_span(network, paths).max(gone),
         Row::CutOff | Row::TreeCutOff => (2 * way_span(paths)).max(gone),
-        Row::LostEnd => gone_before,
-        Row::FailedEnd => silence_span(network).max(gone_before),
-        Row::LostPower => echo_span(network, paths).max(paths.delay),
-        Row::PowerCutsOff => (2 * way_span(paths)).max(echo_span(network, paths).max(paths.delay)),
+        Row::FailedEnd => quiet_by(network, loss, gone_before),
         Row::FailedHeard => aged_echo_span(network, loss, paths),
         Row::FailureCutsOff => {
-            let aged = loss.held + 2 * way_span(paths);
+            let aged = aged_by(loss) + 2 * way_span(paths);
             aged.max(aged_echo_span(network, loss, paths))
         }
-        Row::OneTurned => 2 * way_span(paths) + echo_span(network, paths),
-        Row::AnyLosses => roles_after_losses(network, loss, paths),
+        Row::OneTurned | Row::TreeTurned => 2 * way_span(paths) + echo_span(network, paths),
+        Row::AnyLosses | Row::FailureCutsTrees => {
+            quiet_by(network, loss, any_loss_span(network, loss, paths))
+        }
         Row::Gained => gained,
     }
 }
@@ -394,13 +400,13 @@ fn retold_by(network: &Network, loss: Loss, paths: SyncPaths, row: Row, gained: 
     }
     match row {
         Row::AnyPast => settling_span_at_once(network, paths),
-        Row::Unchanged | Row::LostEnd | Row::FailedEnd => 0,
-        Row::Lowered | Row::LostPower => echo_span(network, paths),
-        Row::FailedHeard => loss.held + echo_span(network, paths),
-        Row::FailureCutsOff => loss.held + 2 * way_span(paths) + echo_span(network, paths),
-        Row::PowerCutsOff | Row::OneTurned | Row::TreeTurned => {
-            2 * way_span(paths) + echo_span(network, paths)
+        Row::Unchanged | Row::FailedEnd => 0,
+        Row::Lowered => echo_span(network, paths),
+        Row::FailedHeard => aged_by(loss) + echo_span(network, paths),
+        Row::FailureCutsOff | Row::FailureCutsTrees => {
+            aged_by(loss) + 2 * way_span(paths) + echo_span(network, paths)
         }
+        Row::OneTurned | Row::TreeTurned => echo_span(network, paths) + 2 * way_span(paths),
         Row::CutOff | Row::TreeCutOff => 2 * way_span(paths),
         Row::AnyLosses => any_loss_span(network, loss, paths),
         Row::Gained => gained,
@@ -428,11 +434,36 @@ fn exact_span(network: &Network, paths: SyncPaths) -> u64
     window + paths.systems as u64 * (params.threshold + params.residence)
 }
 
-/// The bounds at a time, where a link was last set at another.
+/// By when what was in flight as a link was last set has arrived, in ns: later by the greatest delay that a link has
+/// had; 0 where none was set.
+pub(crate) fn arrived_by(at: u64, longest: u64, last_set: Option<u64>) -> u64
+    requires early { at ≤ LATEST_EVENT }
+    requires longest { longest ≤ 16000000000 }
+    requires set { IfSome last_set (λ last. last ≤ at) }
+    ensures is { result ≡ arrived_by longest last_set }
+    ensures bound { result ≤ at + 16000000000 }
+{
+    match last_set {
+        Some(last) => last + longest,
+        None => 0,
+    }
+}
+
+/// The same where nothing is known of these times.
+pub(crate) fn arrived_before(longest: u64, last_set: Option<u64>) -> u128
+    ensures { result ≡ arrived_by longest last_set }
+{
+    match last_set {
+        Some(last) => u128::from(last) + u128::from(longest),
+        None => 0,
+    }
+}
+
+/// The bounds at a time, where what was in flight as a link was last set has arrived by another.
 fn settled(
     network: &Network,
     at: u64,
-    last_set: u64,
+    arrived: u64,
     loss: Loss,
     paths: SyncPaths,
     sets: bool,
@@ -444,24 +475,24 @@ fn settled(
     requires short_before { loss.paths_before.delay ≤ 16000000000 }
     requires held { loss.held ≤ 4112000000000 }
     requires early { at ≤ LATEST_EVENT }
-    requires set { last_set ≤ at }
+    requires set { arrived ≤ at + 16000000000 }
     requires gained { gained ≤ 195000000000000 }
-    ensures is { result ≡ settled network.now at last_set loss paths sets row gained }
+    ensures is { result ≡ settled network.now at arrived loss paths sets row gained }
     ensures rest { result.rest ≤ 195016000000000 }
     ensures exact { result.exact_from ≤ at + 196264000000000 }
 {
     network.well_formed();
     let set = set_span(network, paths, sets);
-    let interval = interval_of(network.largest());
+    let choice = choice_by(network, loss, paths, row, gained);
     let roles = roles_by(network, loss, paths, row, gained);
     let sound = sound_by(network, loss, paths, row, gained);
     let retold = retold_by(network, loss, paths, row, gained);
     Settling {
-        choice: choice_by(network, loss, paths, row, gained),
+        choice,
         roles,
         sound,
         rest: roles.max(sound).max((retold + paths.delay).max(set)),
-        exact_from: (at + roles.max(set)).max(last_set + interval) + exact_span(network, paths),
+        exact_from: (at + choice.max(set)).max(arrived) + exact_span(network, paths),
     }
 }
 
@@ -482,11 +513,11 @@ fn watch(network: &Network, at: u64, paths: SyncPaths, settling: Option<Settling
     needed + 8 * interval_of(network.params().sync)
 }
 
-/// What is told of a time, where a link was last set at another.
+/// What is told of a time, where what was in flight as a link was last set has arrived by another.
 pub(crate) fn times_by(
     network: &Network,
     at: u64,
-    last_set: u64,
+    arrived: u64,
     loss: Loss,
     paths: SyncPaths,
     calm: bool,
@@ -499,13 +530,13 @@ pub(crate) fn times_by(
     requires short_before { loss.paths_before.delay ≤ 16000000000 }
     requires held { loss.held ≤ 4112000000000 }
     requires early { at ≤ LATEST_EVENT }
-    requires set { last_set ≤ at }
+    requires set { arrived ≤ at + 16000000000 }
     requires gained { gained ≤ 195000000000000 }
-    ensures is { result ≡ times_by network.now at last_set loss paths calm sets row gained }
+    ensures is { result ≡ times_by network.now at arrived loss paths calm sets row gained }
     ensures bound { result.watch ≤ 200000000000000 }
 {
     let settling = if calm {
-        Some(settled(network, at, last_set, loss, paths, sets, row, gained))
+        Some(settled(network, at, arrived, loss, paths, sets, row, gained))
     } else {
         None
     };

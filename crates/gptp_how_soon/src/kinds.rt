@@ -549,13 +549,6 @@ pub(crate) fn any_loss(told: &[Told]) -> bool
     told.iter().any(|one| is_loss(one))
 }
 
-/// Whether a live system fails by one of these events.
-pub(crate) fn any_failing(told: &[Told]) -> bool
-    ensures { result ≡ list_any is_failing told.now }
-{
-    told.iter().any(|one| is_failing(one))
-}
-
 /// Whether what one of these events does isn't followed.
 pub(crate) fn any_other(told: &[Told]) -> bool
     ensures { result ≡ list_any is_other told.now }

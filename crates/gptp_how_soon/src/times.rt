@@ -1,6 +1,6 @@
 //! The times of a document, with how soon the choice and the roles stand at each.
 
-ghost use Rattle.std.specs.Prelude.{◌≡◌, ◌≤◌, IfOk, OnOk, length};
+ghost use Rattle.std.specs.Prelude.{◌≡◌, ◌≤◌, IfOk, IfSome, OnOk, length};
 ghost use Rattle.std.specs.List.{AllByRecursion, find};
 ghost use Rattle.gptp_network.specs.declared.keys.TheConstants.{LATEST_EVENT};
 ghost use Rattle.gptp_topology.specs.Tables.{greatest_used};
@@ -26,7 +26,8 @@ fn tell(
     requires short { greatest_used walk.old.tables.marks.items ≤ 16000000000 }
     requires short_before { walk.old.paths_before.delay ≤ 16000000000 }
     requires early { at ≤ LATEST_EVENT }
-    requires set { walk.old.last_set ≤ at }
+    requires longest { walk.old.longest ≤ 16000000000 }
+    requires set { IfSome walk.old.last_set (λ last. last ≤ at) }
     ensures { OnOk result (WalkTells network.now at next walk.old walk.new times.old.items times.new.items) }
 {
     if next != at {

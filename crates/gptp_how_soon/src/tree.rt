@@ -22,7 +22,7 @@ pub(crate) fn has_same_root(chosen: &[Chosen], one: usize, other: usize) -> bool
 }
 
 /// Whether the system at a place had a better root than it has now.
-fn had_better_root(before: &[Chosen], now: &[Chosen], place: usize) -> bool
+pub(crate) fn had_better_root(before: &[Chosen], now: &[Chosen], place: usize) -> bool
     ensures { result ≡ has_better_root (slice_get before.now place) (slice_get now.now place) }
 {
     match before.get(place) {
@@ -90,7 +90,13 @@ fn all_lead_one_on(chosen: &[Chosen], links: &[Ends], place: usize) -> bool
 }
 
 /// Whether the system at a place is one of a tree below the top.
-fn is_below(links: &[Ends], before: &[Chosen], now: &[Chosen], top: usize, place: usize) -> bool
+pub(crate) fn is_below(
+    links: &[Ends],
+    before: &[Chosen],
+    now: &[Chosen],
+    top: usize,
+    place: usize,
+) -> bool
     ensures { result ≡ is_below links.now before.now now.now top place }
 {
     has_same_root(before, top, place)

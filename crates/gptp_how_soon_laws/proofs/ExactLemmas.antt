@@ -1,18 +1,13 @@
 -- Offsets are exact in each run from the time on that is told of a time.
-use Rattle.std.proofs.Common.{◌≡◌, ◌<◌, ◌≤◌, ◌+◌, ◌*◌, ◌^◌, ℕ, Bool, true, false, cond, suc, max, List, [], ◌∷◌, Option, filter, refl, ap, ap₂, subst, arith}
+use Rattle.std.proofs.Common.{◌≡◌, ◌<◌, ◌≤◌, ◌+◌, ◌*◌, ◌^◌, ℕ, Bool, true, false, cond, suc, max, List, [], ◌∷◌, Option, filter, refl, ap, subst, arith}
 use Rattle.std.specs.List.{AllByRecursion}
 use Rattle.std.proofs.Math.Nat.{mul-le-mul}
 use Rattle.gptp_lists.specs.Members.{In}
 use Rattle.gptp_graph.specs.PathBound.{path_bound}
 use Rattle.gptp_graph.proofs.PathBoundLemmas.{IsDistance-within, paths_within}
 use Rattle.gptp_links.specs.declared.bounds.Bounds.{Bounds}
-use Rattle.gptp_setup.specs.SettlingParams.{largest_interval}
-use Rattle.gptp_scenario.specs.Calm.{last_change}
 use Rattle.gptp_scenario.specs.Network.{pace_of}
 use Rattle.gptp_scenario.specs.SyncWait.{sync_paths}
-use Rattle.gptp_scenario.specs.declared.change.Act.{Act}
-use Rattle.gptp_scenario.specs.declared.change.Act.TheVariants as acts
-use Rattle.gptp_scenario.specs.declared.change.Change.TheVariants as changes
 use Rattle.gptp_scenario.specs.declared.change.Timed.{Timed}
 use Rattle.gptp_scenario.specs.declared.sync_wait.SyncPaths.{SyncPaths}
 use Rattle.gptp_model.specs.World.{WorldState}
@@ -26,17 +21,17 @@ use Rattle.gptp_invariants.proofs.SyncFollowWayLemmas.{way_distance}
 use Rattle.gptp_invariants.proofs.WorldStandsLemmas.{stands_well}
 use Rattle.gptp_theorem.specs.PlayedLaws.{IsPlayable}
 use Rattle.gptp_theorem.proofs.SyncPathLemmas.{paths_stand}
-use Rattle.gptp_how_soon.specs.Kinds.{sets_bounds}
-use Rattle.gptp_how_soon.specs.Times.{last_set as set_here}
+use Rattle.gptp_how_soon.specs.Links.{longest_delay}
 use Rattle.gptp_how_soon.specs.declared.bounds.Settling.{Settling}
 use Rattle.gptp_scenario.specs.SettlingTime.{window_span}
-use Rattle.gptp_settling_time.specs.HowSoon.{IsChoiceBound, NoneBetween}
-use Rattle.gptp_settling_time.specs.ExactInTurn.{last_set, sets_link}
+use Rattle.gptp_settling_time.specs.HowSoon.{IsChoiceAloneBound, NoneBetween}
+use Rattle.gptp_settling_time.specs.Arrivals.{arrived_by}
 use Rattle.gptp_settling_time.proofs.ChoiceBoundLemmas.{choice_bounds_are_exact, choice_bounds_carry}
 use Rattle.gptp_settling_time.proofs.ExactInTurnLemmas.{IsCarried}
 use Rattle.gptp_how_soon_laws.specs.Exact.{IsExact, IsExactSoon}
+use Rattle.gptp_how_soon_laws.proofs.ArrivedLemmas.{all_within, same_set}
 use Rattle.gptp_how_soon_laws.proofs.ChoiceLemmas.{IsSo, time_so}
-use Rattle.gptp_how_soon_laws.proofs.StepLemmas.{IsKept, kept}
+use Rattle.gptp_how_soon_laws.proofs.StepLemmas.{IsKept, kept_alone}
 
 -- ---- lists
 
@@ -50,28 +45,6 @@ all_kept P p (x ∷ xs) all = by (p x) (all_kept P p xs all.1)
         → AllByRecursion P (cond test (x ∷ filter p xs) (filter p xs))
     by true rest = (all.0, rest)
     by false rest = rest
-
--- ---- when a link was last set
-
-same_sets : (act : Act) → sets_bounds act ≡ sets_link act
-same_sets (acts.Deliver link direction) = refl
-same_sets (acts.Expire clock timer) = refl
-same_sets (acts.Change (changes.LinkDown clock port)) = refl
-same_sets (acts.Change (changes.LinkUp clock port)) = refl
-same_sets (acts.Change (changes.LinkSet clock port least greatest loss)) = refl
-same_sets (acts.Change (changes.Fail number)) = refl
-same_sets (acts.Change (changes.Recover number)) = refl
-same_sets (acts.Change (changes.Priority1 number value)) = refl
-same_sets (acts.Change (changes.Inject clock port octets)) = refl
-
-same_kept : (events : List Timed)
-    → filter (λ (t : Timed). sets_bounds t.act) events ≡ filter (λ (t : Timed). sets_link t.act) events
-same_kept [] = refl
-same_kept (t ∷ ts) =
-    ap₂ (λ test (kept : List Timed). cond test (t ∷ kept) kept) (same_sets t.act) (same_kept ts)
-
-same_set : (events : List Timed) → set_here events ≡ last_set events
-same_set events = ap last_change (same_kept events)
 
 -- ---- a way has fewer links than a path has systems
 
@@ -102,10 +75,11 @@ come_down steps systems hop most window settled exact at few some is told on =
 
 -- ---- from when on
 
--- the choice of a time stands, and an announce interval has passed since the network began and a link was last set
+-- the choice of a time stands, and what was in flight as a link was last set has arrived
 abbrev pub carried_from : DocumentState → ℕ → ℕ → ℕ
 carried_from d time choice =
-    max (time + choice) (last_set (events_by time d.events) + largest_interval (pace_of d.network))
+    max (time + choice)
+    (arrived_by (longest_delay d.network (events_by time d.events)) (events_by time d.events))
 
 -- and then rates are measured over whole windows, and what each system uses has come down the tree
 abbrev pub come_from : DocumentState → ℕ → ℕ → ℕ
@@ -116,26 +90,26 @@ come_from d time choice =
 
 -- offsets are exact no sooner by what is told of a time
 pub told_later : (d : DocumentState) (playable : IsPlayable d) (earlier : List ℕ) (time : ℕ) (s : Settling)
-    → IsSo d playable earlier time s → come_from d time s.roles ≤ s.exact_from
+    → IsSo d playable earlier time s → come_from d time s.choice ≤ s.exact_from
 told_later d playable earlier time s so =
-    subst (λ last. max (time + s.roles) (last + largest_interval (pace_of d.network)) + window_span d.network.params
+    subst (λ arrived. max (time + s.choice) arrived + window_span d.network.params
     + (sync_paths d.network (events_by time d.events)).systems
     * (d.network.params.threshold + d.network.params.residence)
-    ≤ s.exact_from) (same_set (events_by time d.events)) so.exact
+    ≤ s.exact_from) (same_set (longest_delay d.network (events_by time d.events)) (events_by time d.events)) so.exact
 
--- ---- each act that is done from then on, by a choice bound of a time, and before the next event
+-- ---- each act that is done from then on, by a bound of the choice of a time, and before the next event
 
 module _ {F : Type 0} (answers : Bounds → ℕ → F → Option ℕ → F → Type 0) (d : DocumentState)
     (time choice exact next until : ℕ) (fate : F) (first w : WorldState) (ts : List ActTrace) (t : ActTrace)
     (playable : IsPlayable d) (k : Unfolds answers d until fate first ts w) (member : In t ts)
-    (bound : IsChoiceBound d time choice) (none : NoneBetween d.events time next)
+    (bound : IsChoiceAloneBound d time choice) (none : NoneBetween d.events time next)
     (told : come_from d time choice ≤ exact) (behind : time < t.told.timed.at) (on : exact ≤ t.told.timed.at)
     (early : t.told.timed.at < next) where
   least : 1 ≤ d.network.params.threshold + d.network.params.residence
   least = let one = playable.network.params.ranges.params.threshold-least in omega (arith, one)
 
   pub kept_then : IsKept d (events_by time d.events) t
-  kept_then = kept answers d time choice next until fate first w ts t playable k member bound none behind early
+  kept_then = kept_alone answers d time choice next until fate first w ts t playable k member bound none behind early
 
   module _ (steps number error : ℕ) (way : IsWayError d.network.params t.before number (suc steps) error) where
     few : suc steps < (sync_paths d.network (events_by time d.events)).systems
@@ -157,18 +131,20 @@ module _ {F : Type 0} (answers : Bounds → ℕ → F → Option ℕ → F → T
   pub carried_then : t.told.timed.at ≤ 10 ^ 18 → carried_from d time choice + 1 ≤ t.told.timed.at
       → IsCarried answers (pace_of d.network) (carried_from d time choice + 1) t
   carried_then shown late =
-      choice_bounds_carry answers d time choice next (carried_from d time choice + 1) until fate first w ts t playable k
-      member shown bound none (omega arith) (omega arith) late early
+      choice_bounds_carry answers d time choice next (carried_from d time choice + 1)
+      (longest_delay d.network (events_by time d.events)) until fate first w ts t playable k member shown bound none
+      (omega arith) (all_within d.network (events_by time d.events)) (omega arith) late early
 
   pub exact_then : t.told.timed.at ≤ 10 ^ 18
       → IsExact d.network.params t.before t.told.timed.at t.after t.told.done
   exact_then shown steps number error offset ahead leaves near way is_ahead =
-      choice_bounds_are_exact answers d time choice next (carried_from d time choice + 1) until fate first w ts t
-      playable k member shown bound none (omega arith) (omega arith) early steps number error offset ahead
+      choice_bounds_are_exact answers d time choice next (carried_from d time choice + 1)
+      (longest_delay d.network (events_by time d.events)) until fate first w ts t playable k member shown bound none
+      (omega arith) (all_within d.network (events_by time d.events)) (omega arith) early steps number error offset ahead
       (come steps number error way) leaves near way is_ahead
 
 pub exact_soon : {F : Type 0} (answers : Bounds → ℕ → F → Option ℕ → F → Type 0) → IsExactSoon answers
 exact_soon answers d time s next until fate first w ts t playable k member shown told is none behind on early =
     let (before, so) = time_so d playable time s told is in
-    exact_then answers d time.at s.roles s.exact_from next until fate first w ts t playable k member
-    (before, so.bounds) none (told_later d playable before time.at s so) behind on early shown
+    exact_then answers d time.at s.choice s.exact_from next until fate first w ts t playable k member
+    (before, so.choice) none (told_later d playable before time.at s so) behind on early shown

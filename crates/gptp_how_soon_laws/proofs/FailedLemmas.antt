@@ -37,7 +37,7 @@ use Rattle.gptp_how_soon.specs.Times.{told_at, told_of}
 use Rattle.gptp_how_soon.specs.declared.chosen.Chosen.{Chosen}
 use Rattle.gptp_how_soon.proofs.ChosenLemmas.{IsAt, at_clock, chosen_there, place_is, settled_choice, touched}
 use Rattle.gptp_how_soon.proofs.RoundsLemmas.{Touches}
-use Rattle.gptp_settling_time.specs.HowSoon.{EachEvent, FailsEndFirst, FailsHeardFirst, TurnsUnused}
+use Rattle.gptp_settling_time.specs.HowSoon.{EachEvent, FailsEndFirst, FailsHeardFirst, IsDownToo, TurnsUnused}
 use Rattle.gptp_settling_time.specs.Losses.{FailsFarEnd, FailsHeard, IsCutOff, IsFarEnd, IsUnmoved, IsUnmovedOrCutOff, LowersUnused, MovesNoneJoined, UpIsUsed}
 use Rattle.gptp_vector.specs.declared.port.PortId.{PortId}
 use Rattle.gptp_scenario.specs.Calm.{IsLive}
@@ -50,6 +50,7 @@ use Rattle.gptp_how_soon.specs.declared.kinds.Kind.{Kind}
 use Rattle.gptp_how_soon.specs.declared.kinds.Told.{Told}
 use Rattle.gptp_how_soon.specs.declared.kinds.What.{What}
 use Rattle.gptp_how_soon.specs.declared.kinds.What.TheVariants as whats
+use Rattle.gptp_settling_time.proofs.BesideIdleLemmas.{down_alone}
 use Rattle.gptp_settling_time.proofs.SamePathsLemmas.{is_end, lives_not, map_same, turned_paths}
 use Rattle.gptp_how_soon_laws.proofs.KindLemmas.{told}
 use Rattle.gptp_how_soon_laws.proofs.ToldLemmas.{failure_is, loss_fails, unused_lowers}
@@ -151,12 +152,12 @@ module _ (n : NetworkState) (network : IsNetwork n) (made : List Timed) (event :
   later = made ++ event ∷ []
 
   -- a live system fails by it
-  record Fails : Type 0 where
+  pub record Fails : Type 0 where
     pub clock : ℕ
     pub act : event.act ≡ acts.Change (changes.Fail clock)
     pub loss : is_loss (told_at n made (acts.Change (changes.Fail clock))) ≡ true
 
-  fails : is_failing (told_at n made event.act) ≡ true → Fails
+  pub fails : is_failing (told_at n made event.act) ≡ true → Fails
   fails is =
       let (loss, failure) = and_parts (is_loss (told_at n made event.act)) (is_fail (told_at n made event.act)) is in
       let (clock, act) = failure_is n network made event.act failure in
@@ -176,7 +177,7 @@ module _ (n : NetworkState) (network : IsNetwork n) (made : List Timed) (event :
         by true none = absurd cc
         by false is = is
 
-    clock_before : (g h : Snapshot) → StandsAfter n made g → StandsAfter n later h → (v : ℕ) → In v (clocks h)
+    pub clock_before : (g h : Snapshot) → StandsAfter n made g → StandsAfter n later h → (v : ℕ) → In v (clocks h)
         → In v (clocks g)
     clock_before g h stands stands' v known =
         let (s, there, named) = from_map (λ (t : System). t.clock) v h.systems known in
@@ -424,20 +425,19 @@ fail_lowers_none kind clock whats.NoChange fails lowers = absurd cc
 
 -- the events of a time
 module _ (n : NetworkState) (network : IsNetwork n) (made : List Timed) (event : Timed) (events : List Timed)
-    (well : AreWell n (made ++ event ∷ events)) (unmoved : moves_joined n made (made ++ event ∷ events) ≡ false)
     (delay : (sync_paths n (made ++ event ∷ events)).delay ≤ (sync_paths n made).delay)
     (paths : (sync_paths n (made ++ event ∷ events)).systems ≤ (sync_paths n made).systems)
     (few : (sync_paths n made).systems ≤ 255) (is : fails_first (told_of n made (event ∷ events)) ≡ true) where
-  abbrev first_behind : List Timed
+  abbrev pub first_behind : List Timed
   first_behind = made ++ event ∷ []
 
-  abbrev t : Told
+  abbrev pub t : Told
   t = told_at n made event.act
 
-  parts : (is_failing t ≡ true) × (list_all lowers_unused (told_of n first_behind events) ≡ true)
+  pub parts : (is_failing t ≡ true) × (list_all lowers_unused (told_of n first_behind events) ≡ true)
   parts = and_parts (is_failing t) (list_all lowers_unused (told_of n first_behind events)) is
 
-  others : EachEvent (LowersUnused n) first_behind events
+  pub others : EachEvent (LowersUnused n) first_behind events
   others = lowers_each n network first_behind events parts.1
 
   whole : first_behind ++ events ≡ made ++ event ∷ events
@@ -446,26 +446,28 @@ module _ (n : NetworkState) (network : IsNetwork n) (made : List Timed) (event :
   same : sync_paths n (made ++ event ∷ events) ≡ sync_paths n first_behind
   same = ap (sync_paths n) (sym whole) ∙ paths_all n network first_behind events others
 
-  first_delay : (sync_paths n first_behind).delay ≤ (sync_paths n made).delay
+  pub first_delay : (sync_paths n first_behind).delay ≤ (sync_paths n made).delay
   first_delay = subst (λ (x : SyncPaths). x.delay ≤ (sync_paths n made).delay) same delay
 
-  first_paths : (sync_paths n first_behind).systems ≤ (sync_paths n made).systems
+  pub first_paths : (sync_paths n first_behind).systems ≤ (sync_paths n made).systems
   first_paths = subst (λ (x : SyncPaths). x.systems ≤ (sync_paths n made).systems) same paths
 
-  stands_on : (h : Snapshot) → StandsAfter n first_behind h → StandsAfter n (made ++ event ∷ events) h
+  pub stands_on : (h : Snapshot) → StandsAfter n first_behind h → StandsAfter n (made ++ event ∷ events) h
   stands_on h stands =
       subst (λ es. StandsAfter n es h) whole (stands_all n network h first_behind events others stands)
 
-  pub heard_first : FailsHeard n made event × EachEvent (LowersUnused n) first_behind events
-  heard_first = (
+  pub heard_first : AreWell n (made ++ event ∷ events) → moves_joined n made (made ++ event ∷ events) ≡ false
+      → FailsHeard n made event × EachEvent (IsDownToo n) first_behind events
+  heard_first well unmoved = (
     fails_heard n network made event (made ++ event ∷ events) well
         (λ g stands. well made (event ∷ events) refl g stands) stands_on unmoved first_delay first_paths few parts.0,
-    others,
+    down_alone n first_behind events others,
   )
 
-  pub end_first : are_far_after n made (told_of n made (event ∷ events)) ≡ true
-      → FailsFarEnd n made event × EachEvent (LowersUnused n) first_behind events
-  end_first far =
+  pub end_first : AreWell n (made ++ event ∷ events) → moves_joined n made (made ++ event ∷ events) ≡ false
+      → are_far_after n made (told_of n made (event ∷ events)) ≡ true
+      → FailsFarEnd n made event × EachEvent (IsDownToo n) first_behind events
+  end_first well unmoved far =
       let far_test : Bool = is_far_end (systems_after n made) (chosen_after n made) (used_ends n made)
       (place_of (systems_after n made) t.clock) in
       let (first, more) = and_parts (lowers_unused t || far_test)
@@ -480,7 +482,7 @@ module _ (n : NetworkState) (network : IsNetwork n) (made : List Timed) (event :
         fails_far_end n network made event (made ++ event ∷ events) well
             (λ g stands. well made (event ∷ events) refl g stands) stands_on unmoved first_delay first_paths few
             parts.0 far_end,
-        others,
+        down_alone n first_behind events others,
       )
 
 pub fails_heard_first : (n : NetworkState) (network : IsNetwork n) (made now : List Timed) → AreWell n (made ++ now)
@@ -492,7 +494,7 @@ pub fails_heard_first : (n : NetworkState) (network : IsNetwork n) (made now : L
     → FailsHeardFirst n made now
 fails_heard_first n network made [] well unmoved delay paths few is = absurd cc
 fails_heard_first n network made (event ∷ events) well unmoved delay paths few is =
-    heard_first n network made event events well unmoved delay paths few is
+    heard_first n network made event events delay paths few is well unmoved
 
 pub fails_end_first : (n : NetworkState) (network : IsNetwork n) (made now : List Timed) → AreWell n (made ++ now)
     → moves_joined n made (made ++ now) ≡ false
@@ -503,4 +505,4 @@ pub fails_end_first : (n : NetworkState) (network : IsNetwork n) (made now : Lis
     → FailsEndFirst n made now
 fails_end_first n network made [] well unmoved delay paths few is far = absurd cc
 fails_end_first n network made (event ∷ events) well unmoved delay paths few is far =
-    end_first n network made event events well unmoved delay paths few is far
+    end_first n network made event events delay paths few is well unmoved far

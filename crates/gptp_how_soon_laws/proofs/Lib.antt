@@ -15,14 +15,20 @@ mod LivesOnLemmas
 mod LostLinkLemmas
 mod OneLostLemmas
 mod TreeTestLemmas
+mod TreeBelowLemmas
 mod TreeLemmas
+mod CutTreesLemmas
+mod TurnedTreeTestLemmas
 mod TurnedTreeLemmas
 mod TreeEventLemmas
 mod TurnedLemmas
+mod LiveEndsLemmas
 mod SilentLemmas
 mod RowBoundLemmas
 mod RowReasonLemmas
 mod StartRowLemmas
+mod RowTestLemmas
+mod ArrivedLemmas
 mod RowLemmas
 mod AnyLossLemmas
 pub mod ChoiceLemmas

@@ -1,179 +1,53 @@
 -- What is told of a time after the first one, by its row, is so by its events.
-use Rattle.std.proofs.Common.{◌≡◌, ◌<◌, ◌≤◌, ◌⊎◌, inl, inr, ◌+◌, ◌*◌, ℕ, Bool, true, false, cond, List, [], ◌∷◌, ◌++◌, Option, Some, None, map, refl, sym, ap, subst, ◌∙◌, arith}
+use Rattle.std.proofs.Common.{◌≡◌, ◌<◌, ◌≤◌, ◌⊎◌, inl, inr, ◌+◌, ◌*◌, ℕ, Bool, true, false, cond, List, [], ◌∷◌, ◌++◌, Option, Some, None, suc, refl, sym, ap, subst, ◌∙◌, arith}
 use Rattle.std.specs.Prelude.{◌&&◌, ◌||◌, not, if◌then◌else◌, nat_le, nat_lt, max}
-use Rattle.std.specs.List.{AllByRecursion, list_all, list_any}
-use Rattle.std.proofs.lemmas.Bool.{and_parts, not-true, or_cases, or_from, or_parts}
+use Rattle.std.specs.List.{list_all, list_any}
+use Rattle.std.proofs.lemmas.Bool.{and_parts, not-true, or_cases, or_parts}
 use Rattle.std.proofs.lemmas.Bool.Decides.{nat_tests}
-use Rattle.gptp_lists.specs.Members.{In}
 use Rattle.gptp_lists.proofs.MappedLemmas.{some_same}
-use Rattle.gptp_lists.proofs.SystemSpecLemmas.{In-slice_get}
 use Rattle.gptp_setup.specs.SettlingParams.{largest_interval}
 use Rattle.gptp_scenario.specs.Calm.{NothingLapses}
 use Rattle.gptp_scenario.specs.Network.{IsNetwork, NetworkState, pace_of}
-use Rattle.gptp_scenario.specs.Prompt.{DelayFitsInterval}
 use Rattle.gptp_scenario.specs.SettlingTime.{silence_span, way_span}
 use Rattle.gptp_scenario.specs.SyncWait.{sync_paths}
-use Rattle.gptp_scenario.specs.declared.change.Act.{Act}
-use Rattle.gptp_scenario.specs.declared.change.Act.TheVariants as acts
-use Rattle.gptp_scenario.specs.declared.change.Change.TheVariants as changes
 use Rattle.gptp_scenario.specs.declared.change.Timed.{Timed}
-use Rattle.gptp_scenario.specs.declared.network.LinkSpec.{LinkSpec}
 use Rattle.gptp_network.specs.Snapshot.{events_by}
-use Rattle.gptp_topology.specs.Course.{cable_of}
-use Rattle.gptp_how_soon.specs.Bounds.{is_hard_to_hear, gone_by}
-use Rattle.gptp_how_soon.specs.Chosen.{moves_counted, moves_joined, moves_some}
-use Rattle.gptp_how_soon.specs.Kinds.{are_heard, brings_nothing, fails_and_recovers, fails_first, is_better, is_failing, is_gain, is_idle, is_loss, is_lowering, is_other, is_recovery, leaves_links, lowers_one, lowers_unused, makes_nothing, recovers, takes_one, begins_wider, first_wider_by, is_wider}
-use Rattle.gptp_how_soon.specs.Links.{delay_set, longest_among, longest_delay, longest_set}
-use Rattle.gptp_how_soon.specs.Rest.{are_events_followed, are_losses_followed, are_recoveries_followed, are_turns_followed, has_rested_for, heard_at_once, is_failing_followed, is_from_rest, is_lowering_followed, keeps_paths, leaves_silent, rested, rested_by, rested_for_by, is_wider_followed, settles_wider_by}
-use Rattle.gptp_how_soon.specs.Times.{View, events_at, gained_at, ready_at, row_at, view_at}
+use Rattle.gptp_how_soon.specs.Bounds.{is_hard_to_hear, gone_by, quiet_by}
+use Rattle.gptp_how_soon.specs.Chosen.{moves_joined}
+use Rattle.gptp_how_soon.specs.CutTrees.{cuts_trees_after}
+use Rattle.gptp_how_soon.specs.Kinds.{are_heard, brings_nothing, fails_and_recovers, fails_first, is_better, is_gain, is_idle, is_loss, is_other, is_recovery, leaves_links, lowers_one, lowers_unused, makes_nothing, recovers, takes_one, begins_wider, first_wider_by, is_wider}
+use Rattle.gptp_how_soon.specs.Rest.{are_events_followed, are_losses_followed, are_recoveries_followed, are_turns_followed, heard_at_once, is_failing_followed, is_from_rest, is_lowering_followed, keeps_paths, rested, is_wider_followed, settles_wider_by}
+use Rattle.gptp_how_soon.specs.Times.{View, events_at, gained_at, has_come_after, loss_at, ready_at, row_at, view_at}
 use Rattle.gptp_how_soon.specs.Tree.{cuts_tree_after}
 use Rattle.gptp_how_soon.specs.TurnedTree.{turns_tree_after}
 use Rattle.gptp_how_soon.specs.declared.bounds.Row.{Row}
-use Rattle.gptp_how_soon.specs.declared.bounds.Row.TheVariants.{AnyLosses, CutOff, FailedEnd, FailedHeard, FailureCutsOff, Gained, LostEnd, LostPower, Lowered, OneTurned, PowerCutsOff, TreeCutOff, TreeTurned, Unchanged}
+use Rattle.gptp_how_soon.specs.declared.bounds.Row.TheVariants.{AnyLosses, CutOff, FailedEnd, FailedHeard, FailureCutsOff, FailureCutsTrees, Gained, Lowered, OneTurned, TreeCutOff, TreeTurned, Unchanged}
 use Rattle.gptp_how_soon.specs.declared.bounds.Settling.{Settling}
 use Rattle.gptp_how_soon.specs.declared.bounds.SettlingTime.{SettlingTime}
-use Rattle.gptp_how_soon.specs.declared.kinds.Kind.{Kind}
-use Rattle.gptp_how_soon.specs.declared.kinds.Kind.TheVariants.{Gain, Idle, Loss, Other, Unused, Wider}
 use Rattle.gptp_how_soon.specs.declared.kinds.Told.{Told}
-use Rattle.gptp_how_soon.specs.declared.kinds.What.{What}
-use Rattle.gptp_how_soon.specs.declared.kinds.What.TheVariants as whats
-use Rattle.gptp_settling_time.specs.Gains.{HasDelaysWithin}
-use Rattle.gptp_settling_time.specs.HowSoon.{AreWiderEvents, BoundsGains, CutsOneEnd, EachEvent, FailsEndFirst, FailsHeardFirst, IsStillEvent, LosesEvents, LowersOneLink, OneEvent, RolesAfterLoss, TurnsOneLink}
+use Rattle.gptp_settling_time.specs.Arrivals.{HasArrivedBy}
+use Rattle.gptp_settling_time.specs.HowSoon.{AreWiderEvents, BoundsGains, CutsOneEnd, EachEvent, FailsEndFirst, FailsHeardFirst, FailsTreesFirst, IsStillEvent, LosesEvents, LowersOneLink, OneEvent, RolesAfterLoss, TurnsOneLink}
 use Rattle.gptp_settling_time.specs.InTurn.{FlightIsGone}
-use Rattle.gptp_settling_time.specs.Losses.{LowersLink, UpIsUsed}
+use Rattle.gptp_settling_time.specs.Losses.{LowersLink, NoneSilent}
 use Rattle.gptp_settling_time.specs.TreeLosses.{LowersTree, TurnsTreeLink}
-use Rattle.gptp_settling_time.proofs.CutLemmas.{IsBy, all_by}
+use Rattle.gptp_settling_time.proofs.CutLemmas.{all_by}
 use Rattle.gptp_settling_time.proofs.LeadOnLemmas.{all_still}
 use Rattle.gptp_settling_time.proofs.MomentLemmas.{all_at}
-use Rattle.gptp_how_soon_laws.proofs.AnyLossLemmas.{all_losses, none_fails}
+use Rattle.gptp_how_soon_laws.proofs.AnyLossLemmas.{all_losses, failing_loses}
+use Rattle.gptp_how_soon_laws.proofs.ArrivedLemmas.{has_come_so, longest_within}
 use Rattle.gptp_how_soon_laws.proofs.GainLemmas.{AreFollowed, AreTurnsFollowed}
 use Rattle.gptp_how_soon_laws.proofs.GainedLemmas.{all_gained, all_heard, all_idle, all_wider}
-use Rattle.gptp_how_soon_laws.proofs.KindLemmas.{told}
 use Rattle.gptp_how_soon_laws.proofs.FailedLemmas.{fails_end_first, fails_heard_first, used_up}
 use Rattle.gptp_how_soon_laws.proofs.CutOffLemmas.{cuts_one_end}
+use Rattle.gptp_how_soon_laws.proofs.CutTreesLemmas.{fails_trees_first}
 use Rattle.gptp_how_soon_laws.proofs.LoweredLemmas.{GoesDown, lowers_one_link, one_as, used_on}
 use Rattle.gptp_how_soon_laws.proofs.TreeEventLemmas.{lowers_tree, turns_tree_by}
 use Rattle.gptp_how_soon_laws.proofs.TurnedLemmas.{turns_one_link}
 use Rattle.gptp_how_soon_laws.proofs.UnmovedLemmas.{AreWell, all_still_unmoved}
-use Rattle.gptp_how_soon_laws.proofs.RowReasonLemmas.{ReasonOf, reason_of}
-
--- ---- who counts as moved
-
-counts_joined : (joined : Bool) (n : NetworkState) (made events : List Timed) → joined ≡ true
-    → moves_counted joined n made events ≡ false → moves_joined n made events ≡ false
-counts_joined true n made events is none = none
-counts_joined false n made events is none = absurd cc
-
-counts_all : (joined : Bool) (n : NetworkState) (made events : List Timed) → joined ≡ false
-    → moves_counted joined n made events ≡ false → moves_some n made events ≡ false
-counts_all true n made events is none = absurd cc
-counts_all false n made events is none = none
-
--- one link that goes down is taken away, and so is a system that fails
-lowering_takes : (es : List Told) → lowers_one es ≡ true → takes_one es ≡ true
-lowering_takes es is = ap (λ test. test || fails_first es) is
-
-failing_takes : (es : List Told) → fails_first es ≡ true → takes_one es ≡ true
-failing_takes es is = ap (λ test. lowers_one es || test) is ∙ or_true (lowers_one es)
-  where
-    or_true : (b : Bool) → (b || true) ≡ true
-    or_true true = refl
-    or_true false = refl
-
--- a system whose priority1 gets worse takes nothing away
-takes_no_link : (clock : ℕ) (what : What) (kind : Kind) → leaves_links (told clock what kind) ≡ true
-    → (is_lowering (told clock what kind) ≡ false) × (is_failing (told clock what kind) ≡ false)
-takes_no_link clock whats.Priority1 Loss is = (refl, refl)
-takes_no_link clock whats.Fail Loss is = absurd cc
-takes_no_link clock whats.LinkDown Loss is = absurd cc
-takes_no_link clock whats.LinkUp Loss is = absurd cc
-takes_no_link clock whats.LinkSet Loss is = absurd cc
-takes_no_link clock whats.Recover Loss is = absurd cc
-takes_no_link clock whats.Inject Loss is = absurd cc
-takes_no_link clock whats.NoChange Loss is = absurd cc
-takes_no_link clock what Idle is = (refl, refl)
-takes_no_link clock what Unused is = (refl, refl)
-takes_no_link clock what Gain is = (refl, refl)
-takes_no_link clock what (Wider by) is = (refl, refl)
-takes_no_link clock what Other is = (refl, refl)
-
-leaves_all : (es : List Told) → list_all leaves_links es ≡ true → takes_one es ≡ false
-leaves_all [] all = refl
-leaves_all (e ∷ []) all =
-    let first = (and_parts (leaves_links e) (list_all leaves_links []) all).0 in
-    let (lowers, fails) = takes_no_link e.clock e.what e.kind first in
-    or_from (is_lowering e) (is_failing e && true) lowers (ap (λ test. test && true) fails)
-leaves_all (e ∷ f ∷ es) all =
-    let first = (and_parts (leaves_links e) (list_all leaves_links (f ∷ es)) all).0 in
-    ap (λ test. test && list_all lowers_unused (f ∷ es)) (takes_no_link e.clock e.what e.kind first).1
-
--- ---- rest and delays
-
--- what was at the time before has come to rest
-pub record HasComeToRest (b : SettlingTime) (at : ℕ) : Type 0 where
-  pub settling : Settling
-  pub is : b.settling ≡ Some settling
-  pub passed : b.at + settling.rest < at
-
-rested_so : (b : SettlingTime) (at : ℕ) (o : Option Settling) → b.settling ≡ o → rested_by b at o ≡ true
-    → HasComeToRest b at
-rested_so b at None is rested = absurd cc
-rested_so b at (Some s) is rested = record { settling = s; is = is; passed = grind (arith, nat_tests) }
-
-rested_for_so : (span : ℕ) (b : SettlingTime) (at : ℕ) (s : Settling) → b.settling ≡ Some s
-    → has_rested_for span (Some b) at ≡ true → b.at + (s.rest + span) < at
-rested_for_so span b at s is test =
-    below (b.at + (s.rest + span)) at ((λ k. rested_for_by span b at (sym is k)) ∙ test)
-  where
-    below : (x y : ℕ) → nat_lt x y ≡ true → x < y
-    below x y less = grind (arith, nat_tests)
-
-at_most : (a b : ℕ) → nat_le a b ≡ true → a ≤ b
-at_most a b is = grind (arith, nat_tests)
-
-not_both : (a b : Bool) → (a && b) ≡ false → a ≡ true → b ≡ false
-not_both true b none is = none
-not_both false b none is = absurd cc
-
-over_before : (last most time : ℕ) (events : List Timed) → last + most < time → AllByRecursion (IsBy last) events
-    → AllByRecursion (λ (t : Timed). t.at + most < time) events
-over_before last most time [] late by = tt
-over_before last most time (event ∷ events) late by =
-    let one = by.0 in (omega (arith, one, late), over_before last most time events late by.1)
-
--- no link of them takes longer than the longest
-longest_there : (w : LinkSpec) (ws : List LinkSpec) → In w ws → w.bounds.max ≤ longest_among (map cable_of ws)
-longest_there w [] member = absurd member
-longest_there w (x ∷ ws) (inl same) =
-    let here : w.bounds.max ≡ x.bounds.max = ap (λ (y : LinkSpec). y.bounds.max) same in omega (arith, here)
-longest_there w (x ∷ ws) (inr member) = let rest = longest_there w ws member in omega (arith, rest)
-
-fits_so : (most : ℕ) (act : Act) → delay_set act ≤ most → DelayFitsInterval most act
-fits_so most (acts.Deliver link direction) fits = tt
-fits_so most (acts.Expire clock timer) fits = tt
-fits_so most (acts.Change (changes.LinkDown clock port)) fits = tt
-fits_so most (acts.Change (changes.LinkUp clock port)) fits = tt
-fits_so most (acts.Change (changes.LinkSet clock port least greatest loss)) fits = fits
-fits_so most (acts.Change (changes.Fail number)) fits = tt
-fits_so most (acts.Change (changes.Recover number)) fits = tt
-fits_so most (acts.Change (changes.Priority1 number value)) fits = tt
-fits_so most (acts.Change (changes.Inject clock port octets)) fits = tt
-
-set_within : (most : ℕ) (events others : List Timed) → longest_set (events ++ others) ≤ most
-    → AllByRecursion (λ (t : Timed). DelayFitsInterval most t.act) events
-set_within most [] others less = tt
-set_within most (event ∷ events) others less = (
-  fits_so most event.act (omega (arith, less)),
-  set_within most events others (omega (arith, less)),
-)
-
-longest_within : (n : NetworkState) (events others : List Timed)
-    → HasDelaysWithin n events (longest_delay n (events ++ others))
-longest_within n events others = record {
-  links = λ place v there.
-      let here = longest_there v n.links (In-slice_get v n.links place there) in omega (arith, here);
-  sets = set_within (longest_delay n (events ++ others)) events others (omega arith);
-}
+use Rattle.gptp_how_soon_laws.proofs.RowBoundLemmas.{HasLossSpan}
+use Rattle.gptp_how_soon_laws.proofs.RowReasonLemmas.{ReasonOf, Tests, reason_of}
+use Rattle.gptp_how_soon_laws.proofs.SilentLemmas.{none_silent}
+use Rattle.gptp_how_soon_laws.proofs.RowTestLemmas.{HasComeToRest, at_most, counts_all, counts_joined, failing_takes, leaves_all, lowering_takes, not_both, over_before, rested_so}
 
 module _ (n : NetworkState) (network : IsNetwork n) (events : List Timed) (b : SettlingTime) (at : ℕ)
     (late : b.at < at) where
@@ -186,30 +60,26 @@ module _ (n : NetworkState) (network : IsNetwork n) (events : List Timed) (b : S
   abbrev v : View
   v = view_at n made now (Some b) at
 
-  -- what its tests said
-  abbrev Why : Row → Type 0
-  Why =
-      ReasonOf (is_from_rest v.longest at v.paths_before v.paths v.told (Some b))
-      (list_all makes_nothing v.told || begins_wider v.told)
-      (are_losses_followed v.paths_before v.told && not v.moves.moved)
-      (is_lowering_followed v.paths_before v.paths v.told && not v.moves.moved) v.moves.cut
-      (is_lowering_followed v.paths_before v.paths v.told && v.moves.turned)
-      (is_lowering_followed v.paths_before v.paths v.told && v.moves.falls)
-      (is_lowering_followed v.paths_before v.paths v.told && v.moves.tree_turns)
-      (is_failing_followed v.paths_before v.paths v.told && not v.moves.moved) v.moves.far v.moves.any v.used
-      (list_any is_loss v.told) (list_all brings_nothing v.told)
+  abbrev tests : Tests
+  tests = record {
+    rest = is_from_rest v.longest at v.paths_before v.paths v.told (Some b);
+    idle = list_all makes_nothing v.told || begins_wider v.told;
+    left = are_losses_followed v.paths_before v.told && not v.moves.moved;
+    lowers = is_lowering_followed v.paths_before v.paths v.told && not v.moves.moved;
+    cut = v.moves.cut;
+    turns = is_lowering_followed v.paths_before v.paths v.told && v.moves.turned;
+    falls = is_lowering_followed v.paths_before v.paths v.told && v.moves.falls;
+    branch = is_lowering_followed v.paths_before v.paths v.told && v.moves.tree_turns;
+    fails = is_failing_followed v.paths_before v.paths v.told && not v.moves.moved;
+    far = v.moves.far;
+    any = v.moves.any;
+    trees = is_failing_followed v.paths_before v.paths v.told && v.moves.trees_fall;
+    loss = list_any is_loss v.told;
+    only = list_all brings_nothing v.told;
+  }
 
-  why : (row : Row) → row_at v ≡ row → Why row
-  why row is =
-      reason_of (is_from_rest v.longest at v.paths_before v.paths v.told (Some b))
-      (list_all makes_nothing v.told || begins_wider v.told)
-      (are_losses_followed v.paths_before v.told && not v.moves.moved)
-      (is_lowering_followed v.paths_before v.paths v.told && not v.moves.moved) v.moves.cut
-      (is_lowering_followed v.paths_before v.paths v.told && v.moves.turned)
-      (is_lowering_followed v.paths_before v.paths v.told && v.moves.falls)
-      (is_lowering_followed v.paths_before v.paths v.told && v.moves.tree_turns)
-      (is_failing_followed v.paths_before v.paths v.told && not v.moves.moved) v.moves.far v.moves.any v.used
-      (list_any is_loss v.told) (list_all brings_nothing v.told) row is
+  why : (row : Row) → row_at v ≡ row → ReasonOf tests row
+  why row is = reason_of tests row is
 
   -- it is from rest
   record IsFromRest : Type 0 where
@@ -483,17 +353,6 @@ module _ (n : NetworkState) (network : IsNetwork n) (events : List Timed) (b : S
       let one = lowers_so well lowers in
       ((from_rest from).rested, one, flight_lowered one)
 
-  -- or a system loses its power that others heard
-  pub lost_power : AreWell n (made ++ now) → (row_at v ≡ LostPower) ⊎ (row_at v ≡ PowerCutsOff)
-      → HasComeToRest b at × FailsHeardFirst n made now × UpIsUsed n (made ++ now)
-  lost_power well which =
-      let (from, fails, used) = by which in
-      ((from_rest from).rested, failing_heard well fails, used_up n network (made ++ now) used)
-    where
-      by : (row_at v ≡ LostPower) ⊎ (row_at v ≡ PowerCutsOff) → Why LostPower
-      by (inl row) = why LostPower row
-      by (inr row) = why PowerCutsOff row
-
   -- or it cuts off its far end
   pub record CutsEnd : Type 0 where
     pub rested : HasComeToRest b at
@@ -512,22 +371,6 @@ module _ (n : NetworkState) (network : IsNetwork n) (events : List Timed) (b : S
         flight = flight_lowered one;
       }
 
-  -- or a far end loses its power
-  pub record LosesEnd : Type 0 where
-    pub rested : HasComeToRest b at
-    pub fails : FailsEndFirst n made now
-    pub used : UpIsUsed n (made ++ now)
-    pub flight : FlightIsGone n made (gone_by n v.paths_before v.used_before)
-
-  pub lost_end : AreWell n (made ++ now) → row_at v ≡ LostEnd → LosesEnd
-  lost_end well row =
-      let (from, fails, far, used) = why LostEnd row in record {
-        rested = (from_rest from).rested;
-        fails = failing_end well fails far;
-        used = used_up n network (made ++ now) used;
-        flight = flight_so;
-      }
-
   -- or one system turns
   pub turned : AreWell n (made ++ now) → row_at v ≡ OneTurned
       → HasComeToRest b at × TurnsOneLink n made now
@@ -538,41 +381,41 @@ module _ (n : NetworkState) (network : IsNetwork n) (events : List Timed) (b : S
       let x = keeps_so keeps in
       ((from_rest from).rested, turns_one_link n network made now well one x.delay x.paths x.few lowers)
 
-  -- an event of this kind comes an announce interval after all came to rest
+  -- what was in flight as the time before was sound has arrived
+  abbrev pub HasCome : HasComeToRest b at → Type 0
+  HasCome rest =
+      (arrived : ℕ) × HasArrivedBy n made (suc (b.at + rest.settling.sound)) arrived × (arrived ≤ at)
+
+  -- an event of this kind comes then
   pub record ComesLate (Is : List Timed → Timed → Type 0) (rest : HasComeToRest b at) : Type 0 where
     pub lowers : OneEvent Is made now
-    pub longer : b.at + (rest.settling.rest + largest_interval (pace_of n)) < at
+    pub come : HasCome rest
 
   -- by which a tree is cut off
   pub record CutsLate (rest : HasComeToRest b at) : Type 0 where
     pub comes : ComesLate (LowersTree n) rest
     pub flight : FlightIsGone n (made ++ now) (gone_by n v.paths v.used_before)
 
-  -- the event tests hold of what goes down by it
-  late_by : (test : Bool) → (is_lowering_followed v.paths_before v.paths v.told
-      && (has_rested_for (largest_interval (pace_of n)) (Some b) at && test)) ≡ true
-      → KeepsPaths × (lowers_one v.told ≡ true) × (test ≡ true)
-      × ((rest : HasComeToRest b at) → b.at + (rest.settling.rest + largest_interval (pace_of n)) < at)
-  late_by test is =
-      let late_test : Bool = has_rested_for (largest_interval (pace_of n)) (Some b) at in
-      let (followed, both) = and_parts (is_lowering_followed v.paths_before v.paths v.told) (late_test && test) is in
-      let (keeps, lowers) = and_parts (keeps_paths v.paths_before v.paths) (lowers_one v.told) followed in
-      let (late_is, so) = and_parts late_test test both in (
-        keeps_so keeps,
-        lowers,
-        so,
-        λ rest. rested_for_so (largest_interval (pace_of n)) b at rest.settling rest.is late_is,
-      )
+  -- events of this kind come then, and paths get no longer
+  late_by : (kind : List Told → Bool) (test : Bool) → (keeps_paths v.paths_before v.paths && kind v.told
+      && (has_come_after n made (Some b) at && test)) ≡ true
+      → KeepsPaths × (kind v.told ≡ true) × (test ≡ true) × ((rest : HasComeToRest b at) → HasCome rest)
+  late_by kind test is =
+      let come : Bool = has_come_after n made (Some b) at in
+      let (followed, both) = and_parts (keeps_paths v.paths_before v.paths && kind v.told) (come && test) is in
+      let (keeps, one) = and_parts (keeps_paths v.paths_before v.paths) (kind v.told) followed in
+      let (come_is, so) = and_parts come test both in
+      (keeps_so keeps, one, so, λ rest. has_come_so n made b at rest.settling rest.is come_is)
 
   pub tree_cut : AreWell n (made ++ now) → row_at v ≡ TreeCutOff → (rest : HasComeToRest b at) × CutsLate rest
   tree_cut well row =
       let (from, falls) = why TreeCutOff row in
-      let (x, lowers, tree, longer) = late_by (cuts_tree_after n made (made ++ now)) falls in
+      let (x, lowers, tree, come) = late_by lowers_one (cuts_tree_after n made (made ++ now)) falls in
       let rest = (from_rest from).rested in
       let one = lowers_tree n network made now well x.delay x.paths x.few lowers tree in (
         rest,
         record {
-          comes = record { lowers = one; longer = longer rest };
+          comes = record { lowers = one; come = come rest };
           flight = flight_on (one_as (LowersTree n) GoesDown made now (λ event l. (l.clock, l.port, l.act)) one);
         },
       )
@@ -582,16 +425,33 @@ module _ (n : NetworkState) (network : IsNetwork n) (events : List Timed) (b : S
       → (rest : HasComeToRest b at) × ComesLate (TurnsTreeLink n) rest
   tree_turned well row =
       let (from, turns) = why TreeTurned row in
-      let (x, lowers, tree, longer) = late_by (turns_tree_after n made (made ++ now)) turns in
+      let (x, lowers, tree, come) = late_by lowers_one (turns_tree_after n made (made ++ now)) turns in
       let rest = (from_rest from).rested in (
         rest,
         record {
           lowers = turns_tree_by n network made now well x.delay x.paths x.few lowers tree;
-          longer = longer rest;
+          come = come rest;
         },
       )
 
-  -- or a far end hangs
+  -- or a system fails and cuts trees off
+  pub record FailsLate : Type 0 where
+    pub rest : HasComeToRest b at
+    pub come : HasCome rest
+    pub fails : FailsTreesFirst n made now
+
+  pub failure_cuts : AreWell n (made ++ now) → row_at v ≡ FailureCutsTrees → FailsLate
+  failure_cuts well row =
+      let (from, trees) = why FailureCutsTrees row in
+      let (x, one, cut, come) = late_by fails_first (cuts_trees_after n made (made ++ now)) trees in
+      let rest = (from_rest from).rested in
+      record {
+        rest = rest;
+        come = come rest;
+        fails = fails_trees_first n network made now well cut x.delay x.paths x.few one;
+      }
+
+  -- or a far end fails
   pub failed : AreWell n (made ++ now) → row_at v ≡ FailedEnd
       → HasComeToRest b at × FailsEndFirst n made now × FlightIsGone n made (gone_by n v.paths_before v.used_before)
   failed well row =
@@ -605,27 +465,37 @@ module _ (n : NetworkState) (network : IsNetwork n) (events : List Timed) (b : S
       let (from, fails) = by which in
       ((from_rest from).rested, failing_heard well fails)
     where
-      by : (row_at v ≡ FailedHeard) ⊎ (row_at v ≡ FailureCutsOff) → Why FailedHeard
+      by : (row_at v ≡ FailedHeard) ⊎ (row_at v ≡ FailureCutsOff) → ReasonOf tests FailedHeard
       by (inl row) = why FailedHeard row
       by (inr row) = why FailureCutsOff row
 
-  -- Or there are losses, and nothing is brought. Then roles stand with the choice; or no sooner than no port beside a
-  -- system that fails is left capable.
-  pub any_losses : row_at v ≡ AnyLosses
-      → HasComeToRest b at × LosesEvents n made now
-      × ((choice : ℕ) → RolesAfterLoss n made now choice
-      (if leaves_silent v.used v.told then max choice (silence_span (pace_of n)) else choice))
-  any_losses row =
-      let (from, loss, only) = why AnyLosses row in (
-        (from_rest from).rested,
-        all_losses n network made now only loss,
-        by only v.used (list_any is_failing v.told) refl refl,
-      )
+  -- no lost link is left silent
+  pub none_left : v.silent ≡ false → NoneSilent n made (made ++ now)
+  none_left = none_silent n made (made ++ now)
+
+  -- Or there are losses, and nothing is brought. Then roles stand with the choice; or, where a lost link is silent, no
+  -- sooner than the port at its live end isn't capable any more.
+  abbrev pub LosesSome : Type 0
+  LosesSome =
+      HasComeToRest b at × LosesEvents n made now
+      × ((choice : ℕ) → RolesAfterLoss n made now choice (quiet_by n (loss_at v) choice))
+
+  loses_some : is_from_rest v.longest at v.paths_before v.paths v.told (Some b) ≡ true
+      → list_all brings_nothing v.told ≡ true → list_any is_loss v.told ≡ true → LosesSome
+  loses_some from only loss =
+      ((from_rest from).rested, all_losses n network made now only loss, by v.silent refl)
     where
-      by : list_all brings_nothing v.told ≡ true → (used failing : Bool) → v.used ≡ used
-          → list_any is_failing v.told ≡ failing → (choice : ℕ)
-          → RolesAfterLoss n made now choice
-          (if not used && failing then max choice (silence_span (pace_of n)) else choice)
-      by only true failing used none choice = inl (inr (used_up n network (made ++ now) used), refl)
-      by only false false used none choice = inl (inl (none_fails n network made now only none), refl)
-      by only false true used none choice = inr refl
+      by : (silent : Bool) → v.silent ≡ silent → (choice : ℕ)
+          → RolesAfterLoss n made now choice (if silent then max choice (silence_span (pace_of n)) else choice)
+      by true is choice = inr refl
+      by false is choice = inl (none_left is, refl)
+
+  -- so it is where a system fails and cuts trees off
+  pub losses : HasLossSpan (row_at v) → LosesSome
+  losses (inl row) = let (from, loss, only) = why AnyLosses row in loses_some from only loss
+  losses (inr row) =
+      let (from, trees) = why FailureCutsTrees row in
+      let (followed, fall) = and_parts (is_failing_followed v.paths_before v.paths v.told) v.moves.trees_fall trees in
+      let (keeps, fails) = and_parts (keeps_paths v.paths_before v.paths) (fails_first v.told) followed in
+      let (only, loss) = failing_loses v.told fails in
+      loses_some from only loss

@@ -3,78 +3,93 @@ use Rattle.std.proofs.Common.{◌≡◌, ◌⊎◌, inl, inr, Bool, true, false,
 use Rattle.std.specs.Prelude.{⊤, not, if◌then◌else◌}
 use Rattle.gptp_how_soon.specs.Rest.{failed_row}
 use Rattle.gptp_how_soon.specs.declared.bounds.Row.{Row}
-use Rattle.gptp_how_soon.specs.declared.bounds.Row.TheVariants.{AnyLosses, AnyPast, CutOff, FailedEnd, FailedHeard, FailureCutsOff, Gained, LostEnd, LostPower, Lowered, OneTurned, PowerCutsOff, TreeCutOff, TreeTurned, Unchanged}
+use Rattle.gptp_how_soon.specs.declared.bounds.Row.TheVariants.{AnyLosses, AnyPast, CutOff, FailedEnd, FailedHeard, FailureCutsOff, FailureCutsTrees, Gained, Lowered, OneTurned, TreeCutOff, TreeTurned, Unchanged}
 
--- It is from rest or isn't; its events change nothing; they are losses that leave what stands; a link goes down, and it
--- cuts off a far end; one system turns; a tree falls off, or a tree turns; a system fails, it was a far end, another is
--- cut off, and each link that is up is in use; an event is a loss, and none brings anything.
-abbrev pub RowBy : Bool → Bool → Bool → Bool → Bool → Bool → Bool → Bool → Bool → Bool → Bool → Bool → Bool → Bool
-    → Row
-RowBy rest idle left lowers cut turns falls branch fails far any used loss only =
-    if not rest then AnyPast else if idle then Unchanged else if left then Unchanged
-    else if lowers then if cut then CutOff else Lowered
-    else if turns then OneTurned else if falls then TreeCutOff else if branch then TreeTurned
-    else if fails then failed_row far any used
-    else if loss then if only then AnyLosses else AnyPast
+pub record Tests : Type 0 where
+  -- it is from rest
+  pub rest : Bool
+  -- its events make nothing of what stands, or they are losses that leave it
+  pub idle : Bool
+  pub left : Bool
+  -- a link goes down, and moves nobody; it cuts off a far end
+  pub lowers : Bool
+  pub cut : Bool
+  -- or one system turns, a tree falls off, or a tree turns
+  pub turns : Bool
+  pub falls : Bool
+  pub branch : Bool
+  -- a system fails, and moves nobody; it was a far end, or another is cut off; or it cuts trees off
+  pub fails : Bool
+  pub far : Bool
+  pub any : Bool
+  pub trees : Bool
+  -- an event is a loss, and none brings anything
+  pub loss : Bool
+  pub only : Bool
+
+abbrev pub RowBy : Tests → Row
+RowBy t =
+    if not t.rest then AnyPast else if t.idle then Unchanged else if t.left then Unchanged
+    else if t.lowers then if t.cut then CutOff else Lowered
+    else if t.turns then OneTurned else if t.falls then TreeCutOff else if t.branch then TreeTurned
+    else if t.fails then failed_row t.far t.any else if t.trees then FailureCutsTrees
+    else if t.loss then if t.only then AnyLosses else AnyPast
     else Gained
 
 -- what they said where it has this row
-abbrev pub ReasonOf : Bool → Bool → Bool → Bool → Bool → Bool → Bool → Bool → Bool → Bool → Bool → Bool → Bool → Bool
-    → Row → Type 0
-ReasonOf rest idle left lowers cut turns falls branch fails far any used loss only AnyPast = ⊤
-ReasonOf rest idle left lowers cut turns falls branch fails far any used loss only Unchanged =
-    (rest ≡ true) × ((idle ≡ true) ⊎ (left ≡ true))
-ReasonOf rest idle left lowers cut turns falls branch fails far any used loss only Lowered =
-    (rest ≡ true) × (lowers ≡ true)
-ReasonOf rest idle left lowers cut turns falls branch fails far any used loss only CutOff =
-    (rest ≡ true) × (lowers ≡ true) × (cut ≡ true)
-ReasonOf rest idle left lowers cut turns falls branch fails far any used loss only LostEnd =
-    (rest ≡ true) × (fails ≡ true) × (far ≡ true) × (used ≡ true)
-ReasonOf rest idle left lowers cut turns falls branch fails far any used loss only OneTurned =
-    (rest ≡ true) × (turns ≡ true)
-ReasonOf rest idle left lowers cut turns falls branch fails far any used loss only TreeCutOff =
-    (rest ≡ true) × (falls ≡ true)
-ReasonOf rest idle left lowers cut turns falls branch fails far any used loss only TreeTurned =
-    (rest ≡ true) × (branch ≡ true)
-ReasonOf rest idle left lowers cut turns falls branch fails far any used loss only FailedEnd =
-    (rest ≡ true) × (fails ≡ true) × (far ≡ true)
-ReasonOf rest idle left lowers cut turns falls branch fails far any used loss only LostPower =
-    (rest ≡ true) × (fails ≡ true) × (used ≡ true)
-ReasonOf rest idle left lowers cut turns falls branch fails far any used loss only PowerCutsOff =
-    (rest ≡ true) × (fails ≡ true) × (used ≡ true)
-ReasonOf rest idle left lowers cut turns falls branch fails far any used loss only FailedHeard =
-    (rest ≡ true) × (fails ≡ true)
-ReasonOf rest idle left lowers cut turns falls branch fails far any used loss only FailureCutsOff =
-    (rest ≡ true) × (fails ≡ true)
-ReasonOf rest idle left lowers cut turns falls branch fails far any used loss only AnyLosses =
-    (rest ≡ true) × (loss ≡ true) × (only ≡ true)
-ReasonOf rest idle left lowers cut turns falls branch fails far any used loss only Gained =
-    (rest ≡ true) × (loss ≡ false) × (idle ≡ false)
+abbrev pub ReasonOf : Tests → Row → Type 0
+ReasonOf t AnyPast = ⊤
+ReasonOf t Unchanged = (t.rest ≡ true) × ((t.idle ≡ true) ⊎ (t.left ≡ true))
+ReasonOf t Lowered = (t.rest ≡ true) × (t.lowers ≡ true)
+ReasonOf t CutOff = (t.rest ≡ true) × (t.lowers ≡ true) × (t.cut ≡ true)
+ReasonOf t OneTurned = (t.rest ≡ true) × (t.turns ≡ true)
+ReasonOf t TreeCutOff = (t.rest ≡ true) × (t.falls ≡ true)
+ReasonOf t TreeTurned = (t.rest ≡ true) × (t.branch ≡ true)
+ReasonOf t FailedEnd = (t.rest ≡ true) × (t.fails ≡ true) × (t.far ≡ true)
+ReasonOf t FailedHeard = (t.rest ≡ true) × (t.fails ≡ true)
+ReasonOf t FailureCutsOff = (t.rest ≡ true) × (t.fails ≡ true)
+ReasonOf t FailureCutsTrees = (t.rest ≡ true) × (t.trees ≡ true)
+ReasonOf t AnyLosses = (t.rest ≡ true) × (t.loss ≡ true) × (t.only ≡ true)
+ReasonOf t Gained = (t.rest ≡ true) × (t.loss ≡ false) × (t.idle ≡ false)
 
-reason : (rest idle left lowers cut turns falls branch fails far any used loss only : Bool)
-    → ReasonOf rest idle left lowers cut turns falls branch fails far any used loss only
-    (RowBy rest idle left lowers cut turns falls branch fails far any used loss only)
-reason false idle left lowers cut turns falls branch fails far any used loss only = tt
-reason true true left lowers cut turns falls branch fails far any used loss only = (refl, inl refl)
-reason true false true lowers cut turns falls branch fails far any used loss only = (refl, inr refl)
-reason true false false true true turns falls branch fails far any used loss only = (refl, refl, refl)
-reason true false false true false turns falls branch fails far any used loss only = (refl, refl)
-reason true false false false cut true falls branch fails far any used loss only = (refl, refl)
-reason true false false false cut false true branch fails far any used loss only = (refl, refl)
-reason true false false false cut false false true fails far any used loss only = (refl, refl)
-reason true false false false cut false false false true true any true loss only = (refl, refl, refl, refl)
-reason true false false false cut false false false true true any false loss only = (refl, refl, refl)
-reason true false false false cut false false false true false true true loss only = (refl, refl, refl)
-reason true false false false cut false false false true false true false loss only = (refl, refl)
-reason true false false false cut false false false true false false true loss only = (refl, refl, refl)
-reason true false false false cut false false false true false false false loss only = (refl, refl)
-reason true false false false cut false false false false far any used true true = (refl, refl, refl)
-reason true false false false cut false false false false far any used true false = tt
-reason true false false false cut false false false false far any used false only = (refl, refl, refl)
+abbrev tests : Bool → Bool → Bool → Bool → Bool → Bool → Bool → Bool → Bool → Bool → Bool → Bool → Bool → Bool → Tests
+tests rest idle left lowers cut turns falls branch fails far any trees loss only = record {
+  rest = rest;
+  idle = idle;
+  left = left;
+  lowers = lowers;
+  cut = cut;
+  turns = turns;
+  falls = falls;
+  branch = branch;
+  fails = fails;
+  far = far;
+  any = any;
+  trees = trees;
+  loss = loss;
+  only = only;
+}
 
-pub reason_of : (rest idle left lowers cut turns falls branch fails far any used loss only : Bool) (row : Row)
-    → RowBy rest idle left lowers cut turns falls branch fails far any used loss only ≡ row
-    → ReasonOf rest idle left lowers cut turns falls branch fails far any used loss only row
-reason_of rest idle left lowers cut turns falls branch fails far any used loss only row is =
-    subst (ReasonOf rest idle left lowers cut turns falls branch fails far any used loss only) is
-    (reason rest idle left lowers cut turns falls branch fails far any used loss only)
+reason : (rest idle left lowers cut turns falls branch fails far any trees loss only : Bool)
+    → ReasonOf (tests rest idle left lowers cut turns falls branch fails far any trees loss only)
+    (RowBy (tests rest idle left lowers cut turns falls branch fails far any trees loss only))
+reason false idle left lowers cut turns falls branch fails far any trees loss only = tt
+reason true true left lowers cut turns falls branch fails far any trees loss only = (refl, inl refl)
+reason true false true lowers cut turns falls branch fails far any trees loss only = (refl, inr refl)
+reason true false false true true turns falls branch fails far any trees loss only = (refl, refl, refl)
+reason true false false true false turns falls branch fails far any trees loss only = (refl, refl)
+reason true false false false cut true falls branch fails far any trees loss only = (refl, refl)
+reason true false false false cut false true branch fails far any trees loss only = (refl, refl)
+reason true false false false cut false false true fails far any trees loss only = (refl, refl)
+reason true false false false cut false false false true true any trees loss only = (refl, refl, refl)
+reason true false false false cut false false false true false true trees loss only = (refl, refl)
+reason true false false false cut false false false true false false trees loss only = (refl, refl)
+reason true false false false cut false false false false far any true loss only = (refl, refl)
+reason true false false false cut false false false false far any false true true = (refl, refl, refl)
+reason true false false false cut false false false false far any false true false = tt
+reason true false false false cut false false false false far any false false only = (refl, refl, refl)
+
+pub reason_of : (t : Tests) (row : Row) → RowBy t ≡ row → ReasonOf t row
+reason_of t row is =
+    subst (ReasonOf t) is
+    (reason t.rest t.idle t.left t.lowers t.cut t.turns t.falls t.branch t.fails t.far t.any t.trees t.loss t.only)

@@ -24,7 +24,8 @@ use Rattle.gptp_how_soon_laws.proofs.LoweredLemmas.{TakesDown, is_lost_there, li
 use Rattle.gptp_how_soon_laws.proofs.OneLostLemmas.{OneLost, at_other, at_top, lost_between}
 use Rattle.gptp_how_soon_laws.proofs.TreeLemmas.{Cuts, cut_so, cuts}
 use Rattle.gptp_how_soon_laws.proofs.UnmovedLemmas.{AreWell}
-use Rattle.gptp_how_soon_laws.proofs.TurnedTreeLemmas.{Turns, turned_so, turns}
+use Rattle.gptp_how_soon_laws.proofs.TurnedTreeLemmas.{turned_so}
+use Rattle.gptp_how_soon_laws.proofs.TurnedTreeTestLemmas.{Turns, turns}
 use Rattle.gptp_how_soon_laws.proofs.WorseningLemmas.{clock_over}
 
 module _ (n : NetworkState) (network : IsNetwork n) (made : List Timed) (event : Timed) where

@@ -1,41 +1,28 @@
 -- Where the tests of a tree that falls off hold, it does from one snapshot to the other.
-use Rattle.std.proofs.Common.{◌≡◌, ◌<◌, ◌≤◌, ◌⊎◌, inl, inr, ◌-◌, ◌+◌, ℕ, suc, Bool, true, false, List, [], ◌∷◌, Option, Some, None, length, slice_get, refl, sym, ap, subst, ◌∙◌, arith}
-use Rattle.std.specs.Prelude.{◌&&◌, nat_le, not, if◌then◌else◌}
-use Rattle.std.specs.List.{count_by, list_all, range_with_len}
+use Rattle.std.proofs.Common.{◌≡◌, ◌⊎◌, inl, inr, ℕ, Bool, true, false, List, [], ◌∷◌, length, slice_get, refl, sym, ap, ◌∙◌}
+use Rattle.std.specs.Prelude.{◌&&◌, not, if◌then◌else◌}
+use Rattle.std.specs.List.{list_all, range_with_len}
 use Rattle.std.proofs.lemmas.Bool.{and_parts}
-use Rattle.std.proofs.lemmas.Bool.Decides.{nat_tests}
 use Rattle.gptp_lists.specs.Members.{In}
-use Rattle.gptp_lists.proofs.SystemSpecLemmas.{In-map}
 use Rattle.gptp_graph.specs.Best.{IsBest}
-use Rattle.gptp_graph.specs.Distance.{IsDistance}
-use Rattle.gptp_graph.specs.Snapshot.{Adjacent, IsWellFormed, Joins, PortIdentity, Snapshot, System, clocks, port_of}
-use Rattle.gptp_graph.proofs.BestLemmas.{IsBest-neighbour, IsBest-unique}
-use Rattle.gptp_graph.proofs.LinkLemmas.{Adjacent-clock, Joins-clock, Joins-sym}
-use Rattle.gptp_network.specs.Snapshot.{StandsAfter, link_of}
+use Rattle.gptp_graph.specs.Snapshot.{IsWellFormed, Snapshot, System, clocks}
+use Rattle.gptp_network.specs.Snapshot.{StandsAfter}
 use Rattle.gptp_scenario.specs.Network.{IsNetwork, NetworkState}
 use Rattle.gptp_scenario.specs.declared.change.Timed.{Timed}
-use Rattle.gptp_scenario.specs.declared.network.LinkSpec.{LinkSpec}
 use Rattle.gptp_topology.specs.After.{systems_after}
 use Rattle.gptp_topology.specs.declared.nodes.System as ours
-use Rattle.gptp_how_soon.specs.Chosen.{chosen_after, ends_of, is_moved_at, lost_ends, place_of, used_ends}
-use Rattle.gptp_how_soon.specs.Tree.{cuts_below, cuts_tree, cuts_tree_after, has_better_root, has_no_more_steps, has_one_nearer, has_same_root, is_below, is_below_or_apart, is_one_apart, leads_one_on}
-use Rattle.gptp_how_soon.specs.Turned.{has_fewer_steps, leads_nearer}
+use Rattle.gptp_how_soon.specs.Chosen.{chosen_after, is_moved_at, lost_ends, used_ends}
+use Rattle.gptp_how_soon.specs.Tree.{cuts_below, cuts_tree, cuts_tree_after, has_better_root, has_same_root, is_below, is_below_or_apart}
 use Rattle.gptp_how_soon.specs.declared.chosen.Chosen.{Chosen}
 use Rattle.gptp_how_soon.specs.declared.chosen.Ends.{Ends}
-use Rattle.gptp_how_soon.proofs.ChosenLemmas.{IsAt, at_clock, one_clock, place_is}
+use Rattle.gptp_how_soon.proofs.ChosenLemmas.{IsAt}
 use Rattle.gptp_settling_time.specs.Losses.{IsUnmoved}
 use Rattle.gptp_settling_time.specs.TreeLosses.{IsCutTree}
 use Rattle.gptp_how_soon_laws.proofs.FailedLemmas.{each_is}
-use Rattle.gptp_how_soon_laws.proofs.TreeTestLemmas.{apart_so, better_so, fewer_back, nearer_at_first, nearer_at_second, no_more_so, one_on_first, one_on_second, one_same, same_back, same_so}
 use Rattle.gptp_how_soon_laws.proofs.UnmovedLemmas.{asked_of, unmoved_at}
-use Rattle.gptp_how_soon_laws.proofs.WorseningLemmas.{same_system}
 use Rattle.gptp_how_soon_laws.proofs.LivesOnLemmas.{LivesOn, on_at, on_of}
-use Rattle.gptp_how_soon_laws.proofs.LostLinkLemmas.{IsJoinedBy, ends_are, joined_by, same_port, stands_or_lost, used_links}
 use Rattle.gptp_how_soon_laws.proofs.OneLostLemmas.{OneLost, OneLostBy, at_other, at_top, known_ends, lost_between, one_lost}
-
-abbrev steps_of : Option Chosen → ℕ
-steps_of None = 0
-steps_of (Some c) = c.steps
+use Rattle.gptp_how_soon_laws.proofs.TreeBelowLemmas.{IsTop, below_same, best, best_so, cut_off, inside_so, next, tree}
 
 module _ (n : NetworkState) (network : IsNetwork n) (made events : List Timed) where
   abbrev before : List Chosen
@@ -90,123 +77,34 @@ module _ (n : NetworkState) (network : IsNetwork n) (made events : List Timed) w
     abbrev top : ℕ
     top = t.one.top
 
-    -- a system that lives at both times
-    abbrev On : ℕ → ℕ → Type 0
-    On = LivesOn n network made events g h stands stands' well well' lived
+    abbrev in_tree : ℕ → Bool
+    in_tree i = has_same_root (slice_get now top) (slice_get now i)
 
-    on : (v : ℕ) → In v (clocks h) → (i : ℕ) × On i v
-    on = on_of n network made events g h stands stands' well well' lived
+    -- by whether the system at a place is moved
+    told_by : (i v : ℕ) → IsAt n i v → (moved : Bool) → is_moved_there i ≡ moved
+        → (if moved then is_below links before now top i else not (in_tree i)) ≡ true
+    told_by i v at moved is =
+        ap (λ b. if b then is_below links before now top i else not (in_tree i)) (sym is)
+        ∙ each_is (is_below_or_apart systems links before now top) (range_with_len 0 (length systems)) i t.all
+        (asked_of n events i at.system at.there)
 
-    abbrev top_is : On top t.one.top_clock
-    top_is =
-        on_at n network made events g h stands stands' well well' lived top t.one.top_clock
-        (at_top n network made events t.one g stands well)
-        (lives t.one.top_clock (known_ends n network made events t.one g stands well).0)
-
-    abbrev best : System
-    best = top_is.chose.best
-
-    abbrev next : System
-    next = top_is.chooses.best
-
-    abbrev base : ℕ
-    base = top_is.was.steps
-
-    -- ---- who is of the tree
-
-    told : (i v : ℕ) (s : On i v) → is_below_or_apart systems links before now top i ≡ true
-    told i v s =
-        each_is (is_below_or_apart systems links before now top) (range_with_len 0 (length systems)) i t.all
-        (asked_of n events i s.at.system s.at.there)
-
-    record Below (i : ℕ) : Type 0 where
-      root : has_same_root (slice_get before top) (slice_get before i) ≡ true
-      steps : has_no_more_steps (slice_get before top) (slice_get before i) ≡ true
-      now_root : has_same_root (slice_get now top) (slice_get now i) ≡ true
-      single : has_one_nearer before links i ≡ true
-      on : list_all (leads_one_on before i) links ≡ true
-
-    below : (i v : ℕ) (s : On i v) → is_moved_there i ≡ true → Below i
-    below i v s moved =
-        let so : is_below links before now top i ≡ true =
-        ap (λ b. if b then is_below links before now top i
-        else not (has_same_root (slice_get now top) (slice_get now i))) (sym moved) ∙ told i v s in
-        let root_test : Bool = has_same_root (slice_get before top) (slice_get before i) in
-        let steps_test : Bool = has_no_more_steps (slice_get before top) (slice_get before i) in
-        let now_test : Bool = has_same_root (slice_get now top) (slice_get now i) in
-        let single_test : Bool = has_one_nearer before links i in
-        let on_test : Bool = list_all (leads_one_on before i) links in
-        let (four, on) = and_parts (root_test && steps_test && now_test && single_test) on_test so in
-        let (three, single) = and_parts (root_test && steps_test && now_test) single_test four in
-        let (two, now_root) = and_parts (root_test && steps_test) now_test three in
-        let (root, steps) = and_parts root_test steps_test two in
-        record { root = root; steps = steps; now_root = now_root; single = single; on = on }
-
-    moved_in : (i v : ℕ) (s : On i v) → IsBest h v next → is_moved_there i ≡ true
-    moved_in i v s in_v = by (is_moved_there i) refl
+    moved_below : (i v : ℕ) → IsAt n i v → in_tree i ≡ true
+        → (is_moved_there i ≡ true) × (is_below links before now top i ≡ true)
+    moved_below i v at inside = by (is_moved_there i) refl
       where
-        one : top_is.is.root ≡ s.is.root
-        one =
-            let same : next ≡ s.chooses.best = IsBest-unique h v next s.chooses.best well' in_v s.chooses.is_best in
-            top_is.chooses.root ∙ ap (λ (b : System). b.identity) same ∙ sym s.chooses.root
+        by : (moved : Bool) → is_moved_there i ≡ moved
+            → (is_moved_there i ≡ true) × (is_below links before now top i ≡ true)
+        by true is = (is, told_by i v at true is)
+        by false is = let no : false ≡ true = ap not (sym inside) ∙ told_by i v at false is in absurd cc
 
-        by : (test : Bool) → is_moved_there i ≡ test → is_moved_there i ≡ true
-        by true moved = moved
-        by false none =
-            let apart : not (has_same_root (slice_get now top) (slice_get now i)) ≡ true =
-            ap (λ b. if b then is_below links before now top i
-            else not (has_same_root (slice_get now top) (slice_get now i))) (sym none) ∙ told i v s in
-            let same = same_back now top i top_is.is s.is top_is.is_there s.is_there one in
-            let no : false ≡ true = ap not (sym same) ∙ apart in
-            absurd cc
-
-    in_so : (i v : ℕ) (s : On i v) → is_moved_there i ≡ true → IsBest h v next
-    in_so i v s moved =
-        let b = below i v s moved in
-        let root = same_so now top i top_is.is s.is top_is.is_there s.is_there b.now_root in
-        let one : s.chooses.best ≡ next =
-        same_system n network events events h h stands' stands' s.chooses.best next s.chooses.is_best.live
-        top_is.chooses.is_best.live (sym s.chooses.root ∙ sym root ∙ top_is.chooses.root) in
-        subst (IsBest h v) one s.chooses.is_best
-
-    in_below : (i v : ℕ) (s : On i v) → IsBest h v next → Below i
-    in_below i v s in_v = below i v s (moved_in i v s in_v)
-
-    no_nearer : (i v : ℕ) (s : On i v) → IsBest h v next → base ≤ s.was.steps
-    no_nearer i v s in_v =
-        no_more_so before top i top_is.was s.was top_is.was_there s.was_there (in_below i v s in_v).steps
-
-    abbrev depth_at : ℕ → ℕ
-    depth_at i = if is_moved_there i then steps_of (slice_get before i) - base else 0
-
-    depth : ℕ → ℕ
-    depth v = depth_at (place_of (systems_after n []) v)
-
-    depth_there : (i v : ℕ) → IsAt n i v → depth v ≡ depth_at i
-    unfolding depth
-    depth_there i v at = ap depth_at (place_is n network made g stands well [] i v at)
-
-    depth_is : (i v : ℕ) (s : On i v) → IsBest h v next → base + depth v ≡ s.was.steps
-    depth_is i v s in_v =
-        let moved = moved_in i v s in_v in
-        let least = no_nearer i v s in_v in
-        let is : depth v ≡ s.was.steps - base =
-        depth_there i v s.at ∙ ap (λ b. if b then steps_of (slice_get before i) - base else 0) moved
-        ∙ ap (λ o. steps_of o - base) s.was_there in
-        omega (arith, least, is)
-
-    -- ---- links
-
-    -- a system of the tree at one that is lost is the top
-    only_top : (i v : ℕ) → IsAt n i v → IsBest h v next → (e : Ends) → In e (lost_ends n made events)
-        → (e.a ≡ i) ⊎ (e.b ≡ i) → v ≡ t.one.top_clock
-    only_top i v at in_v e listed end = elim places [
-      | inl is ↦
-          one_clock n network made g stands well top v t.one.top_clock (subst (λ k. IsAt n k v) is at)
-          (at_top n network made events t.one g stands well)
+    -- a system of the tree at a link that is lost is the top
+    only_top : (i v : ℕ) → IsAt n i v → in_tree i ≡ true → (e : Ends) → In e (lost_ends n made events)
+        → (e.a ≡ i) ⊎ (e.b ≡ i) → i ≡ top
+    only_top i v at inside e listed end = elim places [
+      | inl is ↦ is
       | inr other ↦
-          let s = on_at n network made events g h stands stands' well well' lived i v at in_v.reached.1.begins in
-          let moved : is_moved_there t.one.other ≡ true = ap is_moved_there (sym other) ∙ moved_in i v s in_v in
+          let moved : is_moved_there t.one.other ≡ true =
+          ap is_moved_there (sym other) ∙ (moved_below i v at inside).0 in
           let no : false ≡ true = ap not (sym moved) ∙ t.stays in
           absurd cc
     ]
@@ -217,194 +115,63 @@ module _ (n : NetworkState) (network : IsNetwork n) (made events : List Timed) w
           | inr (b, a) ↦ elim end [ inl is ↦ inr (sym is ∙ a) | inr is ↦ inl (sym is ∙ b) ]
         ]
 
-    lost_so : (v u : ℕ) → IsBest h v next → Adjacent g v u → Adjacent h v u ⊎ (v ≡ t.one.top_clock)
-    lost_so v u in_v (p, q, joins) =
-        let (i, s) = on v in_v.reached.1.begins in
-        let known_u = Adjacent-clock g v u well (p, q, joins) in
-        let (j, at_u) = at_clock n network made g stands well u known_u in
-        elim joins [
-          | inl member ↦
-              elim (stands_or_lost n network made g stands well events h stands' well'
-              (record { a = port_of v p; b = port_of u q }) member) [
-                | inl still ↦ inl (p, q, inl still)
-                | inr (w, same, listed) ↦
-                    let ends =
-                    ends_are n network made g stands well w v u i j (record { a = port_of v p; b = port_of u q }) same
-                    refl refl s.at at_u in
-                    inr (only_top i v s.at in_v (ends_of n w) listed (inl (ap (λ (e : Ends). e.a) ends)))
-              ]
-          | inr member ↦
-              elim (stands_or_lost n network made g stands well events h stands' well'
-              (record { a = port_of u q; b = port_of v p }) member) [
-                | inl still ↦ inl (p, q, inr still)
-                | inr (w, same, listed) ↦
-                    let ends =
-                    ends_are n network made g stands well w u v j i (record { a = port_of u q; b = port_of v p }) same
-                    refl refl at_u s.at in
-                    inr (only_top i v s.at in_v (ends_of n w) listed (inr (ap (λ (e : Ends). e.b) ends)))
-              ]
-        ]
+    is_top : IsTop n network made events g h stands stands' well well' lived top t.one.top_clock
+    is_top = record {
+      at = at_top n network made events t.one g stands well;
+      known = lives t.one.top_clock (known_ends n network made events t.one g stands well).0;
+      worse = t.worse;
+      below = λ i v at known inside. (moved_below i v at inside).1;
+      lost = λ i v at known inside e listed end. only_top i v at inside e listed end;
+    }
 
-    -- a link in use joins the systems at two places
-    abbrev Joined : ℕ → ℕ → PortIdentity → PortIdentity → Type 0
-    Joined = IsJoinedBy n network made g stands well events h stands' well'
-
-    joined : (i j : ℕ) (p q : PortIdentity) → IsAt n i p.clock → IsAt n j q.clock → Joins h p q → Joined i j p q
-    joined = joined_by n network made g stands well events h stands' well'
-
-    one_on : (i j : ℕ) (p q : PortIdentity) → Joined i j p q → Below i
-        → is_one_apart (slice_get before i) (slice_get before j) ≡ true
-    one_on i j p q x b =
-        let on : leads_one_on before i (ends_of n x.wire) ≡ true =
-        each_is (leads_one_on before i) links (ends_of n x.wire) b.on
-        (In-map (ends_of n) x.wire (used_links n events) x.among) in
-        elim x.by [
-          | inl (ends, is) ↦ one_on_first before i j (subst (λ e. leads_one_on before i e ≡ true) ends on)
-          | inr (ends, is) ↦ one_on_second before i j (subst (λ e. leads_one_on before i e ≡ true) ends on)
-        ]
-
-    nearer_on : (i j : ℕ) (p q : PortIdentity) (x : Joined i j p q)
-        → has_fewer_steps (slice_get before j) (slice_get before i) ≡ true
-        → leads_nearer before i (ends_of n x.wire) ≡ true
-    nearer_on i j p q x fewer = elim x.by [
-      | inl (ends, is) ↦ ap (leads_nearer before i) ends ∙ nearer_at_first before i j fewer
-      | inr (ends, is) ↦ ap (leads_nearer before i) ends ∙ nearer_at_second before i j fewer
-    ]
-
-    steps_so : (v u : ℕ) → IsBest h v next → Adjacent h v u → (depth u ≡ suc (depth v)) ⊎ (depth v ≡ suc (depth u))
-    steps_so v u in_v (p, q, joins) =
-        let in_u = IsBest-neighbour h v u next well' (p, q, joins) in_v in
-        let (i, s) = on v in_v.reached.1.begins in
-        let (j, r) = on u in_u.reached.1.begins in
-        let x = joined i j (port_of v p) (port_of u q) s.at r.at joins in
-        let apart =
-        apart_so before i j s.was r.was s.was_there r.was_there
-        (one_on i j (port_of v p) (port_of u q) x (in_below i v s in_v)) in
-        let v_is = depth_is i v s in_v in
-        let u_is = depth_is j u r in_u in
-        elim apart [
-          | inl more ↦ inr (omega (arith, v_is, u_is, more))
-          | inr more ↦ inl (omega (arith, v_is, u_is, more))
-        ]
-
-    -- ---- two links of a system that lead less deep
-
-    -- one of them
-    record Leads (i v port : ℕ) (c : PortIdentity) : Type 0 where
-      wire : LinkSpec
-      among : In wire (used_links n events)
-      nearer : leads_nearer before i (ends_of n wire) ≡ true
-      link : (link_of (wire.a, wire.b) ≡ record { a = port_of v port; b = c })
-          ⊎ (link_of (wire.a, wire.b) ≡ record { a = c; b = port_of v port })
-
-    leads : (i v port : ℕ) (c : PortIdentity) (s : On i v) → IsBest h v next → Joins h (port_of v port) c
-        → depth v ≡ suc (depth c.clock) → Leads i v port c
-    leads i v port c s in_v joins less =
-        let known_c = Joins-clock h c (port_of v port) well' (Joins-sym h (port_of v port) c joins) in
-        let (j, r) = on c.clock known_c in
-        let in_c = IsBest-neighbour h v c.clock next well' (port, c.port, joins) in_v in
-        let x = joined i j (port_of v port) c s.at r.at joins in
-        let v_is = depth_is i v s in_v in
-        let c_is = depth_is j c.clock r in_c in
-        let fewer =
-        fewer_back before j i r.was s.was r.was_there s.was_there (omega (arith, v_is, c_is, less)) in
-        record {
-          wire = x.wire;
-          among = x.among;
-          nearer = nearer_on i j (port_of v port) c x fewer;
-          link = elim x.by [ inl (ends, is) ↦ inl is | inr (ends, is) ↦ inr is ];
-        }
-
-    most_one : (i : ℕ) → has_one_nearer before links i ≡ true → count_by (leads_nearer before i) links ≤ 1
-    most_one i is = least (count_by (leads_nearer before i) links) is
-      where
-        least : (k : ℕ) → nat_le k 1 ≡ true → k ≤ 1
-        least k test = grind (arith, nat_tests)
-
-    -- none leads from a system to itself
-    no_loop : (v : ℕ) (c : PortIdentity) → depth v ≡ suc (depth c.clock) → c.clock ≡ v → ⊥
-    no_loop v c less same = let k : depth c.clock ≡ depth v = ap depth same in absurd (omega (arith, less, k))
-
-    single_so : (v p q : ℕ) (a b : PortIdentity) → Joins h (port_of v p) a → Joins h (port_of v q) b
-        → depth v ≡ suc (depth a.clock) → depth v ≡ suc (depth b.clock) → p ≡ q
-    single_so v p q a b first second near near' =
-        let (i, s) = on v (Joins-clock h (port_of v p) a well' first) in by i s (is_moved_there i) refl
-      where
-        by : (i : ℕ) (s : On i v) (moved : Bool) → is_moved_there i ≡ moved → p ≡ q
-        by i s true moved =
-            let in_v = in_so i v s moved in
-            let x = leads i v p a s in_v first near in
-            let y = leads i v q b s in_v second near' in
-            let one : x.wire ≡ y.wire =
-            one_same (leads_nearer before i) (ends_of n) (used_links n events) x.wire y.wire
-            (most_one i (in_below i v s in_v).single) x.among y.among x.nearer y.nearer in
-            same_port v p q a b (no_loop v a near) (no_loop v b near') x.link y.link
-            (ap (λ (w : LinkSpec). link_of (w.a, w.b)) one)
-        by i s false none =
-            let zero : depth v ≡ 0 =
-            depth_there i v s.at ∙ ap (λ b. if b then steps_of (slice_get before i) - base else 0) none in
-            absurd (omega (arith, zero, near))
+    abbrev last : System
+    last = next n network made events g h stands stands' well well' lived top t.one.top_clock is_top
 
     -- ---- the tree
 
-    others : (v : ℕ) → In v (clocks h) → (IsBest h v next → ⊥) → IsUnmoved g h v
-    others v known out = let (i, s) = on v known in by i s (is_moved_there i) refl
+    others : (v : ℕ) → In v (clocks h) → (IsBest h v last → ⊥) → IsUnmoved g h v
+    others v known out =
+        let (i, s) = on_of n network made events g h stands stands' well well' lived v known in
+        by i s (is_moved_there i) refl
       where
-        by : (i : ℕ) (s : On i v) (moved : Bool) → is_moved_there i ≡ moved → IsUnmoved g h v
-        by i s true moved = absurd (out (in_so i v s moved))
+        by : (i : ℕ) (s : LivesOn n network made events g h stands stands' well well' lived i v) (moved : Bool)
+            → is_moved_there i ≡ moved → IsUnmoved g h v
+        by i s true moved =
+            absurd (out (best_so n network made events g h stands stands' well well' lived top t.one.top_clock is_top
+            i v s
+            (below_same n network made events g h stands stands' well well' lived top i (told_by i v s.at true moved))))
         by i s false moved =
             unmoved_at n network made events g h stands stands' well well' v (lived v known) known i s.at moved
 
-    outside : IsBest h t.one.other_clock next → ⊥
+    outside : IsBest h t.one.other_clock last → ⊥
     outside in_other =
         let s = on_at n network made events g h stands stands' well well' lived t.one.other t.one.other_clock
         (at_other n network made events t.one g stands well) in_other.reached.1.begins in
-        let no : false ≡ true = ap not (sym (moved_in t.one.other t.one.other_clock s in_other)) ∙ t.stays in
+        let inside =
+        inside_so n network made events g h stands stands' well well' lived top t.one.top_clock is_top t.one.other
+        t.one.other_clock s in_other in
+        let no : false ≡ true = ap not (sym (moved_below t.one.other t.one.other_clock s.at inside).0) ∙ t.stays in
         absurd cc
-
-    worse : best.identity < next.identity
-    worse =
-        let so = better_so top_is.was top_is.is
-        ((λ k. has_better_root (sym top_is.was_there k) (sym top_is.is_there k)) ∙ t.worse) in
-        let first = top_is.chose.root in
-        let last = top_is.chooses.root in
-        omega (arith, so, first, last)
-
-    was_best : (v : ℕ) → IsBest h v next → IsBest g v best
-    was_best v in_v =
-        let (i, s) = on v in_v.reached.1.begins in
-        let root =
-        same_so before top i top_is.was s.was top_is.was_there s.was_there (in_below i v s in_v).root in
-        let one : s.chose.best ≡ best =
-        same_system n network made made g g stands stands s.chose.best best s.chose.is_best.live
-        top_is.chose.is_best.live (sym s.chose.root ∙ sym root ∙ top_is.chose.root) in
-        subst (IsBest g v) one s.chose.is_best
-
-    was_far : (v : ℕ) → IsBest h v next → IsDistance g v (base + depth v)
-    was_far v in_v =
-        let (i, s) = on v in_v.reached.1.begins in
-        subst (IsDistance g v) (sym (depth_is i v s in_v)) s.chose.far
-
-    first_so : depth t.one.top_clock ≡ 0
-    first_so =
-        let is = depth_is top t.one.top_clock top_is top_is.chooses.is_best in
-        let same : base ≡ top_is.was.steps = refl in
-        omega (arith, is, same)
-
-    is_cut : IsCutTree g h t.one.top_clock t.one.other_clock best next base depth
-    is_cut = record {
-      in_top = top_is.chooses.is_best;
-      outside = outside;
-      others = others;
-      worse = worse;
-      was_best = was_best;
-      was = was_far;
-      first = first_so;
-      lost = lost_so;
-      steps = steps_so;
-      single = single_so;
-    }
 
     pub cut_so : (best : System) × (next : System) × (base : ℕ) × (depth : ℕ → ℕ)
         × IsCutTree g h t.one.top_clock t.one.other_clock best next base depth
-    cut_so = (best, next, base, depth, is_cut)
+    cut_so =
+        let c = cut_off n network made events g h stands stands' well well' lived top t.one.top_clock is_top in
+        let x = tree n network made events g h stands stands' well well' lived top t.one.top_clock is_top in (
+          best n network made events g h stands stands' well well' lived top t.one.top_clock is_top,
+          x.next,
+          x.base,
+          x.depth,
+          record {
+            in_top = c.in_top;
+            outside = outside;
+            others = others;
+            worse = c.worse;
+            was_best = c.was_best;
+            was = c.was;
+            first = c.first;
+            lost = c.lost;
+            steps = c.steps;
+            single = c.single;
+          },
+        )

@@ -34,7 +34,7 @@ use Rattle.gptp_invariants.proofs.ChoicePlaceLemmas.{port_there, station_there}
 use Rattle.gptp_invariants.specs.ChoiceCalm.{IsQuietWith, IsQuietWorld, SettlingTimes, network_with, paths_with, step_with, sync_paths_of, at_once, clean_from, delay_in, in_turn}
 use Rattle.gptp_invariants.specs.WorldStanding.{snapshot_of}
 use Rattle.gptp_invariants.specs.ChoiceSettlesAsMachine.{BecomeCapable, SettlesAsMachine, IsSettling, IsWorld, quick_network, settling_network, start_of}
-use Rattle.gptp_invariants.specs.ChoiceSettled.{Settled, graph_role}
+use Rattle.gptp_invariants.specs.ChoiceSettled.{ChoiceStands, Settled, graph_role}
 use Rattle.gptp_invariants.proofs.ChoiceSettlesAsMachineLemmas.{is_calm, is_network, is_quick_calm, is_quick_network, paths_bound, paths_fewer, turns_less}
 use Rattle.gptp_invariants.proofs.ChoiceParentLemmas.{parent_settled}
 use Rattle.gptp_invariants.proofs.SyncWaitLemmas.{spans_grow}
@@ -231,3 +231,9 @@ pub settles : (p : SettlingParams) (w : WorldState) → IsWorld p w → IsQuietW
 settles p w is quiet capable holds =
     settles_by_paths p w is capable holds (path_bound (snapshot_of w)) (paths_bound p w is) quiet
     (length (snapshot_of w).systems) (paths_fewer (snapshot_of w))
+
+-- the choice stands in a world that has settled
+pub choice_stands : (w : WorldState) → Settled w → ChoiceStands w
+choice_stands w settled place station here live near =
+    let is = settled place station here live near in
+    record { root = is.root; steps = is.steps; slave = is.slave; parent = is.parent }

@@ -45,7 +45,7 @@ use Rattle.gptp_invariants.specs.SyncTimedLaws.{IsRootOf}
 use Rattle.gptp_invariants.specs.WorldStanding.{snapshot_of}
 use Rattle.gptp_invariants.proofs.ChoiceCalmKeptLemmas.{KeepsNetwork}
 use Rattle.gptp_invariants.proofs.ChoiceFoundLemmas.{place_is}
-use Rattle.gptp_invariants.proofs.SyncFollowTreeLemmas.{settled_system, well_formed}
+use Rattle.gptp_invariants.proofs.SyncFollowTreeLemmas.{own_choice, well_formed}
 use Rattle.gptp_invariants.proofs.WorldSystemLemmas.{live_from}
 
 -- ---- look-ups
@@ -219,16 +219,16 @@ module _ (p : SettlingParams) (settled longest : ℕ) (w : WorldState) (is : IsS
   g = snapshot_of w
 
   abbrev pub best : System
-  best = (settled_system p settled longest w is at f).root.0
+  best = (own_choice p settled longest w is at f).root.0
 
   pub is_best : IsBest g (clock s) best
-  is_best = (settled_system p settled longest w is at f).root.1
+  is_best = (own_choice p settled longest w is at f).root.1
 
   -- the clock of its root is that of the best
   pub root_clock_is : clock_of s.root ≡ best.clock
   root_clock_is =
       let station = live_from w.stations best is_best.live in
-      ap clock_of (settled_system p settled longest w is at f).root.2
+      ap clock_of (own_choice p settled longest w is at f).root.2
       ∙ ap (λ (x : System). clock_of x.identity) station.is ∙ sym (ap (λ (x : System). x.clock) station.is)
 
   -- the best of the system above it
@@ -240,7 +240,7 @@ module _ (p : SettlingParams) (settled longest : ℕ) (w : WorldState) (is : IsS
 
   -- it has the same root
   pub root_above : IsBestIdentity g (sender at.direction f.channel).clock s.root
-  root_above = (best, best_above, (settled_system p settled longest w is at f).root.2)
+  root_above = (best, best_above, (own_choice p settled longest w is at f).root.2)
 
   -- where that is the root, it is its base
   pub base_above : IsDistance g (sender at.direction f.channel).clock 0

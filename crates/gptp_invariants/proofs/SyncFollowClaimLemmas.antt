@@ -25,13 +25,13 @@ use Rattle.gptp_invariants.specs.WorldSettlingInvariant.{KeepsAll}
 use Rattle.gptp_invariants.specs.WorldEncodableLaws.{SetsAnOctet}
 use Rattle.gptp_invariants.specs.ChoiceSeenLaws.{IsNoChange}
 use Rattle.gptp_invariants.specs.WorldStanding.{snapshot_of}
-use Rattle.gptp_invariants.specs.SyncTimed.{AllMeasureRight, CarriesTime, IsSettledFrom}
+use Rattle.gptp_invariants.specs.SyncTimed.{AllMeasureRight, ArriveBy, CarriesTime, IsSettledFrom}
 use Rattle.gptp_invariants.specs.SyncTimedClaim.{CarriesWhereCalm, IsCalmBy}
 use Rattle.gptp_invariants.specs.SyncTimedClaimLaws.{CalmOffsetsAreExact, CarriesLater}
 use Rattle.gptp_invariants.proofs.ChoiceCalmKeptLemmas.{KeepsNetwork, acts_keep, earlier_quiet, same_paths, same_snapshot, stays_quiet}
 use Rattle.gptp_invariants.proofs.WorldSettlingInvariantLemmas.{over_measured, settled_by_paths}
 use Rattle.gptp_invariants.proofs.WorldClaimLemmas.{claim_begins, claim_kept, claim_later}
-use Rattle.gptp_invariants.proofs.SyncFollowLaterLemmas.{time_begins, time_carries}
+use Rattle.gptp_invariants.proofs.SyncFollowLaterLemmas.{known_arrive, time_begins, time_carries}
 use Rattle.gptp_invariants.proofs.SyncFollowMeasureLemmas.{measured_right}
 use Rattle.gptp_invariants.proofs.SyncFollowOffsetLemmas.{offsets_are_exact}
 use Rattle.gptp_invariants.proofs.SyncFollowWorldLemmas.{claimed_is_settled_from, done_carries}
@@ -59,6 +59,12 @@ settled_from p m settled w claimed calm late shown =
     claimed_is_settled_from p settled w claimed calm.quiet.links
     (settled_by_paths m w (record { pace = p; is = claimed }) calm.bounded (calm_for p m settled w claimed calm late))
     (let passed = calm.passed in omega (arith, passed)) late shown
+
+-- what was in flight has arrived by then
+arrive_then : (p : SettlingParams) (m settled : ℕ) (w : WorldState) → KeepsAll p w → IsCalmBy p m settled w
+    → ArriveBy settled w
+arrive_then p m settled w claimed calm =
+    known_arrive p settled w claimed.world.known (let passed = calm.passed in omega (arith, passed))
 
 right_from : (p : SettlingParams) (m settled : ℕ) (w : WorldState) → KeepsAll p w → IsCalmBy p m settled w
     → settled ≤ w.time
@@ -106,6 +112,7 @@ carries_later p w time later first claimed before m settled calm late shown =
     by : (w.time < settled) ⊎ (settled ≤ w.time) → CarriesTime p.params settled p.params.threshold (at time w)
     by (inl early) =
         time_begins p settled p.params.threshold w time early claimed.world.known
+        (arrive_then p m settled w claimed (calm_earlier p m settled w time calm))
         (settled_from p m settled (at time w) (claim_later p w time later first claimed) calm late shown)
     by (inr already) =
         time_carries p settled p.params.threshold w time later
@@ -148,6 +155,7 @@ module _ {F : Type 0} (answers : Bounds → ℕ → F → Option ℕ → F → T
         let shown_then : timed.at ≤ 10 ^ 18 = omega (arith, shown, time) in
         let now = k.ready.timely.now in
         done_carries answers p settled p.params.threshold timed fate fate_after w w' done none k claimed.world.known
+        (arrive_then p m settled w claimed (calm_earlier p m settled w timed.at calm_then))
         (settled_from p m settled then claimed_then calm_then late_then shown_then)
         (right_from p m settled then claimed_then calm_then late_then shown_then)
         (settled_from p m settled w' claimed_after calm late shown)

@@ -1,9 +1,9 @@
 -- As time passes the time that is carried stays right; it is so from when the network is settled.
-use Rattle.std.proofs.Common.{◌≡◌, ◌<◌, ◌+◌, ℕ, refl, sym, ap, subst, arith}
+use Rattle.std.proofs.Common.{◌≡◌, ◌<◌, ◌≤◌, ◌+◌, ℕ, refl, sym, ap, subst, arith}
 use Rattle.gptp_lists.specs.Members.{In}
 use Rattle.gptp_links.specs.Queue.{Frame}
 use Rattle.gptp_setup.specs.declared.setup.Params.{Params}
-use Rattle.gptp_setup.specs.SettlingParams.{SettlingParams}
+use Rattle.gptp_setup.specs.SettlingParams.{SettlingParams, largest_interval}
 use Rattle.gptp_model.specs.Acts.{at as at_time}
 use Rattle.gptp_model.specs.World.{WorldState, world_queue}
 use Rattle.gptp_pdelay_machine.specs.Lanes.{LaneFrame as SeenFrame}
@@ -15,7 +15,7 @@ use Rattle.gptp_invariants.specs.SyncFollowView.{tells}
 use Rattle.gptp_invariants.specs.SyncFollowers.{HasWay, IsFollower, follower, follower_setting}
 use Rattle.gptp_invariants.specs.WorldKnown.{IsKnown}
 use Rattle.gptp_invariants.specs.DelayLinkView.{LinkPlace, link_frame_view}
-use Rattle.gptp_invariants.specs.SyncTimed.{CarriesTime, IsSettledFrom}
+use Rattle.gptp_invariants.specs.SyncTimed.{ArriveBy, CarriesTime, IsSettledFrom}
 use Rattle.gptp_invariants.specs.SyncTimedLaws.{TimeBegins, TimeCarriesTime}
 use Rattle.gptp_invariants.proofs.SyncFollowSettingLemmas.{is_setting, most_is, residence_is}
 use Rattle.gptp_invariants.proofs.DelayLinkCallLemmas.{seen_from}
@@ -54,8 +54,14 @@ time_carries p settled longest w time later carries = record {
   roots = carries.roots;
 }
 
+-- frames in flight have arrived by an announce interval after the last change
+pub known_arrive : (p : SettlingParams) (settled : ℕ) (w : WorldState) → IsKnown p w
+    → w.last_change + largest_interval p ≤ settled → ArriveBy settled w
+known_arrive p settled w known old link direction channel f here member =
+    let due = known.fresh.frames link direction channel f here member in omega (arith, due, old)
+
 module _ (p : SettlingParams) (settled longest : ℕ) (w : WorldState) (time : ℕ) (early : w.time < settled)
-    (known : IsKnown p w)
+    (known : IsKnown p w) (arrive : ArriveBy settled w)
     (is : IsSettledFrom p settled longest (at_time time w)) where
   abbrev later : WorldState
   later = at_time time w
@@ -68,13 +74,12 @@ module _ (p : SettlingParams) (settled longest : ℕ) (w : WorldState) (time : �
     old_frame : (one : Frame) → In one (world_queue at.direction f'.channel)
         → one.due < settled + (followers.parent_link k).most
     old_frame one member =
-        let due = known.fresh.frames at.link at.direction f'.channel one f'.here member in
+        let due = arrive at.link at.direction f'.channel one f'.here member in
         let fits = is.world.sound.on_time.links at.link f'.channel f'.here in
         let least = fits.positive in
         let order = fits.ordered in
-        let old = is.old in
         let most = most_is p settled longest later is at f' steps h' in
-        omega (arith, due, least, order, old, most, early)
+        omega (arith, due, least, order, most, early)
 
     fresh : IsJustSettled k (follower at later f')
     fresh = record {
@@ -106,4 +111,4 @@ module _ (p : SettlingParams) (settled longest : ℕ) (w : WorldState) (time : �
   }
 
 pub time_begins : TimeBegins
-time_begins p settled longest w time early known is = begins p settled longest w time early known is
+time_begins p settled longest w time early known arrive is = begins p settled longest w time early known arrive is

@@ -42,7 +42,7 @@ use Rattle.gptp_sync_machine.proofs.TreeLemmas.{parents_are_parents, way_ends_at
 use Rattle.gptp_invariants.specs.SyncFollowView.{tells}
 use Rattle.gptp_invariants.specs.SyncFollowers.{HasWay, IsFollower, follower, follower_clock, follower_setting, parent_link, follower_parts, state_above, follower_state, base_at, told_base, stamps_of}
 use Rattle.gptp_invariants.specs.DelayLinkView.{LinkPlace}
-use Rattle.gptp_invariants.specs.ChoiceSettled.{IsSettledSystem}
+use Rattle.gptp_invariants.specs.ChoiceSettled.{HasSettledChoice}
 use Rattle.gptp_invariants.specs.WorldStanding.{snapshot_of, standing_system}
 use Rattle.gptp_invariants.specs.SyncTimed.{AllMeasureRight, CarriesTime, IsSettledFrom}
 use Rattle.gptp_invariants.proofs.SyncFollowOctetLemmas.{ToldFits}
@@ -50,7 +50,7 @@ use Rattle.gptp_invariants.proofs.SyncFollowPartLemmas.{clock_shown}
 use Rattle.gptp_invariants.proofs.SyncFollowSayLemmas.{SendsOn}
 use Rattle.gptp_invariants.proofs.SyncFollowSettingLemmas.{is_setting, own_stamped, residence_is}
 use Rattle.gptp_invariants.proofs.SyncFollowBaseLemmas.{GoesOn, right_goes_on, root_above, taken_over}
-use Rattle.gptp_invariants.proofs.SyncFollowTreeLemmas.{well_formed, same_root, settled_system}
+use Rattle.gptp_invariants.proofs.SyncFollowTreeLemmas.{own_choice, same_root, well_formed}
 use Rattle.gptp_invariants.proofs.SyncFollowWayLemmas.{Follows, correction_small, documented, few, follows_parent, long, own_time_fits}
 use Rattle.gptp_invariants.proofs.WorldSystemLemmas.{live_there}
 use Rattle.gptp_roles.specs.Selection.{clock_of}
@@ -128,8 +128,8 @@ module _ (p : SettlingParams) (settled longest : ℕ) (w : WorldState) (is : IsS
         omega (arith, farther, less),
       )
 
-  above_settled : (at : LinkPlace) (f : IsFollower at w) → IsSettledSystem g (state_above at w f)
-  above_settled at f = is.choice at.asking f.above.station f.above.here f.above.live (above_near at f)
+  above_choice : (at : LinkPlace) (f : IsFollower at w) → HasSettledChoice g (state_above at w f)
+  above_choice at f = is.choice at.asking f.above.station f.above.here f.above.live (above_near at f)
 
   -- one that leads has no parent
   leads_alone : (at : LinkPlace) (f : IsFollower at w) → is_leading (state_above at w f) ≡ true → (l : ParentLink)
@@ -138,7 +138,7 @@ module _ (p : SettlingParams) (settled longest : ℕ) (w : WorldState) (is : IsS
       let s = state_above at w f in
       let own : s.root ≡ s.identity =
       eqb-true s.root s.identity (and_parts (s.root == s.identity) (can_lead s.identity) leading).0 in
-      let (best, is_best, root_is) = (above_settled at f).root in
+      let (best, is_best, root_is) = (above_choice at f).root in
       let itself : best ≡ standing_system f.above.station =
       same_identity g best (standing_system f.above.station) wf is_best.live
       (live_there w.stations at.asking f.above.station f.above.here f.above.live) (sym root_is ∙ own) in
@@ -279,7 +279,7 @@ module _ (p : SettlingParams) (settled longest : ℕ) (w : WorldState) (is : IsS
   roots_agree : s2.root ≡ (follower_state at w f).root
   roots_agree =
       same_root (snapshot_of w) (clock s2) s2.root (follower_state at w f).root (well_formed p settled longest w is)
-      (settled_system p settled longest w is at2 f2).root
+      (own_choice p settled longest w is at2 f2).root
       (subst (λ v. IsBestIdentity (snapshot_of w) v (follower_state at w f).root)
       (sym f.above.named ∙ ap clock bridge_is) (root_above p settled longest w is at f))
 

@@ -44,7 +44,7 @@ use Rattle.gptp_invariants.proofs.SyncFollowPartLemmas.{same_parts, same_stamps}
 use Rattle.gptp_invariants.proofs.SyncFollowRightLemmas.{TellsRight}
 use Rattle.gptp_invariants.proofs.SyncFollowSayLemmas.{NoneTells, PairOrNone, TellsPair, none_mute, pair_sends, told_pair}
 use Rattle.gptp_invariants.proofs.SyncFollowSettingLemmas.{least_is, most_is}
-use Rattle.gptp_invariants.proofs.SyncFollowTreeLemmas.{same_root, settled_system, slave_is, well_formed}
+use Rattle.gptp_invariants.proofs.SyncFollowTreeLemmas.{own_choice, same_root, slave_is, well_formed}
 use Rattle.gptp_invariants.proofs.DelayLinkCallLemmas.{seen_from}
 use Rattle.gptp_invariants.proofs.DelayLinkLemmas.{receiver_same}
 use Rattle.gptp_invariants.proofs.DelaySentLemmas.{octets_of}
@@ -83,8 +83,8 @@ module _ (p : SettlingParams) (settled longest : ℕ) (w w' : WorldState) (is : 
       (subst (λ g. IsBestIdentity g (clock x) x'.root) (same_snapshot w w' keeps)
       (subst (λ n. IsBestIdentity (snapshot_of w') n x'.root)
       (f'.own.named ∙ ap (λ (q : PortId). q.clock) same_to ∙ sym f.own.named)
-      (settled_system p settled longest w' is' at f').root))
-      (settled_system p settled longest w is at f).root
+      (own_choice p settled longest w' is' at f').root))
+      (own_choice p settled longest w is at f).root
 
   pub slave_stays : x'.slave ≡ x.slave
   slave_stays =
@@ -160,11 +160,10 @@ module _ (p : SettlingParams) (settled longest : ℕ) (w w' : WorldState) (is : 
 
       soon : (g : Frame) → In g news → g.due ≤ w.time + f.channel.bounds.max
       soon g member =
-          let fresh = is'.world.known.fresh.frames at.link at.direction f'.channel g f'.here (among g member) in
-          let old = is'.old in
+          let fresh = is'.arrive at.link at.direction f'.channel g f'.here (among g member) in
           let here = is'.late in
           let most = ap (λ (y : Bounds). y.max) bounds in
-          omega (arith, fresh, old, here, most, time)
+          omega (arith, fresh, here, most, time)
 
       in_time : AreSentInTime k w.time (map link_frame_view news)
       in_time = record {

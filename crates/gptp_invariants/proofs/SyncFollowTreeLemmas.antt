@@ -31,7 +31,7 @@ use Rattle.gptp_bmca_machine.specs.Settled.{IsSlaveOf}
 use Rattle.gptp_invariants.specs.SyncFollowers.{IsFollower, parent_link, follower_state}
 use Rattle.gptp_invariants.specs.DelayLinkView.{LinkPlace, other_direction}
 use Rattle.gptp_invariants.specs.DelayMeasured.{StationIsLiveAt}
-use Rattle.gptp_invariants.specs.ChoiceSettled.{IsSettledSystem, followed_link}
+use Rattle.gptp_invariants.specs.ChoiceSettled.{HasSettledChoice, followed_link}
 use Rattle.gptp_invariants.specs.WorldStanding.{channel_is_used, live_stations, snapshot_of}
 use Rattle.gptp_invariants.specs.SyncView.{TakesTime}
 use Rattle.gptp_invariants.specs.SyncTimed.{IsSettledFrom}
@@ -75,8 +75,8 @@ module _ (p : SettlingParams) (settled longest : ℕ) (w : WorldState) (is : IsS
   pub steady : IsSteady s
   steady = (is.world.sound.on_time.stations at.answering f.own.station f.own.here).steady
 
-  pub settled_system : IsSettledSystem g s
-  settled_system =
+  pub own_choice : HasSettledChoice g s
+  own_choice =
       is.choice at.answering f.own.station f.own.here f.own.live (subst (IsNear g) (sym f.own.named) f.near)
 
   own_parent : IsParent g (clock s) (parent_link at.direction f.channel)
@@ -84,7 +84,7 @@ module _ (p : SettlingParams) (settled longest : ℕ) (w : WorldState) (is : IsS
 
   -- its Slave port is that of the link
   pub slave_is : s.slave ≡ Some to.port
-  slave_is = by s.slave refl settled_system.slave
+  slave_is = by s.slave refl own_choice.slave
     where
       by : (slave : Option ℕ) → s.slave ≡ slave → IsSlaveOf g (clock s) slave → s.slave ≡ Some to.port
       by None same none = absurd (none (parent_link at.direction f.channel) own_parent)
@@ -112,7 +112,7 @@ module _ (p : SettlingParams) (settled longest : ℕ) (w : WorldState) (is : IsS
           let follows : parent s ≡ Some (suc i, t.reception.vector.source) =
           parent_from s (suc i) t.reception slave holds in
           let is_parent : IsParent g (clock s) (followed_link (suc i, t.reception.vector.source)) =
-          subst (λ o. IsParentIfAny g (clock s) (option_map followed_link o)) follows settled_system.parent in
+          subst (λ o. IsParentIfAny g (clock s) (option_map followed_link o)) follows own_choice.parent in
           let one = IsParent-unique g (clock s) (followed_link (suc i, t.reception.vector.source))
           (parent_link at.direction f.channel) is_parent own_parent in
           record {

@@ -21,13 +21,14 @@ use Rattle.gptp_invariants.specs.SyncFollowers.{follower_clock, follower_parts, 
 use Rattle.gptp_invariants.specs.WorldStanding.{channel_is_used, live_stations, snapshot_of}
 use Rattle.gptp_invariants.specs.WorldKnown.{IsKnown}
 use Rattle.gptp_invariants.specs.ChoiceSeenLaws.{IsNoChange}
-use Rattle.gptp_invariants.specs.SyncTimed.{AllMeasureRight, CarriesTime, IsSettledFrom}
+use Rattle.gptp_invariants.specs.SyncTimed.{AllMeasureRight, ArriveBy, CarriesTime, IsSettledFrom}
 use Rattle.gptp_invariants.specs.SyncTimedLaws.{ActsCarryTime, ClaimedIsSettledFrom, OthersFollow}
 use Rattle.gptp_invariants.proofs.SyncFollowDeliveryLemmas.{delivery_carries}
 use Rattle.gptp_invariants.proofs.SyncFollowExpiryLemmas.{expiry_carries}
-use Rattle.gptp_invariants.proofs.SyncFollowLaterLemmas.{time_begins, time_carries}
+use Rattle.gptp_invariants.proofs.SyncFollowLaterLemmas.{known_arrive, time_begins, time_carries}
 use Rattle.gptp_invariants.proofs.SyncFollowTreeLemmas.{well_formed}
 use Rattle.gptp_invariants.proofs.SyncFollowWayLemmas.{follows_parent}
+use Rattle.gptp_invariants.proofs.ChoiceSettledLemmas.{choice_stands}
 
 -- ---- acts
 
@@ -43,15 +44,15 @@ module _ {F : Type 0} (answers : Bounds → ℕ → F → Option ℕ → F → T
   pub done_carries : (p : SettlingParams) (settled longest : ℕ) (timed : Timed) (fate fate_after : F)
       (w w' : WorldState)
       (done : Done) → IsNoChange timed.act → WasDone answers timed fate fate_after w w' done → IsKnown p w
-      → IsSettledFrom p settled longest (at timed.at w) → AllMeasureRight p.params (at timed.at w)
+      → ArriveBy settled w → IsSettledFrom p settled longest (at timed.at w) → AllMeasureRight p.params (at timed.at w)
       → IsSettledFrom p settled longest w' → (settled ≤ w.time → CarriesTime p.params settled longest w)
       → CarriesTime p.params settled longest w'
-  done_carries p settled longest timed fate fate_after w w' done none k known is right is' before =
+  done_carries p settled longest timed fate fate_after w w' done none k known arrive is right is' before =
       acts_carry_time p settled longest timed.act (at timed.at w) k.draws done w' none k.acts is is' right
       (by (cases_lt w.time settled))
     where
       by : (w.time < settled) ⊎ (settled ≤ w.time) → CarriesTime p.params settled longest (at timed.at w)
-      by (inl early) = time_begins p settled longest w timed.at early known is
+      by (inl early) = time_begins p settled longest w timed.at early known arrive is
       by (inr late) = time_carries p settled longest w timed.at k.ready.timely.now (before late)
 
 -- ---- delays
@@ -78,8 +79,8 @@ claimed_is_settled_from p settled w claimed quiet choice old late shown = record
   world = claimed.world;
   measured = claimed.measured;
   links = quiet;
-  choice = choice;
-  old = old;
+  choice = choice_stands w choice;
+  arrive = known_arrive p settled w claimed.world.known old;
   late = late;
   shown = shown;
   short = used_within (live_stations w.stations) w.net.channels p.params.threshold

@@ -116,7 +116,7 @@ initial_channel : (wire : LinkSpec) (limit : Bounds → ℕ) → 0 + wire.bounds
 initial_channel wire limit room =
     record { room = room; from_a = λ f among. absurd among; from_b = λ f among. absurd among }
 
-initial_limited : (n : NetworkState) (limit : Bounds → ℕ)
+pub initial_limited : (n : NetworkState) (limit : Bounds → ℕ)
     → ((place : ℕ) (wire : LinkSpec) → slice_get n.links place ≡ Some wire → 0 + wire.bounds.max ≤ limit wire.bounds)
     → AreLimited limit 0 (initial n).net.channels
 initial_limited n limit room link channel here =

@@ -1,4 +1,4 @@
--- A world that has settled, in the words of the graph of its snapshot.
+-- A world that has settled, or whose choice stands, in the words of the graph of its snapshot.
 use Rattle.std.specs.Prelude.{◌≡◌, ℕ, true, Some, slice_get}
 use Rattle.std.specs.Option.{option_map}
 use Rattle.gptp_graph.specs.Distance.{IsDistance, IsNear}
@@ -45,3 +45,17 @@ abbrev pub Settled : WorldState → Type 0
 Settled w = (place : ℕ) (station : Station) → slice_get w.stations place ≡ Some station → station.live ≡ true
     → IsNear (snapshot_of w) (clock station.system)
     → IsSettledSystem (snapshot_of w) station.system
+
+-- Where roles may change still, since ports beside a system that fails stay capable for a time, that is so but for its
+-- roles.
+pub record HasSettledChoice (g : Snapshot) (s : SystemState) : Type 0 where
+  pub root : IsBestIdentity g (clock s) s.root
+  pub steps : IsDistance g (clock s) s.steps
+  pub slave : IsSlaveOf g (clock s) s.slave
+  pub parent : IsParentIfAny g (clock s) (option_map followed_link (parent s))
+
+-- so it is of each near live system of a world
+abbrev pub ChoiceStands : WorldState → Type 0
+ChoiceStands w = (place : ℕ) (station : Station) → slice_get w.stations place ≡ Some station → station.live ≡ true
+    → IsNear (snapshot_of w) (clock station.system)
+    → HasSettledChoice (snapshot_of w) station.system

@@ -1,8 +1,8 @@
 -- What is claimed of the time that is carried in a world, from when its network is settled.
-use Rattle.std.specs.Prelude.{◌≡◌, ◌+◌, ◌<◌, ◌≤◌, ◌^◌, ℕ, true, Some, slice_get}
+use Rattle.std.specs.Prelude.{◌≡◌, ◌+◌, ◌<◌, ◌≤◌, ◌^◌, max, ℕ, true, Some, slice_get}
 use Rattle.gptp_graph.specs.Distance.{IsDistance}
 use Rattle.gptp_setup.specs.declared.setup.Params.{Params}
-use Rattle.gptp_setup.specs.SettlingParams.{SettlingParams, largest_interval}
+use Rattle.gptp_setup.specs.SettlingParams.{SettlingParams}
 use Rattle.gptp_scenario.specs.Params.{KeepPace}
 use Rattle.gptp_system.specs.State.{clock}
 use Rattle.gptp_system.specs.Syncing.{slave_delay, slave_rate}
@@ -16,18 +16,24 @@ use Rattle.gptp_invariants.specs.SyncFollowers.{HasWay, IsFollower, follower, fo
 use Rattle.gptp_invariants.specs.ChoiceSettlesAsMachine.{IsWorld}
 use Rattle.gptp_invariants.specs.DelayLinkView.{LinkPlace}
 use Rattle.gptp_invariants.specs.DelayMeasured.{LinkIsMeasured}
-use Rattle.gptp_invariants.specs.ChoiceSettled.{Settled}
+use Rattle.gptp_invariants.specs.ChoiceSettled.{ChoiceStands}
+use Rattle.gptp_invariants.specs.WorldKnown.{OfEachFrame}
 use Rattle.gptp_invariants.specs.WorldStanding.{snapshot_of}
 
--- The world of a network that is settled from this time on, as it is since: its links in use are quiet and its systems
--- have settled; no delay is above the longest, and the time is one that clocks can show.
+-- each frame in flight arrives within the greatest delay of its link, or by this time
+abbrev pub ArriveBy : ℕ → WorldState → Type 0
+ArriveBy gone w = OfEachFrame (λ channel f. f.due ≤ max (w.time + channel.bounds.max) gone) w
+
+-- The world of a network that is settled from this time on, as it is since: its links in use are quiet and its choice
+-- stands; what was in flight before has arrived by then, no delay is above the longest, and the time is one that
+-- clocks can show.
 pub record IsSettledFrom (p : SettlingParams) (settled longest : ℕ) (w : WorldState) : Type 0 where
   pub pace : KeepPace p
   pub world : IsWorld p w
   pub measured : LinkIsMeasured w
   pub links : HaveQuietLinks p.params w
-  pub choice : Settled w
-  pub old : w.last_change + largest_interval p ≤ settled
+  pub choice : ChoiceStands w
+  pub arrive : ArriveBy settled w
   pub late : settled ≤ w.time
   pub shown : w.time ≤ 10 ^ 18
   pub short : delay_in w ≤ longest

@@ -34,14 +34,14 @@ use Rattle.gptp_invariants.specs.DelayMeasuredLinks.{HaveMeasuredLinks}
 use Rattle.gptp_invariants.specs.ChoiceSeenLaws.{IsNoChange}
 use Rattle.gptp_invariants.specs.ChoiceSettled.{Settled}
 use Rattle.gptp_invariants.specs.WorldStanding.{snapshot_of}
-use Rattle.gptp_invariants.specs.SyncTimed.{AllMeasureRight, CarriesTime, IsSettledFrom}
+use Rattle.gptp_invariants.specs.SyncTimed.{AllMeasureRight, ArriveBy, CarriesTime, IsSettledFrom}
 
 -- ---- the claim
 
 -- it begins as the time comes from which the network is settled
 abbrev pub TimeBegins : Type 0
 TimeBegins = (p : SettlingParams) (settled longest : ℕ) (w : WorldState) (time : ℕ)
-    → w.time < settled → IsKnown p w → IsSettledFrom p settled longest (at time w)
+    → w.time < settled → IsKnown p w → ArriveBy settled w → IsSettledFrom p settled longest (at time w)
     → CarriesTime p.params settled longest (at time w)
 
 -- every act that changes nothing of the network keeps it
@@ -65,7 +65,7 @@ TimeCarriesTime = (p : SettlingParams) (settled longest : ℕ) (w : WorldState) 
 abbrev pub DoneCarriesTime : {F : Type 0} → (Bounds → ℕ → F → Option ℕ → F → Type 0) → Type 0
 DoneCarriesTime {F} answers = (p : SettlingParams) (settled longest : ℕ) (timed : Timed) (fate fate_after : F)
     (w w' : WorldState) (done : Done)
-    → IsNoChange timed.act → WasDone answers timed fate fate_after w w' done → IsKnown p w
+    → IsNoChange timed.act → WasDone answers timed fate fate_after w w' done → IsKnown p w → ArriveBy settled w
     → IsSettledFrom p settled longest (at timed.at w) → AllMeasureRight p.params (at timed.at w)
     → IsSettledFrom p settled longest w'
     → (settled ≤ w.time → CarriesTime p.params settled longest w)

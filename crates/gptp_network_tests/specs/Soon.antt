@@ -1,7 +1,7 @@
 -- How soon worlds of two systems, and of a ring of four, have settled.
 use Rattle.std.specs.Prelude.{◌<◌, ◌≤◌, ◌+◌, ℕ, List, [], ◌∷◌, Option}
 use Rattle.gptp_model.specs.World.{WorldState}
-use Rattle.gptp_invariants.specs.ChoiceSettled.{Settled}
+use Rattle.gptp_invariants.specs.ChoiceSettled.{ChoiceStands, Settled}
 use Rattle.gptp_links.specs.declared.bounds.Bounds.{Bounds}
 use Rattle.gptp_lists.specs.Members.{In}
 use Rattle.gptp_scenario.specs.Network.{IsNetwork}
@@ -10,7 +10,6 @@ use Rattle.gptp_scenario.specs.declared.change.Change.TheVariants.{LinkDown, Lin
 use Rattle.gptp_network.specs.Document.{DocumentState}
 use Rattle.gptp_theorem.specs.Headline.{IsSettled}
 use Rattle.gptp_report.specs.Transitions.{ActTrace, Unfolds}
-use Rattle.gptp_settling_time.specs.ChoiceAlone.{ChoiceStands}
 use Rattle.gptp_settling_time.specs.HowSoon.{NoneBetween}
 use Rattle.gptp_network_tests.specs.Pair.{IsPairAt, pair_network}
 

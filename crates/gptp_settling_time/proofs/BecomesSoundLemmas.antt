@@ -31,7 +31,7 @@ use Rattle.gptp_settling_time.proofs.NamesItselfLemmas.{AllNameItself}
 use Rattle.gptp_settling_time.proofs.RightBeginLemmas.{right_begins, root_right}
 use Rattle.gptp_settling_time.proofs.RightKeptLemmas.{right_kept}
 use Rattle.gptp_settling_time.proofs.RightLemmas.{all_right}
-use Rattle.gptp_settling_time.proofs.TellsRightLemmas.{IsSettledState, LevelTellsRight, right_last, tells_right_from}
+use Rattle.gptp_settling_time.proofs.TellsRightLemmas.{IsSettledState, LevelTellsRight, right_last, settled_state, tells_right_from}
 use Rattle.gptp_settling_time.proofs.DueLemmas.{AreDueBy, UpIsInUse, due_by_delay, due_by_interval, use_kept}
 use Rattle.gptp_settling_time.proofs.UnlinkedLemmas.{IsLeftSeen}
 use native.Mathlib.Decide.{dec_le}
@@ -124,12 +124,9 @@ becoming p g silent gone w is goes before was quiet off itself =
         goes = goes;
         levels = right_begins says_announce n (suc w.time) (view w) (omega arith)
             (root_right says_announce before n (left_net p silent w is.standing.world) is.near (view w)
-            (record {
-              calm = calm_now p g silent w is quiet off;
-              invariant = (is.seen quiet off).invariant;
-              late = late_now p g silent w is quiet off;
-              none = (is.seen quiet off).unlinked;
-            }) was itself (suc w.time));
+            (settled_state says_announce n (left_net p silent w is.standing.world) is.near (view w)
+            (calm_now p g silent w is quiet off) (is.seen quiet off).invariant (late_now p g silent w is quiet off)
+            (is.seen quiet off).unlinked) was itself (suc w.time));
         is = omega (arith, by);
         early = omega arith;
         by = omega arith;
@@ -191,15 +188,13 @@ module _ (p : SettlingParams) (g : Snapshot) (silent right old : ℕ) (w w' : Wo
     -- links go on to tell right traces
     module _ (gone : ℕ) (becomes : IsBecomingRight p n right gone old w) where
       x : IsSettledState says_announce n (view w)
-      x = record { calm = calm; invariant = seen.invariant; late = late; none = seen.unlinked }
+      x = settled_state says_announce n net is.near (view w) calm seen.invariant late seen.unlinked
 
       x' : IsSettledState says_announce n (view w')
-      x' = record {
-        calm = calm';
-        invariant = subst (λ y. Invariant says_announce y (view w')) same seen'.invariant;
-        late = subst (λ (y : Network). settled_from y ≤ w'.time) same (late_now p g silent w' is' quiet' off);
-        none = none';
-      }
+      x' =
+          settled_state says_announce n net is.near (view w') calm'
+          (subst (λ y. Invariant says_announce y (view w')) same seen'.invariant)
+          (subst (λ (y : Network). settled_from y ≤ w'.time) same (late_now p g silent w' is' quiet' off)) none'
 
       levels' : (d : ℕ) → LevelTellsRight says_announce n becomes.base (view w') d
       levels' =
@@ -260,6 +255,32 @@ module _ (p : SettlingParams) (g : Snapshot) (silent right old : ℕ) (w w' : Wo
 
 -- ---- what is old is gone
 
+-- In a world that has settled, and in which all that is held and in flight is sound, claims are made of all links
+-- always, from each time on by which ports at links are capable, and those without one aren't.
+pub sound_claimed : (p : SettlingParams) (since silent : ℕ) (w : WorldState) → IsStanding p silent w → HaveAskedLong w
+    → HaveAskedBy since w → IsSoundWorld w → IsSettledSeen p w → NothingLapses p.params
+    → (start : ℕ) → since ≤ start → AreSilentBy p start w → IsClaimedAlways p start w
+sound_claimed p since silent w standing asked_long asked sound settled off start past silent_from = record {
+  news = news;
+  heard = asked_heard p start w asked_long;
+  settling = λ m bounded quiet off. always_seen p m start w standing.world sound settled bounded;
+}
+  where
+    news : IsNews p start w
+    news = record {
+      pace = standing.pace;
+      world = standing.world;
+      measured = standing.measured;
+      silent = silent_from;
+      sound = sound;
+      ready = λ at stands.
+          let (first, by, before, x) = asked at stands in
+          let soon = x.is.1 in
+          inl (first, (x.is.0, omega (arith, before, soon, past)));
+      settling = λ m bounded quiet off. news_seen p m start w standing.world sound settled bounded;
+      in_turn = λ m bounded quiet short. absurd (none_short p (paths_with m w) off short);
+    }
+
 module _ (p : SettlingParams) (g : Snapshot) (since silent right old : ℕ) (w : WorldState)
     (is : IsLeftNow p g silent w) (asked : HaveAskedBy since w)
     (sound : HaveQuietLinks p.params w → NothingLapses p.params → BecomesSound p silent right old w)
@@ -277,31 +298,8 @@ module _ (p : SettlingParams) (g : Snapshot) (since silent right old : ℕ) (w :
             absurd (omega (arith, gone, early, by))
       ]
 
-  settled : IsSettledSeen p w
-  settled = settled_now p g silent w is quiet off
-
-  -- So claims are made of all links always, from each time on by which ports at links are capable, and those without
-  -- one aren't.
+  -- so claims are made of all links always
   pub becomes_claimed : (start : ℕ) → since ≤ start → AreSilentBy p start w → IsClaimedAlways p start w
-  becomes_claimed start past silent_from = record {
-    news = news;
-    heard = asked_heard p start w is.asked;
-    settling = λ m bounded quiet off.
-        always_seen p m start w is.standing.world becomes_sound settled bounded;
-  }
-    where
-      news : IsNews p start w
-      news = record {
-        pace = is.standing.pace;
-        world = is.standing.world;
-        measured = is.standing.measured;
-        silent = silent_from;
-        sound = becomes_sound;
-        ready = λ at stands.
-            let (first, by, before, x) = asked at stands in
-            let soon = x.is.1 in
-            inl (first, (x.is.0, omega (arith, before, soon, past)));
-        settling = λ m bounded quiet off.
-            news_seen p m start w is.standing.world becomes_sound settled bounded;
-        in_turn = λ m bounded quiet short. absurd (none_short p (paths_with m w) off short);
-      }
+  becomes_claimed =
+      sound_claimed p since silent w is.standing is.asked asked becomes_sound (settled_now p g silent w is quiet off)
+      off

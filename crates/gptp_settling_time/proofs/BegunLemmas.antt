@@ -37,7 +37,7 @@ use Rattle.gptp_settling_time.specs.Gains.{HasRested, exchanged_from}
 use Rattle.gptp_settling_time.proofs.KeptToLemmas.{KeepsTo}
 use Rattle.gptp_settling_time.proofs.NamedWorldLemmas.{named_begins}
 use Rattle.gptp_settling_time.proofs.NewsSoonLemmas.{IsNewsFrom}
-use Rattle.gptp_settling_time.proofs.SinceSetLemmas.{IsUnsetSince, unset_known}
+use Rattle.gptp_settling_time.proofs.SinceSetLemmas.{limited_begins}
 
 -- ---- a document begins
 
@@ -71,7 +71,7 @@ module _ {F : Type 0} (answers : Bounds → ℕ → F → Option ℕ → F → T
     begun_keeps = record {
       claim = claim;
       stands = stands;
-      unset = subst (λ since. IsUnsetSince p since w) stands.last (unset_known p w claim.world);
+      limited = λ most within. limited_begins answers n fate fate_after w k;
       named = named_begins p w claim.world claim.pace.largest
           (starts_are_last _ (initial n) k.draws w refl k.starts);
       slow = begun_none_faster answers n fate fate_after w sound.wired.setups k;

@@ -3,10 +3,10 @@ use Rattle.std.proofs.Common.{◌≡◌, ◌⊎◌, ◌≤◌, ◌*◌, ℕ, suc
 use Rattle.gptp_lists.specs.Members.{In}
 use Rattle.gptp_graph.specs.Snapshot.{IsLinked, Joins, PortIdentity, Snapshot, System, clocks, port_of}
 use Rattle.gptp_bmca_machine.specs.Calm.{Calm, HasLane, HasStation}
-use Rattle.gptp_bmca_machine.specs.Facts.{station_system}
+use Rattle.gptp_bmca_machine.specs.Facts.{StationFacts, station_system}
 use Rattle.gptp_bmca_machine.specs.Frame.{AnnounceFrame, Lane}
 use Rattle.gptp_bmca_machine.specs.LossLaws.{IsAfterLoss}
-use Rattle.gptp_bmca_machine.specs.Network.{Network}
+use Rattle.gptp_bmca_machine.specs.Network.{Network, network_setting}
 use Rattle.gptp_bmca_machine.specs.RestLaws.{SameWiring}
 use Rattle.gptp_bmca_machine.specs.Station.{MachineState}
 use Rattle.gptp_settling_time.proofs.AgingStillLemmas.{IsEmptied}
@@ -183,3 +183,48 @@ module _ (n n' : Network) (alike : IsAlike n n') (w : MachineState) (lanes : Lis
         begun = omega (arith, begun, start);
         late = omega (arith, late, most);
       }
+
+-- ---- what is older is gone at another time
+
+-- so the network is alike, and the state as calm
+module _ (n : Network) (gone : ℕ) where
+  abbrev n' : Network
+  n' = record n { gone = gone }
+
+  older : IsAlike n n'
+  older = record {
+    graph = refl;
+    wiring = record { place = λ v. refl; lane = λ p. refl; log = λ p. refl; interval = λ p. refl };
+    most = refl;
+    interval = refl;
+    timeout = refl;
+    start = refl;
+    bare = refl;
+    off = refl;
+    ready = λ p. refl;
+  }
+
+  all_stand : (w : MachineState) → AreEmptied n.graph w.lanes w.lanes
+  all_stand w = record { back = λ j l there. inl there; ahead = λ j l there joins. there }
+
+  pub older_calm : (w : MachineState) → Calm n w → Calm n' w
+  older_calm w = emptied_calm n n' older w w.lanes (all_stand w)
+
+  pub older_after : (w : MachineState) → IsAfterLoss n w → IsAfterLoss n' w
+  older_after w = emptied_after n n' older w w.lanes (all_stand w)
+
+  pub older_facts : (w : MachineState) → StationFacts (network_setting n) w → StationFacts (network_setting n') w
+  older_facts w facts = record {
+    stations = λ i s there live.
+        let x = facts.stations i s there live in
+        record {
+          known = x.known;
+          follows = x.follows;
+          held = λ place r holds.
+              let y = x.held place r holds in
+              record { came = y.came; stays = y.stays; short = y.short; no_loop = y.no_loop };
+        };
+    near = facts.near;
+    fresh = facts.fresh;
+    linked = facts.linked;
+  }

@@ -19,7 +19,7 @@ use Rattle.gptp_network.specs.Snapshot.{events_by}
 use Rattle.gptp_report.specs.Transitions.{Unfolds}
 use Rattle.gptp_invariants.specs.ChoiceCalm.{HaveQuietLinks}
 use Rattle.gptp_invariants.specs.DelayMeasuredLinks.{HaveMeasuredLinks}
-use Rattle.gptp_invariants.specs.SyncTimed.{AllMeasureRight, CarriesTime, IsSettledFrom}
+use Rattle.gptp_invariants.specs.SyncTimed.{AllMeasureRight, ArriveBy, CarriesTime, IsSettledFrom}
 use Rattle.gptp_invariants.specs.WorldKnown.{IsKnown}
 use Rattle.gptp_invariants.specs.WorldStanding.{live_stations}
 use Rattle.gptp_invariants.proofs.DelayMeasuredLinkLemmas.{used_measured}
@@ -31,15 +31,18 @@ use Rattle.gptp_theorem.specs.PlayedLaws.{IsPlayable}
 use Rattle.gptp_theorem.proofs.CalmLemmas.{quiet_stands}
 use Rattle.gptp_theorem.proofs.SettlingInvariantLemmas.{events_fit, events_made}
 use Rattle.gptp_theorem.proofs.CalmKeptLemmas.{no_change}
-use Rattle.gptp_settling_time.specs.ExactInTurn.{ActsAreExactInTurn, last_set}
+use Rattle.gptp_settling_time.specs.Arrivals.{arrived_by}
+use Rattle.gptp_settling_time.specs.ExactInTurn.{ActsAreExactInTurn}
 use Rattle.gptp_settling_time.specs.Exactly.{AreExactFrom}
-use Rattle.gptp_settling_time.specs.InTurn.{Aging, AnyPast, Cleared, Fallen, Gained, Heard, Left, Lost, Past, SettlesAfter, SettlesByEvents, Starting, Turned, TurnedTree}
+use Rattle.gptp_settling_time.specs.Gains.{HasDelaysWithin}
+use Rattle.gptp_settling_time.specs.InTurn.{Aging, AnyPast, ChoosesAfter, ChoosesByEvents, Cleared, Fallen, Gained, Heard, Left, Lost, Past, Split, Starting, Turned, TurnedTree}
 use Rattle.gptp_settling_time.proofs.AgingClaimedLemmas.{aging_measured}
+use Rattle.gptp_settling_time.proofs.SplitSettlesLemmas.{split_measured}
+use Rattle.gptp_settling_time.proofs.SplitToLemmas.{GoesOver}
 use Rattle.gptp_settling_time.proofs.LostClaimedLemmas.{lost_measured}
-use Rattle.gptp_settling_time.proofs.AsIfChangedLemmas.{changed_at, exact_so, known_so, measured_links_so, measured_so, was_done_so, world_so}
 use Rattle.gptp_settling_time.proofs.BegunLemmas.{begun_last}
 use Rattle.gptp_settling_time.proofs.DocumentLemmas.{run_to}
-use Rattle.gptp_settling_time.proofs.AfterLemmas.{IsAfter, after_act, after_keeps, after_later, after_settles, begins_after}
+use Rattle.gptp_settling_time.proofs.AfterLemmas.{IsAfter, after_act, after_chooses, after_keeps, after_later, begins_after}
 use Rattle.gptp_settling_time.proofs.InTurnLemmas.{in_turn}
 use Rattle.gptp_settling_time.proofs.LaterLemmas.{AreSteps}
 use Rattle.gptp_settling_time.proofs.LeftClaimedLemmas.{left_measured}
@@ -48,21 +51,19 @@ use Rattle.gptp_settling_time.proofs.TurnedTreeLemmas.{turned_tree_measured}
 use Rattle.gptp_settling_time.proofs.MovedAlwaysLemmas.{moved_measured}
 use Rattle.gptp_settling_time.proofs.NewsMeasuredLemmas.{news_measured}
 use Rattle.gptp_settling_time.proofs.NewsSoonLemmas.{news_now}
+use Rattle.gptp_settling_time.proofs.SinceSetLemmas.{limited_arrive}
 use Rattle.gptp_settling_time.proofs.SoonOffsetLemmas.{CarriesRight, carried_exact}
 
 module _ (d : DocumentState) (playable : IsPlayable d) (all : List Timed) (calm : IsCalm d.network all) (last : Past)
-    (settled : ℕ) (settles : SettlesAfter d.network all last settled)
-    (behind : last_change all < settled) (old : last_set all + largest_interval (pace_of d.network) ≤ settled) where
+    (settled : ℕ) (settles : ChoosesAfter d.network all last settled)
+    (behind : last_change all < settled) (most : ℕ) (within : HasDelaysWithin d.network all most)
+    (old : arrived_by most all ≤ settled) where
   abbrev p : SettlingParams
   p = pace_of d.network
 
   -- when its ports have measured over whole windows
   abbrev whole : ℕ
   whole = settled + window_span p.params
-
-  -- the world as if it had been changed last when a link was last set
-  abbrev seen : WorldState → WorldState
-  seen w = changed_at (last_set all) w
 
   -- ---- a world that has settled
 
@@ -72,13 +73,13 @@ module _ (d : DocumentState) (playable : IsPlayable d) (all : List Timed) (calm 
       (quiet_stands d.network all w playable.network keeps.stands keeps.claim.world.sound calm).links
 
   -- its ports have measured their links
-  have_measured : (past : Past) (w : WorldState) → IsAfter d all past w → SettlesAfter d.network all past settled
+  have_measured : (past : Past) (w : WorldState) → IsAfter d all past w → ChoosesAfter d.network all past settled
       → HaveQuietLinks p.params w → whole ≤ w.time → HaveMeasuredLinks w
   have_measured AnyPast w keeps so links on =
       let change = keeps.stands.last in
       used_measured p w keeps.claim.pace keeps.claim.world links keeps.claim.watched (by so change)
     where
-      by : SettlesAfter d.network all AnyPast settled → w.last_change ≡ last_change all
+      by : ChoosesAfter d.network all AnyPast settled → w.last_change ≡ last_change all
           → w.last_change + 5 * largest_interval p + window_span p.params ≤ w.time
       by (inl (off, passed)) change = omega (arith, passed, on, change)
       by (inr passed) change = omega (arith, passed, on, change)
@@ -87,16 +88,16 @@ module _ (d : DocumentState) (playable : IsPlayable d) (all : List Timed) (calm 
       let late = by settles in
       news_measured p start w (news_now p start w (omega (arith, late)) so.news) links late
     where
-      by : SettlesAfter d.network all (Gained start) settled → start + window_span p.params ≤ w.time
+      by : ChoosesAfter d.network all (Gained start) settled → start + window_span p.params ≤ w.time
       by (inl (off, late)) = omega (arith, late, on)
       by (inr (short, late)) = omega (arith, late, on)
   have_measured (Heard start) w so (off, late) links on =
       news_measured p start w so.since.news links (omega (arith, late, on))
-  have_measured (Left silent) w so settles links on =
-      let change = (after_keeps d all (Left silent) w so).stands.last in
+  have_measured (Left ago silent) w so settles links on =
+      let change = (after_keeps d all (Left ago silent) w so).stands.last in
       left_measured p so.before silent w so.since links (omega (arith, behind, on, change))
-  have_measured (Cleared since silent right old) w so settles links on =
-      let change = (after_keeps d all (Cleared since silent right old) w so).stands.last in
+  have_measured (Cleared ago since silent right old) w so settles links on =
+      let change = (after_keeps d all (Cleared ago since silent right old) w so).stands.last in
       left_measured p so.before silent w so.is.left links (omega (arith, behind, on, change))
   have_measured (Turned silent time) w so settles links on =
       let change = (after_keeps d all (Turned silent time) w so).stands.last in
@@ -106,26 +107,36 @@ module _ (d : DocumentState) (playable : IsPlayable d) (all : List Timed) (calm 
       fallen_measured p so.before silent time w so.since links (omega (arith, behind, on, change))
   have_measured (TurnedTree silent time) w so settles links on =
       let change = (after_keeps d all (TurnedTree silent time) w so).stands.last in
-      turned_tree_measured p so.before silent time w so.since links (omega (arith, behind, on, change))
+      turned_tree_measured p so.before silent time w so.since.tree links (omega (arith, behind, on, change))
   have_measured (Aging ago aged silent) w so settles links on =
       let change = (after_keeps d all (Aging ago aged silent) w so).stands.last in
       aging_measured p so.before aged silent w so.since links (omega (arith, behind, on, change))
-  have_measured (Lost since most silent) w so settles links on =
-      let change = (after_keeps d all (Lost since most silent) w so).stands.last in
+  have_measured (Split ago gone silent) w so settles links on =
+      let change = (after_keeps d all (Split ago gone silent) w so).stands.last in
+      split_measured p so.before (GoesOver d.network so.before ago all so.failed gone silent) so.failed gone silent w
+      so.since links (omega (arith, behind, on, change))
+  have_measured (Lost ago since most silent) w so settles links on =
+      let change = (after_keeps d all (Lost ago since most silent) w so).stands.last in
       lost_measured p since most silent w so.is (omega (arith, behind, on, change))
 
+  -- what was in flight before has arrived
+  arrive : (w : WorldState) → IsAfter d all last w → ArriveBy whole w
+  arrive w so =
+      limited_arrive (arrived_by most all) whole w (omega (arith, old))
+      ((after_keeps d all last w so).limited most within)
+
   settled_from : (w : WorldState) → IsAfter d all last w → whole ≤ w.time → w.time ≤ 10 ^ 18
-      → IsSettledFrom p whole p.params.threshold (seen w)
+      → IsSettledFrom p whole p.params.threshold w
   settled_from w so on shown =
       let keeps = after_keeps d all last w so in
       let links = quiet w so in
       record {
         pace = keeps.claim.pace;
-        world = world_so p (last_set all) w keeps.unset keeps.claim.world;
-        measured = measured_so p (last_set all) w keeps.claim.measured;
+        world = keeps.claim.world;
+        measured = keeps.claim.measured;
         links = links;
-        choice = (after_settles d playable all calm settled w (omega (arith, on)) last so settles).0;
-        old = omega (arith, old);
+        choice = after_chooses d playable all calm settled w (omega (arith, on)) last so settles;
+        arrive = arrive w so;
         late = on;
         shown = shown;
         short = used_within (live_stations w.stations) w.net.channels p.params.threshold
@@ -134,22 +145,20 @@ module _ (d : DocumentState) (playable : IsPlayable d) (all : List Timed) (calm 
       }
 
   right : (w : WorldState) → IsAfter d all last w → whole ≤ w.time → w.time ≤ 10 ^ 18
-      → AllMeasureRight p.params (seen w)
+      → AllMeasureRight p.params w
   right w so on shown =
-      measured_right p whole p.params.threshold (seen w) (settled_from w so on shown)
-      (measured_links_so p (last_set all) w (have_measured last w so settles (quiet w so) on))
+      measured_right p whole p.params.threshold w (settled_from w so on shown)
+      (have_measured last w so settles (quiet w so) on)
 
-  -- what is known of it as it is seen so
-  known : (w : WorldState) → IsAfter d all last w → IsKnown p (seen w)
-  known w so =
-      let keeps = after_keeps d all last w so in known_so p (last_set all) w keeps.unset keeps.claim.world.known
+  known : (w : WorldState) → IsAfter d all last w → IsKnown p w
+  known w so = (after_keeps d all last w so).claim.world.known
 
   -- ---- what is kept
 
   -- time is carried right from then on
   record IsExactTo (w : WorldState) : Type 0 where
     so : IsAfter d all last w
-    carries : whole ≤ w.time → w.time ≤ 10 ^ 18 → CarriesTime p.params whole p.params.threshold (seen w)
+    carries : whole ≤ w.time → w.time ≤ 10 ^ 18 → CarriesTime p.params whole p.params.threshold w
 
   exact_begins : (w : WorldState) → IsAfter d all last w → w.last_change ≡ w.time → IsExactTo w
   exact_begins w so now =
@@ -157,16 +166,15 @@ module _ (d : DocumentState) (playable : IsPlayable d) (all : List Timed) (calm 
       record { so = so; carries = λ on shown. absurd (omega (arith, on, behind, change, now)) }
 
   carries_later : (w : WorldState) (time : ℕ) → w.time ≤ time → IsAfter d all last (at time w) → IsExactTo w
-      → whole ≤ time → time ≤ 10 ^ 18 → CarriesTime p.params whole p.params.threshold (seen (at time w))
+      → whole ≤ time → time ≤ 10 ^ 18 → CarriesTime p.params whole p.params.threshold (at time w)
   carries_later w time later then is on shown = by (cases_lt w.time whole)
     where
-      by : (w.time < whole) ⊎ (whole ≤ w.time)
-          → CarriesTime p.params whole p.params.threshold (seen (at time w))
+      by : (w.time < whole) ⊎ (whole ≤ w.time) → CarriesTime p.params whole p.params.threshold (at time w)
       by (inl early) =
-          time_begins p whole p.params.threshold (seen w) time early (known w is.so)
+          time_begins p whole p.params.threshold w time early (known w is.so) (arrive w is.so)
           (settled_from (at time w) then on shown)
       by (inr already) =
-          time_carries p whole p.params.threshold (seen w) time later
+          time_carries p whole p.params.threshold w time later
           (is.carries already (omega (arith, later, shown)))
 
   exact_later : (w : WorldState) (time : ℕ) → w.time ≤ time → NothingBefore time w.net.pending → IsExactTo w
@@ -191,38 +199,37 @@ module _ (d : DocumentState) (playable : IsPlayable d) (all : List Timed) (calm 
               let on_then : whole ≤ timed.at = omega (arith, on, time) in
               let shown_then : timed.at ≤ 10 ^ 18 = omega (arith, shown, time) in
               let now = was.ready.timely.now in
-              done_carries answers p whole p.params.threshold timed fate drawn (seen w) (seen t.after) t.told.done
-              still (was_done_so (last_set all) answers timed fate drawn w t.after t.told.done still was)
-              (known w is.so) (settled_from (at timed.at w) then on_then shown_then)
+              done_carries answers p whole p.params.threshold timed fate drawn w t.after t.told.done still was
+              (known w is.so) (arrive w is.so) (settled_from (at timed.at w) then on_then shown_then)
               (right (at timed.at w) then on_then shown_then) (settled_from t.after after on shown)
               (λ already. is.carries already (omega (arith, now, shown_then)));
         }
 
   -- so time is carried right in it at each time from then on
   carries_right : (w : WorldState) → IsExactTo w → whole ≤ w.time → w.time ≤ 10 ^ 18
-      → CarriesRight p whole (seen w)
+      → CarriesRight p whole w
   carries_right w is on shown =
       record { is = settled_from w is.so on shown; right = right w is.so on shown; carries = is.carries on shown }
 
 -- An act was done in a world in which time is carried right from when it has settled and rates are measured over whole
--- windows, where that is seen as if its last change had been at another time.
+-- windows.
 pub record IsCarried {F : Type 0} (answers : Bounds → ℕ → F → Option ℕ → F → Type 0) (p : SettlingParams)
     (settled : ℕ) (t : ActTrace) : Type 0 where
-  pub since : ℕ
   pub fate : F
   pub drawn : F
-  pub was : WasDone answers t.told.timed fate drawn (changed_at since t.before) (changed_at since t.after) t.told.done
+  pub was : WasDone answers t.told.timed fate drawn t.before t.after t.told.done
   pub right : settled + window_span p.params ≤ t.told.timed.at
-      → CarriesRight p (settled + window_span p.params) (changed_at since (at t.told.timed.at t.before))
+      → CarriesRight p (settled + window_span p.params) (at t.told.timed.at t.before)
 
 -- ---- the law
 
-module _ {F : Type 0} (answers : Bounds → ℕ → F → Option ℕ → F → Type 0) (d : DocumentState) (settled : ℕ) (fate : F)
-    (first w : WorldState) (ts : List ActTrace) (t : ActTrace) (playable : IsPlayable d)
+module _ {F : Type 0} (answers : Bounds → ℕ → F → Option ℕ → F → Type 0) (d : DocumentState) (settled most : ℕ)
+    (fate : F) (first w : WorldState) (ts : List ActTrace) (t : ActTrace) (playable : IsPlayable d)
     (k : Unfolds answers d t.told.timed.at fate first ts w) (member : In t ts) (shown : t.told.timed.at ≤ 10 ^ 18)
-    (is : SettlesByEvents d t.told.timed.at settled)
+    (is : ChoosesByEvents d t.told.timed.at settled)
     (behind : last_change (events_by t.told.timed.at d.events) < settled)
-    (old : last_set (events_by t.told.timed.at d.events) + largest_interval (pace_of d.network) ≤ settled) where
+    (within : HasDelaysWithin d.network (events_by t.told.timed.at d.events) most)
+    (old : arrived_by most (events_by t.told.timed.at d.events) ≤ settled) where
   abbrev now : ℕ
   now = t.told.timed.at
 
@@ -233,31 +240,29 @@ module _ {F : Type 0} (answers : Bounds → ℕ → F → Option ℕ → F → T
   begun = begins_after answers d playable fate now first w ts k is.first is.begins
 
   abbrev Exact : WorldState → Type 0
-  Exact = IsExactTo d playable events is.calm is.last settled is.settles behind old
+  Exact = IsExactTo d playable events is.calm is.last settled is.settles behind most within old
 
   steps : AreSteps answers Exact events ts first
   steps =
       in_turn answers d playable events is.last now Exact
-      (exact_begins d playable events is.calm is.last settled is.settles behind old)
-      (exact_later d playable events is.calm is.last settled is.settles behind old)
+      (exact_begins d playable events is.calm is.last settled is.settles behind most within old)
+      (exact_later d playable events is.calm is.last settled is.settles behind most within old)
       (λ u one drawn v next was v_is.
-      exact_act d playable events is.calm is.last settled is.settles behind old answers u one drawn v next was v_is)
+      exact_act d playable events is.calm is.last settled is.settles behind most within old answers u one drawn v next
+      was v_is)
       [] is.first events ts k.started k.drawn first w refl (events_made d now playable.network playable.events)
       (events_fit d now playable) is.lead k.courses begun (begun_last answers d playable fate k.started first k.begun)
 
   carried : settled ≤ now → IsCarried answers (pace_of d.network) settled t
   carried late =
       let step = steps.each t member (omega (arith, behind, late)) in
-      let since = last_set events in
       record {
-        since = since;
         fate = step.fate;
         drawn = step.drawn;
-        was = was_done_so since answers t.told.timed step.fate step.drawn t.before t.after t.told.done step.none
-            step.was;
+        was = step.was;
         right = λ on.
-            carries_right d playable events is.calm is.last settled is.settles behind old (at now t.before)
-            (exact_later d playable events is.calm is.last settled is.settles behind old t.before now
+            carries_right d playable events is.calm is.last settled is.settles behind most within old (at now t.before)
+            (exact_later d playable events is.calm is.last settled is.settles behind most within old t.before now
             step.was.ready.timely.now step.was.ready.timely.first step.before)
             on shown;
       }
@@ -265,26 +270,26 @@ module _ {F : Type 0} (answers : Bounds → ℕ → F → Option ℕ → F → T
   exact_then : AreExactFrom (pace_of d.network) settled t.before now t.after t.told.done
   exact_then number_of_steps number error offset ahead late leaves near way is_ahead =
       let is = carried (omega (arith, late)) in
-      exact_so is.since (pace_of d.network) settled t.before now t.after t.told.done
-      (carried_exact answers t.told.timed is.fate is.drawn (changed_at is.since t.before)
-      (changed_at is.since t.after) (pace_of d.network) settled is.right t.told.done is.was)
-      number_of_steps number error offset ahead late leaves near way is_ahead
+      carried_exact answers t.told.timed is.fate is.drawn t.before t.after (pace_of d.network) settled is.right
+      t.told.done is.was number_of_steps number error offset ahead late leaves near way is_ahead
 
 pub acts_are_exact_in_turn : {F : Type 0} (answers : Bounds → ℕ → F → Option ℕ → F → Type 0)
     → ActsAreExactInTurn answers
-acts_are_exact_in_turn answers d until settled fate first w ts t playable k member shown is behind old =
+acts_are_exact_in_turn answers d until settled most fate first w ts t playable k member shown is behind within old =
     let run = run_to answers d until fate first w ts t playable k member in
-    exact_then answers d settled fate first run.w run.ts t playable run.unfolds run.member shown is behind old
+    exact_then answers d settled most fate first run.w run.ts t playable run.unfolds run.member shown is behind within
+    old
 
 -- so it is of each act of a run from then on
 pub acts_are_carried_in_turn : {F : Type 0} (answers : Bounds → ℕ → F → Option ℕ → F → Type 0) (d : DocumentState)
-    (until settled : ℕ) (fate : F) (first w : WorldState) (ts : List ActTrace) (t : ActTrace) → IsPlayable d
+    (until settled most : ℕ) (fate : F) (first w : WorldState) (ts : List ActTrace) (t : ActTrace) → IsPlayable d
     → Unfolds answers d until fate first ts w → In t ts → t.told.timed.at ≤ 10 ^ 18
-    → SettlesByEvents d t.told.timed.at settled
+    → ChoosesByEvents d t.told.timed.at settled
     → last_change (events_by t.told.timed.at d.events) < settled
-    → last_set (events_by t.told.timed.at d.events) + largest_interval (pace_of d.network) ≤ settled
+    → HasDelaysWithin d.network (events_by t.told.timed.at d.events) most
+    → arrived_by most (events_by t.told.timed.at d.events) ≤ settled
     → settled ≤ t.told.timed.at
     → IsCarried answers (pace_of d.network) settled t
-acts_are_carried_in_turn answers d until settled fate first w ts t playable k member shown is behind old =
+acts_are_carried_in_turn answers d until settled most fate first w ts t playable k member shown is behind within old =
     let run = run_to answers d until fate first w ts t playable k member in
-    carried answers d settled fate first run.w run.ts t playable run.unfolds run.member shown is behind old
+    carried answers d settled most fate first run.w run.ts t playable run.unfolds run.member shown is behind within old

@@ -1,13 +1,12 @@
 -- A system fails that others hear, and no system is moved but such as are cut off: what is held of it ages from then
 -- on.
 use Rattle.std.proofs.Common.{◌≡◌, ◌⊎◌, ◌≤◌, ◌<◌, ◌+◌, ◌*◌, ℕ, suc, pred, Bool, true, false, cond, max, List, [], ◌∷◌, Some, slice_get, refl, sym, ap, subst, ◌∙◌, inl, inr, arith}
-use native.Mathlib.Decide.{dec_le}
 use Rattle.gptp_lists.specs.Members.{In}
 use Rattle.gptp_graph.specs.Best.{IsBest}
 use Rattle.gptp_graph.specs.Distance.{IsDistance}
 use Rattle.gptp_graph.specs.Path.{IsPath}
 use Rattle.gptp_graph.specs.PathBound.{path_bound}
-use Rattle.gptp_graph.specs.Snapshot.{IsWellFormed, Joins, PortIdentity, Snapshot, System, clocks}
+use Rattle.gptp_graph.specs.Snapshot.{IsWellFormed, Joins, Snapshot, System, clocks}
 use Rattle.gptp_graph.proofs.ExistenceLemmas.{distance_exists}
 use Rattle.gptp_graph.proofs.LinkLemmas.{Joins-clock}
 use Rattle.gptp_links.specs.declared.link.Direction.TheVariants.{FromA}
@@ -22,13 +21,10 @@ use Rattle.gptp_model.specs.Acts.{Acts, AtSystem}
 use Rattle.gptp_model.specs.Changing.{FailsIf}
 use Rattle.gptp_model.specs.declared.done.Done.{Done}
 use Rattle.gptp_model.specs.World.{Channel, WorldState, receiver, sender}
-use Rattle.gptp_bmca_machine.specs.Frame.{Announce, AnnounceFrame, Lane}
 use Rattle.gptp_bmca_machine.specs.LossLaws.{EverythingFits, Unmoved}
-use Rattle.gptp_bmca_machine.specs.Network.{Network, network_setting}
+use Rattle.gptp_bmca_machine.specs.Network.{Network}
 use Rattle.gptp_bmca_machine.specs.RestLaws.{SameWiring}
-use Rattle.gptp_bmca_machine.specs.SoundEverywhere.{IsSoundEverywhere}
 use Rattle.gptp_bmca_machine.specs.SoundLaws.{AllAreNear}
-use Rattle.gptp_bmca_machine.specs.Station.{HoldsAt, Reception, Station as SeenStation}
 use Rattle.gptp_bmca_machine.proofs.StillLemmas.{StillSettles}
 use Rattle.gptp_invariants.specs.ChoiceCalm.{HaveQuietLinks, delay_in, greatest_channel_delay}
 use Rattle.gptp_invariants.specs.ChoiceSettlesAsMachine.{IsWorld}
@@ -39,24 +35,19 @@ use Rattle.gptp_invariants.specs.WorldSound.{IsSoundWorld}
 use Rattle.gptp_invariants.specs.WorldStanding.{channel_is_used, live_stations, snapshot_of}
 use Rattle.gptp_invariants.proofs.ChoiceSettlesAsMachineLemmas.{paths_bound}
 use Rattle.gptp_invariants.proofs.WorldStandsLemmas.{stands_well}
-use Rattle.gptp_invariants.proofs.ChoiceCalmFactLemmas.{frame_from}
-use Rattle.gptp_invariants.proofs.WorldWayLemmas.{one_way, used_joins, way_of}
+use Rattle.gptp_invariants.proofs.WorldWayLemmas.{used_joins}
 use Rattle.gptp_settling_time.specs.Losses.{IsUnmovedOrCutOff}
 use Rattle.gptp_settling_time.proofs.AgingLemmas.{UnlinkedAge}
 use Rattle.gptp_settling_time.proofs.AgingClaimedLemmas.{IsAgingAlways, aging_after, aging_network, named_in, stay_of}
 use Rattle.gptp_settling_time.proofs.AgingStillLemmas.{IsEmptied, ages_begin, still_emptied, still_settled}
-use Rattle.gptp_settling_time.proofs.AgesByLemmas.{ByLink, by_begins}
-use Rattle.gptp_settling_time.proofs.AgesByWorldLemmas.{OverWay, StaysLongest, StaysNamed, WorldAgesBy}
-use Rattle.gptp_settling_time.proofs.AlwaysClaimedLemmas.{AreHeard, IsStanding, due_by_link}
-use Rattle.gptp_settling_time.proofs.ClearsLemmas.{ready_asked}
+use Rattle.gptp_settling_time.proofs.AlwaysClaimedLemmas.{IsStanding}
 use Rattle.gptp_settling_time.proofs.FailedAloneLemmas as alone
 use Rattle.gptp_settling_time.proofs.FitsLemmas.{IsLeftUnmoved, at_zero, lived}
 use Rattle.gptp_settling_time.proofs.LeftClaimedLemmas.{HaveAskedLong}
 use Rattle.gptp_settling_time.proofs.MovedAlwaysLemmas.{at_least}
 use Rattle.gptp_settling_time.proofs.LostEndLemmas.{sound_reduced}
-use Rattle.gptp_settling_time.proofs.NamedWorldLemmas.{IsNamedWorld, old_by, set_facts, set_network}
-use Rattle.gptp_settling_time.proofs.NamesIntervalLemmas.{flight_named, held_named}
 use Rattle.gptp_settling_time.proofs.NamesItselfLemmas.{itself_begins}
+use Rattle.gptp_settling_time.proofs.NearEndLemmas.{near_ends_stay}
 use Rattle.gptp_settling_time.proofs.ReducedLemmas.{fits_reduced}
 use Rattle.gptp_settling_time.proofs.SettledSeenLemmas.{IsSettledSeen, sound_fits}
 
@@ -107,13 +98,6 @@ delay_within p w time is way = elim (delay_used (live_stations w.stations) w.net
         omega (arith, least, way)
 
 -- ---- the failure
-
--- What others hold of a failed system ages by the link over which it came. It is held as long as the interval of its
--- port says, once all that was held or in flight at the last change has aged; before that for the longest span.
-abbrev pub AgesByLink : SettlingParams → WorldState → WorldState → Type 0
-AgesByLink p w w' =
-    WorldAgesBy p (ByLink w.time (StaysNamed p w) (OverWay w)) w'
-    ⊎ ((old_by p w ≤ w.time → ⊥) × WorldAgesBy p (ByLink w.time (StaysLongest p) (OverWay w)) w')
 
 module _ (p : SettlingParams) (number : ℕ) (w : WorldState) (draws : List Draw) (done : Done) (w' : WorldState)
     (is : IsWorld p w) (is' : IsWorld p w') (acts : Acts (Changing (Fail number)) w draws done w') where
@@ -179,7 +163,7 @@ module _ (p : SettlingParams) (number : ℕ) (w : WorldState) (draws : List Draw
         (quiet : HaveQuietLinks p.params w) (silent_before : AreSilentBy p next w)
         (long : w.time + silence_span p < silent) (soon : w.time + longest_span p + delay_in w < aged) where
       abbrev n' : Network
-      n' = aging_network p aged silent w'
+      n' = aging_network p silent w'
 
       standing : IsStanding p silent w'
       standing =
@@ -201,15 +185,14 @@ module _ (p : SettlingParams) (number : ℕ) (w : WorldState) (draws : List Draw
           let within = delay_within p w w.time is over in
           omega (arith, most, within)
 
-      ages : UnlinkedAge says_announce g' (stay_of p) aged (view w')
+      ages : UnlinkedAge says_announce g g' (stay_of p) aged (view w')
       ages =
           let begun = seen.net.begun in
           let settled = seen.late in
           let most = seen.most in
           ages_begin says_announce seen.n (view w) seen.calm (omega (arith, begun, settled)) fits (stay_of p)
-          (named_in p w is) (longest_span p) aged (λ log. span_longest p log pace.largest) (omega (arith, soon, most))
-          g'
-          back_known (view w') emptied
+          (named_in p w is) (longest_span p) aged (λ log. span_longest p log pace.largest) (omega (arith, soon, most)) g
+          g' back_known (view w') emptied
 
       fits' : EverythingFits says_announce g n' (view w')
       fits' =
@@ -239,6 +222,9 @@ module _ (p : SettlingParams) (number : ℕ) (w : WorldState) (draws : List Draw
         well = well;
         left = left;
         near = near_then;
+        stay = near_ends_stay g n' number well'
+            (record { graph = well; systems = left.systems; links = left.links })
+            (alone.loses_it p number w draws done w' is is' acts lives n' refl);
         way = way;
         late = late;
         seen = λ quiet' off. record {
@@ -247,84 +233,9 @@ module _ (p : SettlingParams) (number : ℕ) (w : WorldState) (draws : List Draw
           still = still_emptied says_announce g seen.n n' well' same
               (λ a b joins. subst (λ h. Joins h a b) (sym seen.graph) (left.links a b joins)) back
               (record { graph = well; systems = left.systems; links = left.links }) (view w) (view w') emptied come
-              (aging_after p aged silent w' standing asked quiet' ages off late) fits' tells;
+              (aging_after p silent w' standing asked quiet' off late) fits' tells;
           itself = itself_begins says_announce n' g (view w')
               (sound_reduced says_announce g (view w) (view w')
               (alone.less p number w draws done w' is is' acts lives) sound);
         };
       }
-
-      -- ---- link by link
-
-      heard : AreHeard p next w
-      heard at stands =
-          let (first, by, before, x) = ready_asked p next w is past ready at stands in inr (inr (inr (first, by, x)))
-
-      stood_then : IsStanding p next w
-      stood_then = record { pace = pace; world = is; measured = measured; silent = silent_before }
-
-      sound_seen : IsSoundEverywhere says_announce seen.n.graph (view w)
-      sound_seen = subst (λ h. IsSoundEverywhere says_announce h (view w)) (sym seen.graph) sound
-
-      soon_by_link : (j : ℕ) (l : Lane) (f : AnnounceFrame) → slice_get (view w).lanes j ≡ Some l → In f l.frames
-          → Joins seen.n.graph l.from l.to → (most : ℕ) × OverWay w l.from l.to most × (f.due ≤ w.time + most)
-      soon_by_link j l f there member joins =
-          let joined : Joins g l.from l.to = subst (λ h. Joins h l.from l.to) seen.graph joins in
-          let way = way_of w l.from l.to joined in
-          let at = frame_from w j l f there member in
-          let one = one_way w is.sound is.encodable way.link at.link way.direction at.direction way.channel at.channel
-          way.here at.here (way.from ∙ ap (λ (z : Lane). z.from) at.lane_is) in
-          let most : at.channel.bounds.max ≡ way.channel.bounds.max =
-          ap (λ (c : Channel). c.bounds.max) (sym one.same_channel) in
-          let due = due_by_link p next w stood_then heard quiet j l f there member joined in
-          (way.channel.bounds.max, (way, refl), omega (arith, due, most))
-
-      -- What a port tells stays so long. So it ages within that and the delay of the link.
-      module _ (Stays : PortIdentity → ℕ → Type 0)
-          (held_stays : (i : ℕ) (s : SeenStation) (place : ℕ) (r : Reception) → slice_get (view w).stations i ≡ Some s
-          → s.live ≡ true → HoldsAt s place r → (span : ℕ) × Stays r.said.source span × (stay_of p r.said.log ≤ span))
-          (flight_stays : (j : ℕ) (l : Lane) (f : AnnounceFrame) (a : Announce) → slice_get (view w).lanes j ≡ Some l
-          → In f l.frames → says_announce f.octets a → In l.to.clock (clocks seen.n.graph)
-          → (span : ℕ) × Stays a.source span × (stay_of p a.log ≤ span)) where
-        failed_ages : WorldAgesBy p (ByLink w.time Stays (OverWay w)) w'
-        failed_ages quiet' =
-            by_begins says_announce seen.n (view w) seen.calm sound_seen (stay_of p) (named_in p w is) Stays (OverWay w)
-            held_stays flight_stays (λ j l f a at among said known. (fits.lanes j l f a at among said known).joins)
-            (λ from to joins.
-            let way = way_of w from to (subst (λ h. Joins h from to) seen.graph joins) in
-            (way.channel.bounds.max, (way, refl)))
-            soon_by_link g' back_known (view w') emptied
-
-      -- that is the longest span of the network
-      failed_by : WorldAgesBy p (ByLink w.time (StaysLongest p) (OverWay w)) w'
-      failed_by =
-          failed_ages (StaysLongest p)
-          (λ i s place r at live holds. (longest_span p, refl, span_longest p r.said.log pace.largest))
-          (λ j l f a at among said known. (longest_span p, refl, span_longest p a.log pace.largest))
-
-      -- or that of the port's own interval, once all that was held or in flight at the last change has aged
-      failed_by_interval : IsNamedWorld p w → old_by p w ≤ w.time
-          → WorldAgesBy p (ByLink w.time (StaysNamed p w) (OverWay w)) w'
-      failed_by_interval names old =
-          failed_ages (StaysNamed p w)
-          (λ i s place r at live holds.
-          let log = held_named says_announce n_set (stay_of p) (old_by p w) (view w) (network_setting n_set)
-          (set_facts p w is) seen.calm.left old names i s place r at live holds in
-          (stay_of p (n_set.log_of r.said.source), refl, omega (arith, ap (stay_of p) log)))
-          (λ j l f a at among said known.
-          let log = flight_named says_announce n_set (stay_of p) (old_by p w) (view w) (network_setting n_set)
-          (set_facts p w is) seen.calm.left old names j l f a at among said
-          (subst (λ h. In l.to.clock (clocks h)) seen.graph known) in
-          (stay_of p (n_set.log_of a.source), refl, omega (arith, ap (stay_of p) log)))
-        where
-          n_set : Network
-          n_set = set_network p w
-
-      pub failed_ages_by : IsNamedWorld p w → IsAgingAlways p g aged silent w' × AgesByLink p w w'
-      failed_ages_by names = (
-        failed_aging,
-        elim (dec_le (old_by p w) w.time) [
-          | yes old ↦ inl (failed_by_interval names old)
-          | no early ↦ inr (early, failed_by)
-        ],
-      )

@@ -2,34 +2,66 @@
 use Rattle.std.proofs.Common.{◌≡◌, ◌⊎◌, inl, inr, ◌<◌, ◌≤◌, ◌+◌, ◌*◌, ℕ, suc, List, [], ◌∷◌, ◌++◌, refl, sym, ap, subst, ◌∙◌, append_assoc, max, arith}
 use Rattle.std.specs.List.{AllByRecursion}
 use Rattle.std.proofs.Math.Nat.{le-max_left, le-max_right}
-use native.Mathlib.Decide.{dec_le}
 use Rattle.gptp_setup.specs.SettlingParams.{largest_interval}
-use Rattle.gptp_scenario.specs.Calm.{IsCalm, NothingLapses}
+use Rattle.gptp_scenario.specs.Calm.{IsCalm, NothingLapses, last_change}
 use Rattle.gptp_scenario.specs.Network.{IsNetwork, NetworkState, pace_of}
 use Rattle.gptp_scenario.specs.SettlingAtOnce.{settling_span_at_once}
-use Rattle.gptp_scenario.specs.SettlingTime.{loss_span, settling_span_with, silence_span, way_span}
+use Rattle.gptp_scenario.specs.SettlingTime.{way_span}
 use Rattle.gptp_scenario.specs.SyncWait.{sync_paths}
 use Rattle.gptp_scenario.specs.declared.change.Timed.{Timed}
-use Rattle.gptp_network.specs.Document.{DocumentState}
 use Rattle.gptp_network.specs.Events.{AreInOrder}
 use Rattle.gptp_network.specs.Snapshot.{events_by}
-use Rattle.gptp_settling_time.specs.HowSoon.{AreGainEvents, AreHeardEvents, AreReadyAtStart, AreStartEvents, BoundsAging, BoundsAnyLoss, BoundsEvents, BoundsLoss, BoundsStart, IsChoiceAloneBound, IsChoiceBound, IsChoiceBoundAfter, IsLossBoundAfter, IsRestBoundAfter, EachEvent, NoneBetween, OneEvent, RestsAfterLoss, events_at}
-use Rattle.gptp_settling_time.specs.InTurn.{Aging, AnyPast, AreCapableSoon, BeginsBy, ChoosesAfter, ChoosesByEvents, ComesByEvents, EventLeads, Fallen, FallsCalm, FlightIsGone, Gained, Heard, LeadOn, LeadsByTree, Left, Lost, Past, SettlesAfter, SettlesByEvents, Starting, StartsWith, TellsNothing, Turned, TurnedTree, TurnsTreeCalm, UsedVaryLittle}
+use Rattle.gptp_settling_time.specs.Gains.{Repeats}
+use Rattle.gptp_settling_time.specs.HowSoon.{AreGainEvents, AreHeardEvents, AreReadyAtStart, AreStartEvents, BeforeRepeats, BesideIdle, BoundsEvents, BoundsStart, EachEvent, events_at, HasArrivedNext, IsRestBoundAfter, NoneBetween, OneEvent, RestsAfterLoss}
+use Rattle.gptp_settling_time.specs.InTurn.{AnyPast, AreCapableSoon, BeginsBy, EventLeads, Fallen, FallsCalm, FlightIsGone, Gained, Heard, LeadOn, LeadsByTree, Past, RestsFrom, Starting, StartsWith, TellsNothing, TurnedTree, TurnsTreeCalm, UsedVaryLittle, turned_echo_span}
 use Rattle.gptp_settling_time.specs.TreeLosses.{LowersTree, TurnsTreeLink}
-use Rattle.gptp_settling_time.specs.Losses.{AgesWithin, FailsHeard, LowersLink, LowersUnused, TurnsLink, UpIsUsed}
-use Rattle.gptp_settling_time.proofs.CalmLessLemmas.{fails_calm}
+use Rattle.gptp_theorem.proofs.EventLemmas.{last_behind}
+use Rattle.gptp_settling_time.proofs.BesideIdleLemmas.{LeadsTo, beside_idle, repeats_lead, rested_same}
+use Rattle.gptp_settling_time.proofs.SamePathsLemmas.{StandSame}
 use Rattle.gptp_settling_time.proofs.CutLemmas.{IsBy, all_by}
 use Rattle.gptp_settling_time.proofs.MomentLemmas.{all_at, last_by, parted}
-use Rattle.gptp_settling_time.proofs.LeadOnLemmas.{HasRested, HasSettled, IsLed, after_idle, any_leads, gains_led, heard_led, idle_led, lead_as, leads_on, led_as, next, rested_so, settled_later, taken_later, wider_led}
-use Rattle.gptp_settling_time.proofs.LosesLeadLemmas.{LosesBy, any_rests, loses_by}
-use Rattle.gptp_settling_time.proofs.LossLeadLemmas.{IsLeftBy, dead_lead, heard_lead, loss_leads, settles_chooses, tree_leads, turn_leads}
-use Rattle.gptp_settling_time.proofs.LossRestLemmas.{cleared_led, last_at}
-use Rattle.gptp_settling_time.proofs.SilentSpanLemmas.{none_silent}
+use Rattle.gptp_settling_time.proofs.LeadOnLemmas.{HasRested, HasSettled, IsLed, after_idle, any_leads, gains_led, heard_led, idle_led, lead_as, leads_on, led_as, settled_later, taken_later, wider_led}
+use Rattle.gptp_settling_time.proofs.LosesLeadLemmas.{any_rests}
+use Rattle.gptp_settling_time.proofs.LossLeadLemmas.{tree_leads}
+use Rattle.gptp_settling_time.proofs.LossRestLemmas.{cleared_led}
+use Rattle.gptp_settling_time.proofs.NamedLemmas.{arrives_later}
+
+-- ---- rest after a loss
+
+rest_begun : (n : NetworkState) (events : List Timed) (past : Past) (settled : ℕ) → HasRested n events past settled
+    → past ≡ Starting → ⊥
+rest_begun n events past settled (seen, inl same, is) begun =
+    subst (λ x. HasSettled n events x settled) (same ∙ begun) is
+rest_begun n events past settled (seen, inr (start, same, rests), is) begun =
+    subst (λ x. RestsFrom n events x settled start) begun rests
+
+none_rests : (n : NetworkState) (made : List Timed) (rest : ℕ) → RestsAfterLoss n made [] rest → ⊥
+none_rests n made rest (inl (inl (none, by))) = none
+none_rests n made rest (inl (inr (inl (none, by)))) = none
+none_rests n made rest (inl (inr (inr (inl (none, by))))) = none
+none_rests n made rest (inl (inr (inr (inr (inl (none, by)))))) = none
+none_rests n made rest (inl (inr (inr (inr (inr (none, by)))))) = none
+none_rests n made rest (inr (choice, (none, is_choice, by))) = none
+
+-- it leads on to where the network has come to rest
+rest_leads : (n : NetworkState) → IsNetwork n → NothingLapses n.params → (time rest : ℕ) (made now : List Timed)
+    (past : Past) → AllByRecursion (λ (t : Timed). t.at ≡ time) now → HasSettled n made past time → IsCalm n made
+    → IsCalm n (made ++ now) → RestsAfterLoss n made now rest
+    → LeadsTo n made now past (λ events last. HasRested n events last (suc (time + rest)))
+rest_leads n network off time rest made now past at settled calm calm_now loses =
+    by (elim loses [
+      | inl one ↦ cleared_led n network off time made now past rest at calm calm_now settled one
+      | inr any ↦ any_rests n time network off made now past at settled calm rest any
+    ])
+  where
+    by : IsLed n made now past (suc (time + rest))
+        → LeadsTo n made now past (λ events last. HasRested n events last (suc (time + rest)))
+    by is = record { last = is.last; lead = is.lead; so = is.settles }
 
 -- ---- a document
 
 -- What the network of a document came from after the events up to a time that has this choice bound.
-record IsFollowedTo (n : NetworkState) (events : List Timed) (time choice : ℕ) : Type 0 where
+pub record IsFollowedTo (n : NetworkState) (events : List Timed) (time choice : ℕ) : Type 0 where
   pub first : Past
   pub begins : BeginsBy n first
   pub last : Past
@@ -162,6 +194,41 @@ module _ (n : NetworkState) (network : IsNetwork n) (off : NothingLapses n.param
           subst (λ es. HasRested n es on.last settled) (sym (parted all last time order less between)) on.settles,
         )
 
+    -- so it does by a loss, whatever makes nothing beside it
+    pub besided : (So : List Timed → Past → Type 0)
+        → ((events : List Timed) (past : Past) → So events past → past ≡ Starting → ⊥)
+        → ((events more : List Timed) (past : Past) → StandSame n events more
+        → last_change more ≡ last_change events → So events past → So more past)
+        → (Are : List Timed → List Timed → Type 0) → ((made : List Timed) → Are made [] → ⊥)
+        → ((made now : List Timed) (past : Past) → AllByRecursion (λ (t : Timed). t.at ≡ time) now
+        → HasSettled n made past time → IsCalm n made → IsCalm n (made ++ now) → Are made now
+        → LeadsTo n made now past So)
+        → (then : ℕ) → IsCalm n before_now → IsCalm n (events_by time all)
+        → (before : IsFollowedTo n before_now last then) → last + then < time
+        → BesideIdle n (last + then) time Are before_now at_now
+        → (x : Past) × LeadOn n [] before.first (events_by time all) x × So (events_by time all) x
+    besided So begun same Are some leads then calm calm_now before soon loses = by at_now refl loses
+      where
+        by : (now : List Timed) → at_now ≡ now → BesideIdle n (last + then) time Are before_now now
+            → (x : Past) × LeadOn n [] before.first (events_by time all) x × So (events_by time all) x
+        by [] is none = absurd none
+        by (event ∷ now) is beside =
+            let (seen, taken, has) = before.settles in
+            let at = subst (AllByRecursion (λ (t : Timed). t.at ≡ time)) is (all_at time all) in
+            let here : event.at ≡ time = at.0 in
+            let whole : events_by time all ≡ before_now ++ event ∷ now =
+            parted all last time order less between ∙ ap (λ es. before_now ++ es) is in
+            let x = beside_idle n network off time So begun same Are some leads before_now event now seen (last + then)
+            at has soon calm (subst (IsCalm n) whole calm_now) beside in (
+              x.last,
+              subst (λ es. LeadOn n [] before.first es x.last) (sym whole)
+                  (leads_on n [] before.first before.last x.last before_now (event ∷ now) before.lead
+                  (lead_as n before_now event now before.last seen x.last
+                  (taken_later n before_now before.last seen (suc (last + then)) event.at (omega (arith, soon, here))
+                  taken) x.lead)),
+              subst (λ es. So es x.last) (sym whole) x.so,
+            )
+
     module _ (then choice : ℕ) (calm : IsCalm n before_now) (before : IsFollowedTo n before_now last then)
         (soon : last + then < time) where
       by_now : (past : Past) → HasSettled n before_now past (suc (last + then)) → HasSettled n before_now past time
@@ -196,80 +263,81 @@ module _ (n : NetworkState) (network : IsNetwork n) (off : NothingLapses n.param
           let (x, lead, rested) = goes_on then (suc (time + choice)) before soon (omega arith) (by seen is sharp) in
           record { first = before.first; begins = before.begins; last = x; lead = lead; settles = rested }
 
-      loss_followed : IsCalm n (events_by time all) → RestsAfterLoss n before_now at_now choice
+      loss_followed : IsCalm n (events_by time all)
+          → BesideIdle n (last + then) time (λ made now. RestsAfterLoss n made now choice) before_now at_now
           → IsFollowedTo n (events_by time all) time choice
       loss_followed calm_now loses =
-          let (seen, taken, is) = before.settles in
-          let parts = parted all last time order less between in
-          let (x, lead, rested) = goes_on then (suc (time + choice)) before soon (omega arith)
-          (elim loses [
-            | inl one ↦
-                cleared_led n off time before_now at_now seen choice (all_at time all) calm
-                (subst (IsCalm n) parts calm_now) (by_now seen is) one
-            | inr any ↦
-                any_rests n time network off before_now at_now seen (all_at time all) (by_now seen is) calm choice any
-          ]) in
+          let (x, lead, rested) = besided (λ events past. HasRested n events past (suc (time + choice)))
+          (λ events past. rest_begun n events past (suc (time + choice)))
+          (λ events more past same last_same. rested_same n off events more same last_same past (suc (time + choice)))
+          (λ made now. RestsAfterLoss n made now choice) (λ made. none_rests n made choice)
+          (λ made now past. rest_leads n network off time choice made now past) then calm calm_now before soon loses in
           record { first = before.first; begins = before.begins; last = x; lead = lead; settles = rested }
 
-    -- A tree is moved, an announce interval after the time before has come to rest.
+    -- A tree is moved, once what was sent before the time before had come to rest has arrived.
     module _ (Moves : List Timed → Timed → Type 0) (Calm : Timed → Type 0) (then : ℕ)
-        (before : IsFollowedTo n before_now last then) (soon : last + then + largest_interval (pace_of n) < time)
+        (before : IsFollowedTo n before_now last then) (arrives : HasArrivedNext n all last then time)
         (calm : (event : Timed) → Moves before_now event → Calm event) (Tree : ℕ → ℕ → Past)
         (is_tree : (past : Past) (event : Timed) (silent now : ℕ)
         → LeadsByTree n before_now past event (Calm event) silent now
-        → EventLeads n before_now past event (Tree silent now)) where
-      moves_on : (now : List Timed) → at_now ≡ now → OneEvent Moves before_now now
+        → EventLeads n before_now past event (Tree silent now))
+        (begun : (silent now : ℕ) → Tree silent now ≡ Starting → ⊥) where
+      moves_on : (now others : List Timed) → at_now ≡ now ++ others → EachEvent (Repeats n) (before_now ++ now) others
+          → OneEvent Moves before_now now
           → (silent : ℕ) × LeadOn n [] before.first (events_by time all) (Tree silent time)
-      moves_on [] same none = absurd none
-      moves_on (event ∷ other ∷ now) same none = absurd none
-      moves_on (event ∷ []) same moves =
-          let here : event.at ≡ time =
-          (subst (AllByRecursion (λ (t : Timed). t.at ≡ time)) same (all_at time all)).0 in
+      moves_on [] others same each none = absurd none
+      moves_on (event ∷ other ∷ now) others same each none = absurd none
+      moves_on (event ∷ []) others same each moves =
+          let at = subst (AllByRecursion (λ (t : Timed). t.at ≡ time)) same (all_at time all) in
+          let here : event.at ≡ time = at.0 in
           let (seen, taken, is) = before.settles in
           let over = last_by last all in
+          let (arrived, arrive, soon) = arrives in
+          let later = arrives_later n before_now (suc (last + then)) arrived arrive in
           let (silent, leads) = tree_leads n before_now event (suc (last + then)) (omega (arith, over))
-          (omega (arith, soon, here)) (Calm event) seen is (calm event moves) in
-          let past : Past = Tree silent event.at in (
+          (arrived, arrive, omega (arith, soon, here)) (Calm event) seen is (calm event moves) in
+          let past : Past = Tree silent time in (
             silent,
-            subst (λ at. LeadOn n [] before.first (events_by time all) (Tree silent at)) here
-                (subst (λ es. LeadOn n [] before.first es past)
+            subst (λ es. LeadOn n [] before.first es past)
                 (sym (parted all last time order less between ∙ ap (λ es. before_now ++ es) same))
-                (leads_on n [] before.first before.last past before_now (event ∷ []) before.lead (
+                (leads_on n [] before.first before.last past before_now (event ∷ others) before.lead (
                   seen,
-                  taken_later n before_now before.last seen (suc (last + then)) event.at (omega (arith, soon, here))
-                      taken,
+                  taken_later n before_now before.last seen (suc (last + then)) event.at
+                      (omega (arith, later, soon, here)) taken,
                   past,
-                  is_tree seen event silent event.at leads,
-                  refl,
-                ))),
+                  subst (λ t. EventLeads n before_now seen event (Tree silent t)) here
+                      (is_tree seen event silent event.at leads),
+                  repeats_lead n network off time (before_now ++ event ∷ []) others past (begun silent time)
+                      (last_behind before_now event ∙ here) at.1 each,
+                )),
           )
 
     -- it is cut off and falls back
-    falls_on : (then : ℕ) → IsCalm n before_now → (before : IsFollowedTo n before_now last then)
-        → last + then + largest_interval (pace_of n) < time → OneEvent (LowersTree n) before_now at_now
+    pub falls_on : (then : ℕ) → IsCalm n before_now → (before : IsFollowedTo n before_now last then)
+        → HasArrivedNext n all last then time → BeforeRepeats n (OneEvent (LowersTree n)) before_now at_now
         → (silent : ℕ) × LeadOn n [] before.first (events_by time all) (Fallen silent time)
-    falls_on then calm before soon lowers =
-        moves_on (LowersTree n) (FallsCalm n before_now) then before soon
-        (λ event moves. record { lowers = moves; calm = calm; off = off }) Fallen (λ past event silent now leads. leads)
-        at_now refl lowers
+    falls_on then calm before arrives (first, others, parts, each, lowers) =
+        moves_on (LowersTree n) (FallsCalm n before_now) then before arrives
+        (λ event moves. record { lowers = moves; calm = calm; off = off }) Fallen
+        (λ past event silent now leads. inl leads) (λ silent now same. cc) first others parts each lowers
 
     -- or it turns to its one way out
-    turns_on : (then : ℕ) → IsCalm n before_now → (before : IsFollowedTo n before_now last then)
-        → last + then + largest_interval (pace_of n) < time → OneEvent (TurnsTreeLink n) before_now at_now
+    pub turns_on : (then : ℕ) → IsCalm n before_now → (before : IsFollowedTo n before_now last then)
+        → HasArrivedNext n all last then time → BeforeRepeats n (OneEvent (TurnsTreeLink n)) before_now at_now
         → (silent : ℕ) × LeadOn n [] before.first (events_by time all) (TurnedTree silent time)
-    turns_on then calm before soon turns =
-        moves_on (TurnsTreeLink n) (TurnsTreeCalm n before_now) then before soon
+    turns_on then calm before arrives (first, others, parts, each, turns) =
+        moves_on (TurnsTreeLink n) (TurnsTreeCalm n before_now) then before arrives
         (λ event moves. record { turns = moves; calm = calm; off = off }) TurnedTree
-        (λ past event silent now leads. leads) at_now refl turns
+        (λ past event silent now leads. inl leads) (λ silent now same. cc) first others parts each turns
 
     -- it has come to rest once the tree has settled and what was in flight is gone
     fall_followed : (then rest gone : ℕ) → IsCalm n before_now → IsCalm n (events_by time all)
-        → IsFollowedTo n before_now last then → last + then + largest_interval (pace_of n) < time
-        → OneEvent (LowersTree n) before_now at_now → FlightIsGone n (events_by time all) gone
+        → IsFollowedTo n before_now last then → HasArrivedNext n all last then time
+        → BeforeRepeats n (OneEvent (LowersTree n)) before_now at_now → FlightIsGone n (events_by time all) gone
         → rest ≡ max (2 * way_span (sync_paths n (events_by time all))) gone
         → IsFollowedTo n (events_by time all) time rest
-    fall_followed then rest gone calm_then calm before soon lowers flight is =
-        let (silent, lead) = falls_on then calm_then before soon lowers in
+    fall_followed then rest gone calm_then calm before arrives lowers flight is =
+        let (silent, lead) = falls_on then calm_then before arrives lowers in
         let way : ℕ = way_span (sync_paths n (events_by time all)) in
         let start : ℕ = suc (time + way) in
         let ways = le-max_left (2 * way) gone in
@@ -299,14 +367,50 @@ module _ (n : NetworkState) (network : IsNetwork n) (off : NothingLapses n.param
           );
         }
 
-  bound_calm : (earlier : List ℕ) (time rest : ℕ) → IsRestBoundAfter n all earlier time rest
+    -- or once the tree has turned and traces are told anew
+    turn_followed : (then rest : ℕ) → IsCalm n before_now → IsCalm n (events_by time all)
+        → IsFollowedTo n before_now last then → HasArrivedNext n all last then time
+        → BeforeRepeats n (OneEvent (TurnsTreeLink n)) before_now at_now → rest ≡ turned_echo_span n
+        (events_by time all)
+        → IsFollowedTo n (events_by time all) time rest
+    turn_followed then rest calm_then calm before arrives turns is =
+        let (silent, lead) = turns_on then calm_then before arrives turns in
+        let start : ℕ = suc (time + way_span (sync_paths n (events_by time all))) in
+        let over : start + way_span (sync_paths n (events_by time all)) ≤ suc (time + rest) = omega (arith, is) in
+        record {
+          first = before.first;
+          begins = before.begins;
+          last = TurnedTree silent time;
+          lead = lead;
+          settles = (
+            Heard start,
+            inr (
+              start,
+              refl,
+              (
+                record {
+                  calm = calm;
+                  off = off;
+                  told = omega (arith, is);
+                  later = omega arith;
+                  over = over;
+                },
+                omega arith,
+              ),
+            ),
+            over,
+          );
+        }
+
+  pub bound_calm : (earlier : List ℕ) (time rest : ℕ) → IsRestBoundAfter n all earlier time rest
       → IsCalm n (events_by time all)
   bound_calm [] time rest (start, (calm, is)) = calm
   bound_calm (last ∷ earlier) time rest (inl (later, between, (calm, is))) = calm
-  bound_calm (last ∷ earlier) time rest (inr (inl (later, between, calm, nothing, before, loses))) = calm
-  bound_calm (last ∷ earlier) time rest (inr (inr (later, between, calm, nothing, before, falls, asks))) = calm
+  bound_calm (last ∷ earlier) time rest (inr (inl (later, between, calm, nothing, before))) = calm
+  bound_calm (last ∷ earlier) time rest (inr (inr (inl (later, between, calm, nothing, before, falls, asks)))) = calm
+  bound_calm (last ∷ earlier) time rest (inr (inr (inr (later, between, calm, nothing, before, turns, asks)))) = calm
 
-  followed : (earlier : List ℕ) (time rest : ℕ) → IsRestBoundAfter n all earlier time rest
+  pub followed : (earlier : List ℕ) (time rest : ℕ) → IsRestBoundAfter n all earlier time rest
       → IsFollowedTo n (events_by time all) time rest
   followed [] time rest (start, (calm, inl (lapses, is))) = absurd (lapses off)
   followed [] time rest (start, (calm, inr (nothing, inl is))) = spanned time rest calm is
@@ -320,341 +424,14 @@ module _ (n : NetworkState) (network : IsNetwork n) (off : NothingLapses n.param
       (inl (later, between, (calm, inr (nothing, inr (then, bound, soon, sharp))))) =
       next_followed last time later between then rest (bound_calm earlier last then bound)
       (followed earlier last then bound) soon sharp
-  followed (last ∷ earlier) time rest (inr (inl (later, between, calm, nothing, (then, bound, soon), loses))) =
+  followed (last ∷ earlier) time rest (inr (inl (later, between, calm, nothing, (then, bound, soon, loses)))) =
       loss_followed last time later between then rest (bound_calm earlier last then bound)
       (followed earlier last then bound) soon calm loses
   followed (last ∷ earlier) time rest
-      (inr (inr (later, between, calm, nothing, (then, bound, soon), lowers, (gone, flight, is)))) =
+      (inr (inr (inl (later, between, calm, nothing, (then, bound, soon), lowers, (gone, flight, is))))) =
       fall_followed last time later between then rest gone (bound_calm earlier last then bound) calm
       (followed earlier last then bound) soon lowers flight is
-
-  -- a choice bound is one by which the network has come to rest
-  choice_rests : (earlier : List ℕ) (time choice : ℕ) → IsChoiceBoundAfter n all earlier time choice
-      → IsRestBoundAfter n all earlier time choice
-  choice_rests [] time choice bound = bound
-  choice_rests (last ∷ earlier) time choice bound = inl bound
-
--- The times of a document up to this one lead to a loss, after which the choice and the roles stand so much later.
-module _ (d : DocumentState) (network : IsNetwork d.network) (order : AreInOrder d.events) (time choice roles : ℕ)
-  where
-    record IsLost : Type 0 where
-      first : Past
-      begins : BeginsBy d.network first
-      last : Past
-      lead : LeadOn d.network [] first (events_by time d.events) last
-      calm : IsCalm d.network (events_by time d.events)
-      settles : (settled : ℕ) → time + roles < settled → SettlesAfter d.network (events_by time d.events) last settled
-      chooses : (settled : ℕ) → time + choice < settled → ChoosesAfter d.network (events_by time d.events) last settled
-
-    lost_by : (last choice_then : ℕ) (now : List Timed) → NothingLapses d.network.params
-        → events_at time d.events ≡ now → events_by time d.events ≡ events_by last d.events ++ now
-        → IsCalm d.network (events_by last d.events) → IsCalm d.network (events_by time d.events)
-        → IsFollowedTo d.network (events_by last d.events) last choice_then → last + choice_then < time
-        → BoundsLoss d.network (events_by last d.events) now choice roles → IsLost
-    lost_by last choice_then [] off is parts calm_then calm before soon loses = elim loses [
-      | inl (lowers, is_roles, is_choice) ↦ absurd lowers
-      | inr (inl (fails, is_choice, after)) ↦ absurd fails
-      | inr (inr (inl (turns, is_choice, same))) ↦ absurd turns
-      | inr (inr (inr (inl (fails, bounds)))) ↦ absurd fails
-      | inr (inr (inr (inr (any, is_choice, after)))) ↦ absurd any
-    ]
-    lost_by last choice_then (event ∷ now) off is parts calm_then calm before soon loses = by loses
-      where
-        n : NetworkState
-        n = d.network
-
-        earlier : List Timed
-        earlier = events_by last d.events
-
-        here : event.at ≡ time
-        here = (subst (AllByRecursion (λ (t : Timed). t.at ≡ time)) is (all_at time d.events)).0
-
-        seen : Past
-        seen = before.settles.0
-
-        then : HasSettled n earlier seen event.at
-        then = settled_later n earlier seen (suc (last + choice_then)) event.at (omega (arith, soon, here))
-            before.settles.2
-
-        led : (next past : Past) → EventLeads n earlier seen event next → LeadOn n (earlier ++ event ∷ []) next now past
-            → LeadOn n [] before.first (events_by time d.events) past
-        led next past leads others =
-            subst (λ es. LeadOn n [] before.first es past) (sym parts)
-            (leads_on n [] before.first before.last past earlier (event ∷ now) before.lead (
-              seen,
-              taken_later n earlier before.last seen (suc (last + choice_then)) event.at (omega (arith, soon, here))
-                  before.settles.1,
-              next,
-              leads,
-              others,
-            ))
-
-        -- by the first the network is left, and the others leave it so
-        left : (span : ℕ) (x : IsLeftBy n earlier event span seen)
-            → LeadOn n (earlier ++ event ∷ []) (Left x.silent) now (Left x.silent)
-            → ((settled : ℕ) → time + roles < settled
-            → SettlesAfter n (events_by time d.events) (Left x.silent) settled) → IsLost
-        left span x others settles = record {
-          first = before.first;
-          begins = before.begins;
-          last = Left x.silent;
-          lead = led (Left x.silent) (Left x.silent) x.leads others;
-          calm = calm;
-          settles = settles;
-          chooses = λ settled late. off;
-        }
-
-        lowered : (rest : List Timed) → now ≡ rest → OneEvent (LowersLink n) earlier (event ∷ rest) → IsLost
-        lowered (other ∷ rest) same none = absurd none
-        lowered [] same lowers =
-            let x = loss_leads n earlier event 0 seen then
-            (inl (record { lowers = lowers; calm = calm_then; off = off }, refl)) in
-            let over = x.over in
-            left 0 x (subst (λ es. LeadOn n (earlier ++ event ∷ []) (Left x.silent) es (Left x.silent)) (sym same) refl)
-            (λ settled late. (off, inl (omega (arith, over, here, late))))
-
-        -- by the one event a system turns
-        turned : (rest : List Timed) → now ≡ rest → OneEvent (TurnsLink n) earlier (event ∷ rest)
-            → choice ≡ 2 * way_span (sync_paths n (earlier ++ event ∷ now)) → roles ≡ choice → IsLost
-        turned (other ∷ rest) same none is_choice roles_same = absurd none
-        turned [] same turns is_choice roles_same =
-            let x = turn_leads n earlier event seen then
-            (record { turns = turns; calm = calm_then; off = off }) in
-            let paths : choice ≡ 2 * way_span (sync_paths n (events_by time d.events)) =
-            is_choice ∙ ap (λ es. 2 * way_span (sync_paths n es)) (sym parts) in
-            let past : Past = Turned x.silent event.at in
-            record {
-              first = before.first;
-              begins = before.begins;
-              last = past;
-              lead = led past past x.leads
-                  (subst (λ es. LeadOn n (earlier ++ event ∷ []) past es past) (sym same) refl);
-              calm = calm;
-              settles = λ settled late. (off, omega (arith, here, paths, roles_same, late));
-              chooses = λ settled late. (off, omega (arith, here, paths, late));
-            }
-
-        -- by the first a system fails that others hear, and what they hold of it ages on
-        aging : (span : ℕ) → FailsHeard n earlier event → EachEvent (LowersUnused n) (earlier ++ event ∷ []) now
-            → AgesWithin n earlier (earlier ++ event ∷ now) event.at span
-            → LeadOn n [] before.first (events_by time d.events)
-            (Aging earlier (suc (event.at + span)) (suc (event.at + silence_span (pace_of n))))
-        aging span fails others within =
-            let past : Past = Aging earlier (suc (event.at + span)) (suc (event.at + silence_span (pace_of n))) in
-            subst (λ es. LeadOn n [] before.first es past) (sym parts)
-            (leads_on n [] before.first before.last past earlier (event ∷ now) before.lead
-            (lead_as n earlier event now before.last seen past
-            (taken_later n earlier before.last seen (suc (last + choice_then)) event.at
-            (omega (arith, soon, here)) before.settles.1)
-            (heard_lead n earlier event now seen span off calm_then then fails others within)))
-
-        heard : (held quiet : ℕ) → held ≤ choice → quiet ≤ roles → FailsHeard n earlier event
-            → EachEvent (LowersUnused n) (earlier ++ event ∷ []) now → BoundsAging n earlier (event ∷ now) held quiet
-            → IsLost
-        heard held quiet less quiet_less fails others (inl (used, is_choice, is_roles)) =
-            let used_so : UpIsUsed n (events_by time d.events) = subst (UpIsUsed n) (sym parts) used in
-            record {
-              first = before.first;
-              begins = before.begins;
-              last = Aging earlier (suc (event.at + 0)) (suc (event.at + silence_span (pace_of n)));
-              lead = aging 0 fails others (none_silent n earlier (earlier ++ event ∷ now) event.at 0 used);
-              calm = calm;
-              settles = λ settled late. (off, inr used_so);
-              chooses = λ settled late. (off, inr (inr used_so));
-            }
-        heard held quiet less quiet_less fails others (inr ((span, within, is_choice), is_roles)) = record {
-          first = before.first;
-          begins = before.begins;
-          last = Aging earlier (suc (event.at + span)) (suc (event.at + silence_span (pace_of n)));
-          lead = aging span fails others (subst (λ t. AgesWithin n earlier (earlier ++ event ∷ now) t span)
-              (last_at earlier event now time
-              (subst (AllByRecursion (λ (t : Timed). t.at ≡ time)) is (all_at time d.events)) ∙ sym here) within);
-          calm = calm;
-          settles = λ settled late. (off, inl (omega (arith, here, is_roles, late, quiet_less)));
-          chooses = λ settled late. (
-            off,
-            elim (dec_le span (silence_span (pace_of n))) [
-              | yes first ↦ inl (omega (arith, here, is_choice, late, less, first))
-              | no over ↦ inr (inl (omega (arith, here, is_choice, late, less, over)))
-            ],
-          );
-        }
-
-        -- whatever is taken away
-        any_lost : BoundsAnyLoss n earlier (event ∷ now) choice roles → IsLost
-        any_lost bounds =
-            let x : LosesBy n time earlier (event ∷ now) seen choice roles =
-            loses_by n time network off earlier (event ∷ now) seen
-            (subst (AllByRecursion (λ (t : Timed). t.at ≡ time)) is (all_at time d.events))
-            (subst (HasSettled n earlier seen) here then) calm_then choice roles bounds in
-            let past : Past = Lost time x.most x.silent in
-            let paths : choice ≡ loss_span (pace_of n) (sync_paths n (events_by time d.events)) x.most =
-            x.span ∙ ap (λ es. loss_span (pace_of n) (sync_paths n es) x.most) (sym parts) in
-            let more = x.more in
-            record {
-              first = before.first;
-              begins = before.begins;
-              last = past;
-              lead = subst (λ es. LeadOn n [] before.first es past) (sym parts)
-                  (leads_on n [] before.first before.last past earlier (event ∷ now) before.lead
-                  (lead_as n earlier event now before.last seen past
-                  (taken_later n earlier before.last seen (suc (last + choice_then)) event.at
-                  (omega (arith, soon, here)) before.settles.1) x.lead));
-              calm = calm;
-              settles = λ settled late. (
-                off,
-                omega (arith, late, paths, more),
-                elim x.quiet [
-                  | inl quiet ↦ inl (omega (arith, late, quiet))
-                  | inr used ↦ inr (subst (UpIsUsed n) (sym parts) used)
-                ],
-              );
-              chooses = λ settled late. (off, omega (arith, late, paths));
-            }
-
-        by : BoundsLoss n earlier (event ∷ now) choice roles → IsLost
-        by (inl (lowers, is_roles, is_choice)) = lowered now refl lowers
-        by (inr (inl ((fails, others), is_choice, after))) =
-            let span = silence_span (pace_of n) in
-            let x = loss_leads n earlier event span seen then
-            (inr (record { fails = fails; calm = calm_then; off = off }, refl)) in
-            let over = x.over in
-            left span x
-            (dead_lead n (earlier ++ event ∷ []) now x.silent off (fails_calm n earlier event off calm_then fails)
-            others)
-            (λ settled late. (
-              off,
-              elim after [
-                | inl (used, is_none) ↦ inr (subst (UpIsUsed n) (sym parts) used)
-                | inr long ↦ inl (omega (arith, over, here, long, late))
-              ],
-            ))
-        by (inr (inr (inl (turns, is_choice, same)))) = turned now refl turns is_choice same
-        by (inr (inr (inr (inl ((fails, others), (held, quiet, bounds, inl (same, roles_same))))))) =
-            heard held quiet (omega (arith, same)) (omega (arith, roles_same)) fails others bounds
-        by (inr (inr (inr (inl ((fails, others), (held, quiet, bounds, inr (is_later, roles_later))))))) =
-            let more = le-max_right choice quiet in
-            heard held quiet (omega (arith, is_later)) (omega (arith, roles_later, more)) fails others bounds
-        by (inr (inr (inr (inr any)))) = any_lost any
-
-    -- a tree is cut off, or turns to its one way out
-    tree_by : (last choice_then : ℕ) (less : last < time) (between : NoneBetween d.events last time)
-        → NothingLapses d.network.params → IsCalm d.network (events_by last d.events)
-        → IsCalm d.network (events_by time d.events) → IsFollowedTo d.network (events_by last d.events) last choice_then
-        → last + choice_then + largest_interval (pace_of d.network) < time
-        → OneEvent (LowersTree d.network) (events_by last d.events) (events_at time d.events)
-        ⊎ OneEvent (TurnsTreeLink d.network) (events_by last d.events) (events_at time d.events)
-        → choice ≡ 2 * way_span (sync_paths d.network (events_by time d.events)) → roles ≡ choice → IsLost
-    tree_by last choice_then less between off calm_then calm before soon (inl lowers) is_choice same =
-        let (silent, lead) = falls_on d.network network off d.events order last time less between choice_then calm_then
-        before soon lowers in
-        record {
-          first = before.first;
-          begins = before.begins;
-          last = Fallen silent time;
-          lead = lead;
-          calm = calm;
-          settles = λ settled late. (off, omega (arith, is_choice, same, late));
-          chooses = λ settled late. (off, omega (arith, is_choice, late));
-        }
-    tree_by last choice_then less between off calm_then calm before soon (inr turns) is_choice same =
-        let (silent, lead) = turns_on d.network network off d.events order last time less between choice_then calm_then
-        before soon turns in
-        record {
-          first = before.first;
-          begins = before.begins;
-          last = TurnedTree silent time;
-          lead = lead;
-          calm = calm;
-          settles = λ settled late. (off, omega (arith, is_choice, same, late));
-          chooses = λ settled late. (off, omega (arith, is_choice, late));
-        }
-
-    lost_after : (earlier : List ℕ) → IsLossBoundAfter d.network d.events earlier time choice roles → IsLost
-    lost_after [] none = absurd none
-    lost_after (last ∷ earlier)
-        (inr (inl (less, between, calm, off, (choice_then, bound, soon), lowers, (is_choice, same)))) =
-        tree_by last choice_then less between off
-        (bound_calm d.network network off d.events order earlier last choice_then bound) calm
-        (followed d.network network off d.events order earlier last choice_then bound) soon (inl lowers) is_choice same
-    lost_after (last ∷ earlier)
-        (inr (inr (less, between, calm, off, (choice_then, bound, soon), turns, (is_choice, same)))) =
-        tree_by last choice_then less between off
-        (bound_calm d.network network off d.events order earlier last choice_then bound) calm
-        (followed d.network network off d.events order earlier last choice_then bound) soon (inr turns) is_choice same
-    lost_after (last ∷ earlier) (inl (less, between, calm, off, (choice_then, bound, soon), loses)) =
-        lost_by last choice_then (events_at time d.events) off refl (parted d.events last time order less between)
-        (bound_calm d.network network off d.events order earlier last choice_then bound) calm
-        (followed d.network network off d.events order earlier last choice_then bound) soon loses
-
--- A choice bound of a document at a time: by then it settles after all events up to any time before the next.
-module _ (d : DocumentState) (network : IsNetwork d.network) (order : AreInOrder d.events)
-    (time choice until settled : ℕ) (same : events_by until d.events ≡ events_by time d.events)
-    (late : time + choice < settled) where
-  abbrev n : NetworkState
-  n = d.network
-
-  abbrev made : List Timed
-  made = events_by time d.events
-
-  comes_so : (So : NetworkState → List Timed → Past → ℕ → Type 0) (first last : Past) → BeginsBy n first
-      → LeadOn n [] first made last → IsCalm n made → So n made last settled → ComesByEvents So d until settled
-  comes_so So first last begins lead calm settles = record {
-    calm = subst (IsCalm n) (sym same) calm;
-    first = first;
-    begins = begins;
-    last = last;
-    lead = subst (λ es. LeadOn n [] first es last) (sym same) lead;
-    settles = subst (λ es. So n es last settled) (sym same) settles;
-  }
-
-  any_settles : IsCalm n made → choice ≡ settling_span_with (pace_of n) (sync_paths n made) (sync_paths n made).systems
-      → SettlesByEvents d until settled
-  any_settles calm is =
-      let last = last_by time d.events in
-      comes_so SettlesAfter AnyPast AnyPast tt (any_leads n [] made) calm (inr (omega (arith, last, is, late)))
-
-  follow_settles : IsCalm n made → NothingLapses n.params → IsFollowedTo n made time choice
-      → SettlesByEvents d until settled
-  follow_settles calm off so =
-      comes_so SettlesAfter so.first so.last so.begins so.lead calm
-      (rested_so n made so.last settled off (later so.settles))
-    where
-      later : HasRested n made so.last (suc (time + choice)) → HasRested n made so.last settled
-      later (seen, taken, is) = (
-        seen,
-        taken_later n made so.last seen (suc (time + choice)) settled late taken,
-        settled_later n made seen (suc (time + choice)) settled late is,
-      )
-
-  settles_after : (earlier : List ℕ) → IsChoiceBoundAfter n d.events earlier time choice
-      → SettlesByEvents d until settled
-  settles_after [] (start, (calm, inl (lapses, is))) = any_settles calm is
-  settles_after [] (start, (calm, inr (off, rest))) =
-      follow_settles calm off (followed n network off d.events order [] time choice (start, (calm, inr (off, rest))))
-  settles_after (last ∷ earlier) (later, between, (calm, inl (lapses, is))) = any_settles calm is
-  settles_after (last ∷ earlier) (later, between, (calm, inr (off, rest))) =
-      follow_settles calm off
-      (followed n network off d.events order (last ∷ earlier) time choice
-      (inl (later, between, (calm, inr (off, rest)))))
-
-  pub bound_settles : IsChoiceBound d time choice → SettlesByEvents d until settled
-  bound_settles (earlier, inl bound) = settles_after earlier bound
-  bound_settles (earlier, inr (alone, lost)) =
-      let x = lost_after d network order time alone choice earlier lost in
-      comes_so SettlesAfter x.first x.last x.begins x.lead x.calm (x.settles settled late)
-
-  pub bound_chooses : IsChoiceAloneBound d time choice → ChoosesByEvents d until settled
-  bound_chooses (earlier, inl bound) =
-      let is = settles_after earlier bound in
-      record {
-        calm = is.calm;
-        first = is.first;
-        begins = is.begins;
-        last = is.last;
-        lead = is.lead;
-        settles = settles_chooses n (events_by until d.events) is.last settled is.settles;
-      }
-  bound_chooses (earlier, inr (roles, lost)) =
-      let x = lost_after d network order time choice roles earlier lost in
-      comes_so ChoosesAfter x.first x.last x.begins x.lead x.calm (x.chooses settled late)
+  followed (last ∷ earlier) time rest
+      (inr (inr (inr (later, between, calm, nothing, (then, bound, soon), turns, is)))) =
+      turn_followed last time later between then rest (bound_calm earlier last then bound) calm
+      (followed earlier last then bound) soon turns is

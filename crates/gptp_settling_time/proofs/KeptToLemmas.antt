@@ -26,14 +26,14 @@ use Rattle.gptp_theorem.specs.Reached.{StandsAsPlanned}
 use Rattle.gptp_theorem.proofs.SettlingInvariantLemmas.{least_of}
 use Rattle.gptp_theorem.proofs.KeptLemmas.{acts_stand, time_stands}
 use Rattle.gptp_theorem.proofs.CalmKeptLemmas.{no_change}
-use Rattle.gptp_settling_time.specs.ExactInTurn.{last_set}
+use Rattle.gptp_settling_time.specs.Arrivals.{arrived_by}
 use Rattle.gptp_settling_time.specs.Gains.{AreSparedBy, HasDelaysWithin}
 use Rattle.gptp_settling_time.proofs.AskedInTimeLemmas.{AreAskedInTime, are_asked_acts, are_asked_later}
 use Rattle.gptp_settling_time.proofs.BetweenFailedLemmas.{AreGoneBetween, gone_acts, gone_later}
 use Rattle.gptp_settling_time.proofs.DelayWithinLemmas.{itself_fits}
 use Rattle.gptp_settling_time.proofs.NamedWorldLemmas.{IsNamedWorld, named_acts, named_later}
 use Rattle.gptp_settling_time.proofs.NewsSoonLemmas.{IsNewsFrom, from_done, from_later}
-use Rattle.gptp_settling_time.proofs.SinceSetLemmas.{IsUnsetSince, unset_acts, unset_later}
+use Rattle.gptp_settling_time.proofs.SinceSetLemmas.{AreLimitedBy, limited_acts, limited_later}
 use Rattle.gptp_settling_time.proofs.TimedNewsLemmas.{IsTimed, timed_act, timed_later}
 
 -- what is old beside failed systems was due by an earlier time than this
@@ -47,7 +47,7 @@ pub record KeepsTo (d : DocumentState) (events : List Timed) (w : WorldState) : 
   pub slow : NoneFaster (least_of d) w
   pub short : (most : ℕ) → HasDelaysWithin d.network events most → IsShort most w
   pub asked : (time : ℕ) → AreSparedBy d.network [] events time → WereAskedInTime time w
-  pub unset : IsUnsetSince (pace_of d.network) (last_set events) w
+  pub limited : (most : ℕ) → HasDelaysWithin d.network events most → AreLimitedBy (arrived_by most events) w
   pub named : IsNamedWorld (pace_of d.network) w
 
 -- and it is one since news, whose ports are capable from a start on
@@ -73,7 +73,7 @@ module _ (d : DocumentState) (events : List Timed) where
     asked = λ by spared.
         let (gone, past, asked, all) = keeps.asked by spared in
         (gone, past, are_asked_later gone time w later asked, gone_later gone time w all);
-    unset = unset_later (pace_of d.network) (last_set events) w time later keeps.unset;
+    limited = λ most within. limited_later (arrived_by most events) w time later (keeps.limited most within);
     named = named_later (pace_of d.network) time w keeps.claim.world
         (claim_later (pace_of d.network) w time later first keeps.claim).world later first keeps.named;
   }
@@ -129,9 +129,10 @@ module _ (d : DocumentState) (events : List Timed) where
               (itself_fits most timed.act (no_change next.item timed.act w next.act))
               (later_short most timed.at w was.ready.timely.now (keeps.short most within)) was.acts;
           asked = asked_act keeps;
-          unset = unset_acts (pace_of d.network) (last_set events) timed.act (at timed.at w) was.draws t.told.done
-              t.after (no_change next.item timed.act w next.act) was.acts
-              (unset_later (pace_of d.network) (last_set events) w timed.at was.ready.timely.now keeps.unset);
+          limited = λ most within.
+              limited_acts (arrived_by most events) timed.act (at timed.at w) was.draws t.told.done t.after
+              (no_change next.item timed.act w next.act) was.acts
+              (limited_later (arrived_by most events) w timed.at was.ready.timely.now (keeps.limited most within));
           named = named_acts (pace_of d.network) timed.act (at timed.at w) was.draws t.told.done t.after
               (no_change next.item timed.act w next.act) was.acts
               (claim_later (pace_of d.network) w timed.at was.ready.timely.now was.ready.timely.first keeps.claim).world

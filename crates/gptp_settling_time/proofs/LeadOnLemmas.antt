@@ -14,7 +14,7 @@ use Rattle.gptp_scenario.specs.declared.change.Change.TheVariants.{LinkDown, Lin
 use Rattle.gptp_scenario.specs.declared.change.Timed.{Timed}
 use Rattle.gptp_scenario.specs.declared.sync_wait.SyncPaths.{SyncPaths}
 use Rattle.gptp_settling_time.specs.HowSoon.{AfterIdleEvents, AreGainEvents, AreHeardEvents, AreWiderEvents, EachEvent, IsGainEvent, IsGainToo, IsHeardEvent, IsHeardToo, IsIdleEvent, IsStillEvent, TurnsUnused}
-use Rattle.gptp_settling_time.specs.InTurn.{Aging, AnyPast, Cleared, EventLeads, Fallen, Gained, HasSettledAnyhow, HasSettledHeard, HasSettledSince, Heard, IsTakenAs, LeadOn, LeavesSettled, Left, Lost, MakesNothing, Past, RestsFrom, SettlesAfter, Starting, Turned, TurnedTree, TurnsInVain, WidensLink}
+use Rattle.gptp_settling_time.specs.InTurn.{Aging, AnyPast, Cleared, EventLeads, Fallen, Gained, HasSettledAnyhow, HasSettledHeard, HasSettledSince, HasToldAnew, Heard, IsTakenAs, LeadOn, LeavesSettled, Left, Lost, MakesNothing, Past, RestsFrom, SettlesAfter, Split, Starting, Turned, TurnedTree, TurnsInVain, WidensLink}
 use Rattle.gptp_settling_time.specs.Losses.{LeavesChoice}
 use Rattle.gptp_settling_time.proofs.MadeLemmas.{adds_later}
 use Rattle.gptp_settling_time.proofs.SamePathsLemmas.{idle_paths, priority_paths, turned_paths}
@@ -48,13 +48,14 @@ HasSettled n events AnyPast time = HasSettledAnyhow n events time
 HasSettled n events Starting time = ⊥
 HasSettled n events (Gained start) time = HasSettledSince n events start time
 HasSettled n events (Heard start) time = HasSettledHeard n events start time
-HasSettled n events (Left start) time = ⊥
+HasSettled n events (Left ago start) time = ⊥
 HasSettled n events (Turned silent now) time = ⊥
 HasSettled n events (Fallen silent now) time = ⊥
 HasSettled n events (TurnedTree silent now) time = ⊥
-HasSettled n events (Cleared begun silent right old) time = ⊥
+HasSettled n events (Cleared ago begun silent right old) time = ⊥
 HasSettled n events (Aging ago aged silent) time = ⊥
-HasSettled n events (Lost since most silent) time = ⊥
+HasSettled n events (Split ago gone silent) time = ⊥
+HasSettled n events (Lost ago since most silent) time = ⊥
 
 pub settled_later : (n : NetworkState) (events : List Timed) (past : Past) (time later : ℕ) → time ≤ later
     → HasSettled n events past time → HasSettled n events past later
@@ -63,13 +64,14 @@ settled_later n events AnyPast time later less is =
 settled_later n events Starting time later less is = absurd is
 settled_later n events (Gained start) time later less is = omega (arith, is, less)
 settled_later n events (Heard start) time later less is = omega (arith, is, less)
-settled_later n events (Left start) time later less is = absurd is
+settled_later n events (Left ago start) time later less is = absurd is
 settled_later n events (Turned silent now) time later less is = absurd is
 settled_later n events (Fallen silent now) time later less is = absurd is
 settled_later n events (TurnedTree silent now) time later less is = absurd is
-settled_later n events (Cleared begun silent right old) time later less is = absurd is
+settled_later n events (Cleared ago begun silent right old) time later less is = absurd is
 settled_later n events (Aging ago aged silent) time later less is = absurd is
-settled_later n events (Lost since most silent) time later less is = absurd is
+settled_later n events (Split ago gone silent) time later less is = absurd is
+settled_later n events (Lost ago since most silent) time later less is = absurd is
 
 -- or it has so as it may be taken
 abbrev pub HasRested : NetworkState → List Timed → Past → ℕ → Type 0
@@ -80,22 +82,24 @@ pub taken_later : (n : NetworkState) (events : List Timed) (past seen : Past) (t
 taken_later n events past seen time later less (inl same) = inl same
 taken_later n events past seen time later less (inr (start, same, rests)) = inr (start, same, by past rests)
   where
-    by : (past : Past) → RestsFrom n events past time start → RestsFrom n events past later start
-    by AnyPast none = absurd none
-    by Starting none = absurd none
-    by (Gained since) none = absurd none
-    by (Heard since) none = absurd none
-    by (Left silent) none = absurd none
-    by (Turned silent now) is =
+    anew : (turned : ℕ) → HasToldAnew n events turned start time → HasToldAnew n events turned start later
+    anew turned is =
         let over = is.over in
         record {
           calm = is.calm;
           off = is.off;
           told = let told = is.told in omega (arith, told, less);
           later = is.later;
-          unlinked = is.unlinked;
           over = omega (arith, over, less);
         }
+
+    by : (past : Past) → RestsFrom n events past time start → RestsFrom n events past later start
+    by AnyPast none = absurd none
+    by Starting none = absurd none
+    by (Gained since) none = absurd none
+    by (Heard since) none = absurd none
+    by (Left ago silent) none = absurd none
+    by (Turned silent now) is = anew now is
     by (Fallen silent now) is =
         let gone = is.gone in
         let over = is.over in
@@ -108,8 +112,8 @@ taken_later n events past seen time later less (inr (start, same, rests)) = inr 
           gone = omega (arith, gone, less);
           over = omega (arith, over, less);
         }
-    by (TurnedTree silent now) none = absurd none
-    by (Cleared begun silent right old) is =
+    by (TurnedTree silent now) (is, later) = (anew now is, later)
+    by (Cleared ago begun silent right old) is =
         let gone = is.gone in
         let over = is.over in
         record {
@@ -137,7 +141,8 @@ taken_later n events past seen time later less (inr (start, same, rests)) = inr 
           unlinked = omega (arith, unlinked, less);
           over = omega (arith, over, less);
         }
-    by (Lost begun most silent) is =
+    by (Split ago gone silent) none = absurd none
+    by (Lost ago begun most silent) is =
         let over = is.over in
         record {
           off = is.off;
@@ -160,13 +165,14 @@ settled_so n events AnyPast time off is = inl (off, is.passed)
 settled_so n events Starting time off is = absurd is
 settled_so n events (Gained start) time off is = inl (off, is)
 settled_so n events (Heard start) time off is = (off, is)
-settled_so n events (Left start) time off is = absurd is
+settled_so n events (Left ago start) time off is = absurd is
 settled_so n events (Turned silent now) time off is = absurd is
 settled_so n events (Fallen silent now) time off is = absurd is
 settled_so n events (TurnedTree silent now) time off is = absurd is
-settled_so n events (Cleared begun silent right old) time off is = absurd is
+settled_so n events (Cleared ago begun silent right old) time off is = absurd is
 settled_so n events (Aging ago aged silent) time off is = absurd is
-settled_so n events (Lost since most silent) time off is = absurd is
+settled_so n events (Split ago gone silent) time off is = absurd is
+settled_so n events (Lost ago since most silent) time off is = absurd is
 
 -- what has come to rest has settled
 pub rested_so : (n : NetworkState) (events : List Timed) (past : Past) (time : ℕ) → NothingLapses n.params
@@ -180,16 +186,17 @@ rested_so n events past time off (seen, inr (start, same, rests), is) = by past 
     by Starting none = absurd none
     by (Gained since) none = absurd none
     by (Heard since) none = absurd none
-    by (Left silent) none = absurd none
+    by (Left ago silent) none = absurd none
     by (Turned silent now) rest = let told = rest.told in (off, omega (arith, told))
     by (Fallen silent now) rest =
         let later = rest.later in
         let over = rest.over in
         (off, omega (arith, later, over))
-    by (TurnedTree silent now) none = absurd none
-    by (Cleared begun silent right old) rest = (off, rest.unlinked)
+    by (TurnedTree silent now) (rest, later) = let told = rest.told in (off, omega (arith, told))
+    by (Cleared ago begun silent right old) rest = (off, rest.unlinked)
     by (Aging ago aged silent) rest = (off, inl rest.unlinked)
-    by (Lost begun most silent) rest =
+    by (Split ago gone silent) none = absurd none
+    by (Lost ago begun most silent) rest =
         let later = rest.later in
         let over = rest.over in
         (off, omega (arith, later, over), rest.unlinked)
@@ -244,13 +251,14 @@ module _ (n : NetworkState) (made : List Timed) (event : Timed) where
       inl (takes, inl (inr (omega (arith, settled, less), leaves)))
   gain_leads (Heard start) next settled less (takes, leaves) =
       inl (takes, inl (inr (omega (arith, settled, less), leaves)))
-  gain_leads (Left start) next settled less gain = absurd settled
+  gain_leads (Left ago start) next settled less gain = absurd settled
   gain_leads (Turned silent now) next settled less gain = absurd settled
   gain_leads (Fallen silent now) next settled less gain = absurd settled
   gain_leads (TurnedTree silent now) next settled less gain = absurd settled
-  gain_leads (Cleared begun silent right old) next settled less gain = absurd settled
+  gain_leads (Cleared ago begun silent right old) next settled less gain = absurd settled
   gain_leads (Aging ago aged silent) next settled less gain = absurd settled
-  gain_leads (Lost since most silent) next settled less gain = absurd settled
+  gain_leads (Split ago gone silent) next settled less gain = absurd settled
+  gain_leads (Lost ago since most silent) next settled less gain = absurd settled
 
   heard_leads : (past : Past) (next : ℕ) → HasSettled n made past event.at → IsHeardEvent n next made event
       → EventLeads n made past event (Heard next)
@@ -262,13 +270,14 @@ module _ (n : NetworkState) (made : List Timed) (event : Timed) where
   heard_leads (Heard start) next settled (inl adds) =
       let later = adds_later n made event next adds in inl (omega (arith, settled, later), adds)
   heard_leads (Heard start) next settled (inr better) = inr (inl (settled, inl better))
-  heard_leads (Left start) next settled heard = absurd settled
+  heard_leads (Left ago start) next settled heard = absurd settled
   heard_leads (Turned silent now) next settled heard = absurd settled
   heard_leads (Fallen silent now) next settled heard = absurd settled
   heard_leads (TurnedTree silent now) next settled heard = absurd settled
-  heard_leads (Cleared begun silent right old) next settled heard = absurd settled
+  heard_leads (Cleared ago begun silent right old) next settled heard = absurd settled
   heard_leads (Aging ago aged silent) next settled heard = absurd settled
-  heard_leads (Lost since most silent) next settled heard = absurd settled
+  heard_leads (Split ago gone silent) next settled heard = absurd settled
+  heard_leads (Lost ago since most silent) next settled heard = absurd settled
 
   -- what makes nothing of what stands leads from a network that has settled to one that has settled by then, as if its
   -- ports had been capable from a time on
@@ -287,13 +296,14 @@ module _ (n : NetworkState) (made : List Timed) (event : Timed) where
     way_over Starting settled = absurd settled
     way_over (Gained start) settled = omega (arith, settled)
     way_over (Heard start) settled = omega (arith, settled)
-    way_over (Left start) settled = absurd settled
+    way_over (Left ago start) settled = absurd settled
     way_over (Turned silent now) settled = absurd settled
     way_over (Fallen silent now) settled = absurd settled
     way_over (TurnedTree silent now) settled = absurd settled
-    way_over (Cleared begun silent right old) settled = absurd settled
+    way_over (Cleared ago begun silent right old) settled = absurd settled
     way_over (Aging ago aged silent) settled = absurd settled
-    way_over (Lost begun most silent) settled = absurd settled
+    way_over (Split ago gone silent) settled = absurd settled
+    way_over (Lost ago begun most silent) settled = absurd settled
 
     pub same_paths : IsStillEvent n made event → sync_paths n more ≡ sync_paths n made
     same_paths (inl (inl nothing)) = idle_paths n network made event nothing
@@ -313,13 +323,14 @@ module _ (n : NetworkState) (made : List Timed) (event : Timed) where
       idle_leads Starting settled = absurd settled
       idle_leads (Gained start) settled = (settled, inr (inr (inl (leaves_so (way_over (Gained start) settled)))))
       idle_leads (Heard start) settled = inr (inl (settled, inr (inl (leaves_so (way_over (Heard start) settled)))))
-      idle_leads (Left start) settled = absurd settled
+      idle_leads (Left ago start) settled = absurd settled
       idle_leads (Turned silent now) settled = absurd settled
       idle_leads (Fallen silent now) settled = absurd settled
       idle_leads (TurnedTree silent now) settled = absurd settled
-      idle_leads (Cleared begun silent right old) settled = absurd settled
+      idle_leads (Cleared ago begun silent right old) settled = absurd settled
       idle_leads (Aging ago aged silent) settled = absurd settled
-      idle_leads (Lost begun most silent) settled = absurd settled
+      idle_leads (Split ago gone silent) settled = absurd settled
+      idle_leads (Lost ago begun most silent) settled = absurd settled
 
       pub idle_settled : (past : Past) → HasSettled n made past event.at → HasSettled n more (Heard since) event.at
       idle_settled past settled =
@@ -428,7 +439,7 @@ module _ (n : NetworkState) (network : IsNetwork n) where
         idle)
 
     -- a link gets wider by the first, and the others make nothing of what stands
-    widens_leads : (made : List Timed) (event : Timed) (past : Past) (settled by : ℕ) → event.at ≡ time
+    pub widens_leads : (made : List Timed) (event : Timed) (past : Past) (settled by : ℕ) → event.at ≡ time
         → IsCalm n made → HasSettled n made past settled → settled ≤ time → WidensLink n made event by
         → settled + 2 * by + way_span (sync_paths n (made ++ event ∷ [])) ≤ time + way_span (sync_paths n made)
         → (next : ℕ) × EventLeads n made past event (Heard next)
@@ -483,13 +494,14 @@ module _ (n : NetworkState) (network : IsNetwork n) where
       )),
       omega (arith, is, soon),
     )
-    widens_leads made event (Left start) settled by here calm is late widens soon = absurd is
+    widens_leads made event (Left ago start) settled by here calm is late widens soon = absurd is
     widens_leads made event (Turned silent now) settled by here calm is late widens soon = absurd is
     widens_leads made event (Fallen silent now) settled by here calm is late widens soon = absurd is
     widens_leads made event (TurnedTree silent now) settled by here calm is late widens soon = absurd is
-    widens_leads made event (Cleared begun silent right old) settled by here calm is late widens soon = absurd is
+    widens_leads made event (Cleared ago begun silent right old) settled by here calm is late widens soon = absurd is
     widens_leads made event (Aging ago aged silent) settled by here calm is late widens soon = absurd is
-    widens_leads made event (Lost begun most silent) settled by here calm is late widens soon = absurd is
+    widens_leads made event (Split ago gone silent) settled by here calm is late widens soon = absurd is
+    widens_leads made event (Lost ago begun most silent) settled by here calm is late widens soon = absurd is
 
     pub wider_led : (made now : List Timed) (past : Past) (settled : ℕ) → AllNow now → IsCalm n made
         → HasSettled n made past (suc settled) → settled < time → AreWiderEvents n settled time made now

@@ -5,27 +5,27 @@ use Rattle.std.proofs.Math.Nat.{le-max_left, le-max_right, mul-le-mul_left}
 use Rattle.gptp_setup.specs.SettlingParams.{largest_interval, longest_span}
 use native.Mathlib.Decide.{dec_le}
 use Rattle.gptp_scenario.specs.Calm.{IsCalm, NothingLapses, last_change}
-use Rattle.gptp_scenario.specs.Network.{NetworkState, pace_of}
+use Rattle.gptp_scenario.specs.Network.{IsNetwork, NetworkState, pace_of}
 use Rattle.gptp_scenario.specs.SettlingTime.{aging_span, capability_span, echo_span, silence_span, way_span}
 use Rattle.gptp_scenario.specs.SyncWait.{sync_paths}
 use Rattle.gptp_scenario.specs.declared.change.Timed.{Timed}
 use Rattle.gptp_scenario.specs.declared.sync_wait.SyncPaths.{SyncPaths}
 use Rattle.gptp_theorem.proofs.EventLemmas.{last_behind}
-use Rattle.gptp_settling_time.specs.HowSoon.{CutsOneEnd, EachEvent, FailsEndFirst, FailsHeardFirst, LowersOneLink, RestsAfterOneLoss, RestsOnceTold, TurnsOneLink}
-use Rattle.gptp_settling_time.specs.InTurn.{Aging, AnyPast, Cleared, CutsCalm, EventLeads, FailsCalm, FailsNow, Fallen, FlightIsGone, Gained, Heard, LeadOn, Left, Lost, LowersCalm, Past, Starting, Turned, TurnedTree, nearer_echo_span, turned_echo_span}
-use Rattle.gptp_settling_time.specs.Losses.{AgesWithin, CutsFarEnd, FailsFarEnd, FailsHeard, LowersLink, LowersUnused, TurnsLink, UpIsUsed}
-use Rattle.gptp_settling_time.proofs.CalmLessLemmas.{failure_calm, fails_calm, lowers_calm}
+use Rattle.gptp_settling_time.specs.HowSoon.{CutsOneEnd, EachEvent, FailsEndFirst, FailsHeardFirst, IsDownToo, LowersOneLink, RestsAfterOneLoss, RestsOnceTold, TurnsOneLink}
+use Rattle.gptp_settling_time.specs.InTurn.{Aging, AnyPast, Cleared, CutsCalm, EventLeads, FailsCalm, FailsNow, Fallen, FlightIsGone, Gained, Heard, LeadOn, Left, Lost, LowersCalm, Past, Split, Starting, Turned, TurnedTree, nearer_echo_span, turned_echo_span}
+use Rattle.gptp_settling_time.specs.Losses.{AgesWithin, CutsFarEnd, FailsFarEnd, FailsHeard, LowersLink, NoneSilent, TurnsLink, UpIsUsed}
+use Rattle.gptp_settling_time.proofs.CalmLessLemmas.{failure_calm, fails_calm}
 use Rattle.gptp_settling_time.proofs.LeftToLemmas.{less_way}
 use Rattle.gptp_settling_time.proofs.LeadOnLemmas.{HasSettled, IsLed}
-use Rattle.gptp_settling_time.proofs.SilentSpanLemmas.{failure_within}
-use Rattle.gptp_settling_time.proofs.LossLeadLemmas.{ages_leads, dead_clear, dead_paths, heard_lead, turn_leads}
+use Rattle.gptp_settling_time.proofs.SilentSpanLemmas.{failure_within, up_none_silent}
+use Rattle.gptp_settling_time.proofs.LossLeadLemmas.{ages_leads, dead_clear, dead_paths, down_calm, down_now, heard_lead, turn_leads}
 
 -- after the loss of a far end it is cleared
 module _ (n : NetworkState) (made : List Timed) (event : Timed) (gone : ℕ) where
   record IsClearedBy (past : Past) (by : ℕ) : Type 0 where
     since : ℕ
     silent : ℕ
-    leads : EventLeads n made past event (Cleared since silent 0 (event.at + gone))
+    leads : EventLeads n made past event (Cleared made since silent 0 (event.at + gone))
     early : since + way_span (sync_paths n made) ≤ event.at
     over : silent ≤ by
 
@@ -39,7 +39,7 @@ module _ (n : NetworkState) (made : List Timed) (event : Timed) (gone : ℕ) whe
       record {
         since = last_change made + capability_span (pace_of n);
         silent = last_change made + capability_span (pace_of n);
-        leads = (settled, inl (refl, inl (refl, inl (cuts, refl, (gone, flight, refl)))));
+        leads = (settled, refl, inl (refl, inl (refl, inl (cuts, refl, (gone, flight, refl)))));
         early = omega (arith, passed, over);
         over = omega (arith, passed, over);
       }
@@ -47,24 +47,25 @@ module _ (n : NetworkState) (made : List Timed) (event : Timed) (gone : ℕ) whe
   cut_leads flight (Gained start) settled cuts = record {
     since = start;
     silent = start;
-    leads = (settled, inl (refl, inl (refl, inl (cuts, refl, (gone, flight, refl)))));
+    leads = (settled, refl, inl (refl, inl (refl, inl (cuts, refl, (gone, flight, refl)))));
     early = omega (arith, settled);
     over = omega (arith, settled);
   }
   cut_leads flight (Heard start) settled cuts = record {
     since = start;
     silent = start;
-    leads = (settled, inl (refl, inl (refl, inl (cuts, refl, (gone, flight, refl)))));
+    leads = (settled, refl, inl (refl, inl (refl, inl (cuts, refl, (gone, flight, refl)))));
     early = omega (arith, settled);
     over = omega (arith, settled);
   }
-  cut_leads flight (Left silent) settled cuts = absurd settled
+  cut_leads flight (Left ago silent) settled cuts = absurd settled
   cut_leads flight (Turned silent now) settled cuts = absurd settled
   cut_leads flight (Fallen silent now) settled cuts = absurd settled
   cut_leads flight (TurnedTree silent now) settled cuts = absurd settled
-  cut_leads flight (Cleared begun silent right last) settled cuts = absurd settled
+  cut_leads flight (Cleared ago begun silent right last) settled cuts = absurd settled
   cut_leads flight (Aging ago aged silent) settled cuts = absurd settled
-  cut_leads flight (Lost since most silent) settled cuts = absurd settled
+  cut_leads flight (Split ago aged silent) settled cuts = absurd settled
+  cut_leads flight (Lost ago since most silent) settled cuts = absurd settled
 
   -- or as it fails, once the ports beside it have been unanswered for long enough
   fail_leads : FlightIsGone n made gone → (past : Past) → HasSettled n made past event.at → FailsCalm n made event
@@ -76,7 +77,7 @@ module _ (n : NetworkState) (made : List Timed) (event : Timed) (gone : ℕ) whe
       record {
         since = last_change made + capability_span (pace_of n);
         silent = suc (event.at + silence_span (pace_of n));
-        leads = (settled, inl (refl, inl (refl, inr (fails, refl, (gone, flight, refl)))));
+        leads = (settled, refl, inl (refl, inl (refl, inr (fails, refl, (gone, flight, refl)))));
         early = omega (arith, passed, over);
         over = omega arith;
       }
@@ -84,24 +85,25 @@ module _ (n : NetworkState) (made : List Timed) (event : Timed) (gone : ℕ) whe
   fail_leads flight (Gained start) settled fails = record {
     since = start;
     silent = suc (event.at + silence_span (pace_of n));
-    leads = (settled, inl (refl, inl (refl, inr (fails, refl, (gone, flight, refl)))));
+    leads = (settled, refl, inl (refl, inl (refl, inr (fails, refl, (gone, flight, refl)))));
     early = omega (arith, settled);
     over = omega arith;
   }
   fail_leads flight (Heard start) settled fails = record {
     since = start;
     silent = suc (event.at + silence_span (pace_of n));
-    leads = (settled, inl (refl, inl (refl, inr (fails, refl, (gone, flight, refl)))));
+    leads = (settled, refl, inl (refl, inl (refl, inr (fails, refl, (gone, flight, refl)))));
     early = omega (arith, settled);
     over = omega arith;
   }
-  fail_leads flight (Left silent) settled fails = absurd settled
+  fail_leads flight (Left ago silent) settled fails = absurd settled
   fail_leads flight (Turned silent now) settled fails = absurd settled
   fail_leads flight (Fallen silent now) settled fails = absurd settled
   fail_leads flight (TurnedTree silent now) settled fails = absurd settled
-  fail_leads flight (Cleared begun silent right last) settled fails = absurd settled
+  fail_leads flight (Cleared ago begun silent right last) settled fails = absurd settled
   fail_leads flight (Aging ago aged silent) settled fails = absurd settled
-  fail_leads flight (Lost since most silent) settled fails = absurd settled
+  fail_leads flight (Split ago aged silent) settled fails = absurd settled
+  fail_leads flight (Lost ago since most silent) settled fails = absurd settled
 
 -- after another such link goes down it is, once right traces are told
 module _ (n : NetworkState) (made : List Timed) (event : Timed) (gone : ℕ)
@@ -111,7 +113,7 @@ module _ (n : NetworkState) (made : List Timed) (event : Timed) (gone : ℕ)
 
   record IsRightedBy (past : Past) : Type 0 where
     since : ℕ
-    leads : EventLeads n made past event (Cleared since since (event.at + 1 + echo) (event.at + echo + gone))
+    leads : EventLeads n made past event (Cleared made since since (event.at + 1 + echo) (event.at + echo + gone))
     early : since + way_span (sync_paths n made) ≤ event.at
 
   right_leads : (past : Past) → HasSettled n made past event.at → LowersCalm n made event → IsRightedBy past
@@ -121,65 +123,68 @@ module _ (n : NetworkState) (made : List Timed) (event : Timed) (gone : ℕ)
       + (sync_paths n made).systems * (longest_span (pace_of n) + (sync_paths n made).delay)) in
       record {
         since = last_change made + capability_span (pace_of n);
-        leads = (settled, inl (refl, inr (lowers, refl, refl, (gone, flight, refl))));
+        leads = (settled, refl, inl (refl, inr (lowers, refl, refl, (gone, flight, refl))));
         early = omega (arith, passed, over);
       }
   right_leads Starting settled lowers = absurd settled
   right_leads (Gained start) settled lowers = record {
     since = start;
-    leads = (settled, inl (refl, inr (lowers, refl, refl, (gone, flight, refl))));
+    leads = (settled, refl, inl (refl, inr (lowers, refl, refl, (gone, flight, refl))));
     early = omega (arith, settled);
   }
   right_leads (Heard start) settled lowers = record {
     since = start;
-    leads = (settled, inl (refl, inr (lowers, refl, refl, (gone, flight, refl))));
+    leads = (settled, refl, inl (refl, inr (lowers, refl, refl, (gone, flight, refl))));
     early = omega (arith, settled);
   }
-  right_leads (Left silent) settled lowers = absurd settled
+  right_leads (Left ago silent) settled lowers = absurd settled
   right_leads (Turned silent now) settled lowers = absurd settled
   right_leads (Fallen silent now) settled lowers = absurd settled
   right_leads (TurnedTree silent now) settled lowers = absurd settled
-  right_leads (Cleared begun silent right last) settled lowers = absurd settled
+  right_leads (Cleared ago begun silent right last) settled lowers = absurd settled
   right_leads (Aging ago aged silent) settled lowers = absurd settled
-  right_leads (Lost since most silent) settled lowers = absurd settled
+  right_leads (Split ago aged silent) settled lowers = absurd settled
+  right_leads (Lost ago since most silent) settled lowers = absurd settled
 
 -- as a system fails that others hear it is, where each link that is up then is in use
 module _ (n : NetworkState) (made : List Timed) (event : Timed) (aged silent : ℕ)
     (now : FailsNow n made event aged silent) (used : UpIsUsed n (made ++ event ∷ [])) where
   abbrev EchoesPower : Past → Type 0
   EchoesPower past = EventLeads n made past event
-      (Cleared event.at silent (event.at + 1 + nearer_echo_span n (made ++ event ∷ []))
+      (Cleared made event.at silent (event.at + 1 + nearer_echo_span n (made ++ event ∷ []))
       (event.at + nearer_echo_span n (made ++ event ∷ []) + (sync_paths n (made ++ event ∷ [])).delay))
 
   power_leads : (past : Past) → HasSettled n made past event.at → EchoesPower past
-  power_leads AnyPast settled = (settled, inr (aged, now, (used, refl, refl, refl)))
+  power_leads AnyPast settled = (settled, refl, inr (aged, now, (used, refl, refl, refl)))
   power_leads Starting settled = absurd settled
-  power_leads (Gained start) settled = (settled, inr (aged, now, (used, refl, refl, refl)))
-  power_leads (Heard start) settled = (settled, inr (aged, now, (used, refl, refl, refl)))
-  power_leads (Left start) settled = absurd settled
+  power_leads (Gained start) settled = (settled, refl, inr (aged, now, (used, refl, refl, refl)))
+  power_leads (Heard start) settled = (settled, refl, inr (aged, now, (used, refl, refl, refl)))
+  power_leads (Left ago start) settled = absurd settled
   power_leads (Turned start was) settled = absurd settled
   power_leads (Fallen start was) settled = absurd settled
   power_leads (TurnedTree start was) settled = absurd settled
-  power_leads (Cleared begun start right last) settled = absurd settled
+  power_leads (Cleared ago begun start right last) settled = absurd settled
   power_leads (Aging ago gone start) settled = absurd settled
-  power_leads (Lost since most start) settled = absurd settled
+  power_leads (Split ago gone start) settled = absurd settled
+  power_leads (Lost ago since most start) settled = absurd settled
 
 -- Else it goes on to age until the last link goes down of which an end has failed, at this time.
-power_lead : (n : NetworkState) (ago made now : List Timed) (other : Timed) (time aged silent : ℕ)
+power_lead : (n : NetworkState) → IsNetwork n → (ago made now : List Timed) (other : Timed) (time aged silent : ℕ)
     → NothingLapses n.params
-    → IsCalm n made → AllByRecursion (λ (t : Timed). t.at ≡ time) (other ∷ now)
-    → EachEvent (LowersUnused n) made (other ∷ now) → UpIsUsed n (made ++ other ∷ now)
+    → IsCalm n made → last_change made ≡ time → AllByRecursion (λ (t : Timed). t.at ≡ time) (other ∷ now)
+    → EachEvent (IsDownToo n) made (other ∷ now) → UpIsUsed n (made ++ other ∷ now)
     → LeadOn n made (Aging ago aged silent) (other ∷ now)
-    (Cleared time silent (time + 1 + nearer_echo_span n (made ++ other ∷ now))
+    (Cleared ago time silent (time + 1 + nearer_echo_span n (made ++ other ∷ now))
     (time + nearer_echo_span n (made ++ other ∷ now) + (sync_paths n (made ++ other ∷ now)).delay))
-power_lead n ago made [] other time aged silent off calm (at, none) (lowers, others) used =
-    let last = Cleared time silent (time + 1 + nearer_echo_span n (made ++ other ∷ []))
+power_lead n network ago made [] other time aged silent off calm last_then (at, none) (down, others) used =
+    let last = Cleared ago time silent (time + 1 + nearer_echo_span n (made ++ other ∷ []))
     (time + nearer_echo_span n (made ++ other ∷ []) + (sync_paths n (made ++ other ∷ [])).delay) in (
       Aging ago aged silent,
       inl refl,
       last,
       (
-        record { lowers = lowers; calm = calm; off = off },
+        down_now n network off time made other calm last_then at down,
+        refl,
         refl,
         (
           used,
@@ -190,18 +195,19 @@ power_lead n ago made [] other time aged silent off calm (at, none) (lowers, oth
       ),
       refl,
     )
-power_lead n ago made (event ∷ now) other time aged silent off calm (at, later) (lowers, others) used =
+power_lead n network ago made (event ∷ now) other time aged silent off calm last_then (at, later) (down, others) used =
     let all : (made ++ other ∷ []) ++ event ∷ now ≡ made ++ other ∷ event ∷ now =
     append_assoc made (other ∷ []) (event ∷ now) in (
       Aging ago aged silent,
       inl refl,
       Aging ago aged silent,
-      (record { lowers = lowers; calm = calm; off = off }, refl, refl, inl refl),
+      (down_now n network off time made other calm last_then at down, refl, refl, inl refl),
       subst (λ es. LeadOn n (made ++ other ∷ []) (Aging ago aged silent) (event ∷ now)
-          (Cleared time silent (time + 1 + nearer_echo_span n es)
+          (Cleared ago time silent (time + 1 + nearer_echo_span n es)
           (time + nearer_echo_span n es + (sync_paths n es).delay))) all
-          (power_lead n ago (made ++ other ∷ []) now event time aged silent off
-          (lowers_calm n made other off calm lowers) later others (subst (UpIsUsed n) (sym all) used)),
+          (power_lead n network ago (made ++ other ∷ []) now event time aged silent off
+          (down_calm n network off time made other down calm) (last_behind made other ∙ at) later others
+          (subst (UpIsUsed n) (sym all) used)),
     )
 
 -- the last of events of one time is of that time
@@ -219,7 +225,8 @@ nearer_within (suc (suc k)) hop gone soon =
     let most = le-max_left (suc k * hop) gone in omega (arith, most, soon)
 
 -- it has come to rest by so much later
-module _ (n : NetworkState) (off : NothingLapses n.params) (time : ℕ) (made now : List Timed) (past : Past) (rest : ℕ)
+module _ (n : NetworkState) (network : IsNetwork n) (off : NothingLapses n.params) (time : ℕ) (made now : List Timed)
+    (past : Past) (rest : ℕ)
     (at : AllByRecursion (λ (t : Timed). t.at ≡ time) now) (calm_then : IsCalm n made) (calm : IsCalm n (made ++ now))
     (settled : HasSettled n made past time) where
   -- the event that loses the end is the first of them
@@ -227,19 +234,23 @@ module _ (n : NetworkState) (off : NothingLapses n.params) (time : ℕ) (made no
     here : event.at ≡ time
     here = (subst (AllByRecursion (λ (t : Timed). t.at ≡ time)) same at).0
 
+    others_now : AllByRecursion (λ (t : Timed). t.at ≡ time) others
+    others_now = (subst (AllByRecursion (λ (t : Timed). t.at ≡ time)) same at).1
+
     settled_then : HasSettled n made past event.at
     settled_then = subst (HasSettled n made past) (sym here) settled
 
     -- it is cleared, and taken as heard from when its ports were capable
-    led : (since silent right old : ℕ) → EventLeads n made past event (Cleared since silent right old)
-        → LeadOn n (made ++ event ∷ []) (Cleared since silent right old) others (Cleared since silent right old)
-        → old ≤ time + rest → (silent ≤ suc (time + rest)) ⊎ UpIsUsed n (made ++ now)
+    led : (since silent right old : ℕ) → EventLeads n made past event (Cleared made since silent right old)
+        → LeadOn n (made ++ event ∷ []) (Cleared made since silent right old) others
+        (Cleared made since silent right old)
+        → old ≤ time + rest → (silent ≤ suc (time + rest)) ⊎ NoneSilent n made (made ++ now)
         → since + way_span (sync_paths n (made ++ now)) ≤ suc (time + rest)
         → IsLed n made now past (suc (time + rest))
     led since silent right old leads lead less unlinked over = record {
-      last = Cleared since silent right old;
-      lead = subst (λ es. LeadOn n made past es (Cleared since silent right old)) (sym same)
-          (past, inl refl, Cleared since silent right old, leads, lead);
+      last = Cleared made since silent right old;
+      lead = subst (λ es. LeadOn n made past es (Cleared made since silent right old)) (sym same)
+          (past, inl refl, Cleared made since silent right old, leads, lead);
       settles = (
         Heard since,
         inr (
@@ -259,7 +270,7 @@ module _ (n : NetworkState) (off : NothingLapses n.params) (time : ℕ) (made no
     }
 
     -- the way that is left is no longer
-    module _ (others_lower : EachEvent (LowersUnused n) (made ++ event ∷ []) others)
+    module _ (others_lower : EachEvent (IsDownToo n) (made ++ event ∷ []) others)
         (delay : (sync_paths n (made ++ event ∷ [])).delay ≤ (sync_paths n made).delay)
         (fewer : (sync_paths n (made ++ event ∷ [])).systems ≤ (sync_paths n made).systems) where
       way_then : way_span (sync_paths n (made ++ now)) ≤ way_span (sync_paths n made)
@@ -267,7 +278,7 @@ module _ (n : NetworkState) (off : NothingLapses n.params) (time : ℕ) (made no
           let parts : made ++ now ≡ (made ++ event ∷ []) ++ others =
           ap (λ es. made ++ es) same ∙ sym (append_assoc made (event ∷ []) others) in
           let paths : sync_paths n (made ++ now) ≡ sync_paths n (made ++ event ∷ []) =
-          ap (sync_paths n) parts ∙ dead_paths n (made ++ event ∷ []) others others_lower in
+          ap (sync_paths n) parts ∙ dead_paths n network off time (made ++ event ∷ []) others others_lower in
           subst (λ (x : SyncPaths). way_span x ≤ way_span (sync_paths n made)) (sym paths)
           (less_way (sync_paths n made).systems (sync_paths n (made ++ event ∷ [])).systems (sync_paths n made).delay
           (sync_paths n (made ++ event ∷ [])).delay fewer delay)
@@ -280,14 +291,14 @@ module _ (n : NetworkState) (off : NothingLapses n.params) (time : ℕ) (made no
         let x = cut_leads n made event gone (subst (λ es. FlightIsGone n es gone) one flight) past settled_then
         (record { cuts = cuts; calm = calm_then; off = off }) in
         let l = cuts.lowers in
-        let less = way_then (subst (EachEvent (LowersUnused n) (made ++ event ∷ [])) (sym alone) tt) l.delay l.paths in
+        let less = way_then (subst (EachEvent (IsDownToo n) (made ++ event ∷ [])) (sym alone) tt) l.delay l.paths in
         let before = here in
         let early = x.early in
         let over = x.over in
         let gone_most = le-max_right (2 * way_span (sync_paths n (made ++ now))) gone in
         led x.since x.silent 0 (event.at + gone) x.leads
-        (subst (λ es. LeadOn n (made ++ event ∷ []) (Cleared x.since x.silent 0 (event.at + gone)) es
-        (Cleared x.since x.silent 0 (event.at + gone))) (sym alone) refl) (omega (arith, before, is, gone_most))
+        (subst (λ es. LeadOn n (made ++ event ∷ []) (Cleared made x.since x.silent 0 (event.at + gone)) es
+        (Cleared made x.since x.silent 0 (event.at + gone))) (sym alone) refl) (omega (arith, before, is, gone_most))
         (inl (omega (arith, over, before))) (omega (arith, early, before, less))
 
     -- what was in flight is gone as right traces are told
@@ -315,9 +326,9 @@ module _ (n : NetworkState) (off : NothingLapses n.params) (time : ℕ) (made no
         ap (λ es. made ++ es) (same ∙ ap (λ es. event ∷ es) alone) in
         let x = right_leads n made event gone (subst (λ es. FlightIsGone n es gone) one flight) past settled_then
         (record { lowers = lowers; calm = calm_then; off = off }) in
-        let less = way_then (subst (EachEvent (LowersUnused n) (made ++ event ∷ [])) (sym alone) tt) lowers.delay
+        let less = way_then (subst (EachEvent (IsDownToo n) (made ++ event ∷ [])) (sym alone) tt) lowers.delay
         lowers.paths in
-        let last : Past = Cleared x.since x.since (event.at + 1 + nearer_echo_span n (made ++ event ∷ []))
+        let last : Past = Cleared made x.since x.since (event.at + 1 + nearer_echo_span n (made ++ event ∷ []))
         (event.at + nearer_echo_span n (made ++ event ∷ []) + gone) in
         let echo = echo_span (pace_of n) (sync_paths n (made ++ now)) in
         let within : nearer_echo_span n (made ++ event ∷ []) + gone ≤ max echo gone =
@@ -330,19 +341,20 @@ module _ (n : NetworkState) (off : NothingLapses n.params) (time : ℕ) (made no
         (omega (arith, before, is, within)) (inl (omega (arith, early, before)))
         (omega (arith, early, before, less))
 
-    fail_led : FailsFarEnd n made event → EachEvent (LowersUnused n) (made ++ event ∷ []) others
-        → (UpIsUsed n (made ++ now) × FlightIsGone n made rest)
+    fail_led : FailsFarEnd n made event → EachEvent (IsDownToo n) (made ++ event ∷ []) others
+        → (NoneSilent n made (made ++ now) × FlightIsGone n made rest)
         ⊎ ((gone : ℕ) × FlightIsGone n made gone × (rest ≡ max (silence_span (pace_of n)) gone))
         → IsLed n made now past (suc (time + rest))
-    fail_led fails lowers (inl (used, flight)) =
+    fail_led fails lowers (inl (none, flight)) =
         let x = fail_leads n made event rest flight past settled_then
         (record { fails = fails; calm = calm_then; off = off }) in
         let less = way_then lowers fails.delay fails.paths in
         let before = here in
         let early = x.early in
         led x.since x.silent 0 (event.at + rest) x.leads
-        (dead_clear n (made ++ event ∷ []) others x.since x.silent (event.at + rest) off
-        (fails_calm n made event off calm_then fails) lowers) (omega (arith, before)) (inr used)
+        (dead_clear n network off time made (made ++ event ∷ []) others x.since x.silent (event.at + rest)
+        (fails_calm n made event off calm_then fails) (last_behind made event ∙ here) others_now lowers)
+        (omega (arith, before)) (inr none)
         (omega (arith, early, before, less))
     fail_led fails lowers (inr (gone, flight, is)) =
         let x = fail_leads n made event gone flight past settled_then
@@ -354,24 +366,25 @@ module _ (n : NetworkState) (off : NothingLapses n.params) (time : ℕ) (made no
         let silent_most = le-max_left (silence_span (pace_of n)) gone in
         let gone_most = le-max_right (silence_span (pace_of n)) gone in
         led x.since x.silent 0 (event.at + gone) x.leads
-        (dead_clear n (made ++ event ∷ []) others x.since x.silent (event.at + gone) off
-        (fails_calm n made event off calm_then fails) lowers) (omega (arith, is, gone_most, before))
+        (dead_clear n network off time made (made ++ event ∷ []) others x.since x.silent (event.at + gone)
+        (fails_calm n made event off calm_then fails) (last_behind made event ∙ here) others_now lowers)
+        (omega (arith, is, gone_most, before))
         (inl (omega (arith, over, before, is, silent_most))) (omega (arith, early, before, less))
 
     -- one system turns, and it is taken as heard from now on
     turned_led : TurnsLink n made event → others ≡ [] → rest ≡ turned_echo_span n (made ++ now)
         → IsLed n made now past (suc (time + rest))
     turned_led turns alone is =
-        let x = turn_leads n made event past settled_then (record { turns = turns; calm = calm_then; off = off }) in
-        let last : Past = Turned x.silent event.at in
+        let (silent, leads) = turn_leads n made event past settled_then
+        (record { turns = turns; calm = calm_then; off = off }) in
+        let last : Past = Turned silent event.at in
         let before = here in
-        let early = x.early in
         let over : suc event.at + way_span (sync_paths n (made ++ now)) ≤ suc (time + rest) =
         omega (arith, before, is) in
         record {
           last = last;
           lead = subst (λ es. LeadOn n made past es last) (sym (same ∙ ap (λ es. event ∷ es) alone))
-              (past, inl refl, last, x.leads, refl);
+              (past, inl refl, last, leads, refl);
           settles = (
             Heard (suc event.at),
             inr (
@@ -382,7 +395,6 @@ module _ (n : NetworkState) (off : NothingLapses n.params) (time : ℕ) (made no
                 off = off;
                 told = omega (arith, before, is);
                 later = omega arith;
-                unlinked = omega (arith, early);
                 over = over;
               },
             ),
@@ -391,7 +403,7 @@ module _ (n : NetworkState) (off : NothingLapses n.params) (time : ℕ) (made no
         }
 
     -- a system fails that others hear
-    power_led : FailsHeard n made event → EachEvent (LowersUnused n) (made ++ event ∷ []) others
+    power_led : FailsHeard n made event → EachEvent (IsDownToo n) (made ++ event ∷ []) others
         → UpIsUsed n (made ++ now)
         → max (echo_span (pace_of n) (sync_paths n (made ++ now))) (sync_paths n (made ++ now)).delay ≤ rest
         → IsLed n made now past (suc (time + rest))
@@ -427,12 +439,12 @@ module _ (n : NetworkState) (off : NothingLapses n.params) (time : ℕ) (made no
         within =
             let most = gone_within (sync_paths n (made ++ now)).delay (inl (used, refl)) in omega (arith, long, most)
 
-        ends : LeadOn n made past now (Cleared time silent right old) → IsLed n made now past (suc (time + rest))
+        ends : LeadOn n made past now (Cleared made time silent right old) → IsLed n made now past (suc (time + rest))
         ends lead =
             let way = way_short in
             let over : time + way_span (sync_paths n (made ++ now)) ≤ suc (time + rest) = omega (arith, way, long) in
             record {
-              last = Cleared time silent right old;
+              last = Cleared made time silent right old;
               lead = lead;
               settles = (
                 Heard time,
@@ -444,7 +456,7 @@ module _ (n : NetworkState) (off : NothingLapses n.params) (time : ℕ) (made no
                     off = off;
                     gone = omega (arith, within);
                     later = omega arith;
-                    unlinked = inr used;
+                    unlinked = inr (up_none_silent n made (made ++ now) used);
                     over = over;
                   },
                 ),
@@ -457,15 +469,15 @@ module _ (n : NetworkState) (off : NothingLapses n.params) (time : ℕ) (made no
             let one : made ++ now ≡ made ++ event ∷ [] =
             ap (λ es. made ++ es) (same ∙ ap (λ es. event ∷ es) alone) in
             let leads = power_leads n made event aged silent falls (subst (UpIsUsed n) one used) past settled_then in
-            let last : Past = Cleared time silent right old in
+            let last : Past = Cleared made time silent right old in
             ends (subst (λ es. LeadOn n made past es last) (sym (same ∙ ap (λ es. event ∷ es) alone)) (
               past,
               inl refl,
               last,
-              subst (λ t. EventLeads n made past event (Cleared t silent (t + 1 + nearer_echo_span n (made ++ now))
+              subst (λ t. EventLeads n made past event (Cleared made t silent (t + 1 + nearer_echo_span n (made ++ now))
                   (t + nearer_echo_span n (made ++ now) + (sync_paths n (made ++ now)).delay))) here
                   (subst (λ es. EventLeads n made past event
-                  (Cleared event.at silent (event.at + 1 + nearer_echo_span n es)
+                  (Cleared made event.at silent (event.at + 1 + nearer_echo_span n es)
                   (event.at + nearer_echo_span n es + (sync_paths n es).delay))) (sym one) leads),
               refl,
             ))
@@ -473,7 +485,7 @@ module _ (n : NetworkState) (off : NothingLapses n.params) (time : ℕ) (made no
             let all : made ++ now ≡ (made ++ event ∷ []) ++ other ∷ more =
             ap (λ es. made ++ es) (same ∙ ap (λ es. event ∷ es) alone) ∙ sym (append_assoc made (event ∷ [])
             (other ∷ more)) in
-            let last : Past = Cleared time silent right old in
+            let last : Past = Cleared made time silent right old in
             let at_then = (subst (AllByRecursion (λ (t : Timed). t.at ≡ time)) same at).1 in
             ends (subst (λ es. LeadOn n made past es last) (sym (same ∙ ap (λ es. event ∷ es) alone)) (
               past,
@@ -481,23 +493,23 @@ module _ (n : NetworkState) (off : NothingLapses n.params) (time : ℕ) (made no
               Aging made aged silent,
               ages_leads n made event past aged silent settled_then falls,
               subst (λ es. LeadOn n (made ++ event ∷ []) (Aging made aged silent) (other ∷ more)
-                  (Cleared time silent (time + 1 + nearer_echo_span n es)
+                  (Cleared made time silent (time + 1 + nearer_echo_span n es)
                   (time + nearer_echo_span n es + (sync_paths n es).delay))) (sym all)
-                  (power_lead n made (made ++ event ∷ []) more other time aged silent off
-                  (failure_calm n made event off calm_then fails.clock fails.act)
+                  (power_lead n network made (made ++ event ∷ []) more other time aged silent off
+                  (failure_calm n made event off calm_then fails.clock fails.act) (last_behind made event ∙ here)
                   (subst (AllByRecursion (λ (t : Timed). t.at ≡ time)) alone at_then)
-                  (subst (EachEvent (LowersUnused n) (made ++ event ∷ [])) alone lowers)
+                  (subst (EachEvent (IsDownToo n) (made ++ event ∷ [])) alone lowers)
                   (subst (UpIsUsed n) all used)),
             ))
 
     -- else it is taken as heard from now on once right traces are told since what is held of it has aged
-    heard_led : FailsHeard n made event → EachEvent (LowersUnused n) (made ++ event ∷ []) others
+    heard_led : FailsHeard n made event → EachEvent (IsDownToo n) (made ++ event ∷ []) others
         → RestsOnceTold n made now rest → IsLed n made now past (suc (time + rest))
     heard_led fails lowers (inl (used, long)) = power_led fails lowers used long
     heard_led fails lowers (inr (gone, flight, (held, (span, within, is), long))) = record {
       last = Aging made aged silent;
       lead = subst (λ es. LeadOn n made past es (Aging made aged silent)) (sym same)
-          (heard_lead n made event others past span off calm_then settled_then fails lowers
+          (heard_lead n network off time made event others past span calm_then settled_then here fails others_now lowers
           (subst (λ es. AgesWithin n made (made ++ es) event.at span) same
           (subst (λ t. AgesWithin n made (made ++ now) t span) (last ∙ sym before) within)));
       settles = (
@@ -564,7 +576,7 @@ module _ (n : NetworkState) (off : NothingLapses n.params) (time : ℕ) (made no
       × ((gone : ℕ) × FlightIsGone n (made ++ now) gone
       × (rest ≡ max (2 * way_span (sync_paths n (made ++ now))) gone)))
       ⊎ ((FailsEndFirst n made es
-      × ((UpIsUsed n (made ++ now) × FlightIsGone n made rest)
+      × ((NoneSilent n made (made ++ now) × FlightIsGone n made rest)
       ⊎ ((gone : ℕ) × FlightIsGone n made gone × (rest ≡ max (silence_span (pace_of n)) gone))))
       ⊎ ((LowersOneLink n made es
       × ((gone : ℕ) × FlightIsGone n (made ++ now) gone

@@ -19,7 +19,7 @@ use Rattle.gptp_bmca_machine.specs.Calm.{Calm}
 use Rattle.gptp_bmca_machine.specs.CleanLaws.{HeldIsWhole}
 use Rattle.gptp_bmca_machine.specs.Facts.{NetworkSetting, StationFacts}
 use Rattle.gptp_bmca_machine.specs.Levels.{Invariant}
-use Rattle.gptp_bmca_machine.specs.Network.{IsSettlingNetwork, Network, network_setting, settled_from}
+use Rattle.gptp_bmca_machine.specs.Network.{IsSettlingNetwork, Network, settled_from}
 use Rattle.gptp_bmca_machine.specs.Sound.{RunIsSound}
 use Rattle.gptp_bmca_machine.proofs.LevelLemmas.{good_whole, invariant_begins, invariant_kept}
 use Rattle.gptp_bmca_machine.proofs.NearestLemmas.{came_fits}
@@ -27,7 +27,7 @@ use Rattle.gptp_bmca_machine.proofs.SettledLemmas.{systems_bounded}
 use Rattle.gptp_bmca_machine.proofs.TimesLemmas.{times_fit}
 use Rattle.gptp_invariants.specs.ChoiceCalm.{HaveQuietLinks, delay_in, paths_with}
 use Rattle.gptp_invariants.specs.ChoiceSeenLaws.{IsNoChange}
-use Rattle.gptp_invariants.specs.ChoiceSettled.{Settled}
+use Rattle.gptp_invariants.specs.ChoiceSettled.{ChoiceStands, Settled}
 use Rattle.gptp_invariants.specs.ChoiceSettlesAsMachine.{IsWorld}
 use Rattle.gptp_invariants.specs.ChoiceView.{says_announce, station_view, view}
 use Rattle.gptp_invariants.specs.DelayMeasuredLinks.{HaveMeasuredLinks}
@@ -45,7 +45,6 @@ use Rattle.gptp_invariants.proofs.WorldBoundedLemmas.{bounded_by}
 use Rattle.gptp_invariants.proofs.WorldNewsCourseLemmas.{later_keeps}
 use Rattle.gptp_invariants.proofs.WorldOutlineLemmas.{acts_time}
 use Rattle.gptp_invariants.proofs.WorldStandsLemmas.{stands_well}
-use Rattle.gptp_settling_time.specs.ChoiceAlone.{ChoiceStands}
 use Rattle.gptp_settling_time.proofs.AlwaysClaimedLemmas.{AreHeard, IsClaimedAlways, IsStanding, linked_on, same_start, start_calm, start_network}
 use Rattle.gptp_settling_time.proofs.LeftClaimedLemmas.{HaveAskedBy, asked_acts, asked_later, standing_acts, standing_later}
 use Rattle.gptp_settling_time.proofs.LiveTracesLemmas.{TellersLive, ToldIsClean, told_begins, told_kept, told_whole}
@@ -149,9 +148,6 @@ module _ (p : SettlingParams) (since most silent : ℕ) (w : WorldState) (standi
   started : Calm (start_network p (path_bound (snapshot_of w)) silent w) (view w)
   started =
       start_calm p silent w standing (asked_are_heard p since silent w asked) quiet (path_bound (snapshot_of w))
-
-  pub lost_facts : StationFacts (network_setting n_of) (view w)
-  lost_facts = started.facts
 
   pub loss_facts : delay_in w ≤ most → StationFacts k_of (view w)
   loss_facts short =

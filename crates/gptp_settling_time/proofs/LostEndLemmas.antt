@@ -14,7 +14,8 @@ use Rattle.gptp_bmca_machine.specs.SoundEverywhere.{IsSoundEverywhere, IsSoundSe
 use Rattle.gptp_bmca_machine.specs.SoundLaws.{AllAreNear}
 use Rattle.gptp_bmca_machine.specs.Station.{Disabled, HoldsAt, MachineState, Received, Reception, Station}
 use Rattle.gptp_settling_time.specs.Losses.{IsFarEnd}
-use Rattle.gptp_settling_time.proofs.AtRestLemmas.{TellsSettled, either, flight_settled, held_settled}
+use Rattle.gptp_settling_time.proofs.SettledRestLemmas.{settled_rest}
+use Rattle.gptp_settling_time.proofs.AtRestLemmas.{LinksAreAtRest, TellsSettled, either, flight_settled, held_settled}
 use Rattle.gptp_settling_time.proofs.FarEndLemmas.{HasAllBut, clock_without, sound_without}
 use Rattle.gptp_settling_time.proofs.FitsLemmas.{IsLeftUnmoved, UnlinkedHoldNothing, distance_before, joined_stays}
 use Rattle.gptp_settling_time.proofs.ReducedLemmas.{IsReduced, IsReducedStation}
@@ -31,6 +32,9 @@ module _ (says : Spelling) (n : Network) (net : IsSettlingNetwork n) (w : Machin
     → says f.octets a → f.due ≤ old) where
   abbrev g : Snapshot
   g = n.graph
+
+  rest : LinksAreAtRest says n w
+  rest = settled_rest says n net w calm invariant late near
 
   -- what an end of a link that is left says is sound still, where it tells what is settled
   sound_still : (from to : PortIdentity) (a : Announce) → Joins g' from to
@@ -71,7 +75,7 @@ module _ (says : Spelling) (n : Network) (net : IsSettlingNetwork n) (w : Machin
             joins = back;
             source = was.source ∙ one;
             sound = sound_still from (port_of s.clock (suc place)) r.said back
-                (held_settled says n net w calm invariant late near i old_s place r from stood
+                (held_settled says n net near w calm rest i old_s place r from stood
                 (sym same.live ∙ live) held
                 (subst (λ c. Joins g from (port_of c (suc place))) same.clock
                 (left.links from (port_of s.clock (suc place)) back)))
@@ -91,7 +95,7 @@ module _ (says : Spelling) (n : Network) (net : IsSettlingNetwork n) (w : Machin
       → says f.octets a → f.due ≤ old → IsSoundSent g' l.from a ⊎ IsOldOn g' old l.from l.to f.due
   flight_still j l f a at among said soon = elim (Joins-dec g' l.from l.to) [
     | no apart ↦ inr (record { by = soon; farther = λ joins. absurd (apart joins) })
-    | yes joins ↦ elim (either says n net w calm invariant late near l.from l.to (left.links l.from l.to joins)) [
+    | yes joins ↦ elim (either n.graph net.graph l.from l.to (left.links l.from l.to joins)) [
       | inl farther ↦ inr (record { by = soon; farther = λ joined. so joins farther })
       | inr nearer ↦
           let is = sound.lanes j l at f a among said in
@@ -99,7 +103,7 @@ module _ (says : Spelling) (n : Network) (net : IsSettlingNetwork n) (w : Machin
             sender = clock_without g g' x has l.from.clock is.sender (gone l.from l.to joins);
             source = is.source;
             sound = sound_still l.from l.to a joins
-                (flight_settled says n net w calm invariant late near j l f a at among said
+                (flight_settled says n net near w calm rest j l f a at among said
                 (left.links l.from l.to joins) nearer)
                 is.sound;
           })

@@ -46,7 +46,7 @@ use Rattle.gptp_theorem.proofs.ChangeLemmas.{changes_stand}
 use Rattle.gptp_theorem.proofs.SettlingInvariantLemmas.{IsFitEvent, least_of}
 use Rattle.gptp_theorem.proofs.KeptLemmas.{time_stands}
 use Rattle.gptp_theorem.proofs.SyncPathLemmas.{paths_stand}
-use Rattle.gptp_settling_time.specs.ExactInTurn.{last_set}
+use Rattle.gptp_settling_time.specs.Arrivals.{arrived_by}
 use Rattle.gptp_settling_time.specs.Gains.{AreCapableAnyway, AreCapableNext, AreCapableStill, AreSparedBy, ChangesNothing, HasDelaysWithin, IsGainAfter, IsIdleAfter, IsSparedBy, JoinsLive, LeavesCapable, SparesFailed, TakesNothing, UsesNoLink}
 use Rattle.gptp_settling_time.specs.Idle.{Lives}
 use Rattle.gptp_settling_time.specs.InTurn.{AddsHeard}
@@ -63,7 +63,7 @@ use Rattle.gptp_settling_time.proofs.PriorityNewsLemmas.{priority_soon, priority
 use Rattle.gptp_settling_time.proofs.PrioritySparedLemmas.{priority_gone, priority_in_time}
 use Rattle.gptp_settling_time.proofs.RecoverLemmas.{recover_alone, recover_in_time, recover_soon}
 use Rattle.gptp_settling_time.proofs.RecoverAloneLemmas.{UsesNone, none_stands}
-use Rattle.gptp_settling_time.proofs.SinceSetLemmas.{unset_later, unset_made}
+use Rattle.gptp_settling_time.proofs.SinceSetLemmas.{limited_later, limited_made}
 use Rattle.gptp_settling_time.proofs.StandsStillLemmas.{StandsStill, asked_still, between_still, from_stands}
 use Rattle.gptp_settling_time.proofs.UpSoonLemmas.{up_soon}
 
@@ -309,8 +309,10 @@ module _ {F : Type 0} (answers : Bounds → ℕ → F → Option ℕ → F → T
           (done_stays answers event fate fate_after w w' done keeps.claim.world.sound.wired.setups k) keeps.slow;
       short = short_after;
       asked = asked_after;
-      unset = unset_made p made event is.change then k.draws w' is.act refl acts.1 made_time made_last claim_after.world
-          (unset_later p (last_set made) w event.at k.ready.timely.now keeps.unset);
+      limited = λ most within.
+          limited_made most made event is.change then k.draws w' is.act acts.1 made_time (short_after most within)
+          (limited_later (arrived_by most made) w event.at k.ready.timely.now
+          (keeps.limited most (within_before n made (event ∷ []) most within)));
       named = named_begins p w' claim_after.world claim_after.pace.largest made_last;
     }
 

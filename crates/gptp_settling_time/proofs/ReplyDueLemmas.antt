@@ -1,6 +1,6 @@
 -- A system fails: the last request of each port beside it is the last that is answered, since its answer comes before
 -- the next request goes.
-use Rattle.std.proofs.Common.{◌≡◌, ◌⊎◌, ◌≤◌, ◌<◌, ◌+◌, ℕ, List, [], ◌∷◌, Option, Some, slice_get, sym, subst, inl, inr, arith}
+use Rattle.std.proofs.Common.{◌≡◌, ◌⊎◌, ◌≤◌, ◌<◌, ◌+◌, ℕ, List, [], ◌∷◌, Option, Some, slice_get, refl, sym, subst, inl, inr, arith}
 use Rattle.gptp_lists.specs.Members.{In}
 use Rattle.gptp_lists.proofs.SystemSpecLemmas.{In-map}
 use Rattle.gptp_setup.specs.SettlingParams.{SettlingParams}
@@ -117,3 +117,8 @@ module _ (p : SettlingParams) (w w' : WorldState) (is' : IsWorld p w') (changed 
     inv = unanswered_begins (silent_setting at w' link) last_sent (silent_view at w' link) few_lost
         (omega arith);
   }
+
+  -- as it is seen to ask
+  pub last_begins_seen : (silent_view at w' last_begins.link).asker ≡ (pair at w x.link).asker
+  unfolding last_begins
+  last_begins_seen = refl

@@ -15,11 +15,12 @@ use Rattle.gptp_bmca_machine.specs.LinkStage.{IsFinal}
 use Rattle.gptp_bmca_machine.specs.Network.{IsSettlingNetwork, Network, wiring}
 use Rattle.gptp_bmca_machine.specs.SoundLaws.{AllAreNear}
 use Rattle.gptp_bmca_machine.specs.Station.{MachineState, Reception}
-use Rattle.gptp_bmca_machine.proofs.EndsLemmas.{is_station}
+use Rattle.gptp_bmca_machine.proofs.LinkStepLemmas.{lives_at}
 use Rattle.gptp_bmca_machine.proofs.PlaceLemmas.{received_injective}
+use Rattle.gptp_settling_time.proofs.AtRestLemmas.{LinkFacts}
 use Rattle.gptp_settling_time.proofs.NamesItselfLemmas.{AllNameItself, NamesItself}
 use Rattle.gptp_settling_time.proofs.RightStageLemmas.{AllRight, HoldsRight}
-use Rattle.gptp_settling_time.proofs.TellsRightLemmas.{IsRightOf, IsSettledState, LevelTellsRight, LinkFacts, link_facts, right_waits}
+use Rattle.gptp_settling_time.proofs.TellsRightLemmas.{IsRightOf, IsSettledState, LevelTellsRight, link_facts, right_waits}
 
 -- What the best tells is right where it names it alone, by the snapshot of before, in which it was the best too.
 module _ (says : Spelling) (g : Snapshot) (n : Network) (net : IsSettlingNetwork n) (near : AllAreNear n.graph)
@@ -67,14 +68,14 @@ module _ (says : Spelling) (g : Snapshot) (n : Network) (net : IsSettlingNetwork
           let one = received_injective facts.stays.what r (sym facts.stays.holds ∙ is) in
           right r.said
           (subst (λ (z : Reception). IsFinal (wiring n 0 best v p u q) z.said) one facts.stays.final)
-          (all.stations (n.place u) stand.u stand.hearer (facts.is.hearer_lives stand.u stand.hearer) q r
+          (all.stations (n.place u) stand.u stand.hearer (facts.hearer_lives stand.u stand.hearer) q r
           (pu, stand.hearer_port, is))
 
       flies : AllRight says (IsRightOf n v p) l.frames
       flies f a among said =
           right a (facts.stays.flight f a among said)
           (all.lanes (n.lane (port_of v (suc p))) l f a stand.lane among said
-          (subst (λ (k : PortIdentity). In k.clock (clocks n.graph)) (sym (facts.is.lane l stand.lane).to) known_u))
+          (subst (λ (k : PortIdentity). In k.clock (clocks n.graph)) (sym (facts.lane l stand.lane).to) known_u))
 
 -- before a time nothing is claimed but of what the best tells
 pub right_begins : (says : Spelling) (n : Network) (base : ℕ) (w : MachineState) → w.time < base
@@ -95,7 +96,7 @@ right_enters says n net near base time w w' calm early is x' short first (suc d)
     tells best v p u q close leads late pv pu l stand =
         let facts = link_facts says n net near w' x' (suc d) best v p u q close leads pv pu l stand in
         let known = Joins-clock n.graph (port_of v (suc p)) (port_of u (suc q)) net.graph leads.joins in
-        let (live, clock) = is_station n net w' x'.calm x'.invariant.sound v stand.v known stand.teller in
+        let (live, clock) = lives_at n w' x'.calm v known stand.v stand.teller in
         let at : slice_get w.stations (n.place v) ≡ Some stand.v =
         subst (λ (z : MachineState). slice_get z.stations (n.place v) ≡ Some stand.v) is stand.teller in
         let port : IsCalmPort n w.time (port_of v (suc p)) pv =

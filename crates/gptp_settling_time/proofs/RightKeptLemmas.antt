@@ -19,9 +19,10 @@ use Rattle.gptp_bmca_machine.specs.Station.{Aged, Disabled, Held, MachineState, 
 use Rattle.gptp_bmca_machine.specs.Touch.{Hear, HeldInTouch, StationTouch}
 use Rattle.gptp_bmca_machine.proofs.HearingLemmas.{final_taken}
 use Rattle.gptp_bmca_machine.proofs.PlaceLemmas.{received_injective, same_there}
+use Rattle.gptp_settling_time.proofs.AtRestLemmas.{LinkFacts}
 use Rattle.gptp_settling_time.proofs.RightStageLemmas.{AllRight, HoldsRight, RightStage, right_enters, right_goes, right_holds, right_tells}
 use Rattle.gptp_settling_time.proofs.TouchedLemmas.{mid_heard}
-use Rattle.gptp_settling_time.proofs.TellsRightLemmas.{IsRightOf, IsSettledState, LevelTellsRight, LinkFacts, LinkTellsRight, link_facts, right_fits, right_waits, tells_right, tells_right_from, tells_right_until}
+use Rattle.gptp_settling_time.proofs.TellsRightLemmas.{IsRightOf, IsSettledState, LevelTellsRight, LinkTellsRight, link_facts, right_fits, right_waits, tells_right, tells_right_from, tells_right_until}
 
 module _ (says : Spelling) (n : Network) (net : IsSettlingNetwork n) (near : AllAreNear n.graph) where
   abbrev g : Snapshot
@@ -95,7 +96,7 @@ module _ (says : Spelling) (n : Network) (net : IsSettlingNetwork n) (near : All
               go (y, sent, leaves, octets) =
                   let clock : call.s.clock ≡ v = ap (λ (z : PortIdentity). z.clock) (sym leaves ∙ from) in
                   let place : call.place ≡ n.place v =
-                  (facts'.is.teller_stands call.place call.s' call.there).1 (call.reacts.clock ∙ clock) in
+                  (facts'.teller_stands call.place call.s' call.there).1 (call.reacts.clock ∙ clock) in
                   let own : IsOwn call.s' y.port a =
                   (call.reacts.tells y a sent (subst (λ (o : List ℕ). says o a) octets said)).0 in
                   let at_port : port_of call.s'.clock y.port ≡ port_of v (suc p) =
@@ -193,7 +194,7 @@ module _ (says : Spelling) (n : Network) (net : IsSettlingNetwork n) (near : All
                       (stood call.place call.s call.here)
 
                   clock : call.s.clock ≡ v
-                  clock = sym call.reacts.clock ∙ (facts'.is.teller_stands call.place call.s' call.there).0 (sym same)
+                  clock = sym call.reacts.clock ∙ (facts'.teller_stands call.place call.s' call.there).0 (sym same)
 
                   told : ((y : Send) × In y call.sends × (y.port ≡ suc p) × ((a : Announce) × says y.octets a))
                       → (f : AnnounceFrame) × In f step.news × FrameSaysAnnounce says f
@@ -223,7 +224,7 @@ module _ (says : Spelling) (n : Network) (net : IsSettlingNetwork n) (near : All
                   ])
                 where
                   is_lane' : IsLaneOf k l'
-                  is_lane' = facts'.is.lane l' stand'.lane
+                  is_lane' = facts'.lane l' stand'.lane
 
                   from : l.from ≡ port_of v (suc p)
                   from = sym step.from ∙ is_lane'.from
@@ -264,8 +265,7 @@ module _ (says : Spelling) (n : Network) (net : IsSettlingNetwork n) (near : All
 
                   due : (f : AnnounceFrame) → In f step.news → f.due ≤ w'.time + n.most
                   due f new =
-                      (facts'.is.frames l' f stand'.lane
-                      (subst (In f) (sym step.behind) (In-right f l.frames step.news new))).due facts'.from
+                      (facts'.frames f (subst (In f) (sym step.behind) (In-right f l.frames step.news new))).1
 
         -- the lane of the link stood before
         lane_was : HasLane n w (port_of v (suc p)) (port_of u (suc q))
@@ -300,7 +300,7 @@ module _ (says : Spelling) (n : Network) (net : IsSettlingNetwork n) (near : All
               → act.l.to ≡ port_of u (suc q)
           comes_here a hears place =
               let clock : act.call.s'.clock ≡ u =
-              (facts'.is.hearer_stands act.call.place act.call.s' act.call.there).0 place in
+              (facts'.hearer_stands act.call.place act.call.s' act.call.there).0 place in
               let (number, said) = act.heard (suc q) a hears in
               λ j. port_of ((sym act.owner ∙ sym act.call.reacts.clock ∙ clock) j) (sym number j)
 
@@ -315,7 +315,7 @@ module _ (says : Spelling) (n : Network) (net : IsSettlingNetwork n) (near : All
               (λ holds r is. elim (hears_so act.touch act.mid w' act.call pu pu' hearing r is) [
                 | inl before ↦ holds r before
                 | inr (hears, place) ↦
-                    absurd (apart (sym (facts.is.only_lane act.j act.l act.pops.here (comes_here r.said hears place))))
+                    absurd (apart (sym (facts.only_lane act.j act.l act.pops.here (comes_here r.said hears place))))
               ])
               (subst (λ (z : Lane). Stages pv.announce pu.held z.frames) (was l there)
               (level best v p u q close leads late_then pv pu lane_was.lane stand)))
@@ -344,7 +344,7 @@ module _ (says : Spelling) (n : Network) (net : IsSettlingNetwork n) (near : All
                 facts = link_facts says n net near w x d best v p u q close leads pv pu act.l stand
 
                 to : act.l.to ≡ port_of u (suc q)
-                to = (facts.is.lane act.l lane_at).to
+                to = (facts.lane act.l lane_at).to
 
                 call_here : slice_get w.stations act.call.place ≡ Some act.call.s
                 call_here = act.pops.stations act.call.place act.call.s act.call.here
@@ -353,7 +353,7 @@ module _ (says : Spelling) (n : Network) (net : IsSettlingNetwork n) (near : All
                 clock_is = act.owner ∙ ap (λ (z : PortIdentity). z.clock) to
 
                 place_is : act.call.place ≡ n.place u
-                place_is = (facts.is.hearer_stands act.call.place act.call.s call_here).1 clock_is
+                place_is = (facts.hearer_stands act.call.place act.call.s call_here).1 clock_is
 
                 among : In act.f act.l.frames
                 among = subst (In act.f) (sym act.pops.frames) (inl refl)
@@ -473,10 +473,10 @@ module _ (says : Spelling) (n : Network) (net : IsSettlingNetwork n) (near : All
                     | inl silent ↦ silent a said
                     | inr dead ↦
                         let at = act.pops.stations (n.place u) stand'.u stand'.hearer in
-                        let clock = (facts.is.hearer_stands (n.place u) stand'.u at).0 refl in
+                        let clock = (facts.hearer_stands (n.place u) stand'.u at).0 refl in
                         dead (n.place u) stand'.u at
-                        (clock ∙ ap (λ (z : PortIdentity). z.clock) (sym (facts.is.lane act.l lane_at).to))
-                        (facts.is.hearer_lives stand'.u at)
+                        (clock ∙ ap (λ (z : PortIdentity). z.clock) (sym (facts.lane act.l lane_at).to))
+                        (facts.hearer_lives stand'.u at)
                   ]
 
       -- a moment comes

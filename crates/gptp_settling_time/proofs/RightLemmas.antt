@@ -14,9 +14,9 @@ use Rattle.gptp_bmca_machine.specs.SoundLaws.{AllAreNear}
 use Rattle.gptp_bmca_machine.specs.Station.{MachineState, Station}
 use Rattle.gptp_bmca_machine.proofs.LevelLemmas.{places_of}
 use Rattle.gptp_bmca_machine.proofs.PlaceLemmas.{same_there}
-use Rattle.gptp_settling_time.proofs.AtRestLemmas.{at_rest, close_to, either, leads_by}
+use Rattle.gptp_settling_time.proofs.AtRestLemmas.{close_to, either, few, leads_by}
 use Rattle.gptp_settling_time.proofs.SoundButOldLemmas.{IsOldOn, IsSoundButOld}
-use Rattle.gptp_settling_time.proofs.TellsRightLemmas.{IsSettledState, LevelTellsRight, few, held_right, link_right, right_later, tells_right_from}
+use Rattle.gptp_settling_time.proofs.TellsRightLemmas.{IsSettledState, LevelTellsRight, held_right, link_right, right_later, tells_right_from}
 
 module _ (says : Spelling) (n : Network) (net : IsSettlingNetwork n) (near : AllAreNear n.graph) where
   abbrev g : Snapshot
@@ -40,7 +40,7 @@ module _ (says : Spelling) (n : Network) (net : IsSettlingNetwork n) (near : All
           below zero h = absurd (omega (arith, h))
           below (suc m) h = omega (arith, h)
 
-      all_held_right : (i : ℕ) (s : Station) → slice_get w.stations i ≡ Some s → s.live ≡ true → StationIsSound g s
+      pub all_held_right : (i : ℕ) (s : Station) → slice_get w.stations i ≡ Some s → s.live ≡ true → StationIsSound g s
       all_held_right i s at live place r holds =
           held_right says n net near base w x i s place r at live holds (λ from f joins tells less.
           (by_then f less, levels f))
@@ -55,7 +55,7 @@ module _ (says : Spelling) (n : Network) (net : IsSettlingNetwork n) (near : All
               → In f l.frames → says f.octets a → IsSoundSent g l.from a ⊎ IsOldOn g old l.from l.to f.due
           lanes j l f a at among said = elim (Joins-dec g l.from l.to) [
             | no apart ↦ inr (record { by = due j l f a at among said; farther = λ joins. absurd (apart joins) })
-            | yes joins ↦ elim (either says n net w x.calm x.invariant x.late near l.from l.to joins) [
+            | yes joins ↦ elim (either n.graph net.graph l.from l.to joins) [
               | inl farther ↦ inr (record { by = due j l f a at among said; farther = λ joined. farther })
               | inr nearer ↦ inl (over joins nearer
                   (distance_exists g l.from.clock net.graph (Joins-clock g l.from l.to net.graph joins))
@@ -73,12 +73,12 @@ module _ (says : Spelling) (n : Network) (net : IsSettlingNetwork n) (near : All
               over joins nearer (e, from_far) (b, to_far) (p, q, is_p, is_q) =
                   let from_is : l.from ≡ port_of l.from.clock (suc p) = λ i. port_of l.from.clock (is_p i) in
                   let to_is : l.to ≡ port_of l.to.clock (suc q) = λ i. port_of l.to.clock (is_q i) in
-                  let leads = leads_by says n net w x.calm x.invariant x.late near l.from l.to p q e b joins is_p is_q
+                  let leads = leads_by n net near l.from l.to p q e b joins is_p is_q
                   from_far to_far nearer in
-                  let close = close_to says n net w x.calm x.invariant x.late near l.from.clock e from_far in
-                  let link = at_rest says n net w x.calm x.invariant x.late near e from_far.best l.from.clock p
+                  let close = close_to n net near l.from.clock e from_far in
+                  let link = x.rest.links e from_far.best l.from.clock p
                   l.to.clock q close leads in
-                  let short = few says n net near w x e from_far.best l.from.clock p l.to.clock q close leads in
+                  let short = few n net.graph net.paths e from_far.best l.from.clock p l.to.clock q leads in
                   let (held, all) = link_right says n net near base w x e from_far.best l.from.clock p l.to.clock q
                   close leads (levels e) (by_then e short) link.pv link.pu link.lane link.stand in
                   let has = x.calm.lanes (port_of l.from.clock (suc p)) (port_of l.to.clock (suc q)) leads.joins in

@@ -29,14 +29,13 @@ use Rattle.gptp_model.specs.declared.station.Station.{Station}
 use Rattle.gptp_model.specs.Views.{ShowsLive}
 use Rattle.gptp_model.specs.World.{WorldState}
 use Rattle.gptp_bmca_machine.specs.Settled.{IsSlaveOf}
-use Rattle.gptp_invariants.specs.ChoiceSettled.{IsSettledSystem, Settled, graph_role}
+use Rattle.gptp_invariants.specs.ChoiceSettled.{ChoiceStands, HasSettledChoice, IsSettledSystem, Settled, graph_role}
 use Rattle.gptp_invariants.specs.ChoiceSettlesAsMachine.{IsWorld}
 use Rattle.gptp_invariants.specs.WorldStanding.{snapshot_of, standing_system}
 use Rattle.gptp_invariants.proofs.WorldStandsLemmas.{stands_well}
 use Rattle.gptp_invariants.proofs.WorldSystemLemmas.{live_from, live_there}
 use Rattle.gptp_setup.specs.SettlingParams.{SettlingParams}
 use Rattle.gptp_bmca_machine.specs.SoundLaws.{AllAreNear}
-use Rattle.gptp_settling_time.specs.ChoiceAlone.{ChoiceStands, HasSettledChoice}
 use Rattle.gptp_settling_time.specs.Unchanged.{LeavesChoiceShown, LeavesShown, ShowsSameChoice, ShowsSameRoles}
 
 -- ---- what is settled is one thing

@@ -22,14 +22,13 @@ use Rattle.gptp_bmca_machine.specs.Run.{NearHaveSettled}
 use Rattle.gptp_bmca_machine.specs.Settled.{HasSettledRoles}
 use Rattle.gptp_bmca_machine.specs.Station.{HoldsAt, Reception, Station as SeenStation}
 use Rattle.gptp_bmca_machine.proofs.SettledLemmas.{network_settles}
-use Rattle.gptp_invariants.specs.ChoiceSettled.{IsSettledSystem, Settled, graph_role}
+use Rattle.gptp_invariants.specs.ChoiceSettled.{ChoiceStands, HasSettledChoice, IsSettledSystem, Settled, graph_role}
 use Rattle.gptp_invariants.specs.ChoiceSettlesAsMachine.{IsWorld}
 use Rattle.gptp_invariants.specs.ChoiceView.{port_view, says_announce, span_at, station_view, view}
 use Rattle.gptp_invariants.specs.WorldStanding.{snapshot_of}
 use Rattle.gptp_invariants.proofs.ChoiceParentLemmas.{parent_settled}
 use Rattle.gptp_invariants.proofs.ChoicePlaceLemmas.{port_there, station_there}
 use Rattle.gptp_invariants.proofs.ChoiceSettledLemmas.{is_slave, plays_own}
-use Rattle.gptp_settling_time.specs.ChoiceAlone.{ChoiceStands, HasSettledChoice}
 
 -- ---- roles
 

@@ -8,13 +8,12 @@ use Rattle.gptp_model.specs.Pending.{NothingBefore}
 use Rattle.gptp_model.specs.Views.{ShowsLive}
 use Rattle.gptp_model.specs.World.{WorldState}
 use Rattle.gptp_world.specs.Transitions.{ActTrace}
-use Rattle.gptp_invariants.specs.ChoiceSettled.{Settled}
+use Rattle.gptp_invariants.specs.ChoiceSettled.{ChoiceStands, Settled}
 use Rattle.gptp_invariants.specs.ChoiceSettlesAsMachine.{IsWorld}
 use Rattle.gptp_invariants.specs.WorldStanding.{snapshot_of}
 use Rattle.gptp_invariants.proofs.ChoiceCalmKeptLemmas.{acts_keep, same_snapshot}
 use Rattle.gptp_invariants.proofs.SyncExactLemmas.{shows_then as shows_at}
 use Rattle.gptp_bmca_machine.specs.SoundLaws.{AllAreNear}
-use Rattle.gptp_settling_time.specs.ChoiceAlone.{ChoiceStands}
 use Rattle.gptp_settling_time.specs.Unchanged.{LeavesChoiceShown, LeavesShown}
 use Rattle.gptp_settling_time.proofs.PassLemmas.{IsStep}
 use Rattle.gptp_settling_time.proofs.SameShownLemmas.{leaves_choice, leaves_shown}

@@ -1,11 +1,9 @@
 -- A link is taken down, and its ends are told: what stands elsewhere stood before, and ports beside failed systems stay
 -- silent.
-use Rattle.std.proofs.Common.{Bool, List, Some, [], ap, false, inl, inr, map, refl, slice_get, slice_set, subst, sym, true, ℕ, ◌∙◌, ◌≡◌, ◌≢◌}
+use Rattle.std.proofs.Common.{Bool, List, Some, ap, false, inl, inr, map, refl, slice_get, slice_set, subst, sym, true, ℕ, ◌∙◌, ◌≡◌, ◌≢◌}
 use Rattle.std.proofs.lemmas.Option.{same_Some}
-use Rattle.gptp_lists.specs.Members.{In}
 use Rattle.gptp_lists.proofs.MappedLemmas.{alike}
 use Rattle.gptp_lists.proofs.PlaceLemmas.{get-set_other, get-set_same, map-set_same}
-use Rattle.gptp_graph.specs.Snapshot.{clocks}
 use Rattle.gptp_vector.specs.declared.port.PortId.{PortId}
 use Rattle.gptp_links.specs.declared.link.Direction.{Direction}
 use Rattle.gptp_links.specs.declared.link.Direction.TheVariants.{FromA, FromB}
@@ -22,7 +20,6 @@ use Rattle.gptp_invariants.specs.DelayLinkView.{LinkPlace}
 use Rattle.gptp_invariants.specs.DelayMeasured.{LinkStandsAt, StationIsLiveAt}
 use Rattle.gptp_invariants.specs.FailedUnanswered.{IsFailedAmong, IsLastAnswered, IsOff, IsUnansweredAt, StandsUnanswered}
 use Rattle.gptp_invariants.specs.WorldNews.{AreSilentBy}
-use Rattle.gptp_invariants.specs.WorldStanding.{snapshot_of}
 use Rattle.gptp_invariants.proofs.ChoiceCalmKeptLemmas.{KeepsNetwork, calls_keep, keeps_on, net_keeps}
 use Rattle.gptp_invariants.proofs.PortInputLemmas.{of_down}
 use Rattle.gptp_settling_time.proofs.LinkStoodLemmas.{stood_in, stood_untold}
@@ -33,6 +30,7 @@ use Rattle.gptp_model.proofs.EndLemmas.{each_end_told}
 use Rattle.gptp_model.proofs.StayLemmas.{JoinTheSame, begins_same, join_on, set_join, stays_clocks}
 use Rattle.gptp_invariants.proofs.FailedLastAnsweredLemmas.{last_beside}
 use Rattle.gptp_invariants.proofs.FailedOffLemmas.{off_called}
+use Rattle.gptp_settling_time.proofs.StaySilentLemmas.{AllStaySilent, stay_silent}
 
 -- ---- the network
 
@@ -57,13 +55,6 @@ pub told_keeps : (channel : Channel) (w : WorldState) (draws : List Draw) (w' : 
 told_keeps channel w draws w' k =
     keeps_on w k.between w' (if_live_keeps k.place_a channel.a.port w k.first k.between k.at_a)
     (if_live_keeps k.place_b channel.b.port k.between k.second w' k.at_b)
-
--- who lived lives on
-pub told_lives : (channel : Channel) (w : WorldState) (draws : List Draw) (w' : WorldState)
-    → TellsEnds PortDown channel w draws w' → (v : ℕ) → In v (clocks (snapshot_of w)) → In v (clocks (snapshot_of w'))
-told_lives channel w draws w' k v =
-    subst (λ systems. In v (clocks (record { systems = systems; links = [] })))
-    (sym (told_keeps channel w draws w' k).systems)
 
 -- all systems live and are named as they were
 pub if_live_stand : (place port : ℕ) (w : WorldState) (draws : List Draw) (w' : WorldState)
@@ -148,10 +139,10 @@ module _ (p : SettlingParams) (w : WorldState) (is : IsWorld p w) (place : ℕ) 
         }
 
     module _ (at : LinkPlace) (s : StandsUnanswered at w') where
-      apart : at.link ≢ place
+      pub apart : at.link ≢ place
       apart = up_apart at.link s.channel s.here s.up
 
-      before : StandsUnanswered at w
+      pub before : StandsUnanswered at w
       before =
           let (old, old_there, same) = stood_so at.link s.channel s.here in
           record {
@@ -166,21 +157,21 @@ module _ (p : SettlingParams) (w : WorldState) (is : IsWorld p w) (place : ℕ) 
                 (sym (receiver_bare at.direction old s.channel same)) s.answering);
           }
 
-      joins : JoinTheSame w.net.channels taken.net.channels
+      pub joins : JoinTheSame w.net.channels taken.net.channels
       joins = set_join w.net.channels place channel (lost channel) here refl refl
 
       -- its port is none of the link that goes down
-      no_end : (v : WorldState) → JoinTheSame w.net.channels v.net.channels → (l : IsUnansweredAt at v)
+      pub no_end : (v : WorldState) → JoinTheSame w.net.channels v.net.channels → (l : IsUnansweredAt at v)
           (way : Direction) → sender at.direction l.channel ≢ sender way channel
       no_end v on l way same =
           let was = on at.link l.channel l.here in
           apart (is.sound.wired.apart at.link place at.direction way was.old channel was.here here
           (sym (begins_same w.net.channels at.link at.direction l.channel was) ∙ same))
 
-      ports : (direction : Direction) → IsPortAmong (sender direction channel) taken.stations
+      pub ports : (direction : Direction) → IsPortAmong (sender direction channel) taken.stations
       ports = join_among w place channel is.sound.wired.ports here
 
-      link_taken : (l : IsUnansweredAt at w) → IsUnansweredAt at taken
+      abbrev pub link_taken : (l : IsUnansweredAt at w) → IsUnansweredAt at taken
       link_taken l = record {
         channel = l.channel;
         here = get-set_other w.net.channels place at.link (lost channel) apart ∙ l.here;
@@ -190,7 +181,6 @@ module _ (p : SettlingParams) (w : WorldState) (is : IsWorld p w) (place : ℕ) 
       }
 
       last_at : (sent : ℕ) → IsLastAnswered sent at w → IsLastAnswered sent at w'
-      unfolding link_taken
       last_at sent one =
           each_end_told PortDown channel taken (IsLastAnswered sent at)
           (λ direction q v ds answer v' c stays named number last.
@@ -201,7 +191,6 @@ module _ (p : SettlingParams) (w : WorldState) (is : IsWorld p w) (place : ℕ) 
           (record { link = link_taken one.link; replies = one.replies; inv = one.inv })
 
       off_at : IsOff at w → IsOff at w'
-      unfolding link_taken
       off_at one =
           each_end_told PortDown channel taken (IsOff at)
           (λ direction q v ds answer v' c stays named number so.
@@ -210,8 +199,14 @@ module _ (p : SettlingParams) (w : WorldState) (is : IsWorld p w) (place : ℕ) 
           draws w' k
           (record { link = link_taken one.link; mute = one.mute; off = one.off })
 
+    pub stay_down : AllStaySilent p w w'
+    stay_down at s = record {
+      stood = before at s;
+      silent = λ start is. elim is [
+        | inl off ↦ inl (off_at at s off)
+        | inr (sent, last, soon) ↦ inr (sent, last_at at s sent last, soon)
+      ];
+    }
+
     pub silent_down : (start : ℕ) → AreSilentBy p start w → AreSilentBy p start w'
-    silent_down start silent at s = elim (silent at (before at s)) [
-      | inl off ↦ inl (off_at at s off)
-      | inr (sent, last, soon) ↦ inr (sent, last_at at s sent last, soon)
-    ]
+    silent_down start = stay_silent p start w w' stay_down

@@ -1,7 +1,7 @@
 -- In a network that has settled: what is known of a link that leads farther, and from when on what it tells is right.
 -- Who is told what is right holds it, and tells it, an announce interval and the greatest delay later.
 use Rattle.std.proofs.Math.Nat.{mul-le-mul_right}
-use Rattle.std.proofs.Common.{◌≡◌, ◌≢◌, ◌⊎◌, ◌<◌, ◌≤◌, ◌+◌, ◌*◌, ℕ, zero, pred, suc, true, Some, slice_get, refl, sym, ap, subst, ◌∙◌, inl, inr, arith}
+use Rattle.std.proofs.Common.{◌≡◌, ◌⊎◌, ◌<◌, ◌≤◌, ◌+◌, ◌*◌, ℕ, zero, pred, suc, true, Some, slice_get, refl, sym, ap, subst, ◌∙◌, inl, inr, arith}
 use Rattle.gptp_lists.specs.Members.{In}
 use Rattle.gptp_graph.specs.Best.{IsBest}
 use Rattle.gptp_graph.specs.Distance.{IsDistance}
@@ -10,47 +10,43 @@ use Rattle.gptp_graph.proofs.BestLemmas.{IsBest-neighbour}
 use Rattle.gptp_graph.proofs.ExistenceLemmas.{distance_exists}
 use Rattle.gptp_graph.proofs.LinkDecisions.{IsLinked-dec}
 use Rattle.gptp_graph.proofs.LinkLemmas.{Joins-clock, Joins-sym}
-use Rattle.gptp_graph.proofs.PathBoundLemmas.{IsDistance-within}
 use Rattle.gptp_graph.proofs.SystemLemmas.{In-clocks}
 use Rattle.gptp_bmca_machine.specs.Calm.{Calm}
 use Rattle.gptp_bmca_machine.specs.Clean.{CameSound, IsWorse, Whole}
 use Rattle.gptp_bmca_machine.specs.Facts.{FollowsPort, IsLiveStationState, station_system}
 use Rattle.gptp_bmca_machine.specs.Frame.{Announce, Lane, Spelling}
 use Rattle.gptp_bmca_machine.specs.Levels.{Invariant, LeadsFarther}
-use Rattle.gptp_bmca_machine.specs.Link.{Ends, HasSettled, HearsSettled, IsTeller, Stand}
-use Rattle.gptp_bmca_machine.specs.LinkStage.{FinalAnnounceStays, Wiring}
-use Rattle.gptp_bmca_machine.specs.Network.{IsSettlingNetwork, Network, network_setting, settled_from, since, wiring}
+use Rattle.gptp_bmca_machine.specs.Link.{Stand}
+use Rattle.gptp_bmca_machine.specs.Network.{IsSettlingNetwork, Network, network_setting, settled_from, wiring}
 use Rattle.gptp_bmca_machine.specs.Reacts.{IsOwn}
 use Rattle.gptp_bmca_machine.specs.SoundEverywhere.{IsSoundSent}
 use Rattle.gptp_bmca_machine.specs.SoundLaws.{AllAreNear}
-use Rattle.gptp_bmca_machine.specs.Station.{Disabled, HoldsAt, MachineState, Mine, Port, Reception, Station}
-use Rattle.gptp_bmca_machine.proofs.EndsLemmas.{AllChoose, capable_at, ends, is_station}
+use Rattle.gptp_bmca_machine.specs.Station.{HoldsAt, MachineState, Port, Reception, Station}
+use Rattle.gptp_bmca_machine.proofs.LinkStepLemmas.{lives_at}
 use Rattle.gptp_bmca_machine.proofs.LevelLemmas.{places_of}
-use Rattle.gptp_bmca_machine.proofs.NearestLemmas.{equal_within}
 use Rattle.gptp_bmca_machine.proofs.PlaceLemmas.{same_there}
 use Rattle.gptp_bmca_machine.proofs.RestLemmas.{Chooses}
-use Rattle.gptp_bmca_machine.proofs.RestingLemmas.{all_choose, by_then_at, links_stay}
 use Rattle.gptp_bmca_machine.proofs.TraceLemmas.{whole_on, whole_own}
-use Rattle.gptp_settling_time.proofs.AtRestLemmas.{TellsSettled, at_rest, close_to, either, held_settled, leads_by}
+use Rattle.gptp_settling_time.proofs.AtRestLemmas.{LinkFacts, LinksAreAtRest, TellsSettled, close_to, either, facts_of, few, held_settled, leads_by}
+use Rattle.gptp_settling_time.proofs.SettledRestLemmas.{settled_rest}
 use Rattle.gptp_settling_time.proofs.FitsLemmas.{UnlinkedHoldNothing}
 use Rattle.gptp_settling_time.proofs.RightStageLemmas.{AllRight, HoldsRight, RightStage, right_over}
-use Rattle.gptp_settling_time.proofs.UnlinkedLemmas.{far_holds_none}
 
--- a state of the network that has settled
+-- a state of the network in which each link that leads farther is at rest
 pub record IsSettledState (says : Spelling) (n : Network) (w : MachineState) : Type 0 where
   pub calm : Calm n w
-  pub invariant : Invariant says n w
-  pub late : settled_from n ≤ w.time
+  pub rest : LinksAreAtRest says n w
   pub none : UnlinkedHoldNothing n.graph w
 
--- what is known of a link that leads farther, in such a state
-pub record LinkFacts (says : Spelling) (k : Wiring) (w : MachineState) (pv pu : Port) (l : Lane) : Type 0 where
-  pub is : Ends k w
-  pub from : k.from ≤ w.time
-  pub mine : pv.held ≡ Mine k.root k.steps
-  pub timer : (w.time ≤ pv.announce) × (pv.announce ≤ w.time + k.interval)
-  pub hears : HearsSettled k pu
-  pub stays : FinalAnnounceStays says k pv.announce pu.held l.frames
+-- so it is of a network that has settled
+pub settled_state : (says : Spelling) (n : Network) → IsSettlingNetwork n → AllAreNear n.graph → (w : MachineState)
+    → Calm n w → Invariant says n w → settled_from n ≤ w.time → UnlinkedHoldNothing n.graph w
+    → IsSettledState says n w
+settled_state says n net near w calm invariant late none = record {
+  calm = calm;
+  rest = settled_rest says n net w calm invariant late near;
+  none = none;
+}
 
 -- ---- what is claimed
 
@@ -110,71 +106,12 @@ module _ (says : Spelling) (n : Network) (net : IsSettlingNetwork n) (near : All
   abbrev g : Snapshot
   g = n.graph
 
-  -- ---- a link in a state that has settled
-
-  module _ (w : MachineState) (x : IsSettledState says n w) (d : ℕ) (best : System) (v p u q : ℕ) (close : d < 255)
-      (leads : LeadsFarther g d best v p u q) where
-    known : In v (clocks g)
-    known = Joins-clock g (port_of v (suc p)) (port_of u (suc q)) net.graph leads.joins
-
-    -- it is not the last but one of a path
-    pub few : suc (suc d) ≤ n.reach
-    few = elim leads.farther [
-      | inl less ↦
-          let within : leads.far < n.reach = IsDistance-within g n.reach u leads.far net.paths leads.there in
-          omega (arith, less, within)
-      | inr (same, lower) ↦
-          equal_within g n.reach v u d net.graph net.paths (suc p, suc q, leads.joins)
-          (net.graph.apart (port_of v (suc p)) (port_of u (suc q)) leads.joins) leads.here
-          (subst (IsDistance g u) (sym same) leads.there)
-    ]
-
-    passed : since n (suc d) ≤ w.time
-    passed = by_then_at says n net w x.calm x.invariant x.late (suc d) few
-
-    choose : AllChoose n w d
-    choose =
-        all_choose says n net w x.calm x.invariant x.late d close
-        (by_then_at says n net w x.calm x.invariant x.late d (let less = few in omega (arith, less)))
-
-    claimed : n.claimed d (port_of v (suc p)) ≤ w.time
-    claimed =
-        let by = (net.timed d (port_of v (suc p)) (port_of u (suc q)) leads.joins).claimed in
-        let late = passed in
-        omega (arith, by, late)
-
-    module _ (pv pu : Port) (l : Lane) (stand : Stand (wiring n d best v p u q) w pv pu l) where
-      k_ends : Ends (wiring n d best v p u q) w
-      k_ends = ends n net w x.calm x.invariant.sound d best v p u q close leads (λ at. choose)
-
-      teller : IsTeller (wiring n d best v p u q) w.time stand.v pv
-      teller = k_ends.teller stand.v pv stand.teller stand.teller_port
-
-      on : pv.held ≢ Disabled
-      on =
-          capable_at n net w x.calm x.invariant.sound d best v p u q close leads (λ at. choose) v p (port_of u (suc q))
-          stand.v pv known leads.joins stand.teller stand.teller_port
-          (let ready = (net.timed d (port_of v (suc p)) (port_of u (suc q)) leads.joins).ready in
-          let late = passed in
-          omega (arith, ready, late))
-
-      has : HasSettled (wiring n d best v p u q) stand.v
-      has =
-          let chosen : Chooses stand.v best d = choose v best stand.v stand.teller leads.is_best leads.here in
-          (chosen.root, chosen.steps)
-
-      mine : pv.held ≡ Mine best.identity d
-      mine = (teller.settled claimed (has, on)).mine
-
-      pub link_facts : LinkFacts says (wiring n d best v p u q) w pv pu l
-      link_facts = record {
-        is = k_ends;
-        from = claimed;
-        mine = mine;
-        timer = teller.timer best.identity d mine;
-        hears = k_ends.hearer stand.u pu stand.hearer stand.hearer_port claimed;
-        stays = links_stay says n net w x.calm x.invariant x.late d best v p u q close leads pv pu l stand;
-      }
+  -- what is known of a link that leads farther, in such a state
+  pub link_facts : (w : MachineState) (x : IsSettledState says n w) (d : ℕ) (best : System) (v p u q : ℕ) → d < 255
+      → LeadsFarther g d best v p u q → (pv pu : Port) (l : Lane) → Stand (wiring n d best v p u q) w pv pu l
+      → LinkFacts says (wiring n d best v p u q) w pv pu l
+  link_facts w x d best v p u q close leads =
+      facts_of says (wiring n d best v p u q) w (x.rest.links d best v p u q close leads)
 
   -- ---- levels
 
@@ -203,7 +140,7 @@ module _ (says : Spelling) (n : Network) (net : IsSettlingNetwork n) (near : All
           let facts = link_facts w x d best v p u q close leads pv pu l stand in
           let until = right_later n base d (suc d) (omega arith) in
           right_over says (IsRightFrom v p) (tells_right_until n base d) (right_from (suc d)) n.most w.time pv.announce
-          pu.held l.frames facts.timer.0 (λ f among. (facts.is.frames l f stand.lane among).left)
+          pu.held l.frames facts.timer.0 (λ f among. (facts.frames f among).0)
           (right_fits n base d pv.announce) late
           (level best v p u q close leads (omega (arith, until, late)) pv pu l stand)
 
@@ -228,21 +165,21 @@ module _ (says : Spelling) (n : Network) (net : IsSettlingNetwork n) (near : All
               → ((p : ℕ) × (k : ℕ) × (from.port ≡ suc p) × (suc place ≡ suc k))
               → CameSound g s.clock (suc place) r
           over from joins (f, tells) (b, s_far) (p, k, is_p, is_k) =
-              elim (either says n net w x.calm x.invariant x.late near from to joins) [
+              elim (either n.graph net.graph from to joins) [
                 | inl farther ↦
-                    absurd (far_holds_none says n net w x.calm x.invariant x.late i s place r from b f at live
+                    absurd (x.rest.farther i s place r from b f at live
                     (q, there, holds) (Joins-sym g from to joins) s_far
-                    (close_to says n net w x.calm x.invariant x.late near s.clock b s_far) tells.here
+                    (close_to n net near s.clock b s_far) tells.here
                     (farther f b tells.here s_far))
                 | inr nearer ↦
-                    let leads = leads_by says n net w x.calm x.invariant x.late near from to p place f b joins is_p refl
+                    let leads = leads_by n net near from to p place f b joins is_p refl
                     tells.here s_far nearer in
-                    let close = close_to says n net w x.calm x.invariant x.late near from.clock f tells.here in
-                    let link = at_rest says n net w x.calm x.invariant x.late near f tells.here.best from.clock p
+                    let close = close_to n net near from.clock f tells.here in
+                    let link = x.rest.links f tells.here.best from.clock p
                     s.clock
                     place close leads in
                     let (late, level) = ready from f joins tells
-                    (few w x f tells.here.best from.clock p s.clock place close leads) in
+                    (few n net.graph net.paths f tells.here.best from.clock p s.clock place leads) in
                     let (right, all) = link_right f tells.here.best from.clock p s.clock place close leads level late
                     link.pv link.pu link.lane link.stand in
                     let one : link.stand.u ≡ s =
@@ -261,7 +198,7 @@ module _ (says : Spelling) (n : Network) (net : IsSettlingNetwork n) (near : All
           by (yes (from, joined)) =
               let back = Joins-sym g to from joined in
               over from back
-              (held_settled says n net w x.calm x.invariant x.late near i s place r from at live (q, there, holds) back)
+              (held_settled says n net near w x.calm x.rest i s place r from at live (q, there, holds) back)
               (distance_exists g s.clock net.graph (Joins-clock g to from net.graph joined))
               (places_of g from.clock from.port s.clock (suc place) net.graph back)
 
@@ -273,17 +210,13 @@ module _ (says : Spelling) (n : Network) (net : IsSettlingNetwork n) (near : All
         v_known = is_best.reached.1.begins
 
         lives : s.live ≡ true
-        lives = (is_station n net w x.calm x.invariant.sound v s v_known at).0
+        lives = (lives_at n w x.calm v v_known s at).0
 
         v_is : s.clock ≡ v
-        v_is = (is_station n net w x.calm x.invariant.sound v s v_known at).1
+        v_is = (lives_at n w x.calm v v_known s at).1
 
         chosen : Chooses s best d
-        chosen =
-            all_choose says n net w x.calm x.invariant x.late d close
-            (by_then_at says n net w x.calm x.invariant x.late d (IsDistance-within g n.reach v d net.paths here)) v
-            best
-            s at is_best here
+        chosen = x.rest.chooses d close v best s at is_best here
 
         -- what it follows is right
         followed_right : (port : FollowsPort s) → CameSound g s.clock (suc port.place) port.r

@@ -22,7 +22,7 @@ use Rattle.gptp_invariants.specs.SyncTimed.{AllMeasureRight, CarriesTime, IsSett
 use Rattle.gptp_invariants.proofs.WorldBoundedLemmas.{bounded_by}
 use Rattle.gptp_invariants.proofs.ChoiceCalmKeptLemmas.{KeepsNetwork, acts_keep, delay_kept, links_quiet, same_snapshot}
 use Rattle.gptp_invariants.proofs.WorldOutlineLemmas.{acts_time}
-use Rattle.gptp_invariants.proofs.SyncFollowLaterLemmas.{time_begins, time_carries}
+use Rattle.gptp_invariants.proofs.SyncFollowLaterLemmas.{known_arrive, time_begins, time_carries}
 use Rattle.gptp_invariants.proofs.SyncFollowMeasureLemmas.{measured_right}
 use Rattle.gptp_invariants.proofs.SyncFollowWorldLemmas.{done_carries, used_within}
 use Rattle.gptp_invariants.proofs.ChoiceSettlesAsMachineLemmas.{kept_back}
@@ -30,6 +30,7 @@ use Rattle.gptp_invariants.proofs.WorldNewsLemmas.{news_above, news_above_in_tur
 use Rattle.gptp_settling_time.specs.Exactly.{SettlesBy}
 use Rattle.gptp_settling_time.proofs.NewsMeasuredLemmas.{news_measured}
 use Rattle.gptp_settling_time.proofs.NewsSoonLemmas.{IsNewsFrom, from_done, from_later, from_world, news_now}
+use Rattle.gptp_invariants.proofs.ChoiceSettledLemmas.{choice_stands}
 
 -- ---- delays
 
@@ -127,8 +128,8 @@ module _ (p : SettlingParams) (m start settled : ℕ) where
         world = news.world;
         measured = news.measured;
         links = can.quiet;
-        choice = (has_settled w from can by_now).0;
-        old = omega (arith, old);
+        choice = choice_stands w (has_settled w from can by_now).0;
+        arrive = known_arrive p whole w news.world.known (omega (arith, old));
         late = on;
         shown = shown;
         short = used_within (live_stations w.stations) w.net.channels p.params.threshold
@@ -166,6 +167,7 @@ module _ (p : SettlingParams) (m start settled : ℕ) where
           → (w.time < whole) ⊎ (whole ≤ w.time) → CarriesTime p.params whole p.params.threshold (at time w)
       by can old on shown (inl early) =
           time_begins p whole p.params.threshold w time early (from_world p start w is.news).known
+          (known_arrive p whole w (from_world p start w is.news).known (omega (arith, old)))
           (settled_from (at time w) after can old on shown)
       by can old on shown (inr already) =
           time_carries p whole p.params.threshold w time later
@@ -196,6 +198,7 @@ module _ (p : SettlingParams) (m start settled : ℕ) where
         let now = k.ready.timely.now in
         done_carries answers p whole p.params.threshold timed fate fate_after w w' done none k
         (from_world p start w is.news).known
+        (known_arrive p whole w (from_world p start w is.news).known (omega (arith, old_then)))
         (settled_from moved from_then can_then old_then on_then shown_then)
         (right_from moved from_then can_then old_then on_then shown_then)
         (settled_from w' from_after can old on shown)

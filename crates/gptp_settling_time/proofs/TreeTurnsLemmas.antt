@@ -13,7 +13,7 @@ use Rattle.gptp_bmca_machine.specs.Clean.{CameSound, IsWorse, Whole}
 use Rattle.gptp_bmca_machine.specs.Frame.{Announce, AnnounceFrame, Lane, Spelling}
 use Rattle.gptp_bmca_machine.specs.Levels.{Invariant, LeadsFarther}
 use Rattle.gptp_bmca_machine.specs.LossLaws.{IsAfterLoss, Unmoved}
-use Rattle.gptp_bmca_machine.specs.Network.{IsSettlingNetwork, Network, settled_from}
+use Rattle.gptp_bmca_machine.specs.Network.{IsSettlingNetwork, Network, settled_from, wiring}
 use Rattle.gptp_bmca_machine.specs.RestLaws.{SameWiring}
 use Rattle.gptp_bmca_machine.specs.Sound.{HeldIsSound}
 use Rattle.gptp_bmca_machine.specs.SoundEverywhere.{IsSoundEverywhere}
@@ -32,7 +32,8 @@ use Rattle.gptp_bmca_machine.proofs.TurnLemmas.{TurnsBack}
 use Rattle.gptp_bmca_machine.proofs.TurnLevelLemmas.{Times, TurnSettles}
 use Rattle.gptp_bmca_machine.proofs.TurnOutLemmas.{HasTurned, as_far, worse_out}
 use Rattle.gptp_bmca_machine.proofs.TurnTreeLemmas.{IsOf, LeadsOut, near_now, out_lives, out_was_best, out_whole, turns_moves, up_whole}
-use Rattle.gptp_settling_time.proofs.AtRestLemmas.{LinkAtRest, at_rest, held_settled}
+use Rattle.gptp_settling_time.proofs.AtRestLemmas.{LinkAtRest, LinksAreAtRest, held_settled}
+use Rattle.gptp_settling_time.proofs.SettledRestLemmas.{settled_rest}
 use Rattle.gptp_settling_time.proofs.EndAnswersLemmas.{EndAnswers, HeldBefore, fits', flew, held_before, levels'}
 use Rattle.gptp_settling_time.proofs.FallDownLemmas.{FlightNames, answers, lanes_then, link_whole, place_apart}
 
@@ -46,6 +47,10 @@ module _ (says : Spelling) (n0 n : Network) (tree : List ℕ) (top other last ou
     → n.place c ≢ place) (kept' : IsAfterLoss n w') (dark' : UnlinkedAreOff n.graph w') where
   abbrev g : Snapshot
   g = n0.graph
+
+  -- links were at rest
+  rest0 : LinksAreAtRest says n0 w
+  rest0 = settled_rest says n0 net0 w calm0 invariant0 late0 near0
 
   -- its top is farther
   moved_top : Unmoved g n top → ⊥
@@ -104,7 +109,7 @@ module _ (says : Spelling) (n0 n : Network) (tree : List ℕ) (top other last ou
         place a kept' (n.place last) s q r at live (pu, there, holds) in
         let named = o.clock ∙ clock in
         let over = subst (λ c. Joins g (port_of out (suc p)) (port_of c (suc q))) (sym named) joins0 in
-        let (far, settled) = held_settled says n0 net0 w calm0 invariant0 late0 near0 o.i o.old q r
+        let (far, settled) = held_settled says n0 net0 near0 w calm0 rest0 o.i o.old q r
         (port_of out (suc p)) o.at o.live o.holds over in
         let root = settled.root
         ∙ ap (λ (x : System). x.identity) (IsBest-unique g out settled.here.best best t.left.graph settled.here.is_best
@@ -227,9 +232,9 @@ module _ (says : Spelling) (n0 n : Network) (tree : List ℕ) (top other last ou
       farther = leads.farther;
     }
 
-    rest : LinkAtRest says n0 net0 w calm0 invariant0 late0 near0 (base + depth last) best last p out k
+    rest : LinkAtRest says (wiring n0 (base + depth last) best last p out k) w
     rest =
-        at_rest says n0 net0 w calm0 invariant0 late0 near0 (base + depth last) best last p out k
+        rest0.links (base + depth last) best last p out k
         (near_now g n tree top other last out best base depth t last t.in_last) leads0
 
     not_turned : HasTurned says g n tree top other last out best base depth t w.time p k joins leads w' → ⊥
@@ -246,12 +251,12 @@ module _ (says : Spelling) (n0 n : Network) (tree : List ℕ) (top other last ou
         let has = kept'.calm.lanes (port_of last (suc p)) (port_of out (suc k)) joins in
         let whole = (turned.1 s rest.pu has.lane at
         (subst (λ (z : Station). slice_get z.ports k ≡ Some rest.pu) one rest.stand.hearer_port) has.there).hears
-        rest.stays.what rest.stays.holds in
+        rest.facts.stays.what rest.facts.stays.holds in
         let near = (as_far says g n tree top other last out best base depth t w.time p k joins leads).0 in
-        let root = rest.stays.final.root in
-        let steps = rest.stays.final.steps in
-        elim (worse_out says g n tree top other last out best base depth t w.time p k joins leads rest.stays.what.said
-        whole) [
+        let root = rest.facts.stays.final.root in
+        let steps = rest.facts.stays.final.steps in
+        elim (worse_out says g n tree top other last out best base depth t w.time p k joins leads
+        rest.facts.stays.what.said whole) [
           | inl over ↦ omega (arith, over, root)
           | inr (same_root, more) ↦ omega (arith, more, steps, near)
         ]

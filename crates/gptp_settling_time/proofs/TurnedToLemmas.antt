@@ -1,14 +1,13 @@
 -- Worlds of documents since a link went down by which one system was moved.
-use Rattle.std.proofs.Common.{◌≡◌, ◌<◌, ◌≤◌, ◌+◌, ◌*◌, ℕ, pred, Option, List, subst, arith}
+use Rattle.std.proofs.Common.{◌<◌, ◌≤◌, ◌+◌, ◌*◌, ℕ, pred, Option, List, subst, arith}
 use Rattle.gptp_graph.specs.PathBound.{path_bound}
 use Rattle.gptp_graph.specs.Snapshot.{Snapshot}
 use Rattle.gptp_links.specs.declared.bounds.Bounds.{Bounds}
 use Rattle.gptp_scenario.specs.Calm.{IsCalm, NothingLapses}
 use Rattle.gptp_scenario.specs.Network.{pace_of}
-use Rattle.gptp_scenario.specs.SyncWait.{sync_paths}
 use Rattle.gptp_scenario.specs.declared.change.Timed.{Timed}
 use Rattle.gptp_scenario.specs.declared.sync_wait.SyncPaths.{SyncPaths}
-use Rattle.gptp_setup.specs.SettlingParams.{SettlingParams, largest_interval}
+use Rattle.gptp_setup.specs.SettlingParams.{largest_interval}
 use Rattle.gptp_model.specs.Acts.{at}
 use Rattle.gptp_model.specs.Course.{WasDone}
 use Rattle.gptp_model.specs.Pending.{NothingBefore}
@@ -17,20 +16,21 @@ use Rattle.gptp_model.specs.World.{WorldState}
 use Rattle.gptp_world.specs.Transitions.{ActTrace}
 use Rattle.gptp_world.proofs.SettlingInvariantLemmas.{next_octet}
 use Rattle.gptp_network.specs.Document.{DocumentState}
-use Rattle.gptp_invariants.specs.ChoiceCalm.{delay_in, sync_paths_of}
+use Rattle.gptp_invariants.specs.ChoiceCalm.{HaveQuietLinks, delay_in, sync_paths_of}
 use Rattle.gptp_invariants.specs.ChoiceSettled.{Settled}
 use Rattle.gptp_invariants.specs.WorldBounded.{IsBoundedWorld}
 use Rattle.gptp_invariants.specs.WorldStanding.{snapshot_of}
-use Rattle.gptp_invariants.proofs.WorldNewsActLemmas.{silent_by_later}
 use Rattle.gptp_theorem.specs.PlayedLaws.{IsPlayable}
 use Rattle.gptp_theorem.proofs.CalmLemmas.{quiet_stands}
-use Rattle.gptp_theorem.proofs.SyncPathLemmas.{paths_stand}
 use Rattle.gptp_theorem.proofs.CalmKeptLemmas.{no_change}
 use Rattle.gptp_settling_time.specs.InTurn.{HasToldAnew}
+use Rattle.gptp_settling_time.proofs.AlwaysClaimedLemmas.{IsClaimedAlways}
 use Rattle.gptp_settling_time.proofs.ClaimedToLemmas.{IsClaimedTo}
+use Rattle.gptp_settling_time.proofs.GoesToLemmas.{paths_to}
 use Rattle.gptp_settling_time.proofs.KeptToLemmas.{KeepsTo, keeps_act, keeps_later}
 use Rattle.gptp_settling_time.proofs.MovedAlwaysLemmas.{moved_settles}
-use Rattle.gptp_settling_time.proofs.ToldAnewLemmas.{IsTurnedAlways, turned_acts, turned_claimed, turned_later, way_in}
+use Rattle.gptp_settling_time.proofs.ToldAnewLemmas.{way_in}
+use Rattle.gptp_settling_time.proofs.TurnedAlwaysLemmas.{IsTurnedAlways, turned_acts, turned_claimed, turned_later}
 
 -- A world of a document after these events, by the last of which a system turned at a time; ports without a link aren't
 -- capable from a time on.
@@ -38,6 +38,30 @@ pub record IsTurnedTo (d : DocumentState) (events : List Timed) (silent time : �
   pub keeps : KeepsTo d events w
   pub before : Snapshot
   pub since : IsTurnedAlways (pace_of d.network) before silent time w
+
+-- Two ways after a time, and then an announce interval and the greatest delay for each system of a path but one, claims
+-- are made of a world of a document in which traces are told anew, as they are made of a world whose paths say so.
+pub anew_claimed : (d : DocumentState) (events : List Timed) (time start : ℕ) (w : WorldState) → KeepsTo d events w
+    → IsPlayable d → HasToldAnew d.network events time start w.time
+    → (HaveQuietLinks (pace_of d.network).params w
+    → time + 2 * way_in w
+    + pred (path_bound (snapshot_of w)) * (largest_interval (pace_of d.network) + delay_in w) < w.time
+    → time ≤ start → IsClaimedAlways (pace_of d.network) start w) → IsClaimedTo d events start w
+anew_claimed d events time start w keeps playable rest claimed =
+    let p = pace_of d.network in
+    let told : time + echo (sync_paths_of w) < w.time =
+    subst (λ x. time + echo x < w.time) (paths_to d playable events w keeps) rest.told in
+    let later = rest.later in
+    record {
+      keeps = keeps;
+      since = claimed
+          (quiet_stands d.network events w playable.network keeps.stands keeps.claim.world.sound rest.calm).links
+          (omega (arith, told)) (omega (arith, later));
+    }
+  where
+    -- two ways, and then an announce interval and a delay for each system of a path but one
+    echo : SyncPaths → ℕ
+    echo x = 2 * (pred x.systems * x.delay) + pred x.systems * (largest_interval (pace_of d.network) + x.delay)
 
 module _ (d : DocumentState) (events : List Timed) (silent time : ℕ) where
   pub turned_to_later : (w : WorldState) (now : ℕ) → w.time ≤ now → NothingBefore now w.net.pending
@@ -70,34 +94,10 @@ module _ (d : DocumentState) (events : List Timed) (silent time : ℕ) where
       moved_settles (pace_of d.network) so.before silent time w so.since.moved
       (quiet_stands d.network events w playable.network so.keeps.stands so.keeps.claim.world.sound calm).links off late
 
-  -- ---- once traces are told anew
-
-  module _ (w : WorldState) (start : ℕ) (so : IsTurnedTo d events silent time w) (playable : IsPlayable d)
-      (rest : HasToldAnew d.network events silent time start w.time) where
-    abbrev pace : SettlingParams
-    pace = pace_of d.network
-
-    paths : sync_paths d.network events ≡ sync_paths_of w
-    paths = paths_stand d.network events w playable.network so.keeps.stands so.keeps.claim.world.sound
-
-    -- two ways, and then an announce interval and a delay for each system of a path but one
-    abbrev echo : SyncPaths → ℕ
-    echo x = 2 * (pred x.systems * x.delay) + pred x.systems * (largest_interval pace + x.delay)
-
-    over : time + way_in w + pred (path_bound (snapshot_of w)) * (largest_interval pace + delay_in w) < w.time
-    over =
-        let told = rest.told in
-        let late : time + echo (sync_paths_of w) < w.time = subst (λ x. time + echo x < w.time) paths told in
-        omega (arith, late)
-
-    -- claims are made of all links always
-    pub turned_to_claimed : IsClaimedTo d events start w
-    turned_to_claimed =
-        let later = rest.later in
-        record {
-          keeps = so.keeps;
-          since = turned_claimed pace so.before silent time w so.since
-              (quiet_stands d.network events w playable.network so.keeps.stands so.keeps.claim.world.sound
-              rest.calm).links rest.off over start (omega (arith, later))
-              (silent_by_later pace silent start w rest.unlinked so.since.moved.standing.silent);
-        }
+  -- once traces are told anew claims are made of all links always
+  pub turned_to_claimed : (w : WorldState) (start : ℕ) → IsTurnedTo d events silent time w → IsPlayable d
+      → HasToldAnew d.network events time start w.time → IsClaimedTo d events start w
+  turned_to_claimed w start so playable rest =
+      anew_claimed d events time start w so.keeps playable rest (λ quiet over later.
+      turned_claimed (pace_of d.network) so.before silent time w so.since quiet rest.off (omega (arith, over)) start
+      later)

@@ -39,7 +39,7 @@ use Rattle.gptp_settling_time.proofs.AlwaysClaimedLemmas.{IsStanding}
 use Rattle.gptp_settling_time.proofs.FallAlwaysLemmas.{fallen_by, settles_by}
 use Rattle.gptp_settling_time.proofs.FallDownLemmas.{FlightNames}
 use Rattle.gptp_settling_time.proofs.LeftClaimedLemmas.{HaveAskedLong, left_network}
-use Rattle.gptp_settling_time.proofs.LoweredLemmas.{ends, known, less_then, ready_on, wires}
+use Rattle.gptp_settling_time.proofs.LoweredLemmas.{ends, less_then, ready_on, wires}
 use Rattle.gptp_settling_time.proofs.MovedAlwaysLemmas.{after_loss, dark_now}
 use Rattle.gptp_settling_time.proofs.ReducedLemmas.{NearerStay}
 use Rattle.gptp_settling_time.proofs.SettledSeenLemmas.{IsSettledSeen}

@@ -199,7 +199,7 @@ module _ (p : SettlingParams) (g : Snapshot) (silent start : ℕ) (w : WorldStat
   times = turn_times g is.n is.tree is.top is.other is.last is.out is.best is.base is.depth t start
 
   -- a way behind that in which the tree turns each distance has settled
-  by_now : (e : ℕ) → suc (suc e) ≤ is.n.reach → settles_by is.n start e ≤ w.time
+  pub by_now : (e : ℕ) → suc (suc e) ≤ is.n.reach → settles_by is.n start e ≤ w.time
   by_now =
       subst (λ z. (e : ℕ) → suc (suc e) ≤ z.reach → settles_by z start e ≤ w.time) is.same
       (λ e few. let more = steps (path_bound (snapshot_of w)) e few in omega (arith, more, late))

@@ -13,14 +13,17 @@
 -- - By the one event a link goes down, and no system is moved but such as are cut off. It is 0.
 -- - By the first event a system fails that is the far end of each of its links, and no other comes but links that go
 --   down of which an end has failed. The bound of the choice is 0. Roles stand once the ports beside it aren't capable
---   any more, or at once where no link is up that isn't in use.
+--   any more, or at once where no lost link is silent.
 -- - By the one event a link goes down that so moves one system alone, which isn't cut off. Choice and roles ask for
 --   twice the greatest delay for each system of a path but one.
 -- - By the first event a system fails that others hear, and no other comes but such links. The choice stands once what
 --   they hold of it has aged, or once no port beside it is capable. Roles stand by the latter.
--- - By the one event a link goes down that so cuts a tree off, or turns one to its one way out, an announce interval
---   after the time before has come to rest. Choice and roles ask for twice the greatest delay for each system of a
---   path but one.
+-- - By the one event a link goes down that so cuts a tree off, or turns one to its one way out, once what was sent
+--   before the time before had come to rest has arrived. Choice and roles ask for twice the greatest delay for each
+--   system of a path but one.
+-- - By the first event a system fails and so cuts trees off, once that has arrived, and no other comes but such links.
+--   The choice asks for what others hold of it to age, and then for twice the greatest delay for each system of a path
+--   but one. Roles stand then too, once no port beside it is capable.
 -- - By the events anything is taken away, whatever is moved. The choice asks for the longest receipt timeout and the
 --   greatest delay for each system of a path, and then for an announce interval and the greatest delay for each but
 --   one. Roles stand then too, once the ports beside a system that failed aren't capable any more.
@@ -37,23 +40,24 @@ use Rattle.std.specs.Prelude.{◌≡◌, ◌<◌, ◌≤◌, ◌⊎◌, ◌+◌,
 use Rattle.gptp_lists.specs.Members.{In}
 use Rattle.gptp_setup.specs.Intervals.{interval_of}
 use Rattle.gptp_setup.specs.SettlingParams.{SettlingParams, largest_interval}
-use Rattle.gptp_scenario.specs.Calm.{IsCalm, IsLive, NothingLapses, last_change}
+use Rattle.gptp_scenario.specs.Calm.{IsCalm, NothingLapses, last_change}
 use Rattle.gptp_scenario.specs.Network.{NetworkState, pace_of}
 use Rattle.gptp_scenario.specs.SettlingAtOnce.{settling_span_at_once}
 use Rattle.gptp_scenario.specs.SettlingTime.{echo_span, loss_span, settling_span_with, silence_span, way_span}
 use Rattle.gptp_scenario.specs.SyncWait.{sync_paths}
 use Rattle.gptp_scenario.specs.declared.change.Act.{Act}
 use Rattle.gptp_scenario.specs.declared.change.Act.TheVariants.{Change as Changing}
-use Rattle.gptp_scenario.specs.declared.change.Change.TheVariants.{Fail, LinkDown, LinkUp}
+use Rattle.gptp_scenario.specs.declared.change.Change.TheVariants.{LinkDown, LinkUp}
 use Rattle.gptp_scenario.specs.declared.change.Timed.{Timed}
 use Rattle.gptp_scenario.specs.declared.sync_wait.SyncPaths.{SyncPaths}
 use Rattle.gptp_model.specs.World.{port_id}
 use Rattle.gptp_network.specs.Document.{DocumentState}
 use Rattle.gptp_network.specs.Snapshot.{events_by}
-use Rattle.gptp_settling_time.specs.Gains.{ChangesNothing, EndHasFailed, LeavesCapable, TakesNothing}
+use Rattle.gptp_settling_time.specs.Arrivals.{HasArrivedBy}
+use Rattle.gptp_settling_time.specs.Gains.{ChangesNothing, EndHasFailed, LeavesCapable, Repeats, TakesNothing}
 use Rattle.gptp_settling_time.specs.InTurn.{AddsHeard, BettersClock, FlightIsGone, MakesNothing, NoneUsed, TellsNothing, UsedVaryLittle, WidensLink, turned_echo_span}
-use Rattle.gptp_settling_time.specs.Losses.{AgesWithin, CutsFarEnd, FailsFarEnd, FailsHeard, LeavesChoice, LosesAny, LowersLink, LowersUnused, TurnsLink, UpIsUsed}
-use Rattle.gptp_settling_time.specs.TreeLosses.{LowersTree, TurnsTreeLink}
+use Rattle.gptp_settling_time.specs.Losses.{AgesWithin, CutsFarEnd, FailsFarEnd, FailsHeard, LeavesChoice, LosesAny, LowersLink, LowersUnused, NoneSilent, TurnsLink, UpIsUsed}
+use Rattle.gptp_settling_time.specs.TreeLosses.{FailsTrees, LowersTree, TurnsTreeLink}
 
 -- ---- times
 
@@ -99,6 +103,11 @@ IsHeardToo n next made event = AddsHeard n made event next ⊎ MakesNothing n ma
 abbrev pub IsGainToo : NetworkState → ℕ → List Timed → Timed → Type 0
 IsGainToo n next made event = IsGainEvent n next made event ⊎ MakesNothing n made event next
 
+-- Behind a failure of the same time: a link goes down that is up, and of which an end has failed; or all stays as it
+-- stands.
+abbrev pub IsDownToo : NetworkState → List Timed → Timed → Type 0
+IsDownToo n made event = LowersUnused n made event ⊎ Repeats n made event
+
 -- this is so of each of the events, by what stands just before it
 abbrev pub EachEvent : (List Timed → Timed → Type 0) → List Timed → List Timed → Type 0
 EachEvent Is made [] = ⊤
@@ -121,6 +130,24 @@ abbrev pub AfterIdleEvents : NetworkState → (List Timed → List Timed → Typ
 AfterIdleEvents n Are made [] = Are made []
 AfterIdleEvents n Are made (event ∷ events) =
     Are made (event ∷ events) ⊎ (IsIdleEvent n made event × AfterIdleEvents n Are (made ++ event ∷ []) events)
+
+-- What `Are` says is so of the first of the events, and the others repeat what stands then.
+abbrev pub BeforeRepeats : NetworkState → (List Timed → List Timed → Type 0) → List Timed → List Timed → Type 0
+BeforeRepeats n Are made events = (first : List Timed) × (others : List Timed) × (events ≡ first ++ others)
+    × EachEvent (Repeats n) (made ++ first) others
+    × Are made first
+
+-- So it is of those that are left behind the first ones, which make nothing of what stands. Or a link in use gets wider
+-- delays by the first event of all, in a calm network. It would have settled in time by these too: two more messages of
+-- it, and a way.
+abbrev pub BesideIdle : NetworkState → ℕ → ℕ → (List Timed → List Timed → Type 0) → List Timed → List Timed → Type 0
+BesideIdle n settled time Are made [] = ⊥
+BesideIdle n settled time Are made (event ∷ events) =
+    AfterIdleEvents n (BeforeRepeats n Are) made (event ∷ events)
+    ⊎ ((by : ℕ) × WidensLink n made event by
+    × (settled + 2 * by + way_span (sync_paths n (made ++ event ∷ [])) < time + way_span (sync_paths n made))
+    × IsCalm n (made ++ event ∷ [])
+    × AfterIdleEvents n (BeforeRepeats n Are) (made ++ event ∷ []) events)
 
 -- ---- sharp bounds
 
@@ -221,34 +248,34 @@ abbrev pub TurnsOneLink : NetworkState → List Timed → List Timed → Type 0
 TurnsOneLink n = OneEvent (TurnsLink n)
 
 -- By the first of them a system fails that is the far end of each of its links. By the others links go down that are
--- up, and of which an end has failed.
+-- up, and of which an end has failed, or nothing is done.
 abbrev pub FailsEndFirst : NetworkState → List Timed → List Timed → Type 0
 FailsEndFirst n made [] = ⊥
 FailsEndFirst n made (event ∷ events) =
-    FailsFarEnd n made event × EachEvent (LowersUnused n) (made ++ event ∷ []) events
+    FailsFarEnd n made event × EachEvent (IsDownToo n) (made ++ event ∷ []) events
 
 -- how soon the roles stand after them
-abbrev pub RolesAfterFailure : NetworkState → List Timed → ℕ → Type 0
-RolesAfterFailure n events roles =
-    (UpIsUsed n events × (roles ≡ 0)) ⊎ (roles ≡ silence_span (pace_of n))
+abbrev pub RolesAfterFailure : NetworkState → List Timed → List Timed → ℕ → Type 0
+RolesAfterFailure n made now roles =
+    (NoneSilent n made (made ++ now) × (roles ≡ 0)) ⊎ (roles ≡ silence_span (pace_of n))
 
 -- By the first of them a system fails that others hear. By the others links go down that are up, and of which an end
--- has failed.
+-- has failed, or nothing is done.
 abbrev pub FailsHeardFirst : NetworkState → List Timed → List Timed → Type 0
 FailsHeardFirst n made [] = ⊥
 FailsHeardFirst n made (event ∷ events) =
-    FailsHeard n made event × EachEvent (LowersUnused n) (made ++ event ∷ []) events
+    FailsHeard n made event × EachEvent (IsDownToo n) (made ++ event ∷ []) events
 
 -- What others hold of it has aged so much later, or no port beside it is capable, whichever is sooner.
 abbrev pub HeldFor : NetworkState → List Timed → List Timed → ℕ → Type 0
 HeldFor n made now held = (span : ℕ) × AgesWithin n made (made ++ now) (last_change (made ++ now)) span
     × (held ≡ min span (silence_span (pace_of n)))
 
--- How soon the choice and the roles stand after them: at once where each link that is up is in use. Else the choice
--- stands once nothing is held of the failed system.
+-- How soon the choice and the roles stand after them: at once where no lost link is silent. Else the choice stands once
+-- nothing is held of the failed system.
 abbrev pub BoundsAging : NetworkState → List Timed → List Timed → ℕ → ℕ → Type 0
 BoundsAging n made now choice roles =
-    (UpIsUsed n (made ++ now) × (choice ≡ 0) × (roles ≡ 0))
+    (NoneSilent n made (made ++ now) × (choice ≡ 0) × (roles ≡ 0))
     ⊎ (HeldFor n made now choice × (roles ≡ silence_span (pace_of n)))
 
 -- ---- any loss
@@ -267,11 +294,6 @@ AreLossEvents n made (event ∷ events) =
 abbrev pub LosesEvents : NetworkState → List Timed → List Timed → Type 0
 LosesEvents n = AfterIdleEvents n (AreLossEvents n)
 
--- by none of them a live system fails
-abbrev pub NoneFails : NetworkState → List Timed → List Timed → Type 0
-NoneFails n = EachEvent (λ made event. (number : ℕ) → event.act ≡ Changing (Fail number) → IsLive n.systems made number
-    → ⊥)
-
 -- the greatest delay of a link in use, before them or after them
 abbrev pub delay_between : NetworkState → List Timed → List Timed → ℕ
 delay_between n made now = max (sync_paths n made).delay (sync_paths n (made ++ now)).delay
@@ -279,8 +301,15 @@ delay_between n made now = max (sync_paths n made).delay (sync_paths n (made ++ 
 -- after such a loss the roles stand so soon
 abbrev pub RolesAfterLoss : NetworkState → List Timed → List Timed → ℕ → ℕ → Type 0
 RolesAfterLoss n made now choice roles =
-    ((NoneFails n made now ⊎ UpIsUsed n (made ++ now)) × (roles ≡ choice))
+    (NoneSilent n made (made ++ now) × (roles ≡ choice))
     ⊎ (roles ≡ max choice (silence_span (pace_of n)))
+
+-- By the first of them a system fails, which so cuts trees off. By the others links go down that are up, and of which
+-- an end has failed, or nothing is done.
+abbrev pub FailsTreesFirst : NetworkState → List Timed → List Timed → Type 0
+FailsTreesFirst n made [] = ⊥
+FailsTreesFirst n made (event ∷ events) =
+    FailsTrees n made event × EachEvent (IsDownToo n) (made ++ event ∷ []) events
 
 -- ---- what a loss asks for
 
@@ -291,11 +320,11 @@ BoundsLowered n made now choice roles =
     LowersOneLink n made now × (roles ≡ choice)
     × ((choice ≡ 0) ⊎ (CutsOneEnd n made now × (choice ≡ 2 * way_span (sync_paths n (made ++ now)))))
 
--- After a far end fails the choice stands at once. So do roles where each link that is up then is in use, as where it
--- loses its power; else once too many requests of the ports beside it are lost.
+-- After a far end fails the choice stands at once. So do roles where no lost link is silent, as where it loses its
+-- power; else once too many requests of the ports beside it are lost.
 abbrev pub BoundsFailed : NetworkState → List Timed → List Timed → ℕ → ℕ → Type 0
 BoundsFailed n made now choice roles =
-    FailsEndFirst n made now × (choice ≡ 0) × RolesAfterFailure n (made ++ now) roles
+    FailsEndFirst n made now × (choice ≡ 0) × RolesAfterFailure n made now roles
 
 -- Where one system is moved its neighbours hold what it tells then, and it what they tell, after a way each.
 abbrev pub BoundsTurned : NetworkState → List Timed → List Timed → ℕ → ℕ → Type 0
@@ -334,12 +363,20 @@ LosesNext n events Then last time Asks =
     × NoneBetween events last time
     × IsCalm n (events_by time events)
     × NothingLapses n.params
-    × ((then : ℕ) × Then then × (last + then < time))
-    × Asks (events_by last events) (events_at time events)
+    × ((then : ℕ) × Then then × (last + then < time)
+    × BesideIdle n (last + then) time Asks (events_by last events) (events_at time events))
+
+-- What was sent until so much later than a time has arrived by another.
+abbrev pub HasArrivedNext : NetworkState → List Timed → ℕ → ℕ → ℕ → Type 0
+HasArrivedNext n events last then time =
+    (arrived : ℕ) × HasArrivedBy n (events_by last events) (suc (last + then)) arrived × (arrived ≤ time)
+
+-- So has what was sent until the time before had come to rest, by one of its bounds.
+abbrev pub ComesAfterRest : NetworkState → List Timed → (ℕ → Type 0) → ℕ → ℕ → Type 0
+ComesAfterRest n events Then last time = (then : ℕ) × Then then × HasArrivedNext n events last then time
 
 -- By the one event of a time a tree is so moved, and all events up to it ask for what `Asks` says. Nothing lapses for
--- want of Sync. The network is calm. The event comes an announce interval after the time before has come to rest, by
--- one of its bounds.
+-- want of Sync. The network is calm. What was sent before the time before had come to rest has arrived.
 abbrev pub TreeNext : NetworkState → (List Timed → Timed → Type 0) → List Timed → (ℕ → Type 0) → ℕ → ℕ
     → (List Timed → Type 0) → Type 0
 TreeNext n Moves events Then last time Asks =
@@ -347,8 +384,8 @@ TreeNext n Moves events Then last time Asks =
     × NoneBetween events last time
     × IsCalm n (events_by time events)
     × NothingLapses n.params
-    × ((then : ℕ) × Then then × (last + then + largest_interval (pace_of n) < time))
-    × OneEvent Moves (events_by last events) (events_at time events)
+    × ComesAfterRest n events Then last time
+    × BeforeRepeats n (OneEvent Moves) (events_by last events) (events_at time events)
     × Asks (events_by time events)
 
 -- a tree is cut off
@@ -362,6 +399,25 @@ TurnsNext n = TreeNext n (TurnsTreeLink n)
 -- The tree drops the best of before within a way, and settles within another.
 abbrev pub BoundsTree : NetworkState → ℕ → ℕ → List Timed → Type 0
 BoundsTree n choice roles events = (choice ≡ 2 * way_span (sync_paths n events)) × (roles ≡ choice)
+
+-- By the first event of a time a system fails, which so cuts trees off, and they ask for what `Asks` says. Nothing
+-- lapses for want of Sync. The network is calm. What was sent before the time before had come to rest has arrived.
+abbrev pub SplitsNext : NetworkState → List Timed → (ℕ → Type 0) → ℕ → ℕ → (List Timed → List Timed → Type 0) → Type 0
+SplitsNext n events Then last time Asks =
+    (last < time)
+    × NoneBetween events last time
+    × IsCalm n (events_by time events)
+    × NothingLapses n.params
+    × ComesAfterRest n events Then last time
+    × BeforeRepeats n (λ made now. FailsTreesFirst n made now × Asks made now) (events_by last events)
+    (events_at time events)
+
+-- Each tree drops the best of before within a way, once nothing is held of the failed system, and settles within
+-- another.
+abbrev pub BoundsSplit : NetworkState → ℕ → ℕ → List Timed → List Timed → Type 0
+BoundsSplit n choice roles made now =
+    (aged : ℕ) × (silent : ℕ) × BoundsAging n made now aged silent
+    × (choice ≡ aged + 2 * way_span (sync_paths n (made ++ now))) × (roles ≡ max choice silent)
 
 -- ---- rest
 
@@ -378,15 +434,15 @@ RestsOnceTold n made now rest =
     ≤ rest)))
 
 -- How much later a network has come to rest after a loss by which one system is moved at most, but for such as are cut
--- off. After the loss of a far end what was in flight has to be gone. Where it fails and a link is up then that isn't
--- in use, roles have to stand too. After another link goes down that moves no system right traces have to be told
--- first. Where it so moves one system the network settles before, within two ways.
+-- off. After the loss of a far end what was in flight has to be gone. Where it fails and a lost link is silent, roles
+-- have to stand too. After another link goes down that moves no system right traces have to be told first. Where it so
+-- moves one system the network settles before, within two ways.
 abbrev pub RestsAfterOneLoss : NetworkState → List Timed → List Timed → ℕ → Type 0
 RestsAfterOneLoss n made now rest =
     (CutsOneEnd n made now
     × ((gone : ℕ) × FlightIsGone n (made ++ now) gone × (rest ≡ max (2 * way_span (sync_paths n (made ++ now))) gone)))
     ⊎ ((FailsEndFirst n made now
-    × ((UpIsUsed n (made ++ now) × FlightIsGone n made rest)
+    × ((NoneSilent n made (made ++ now) × FlightIsGone n made rest)
     ⊎ ((gone : ℕ) × FlightIsGone n made gone × (rest ≡ max (silence_span (pace_of n)) gone))))
     ⊎ ((LowersOneLink n made now
     × ((gone : ℕ) × FlightIsGone n (made ++ now) gone
@@ -408,14 +464,17 @@ RestsTree n rest events =
     (gone : ℕ) × FlightIsGone n events gone × (rest ≡ max (2 * way_span (sync_paths n events)) gone)
 
 -- By so much later than a time the network has come to rest, by the times before it, the latest first: it has settled,
--- and nothing that is held, or in flight, names what is gone. The first time of all is 0.
+-- and nothing that is held, or in flight, names what is gone. The first time of all is 0. After a tree has turned right
+-- traces have to be told anew, as where one system is moved.
 abbrev pub IsRestBoundAfter : NetworkState → List Timed → List ℕ → ℕ → ℕ → Type 0
 IsRestBoundAfter n events [] time rest = BoundsFirst n events time rest
 IsRestBoundAfter n events (last ∷ earlier) time rest =
     BoundsNext n events (λ then. IsRestBoundAfter n events earlier last then) last time rest
     ⊎ (LosesNext n events (λ then. IsRestBoundAfter n events earlier last then) last time
     (λ made now. RestsAfterLoss n made now rest)
-    ⊎ FallsNext n events (λ then. IsRestBoundAfter n events earlier last then) last time (RestsTree n rest))
+    ⊎ (FallsNext n events (λ then. IsRestBoundAfter n events earlier last then) last time (RestsTree n rest)
+    ⊎ TurnsNext n events (λ then. IsRestBoundAfter n events earlier last then) last time
+    (λ all. rest ≡ turned_echo_span n all)))
 
 -- ---- bounds
 
@@ -432,7 +491,9 @@ IsLossBoundAfter n events (last ∷ earlier) time choice roles =
     LosesNext n events (λ then. IsRestBoundAfter n events earlier last then) last time
     (λ made now. BoundsLoss n made now choice roles)
     ⊎ (FallsNext n events (λ then. IsRestBoundAfter n events earlier last then) last time (BoundsTree n choice roles)
-    ⊎ TurnsNext n events (λ then. IsRestBoundAfter n events earlier last then) last time (BoundsTree n choice roles))
+    ⊎ (TurnsNext n events (λ then. IsRestBoundAfter n events earlier last then) last time (BoundsTree n choice roles)
+    ⊎ SplitsNext n events (λ then. IsRestBoundAfter n events earlier last then) last time
+    (λ made now. BoundsSplit n choice roles made now)))
 
 -- a choice bound of a document at a time: by then the choice stands, and the roles do
 abbrev pub IsChoiceBound : DocumentState → ℕ → ℕ → Type 0

@@ -1,17 +1,18 @@
--- Events by which a link goes down that moves a tree of systems: it cuts the tree off from the best, or the tree turns
--- to its one way out.
+-- Events that move a tree of systems: a link goes down, by which it is cut off from the best or turns to its one way
+-- out, or a system fails, which cuts some off.
 use Rattle.std.specs.Prelude.{◌≡◌, ◌⊎◌, ◌<◌, ◌≤◌, ◌+◌, ℕ, suc, List, [], ◌∷◌, ◌++◌, Some, slice_get}
 use Rattle.gptp_lists.specs.Members.{In}
 use Rattle.gptp_graph.specs.Best.{IsBest}
 use Rattle.gptp_graph.specs.Distance.{IsDistance}
 use Rattle.gptp_graph.specs.Snapshot.{Adjacent, Joins, PortIdentity, Snapshot, System, clocks, port_of}
+use Rattle.gptp_bmca_machine.specs.CutTree.{Tree}
 use Rattle.gptp_network.specs.Snapshot.{StandsAfter}
-use Rattle.gptp_scenario.specs.Calm.{IsUsed}
+use Rattle.gptp_scenario.specs.Calm.{IsLive, IsUsed}
 use Rattle.gptp_scenario.specs.Change.{link_after}
 use Rattle.gptp_scenario.specs.Network.{IsEnd, NetworkState}
 use Rattle.gptp_scenario.specs.SyncWait.{sync_paths}
 use Rattle.gptp_scenario.specs.declared.change.Act.TheVariants.{Change as Changing}
-use Rattle.gptp_scenario.specs.declared.change.Change.TheVariants.{LinkDown}
+use Rattle.gptp_scenario.specs.declared.change.Change.TheVariants.{Fail, LinkDown}
 use Rattle.gptp_scenario.specs.declared.change.Timed.{Timed}
 use Rattle.gptp_scenario.specs.declared.network.LinkSpec.{LinkSpec}
 use Rattle.gptp_model.specs.World.{port_id}
@@ -116,6 +117,47 @@ pub record TurnsTreeLink (n : NetworkState) (before : List Timed) (event : Timed
       → (((link_after before v).a.clock ≡ top) × ((link_after before v).b.clock ≡ other))
       ⊎ (((link_after before v).b.clock ≡ top) × ((link_after before v).a.clock ≡ other))
   pub turns : TurnsTreeFrom n before event top other
+  pub delay : (sync_paths n (before ++ event ∷ [])).delay ≤ (sync_paths n before).delay
+  pub paths : (sync_paths n (before ++ event ∷ [])).systems ≤ (sync_paths n before).systems
+  pub few : (sync_paths n before).systems ≤ 255
+
+-- ---- failures
+
+-- From the first snapshot to the second a tree of systems is cut off, those whose best is that of the tree then.
+-- Before, its systems had another best, with the lower identity. Each was as far from it as its depth says, from the
+-- base on. The one at the top lost its links to others; each link that the others had they have still. A link leads one
+-- deeper or less deep by one, and each system has one link at most to such as are less deep.
+pub record IsTreeCutOff (g g' : Snapshot) (best : System) (t : Tree) : Type 0 where
+  pub in_top : IsBest g' t.top t.next
+  pub worse : best.identity < t.next.identity
+  pub was_best : (v : ℕ) → IsBest g' v t.next → IsBest g v best
+  pub was : (v : ℕ) → IsBest g' v t.next → IsDistance g v (t.base + t.depth v)
+  pub first : t.depth t.top ≡ 0
+  pub lost : (v u : ℕ) → IsBest g' v t.next → Adjacent g v u → Adjacent g' v u ⊎ (v ≡ t.top)
+  pub steps : (v u : ℕ) → IsBest g' v t.next → Adjacent g' v u
+      → (t.depth u ≡ suc (t.depth v)) ⊎ (t.depth v ≡ suc (t.depth u))
+  pub single : (v p q : ℕ) (a b : PortIdentity) → Joins g' (port_of v p) a → Joins g' (port_of v q) b
+      → t.depth v ≡ suc (t.depth a.clock) → t.depth v ≡ suc (t.depth b.clock)
+      → p ≡ q
+
+-- the system is unmoved, or in a tree that is so cut off from this best
+abbrev pub IsUnmovedOrInTree : Snapshot → Snapshot → System → ℕ → Type 0
+IsUnmovedOrInTree g g' best v =
+    IsUnmoved g g' v ⊎ ((t : Tree) × IsTreeCutOff g g' best t × IsBest g' v t.next)
+
+-- after these events this one so cuts trees off from one best, and no other system is moved
+abbrev pub CutsTreesFrom : NetworkState → List Timed → Timed → Type 0
+CutsTreesFrom n before event = (g g' : Snapshot) → StandsAfter n before g
+    → StandsAfter n (before ++ event ∷ []) g'
+    → (best : System) × ((v : ℕ) → In v (clocks g') → IsUnmovedOrInTree g g' best v)
+
+-- After these events this one lets a live system fail, and so cuts trees off. The greatest delay of a link in use gets
+-- no greater, and no path longer. None had more than 255 systems.
+pub record FailsTrees (n : NetworkState) (before : List Timed) (event : Timed) : Type 0 where
+  pub clock : ℕ
+  pub act : event.act ≡ Changing (Fail clock)
+  pub live : IsLive n.systems before clock
+  pub cuts : CutsTreesFrom n before event
   pub delay : (sync_paths n (before ++ event ∷ [])).delay ≤ (sync_paths n before).delay
   pub paths : (sync_paths n (before ++ event ∷ [])).systems ≤ (sync_paths n before).systems
   pub few : (sync_paths n before).systems ≤ 255

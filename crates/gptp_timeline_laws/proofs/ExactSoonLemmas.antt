@@ -15,7 +15,8 @@ use Rattle.gptp_how_soon_laws.specs.Exact.{IsExact}
 use Rattle.gptp_how_soon_laws.proofs.ChoiceLemmas.{IsSo, time_so}
 use Rattle.gptp_how_soon_laws.proofs.ExactLemmas.{carried_from, carried_then, come, come_from, exact_then, kept_then, stands_then, told_later}
 use Rattle.gptp_how_soon_laws.proofs.StepLemmas.{IsKept}
-use Rattle.gptp_invariants.specs.ChoiceSettled.{IsSettledSystem, Settled}
+use Rattle.gptp_how_soon.specs.Links.{longest_delay}
+use Rattle.gptp_invariants.specs.ChoiceSettled.{ChoiceStands, HasSettledChoice}
 use Rattle.gptp_invariants.specs.SyncExact.{IsWayError}
 use Rattle.gptp_invariants.specs.SyncFollowers.{follower_parts}
 use Rattle.gptp_invariants.specs.WorldStanding.{snapshot_of}
@@ -38,13 +39,12 @@ use Rattle.gptp_scenario.specs.Calm.{last_change}
 use Rattle.gptp_scenario.specs.Network.{pace_of}
 use Rattle.gptp_scenario.specs.SyncWait.{sync_paths}
 use Rattle.gptp_scenario.specs.declared.change.Timed.{Timed}
-use Rattle.gptp_settling_time.specs.ExactInTurn.{last_set}
-use Rattle.gptp_settling_time.specs.HowSoon.{IsChoiceBound, NoneBetween}
-use Rattle.gptp_settling_time.proofs.ChoiceBoundLemmas.{choice_bounds_hold}
+use Rattle.gptp_settling_time.specs.Arrivals.{arrived_by}
+use Rattle.gptp_settling_time.specs.HowSoon.{IsChoiceAloneBound, NoneBetween}
+use Rattle.gptp_settling_time.proofs.ChoiceBoundLemmas.{choice_alone_bounds_hold}
 use Rattle.gptp_settling_time.proofs.CutLemmas.{acts_by}
 use Rattle.gptp_settling_time.proofs.ExactInTurnLemmas.{IsCarried}
 use Rattle.gptp_settling_time.proofs.MomentLemmas.{last_by}
-use Rattle.gptp_setup.specs.SettlingParams.{largest_interval}
 use Rattle.gptp_scenario.specs.SettlingTime.{window_span}
 use Rattle.gptp_sync_machine.specs.Tree.{IsWayTo}
 use Rattle.gptp_system.specs.State.{local_time, SystemState}
@@ -69,7 +69,7 @@ use Rattle.gptp_timeline.proofs.WayLemmas.{way_there}
 use Rattle.gptp_timeline.proofs.WithinLemmas.{best_apart, has_bound, HasBound, has_error, shown_by, size_within}
 use Rattle.gptp_timeline_laws.specs.ExactSoon.{TimelinesAreExactSoon}
 use Rattle.gptp_timeline_laws.proofs.HeldLemmas.{received_name, uses_follow_up}
-use Rattle.gptp_timeline_laws.proofs.ShortenedLemmas.{playable_by, short_bound, shortened}
+use Rattle.gptp_timeline_laws.proofs.ShortenedLemmas.{playable_by, short_alone, shortened}
 use Rattle.gptp_timeline_laws.proofs.SoonLemmas.{told_time as settling_told, unfolds}
 use Rattle.gptp_timeline_laws.proofs.StretchRunLemmas.{ends_on, RunsTo, runs_to}
 use Rattle.gptp_world.specs.Transitions.{ActTrace}
@@ -116,25 +116,26 @@ module _ {F : Type 0} (answers : Bounds → ℕ → F → Option ℕ → F → T
       (same_parts d.network.params (at (at_of t) t.before) t.after kept.network)
       ∙ sym (shown_by (pace_of d.network) t.before kept.before.claim number s before (at_of t))
 
-  pub settled_system : Settled t.after → (s : SystemState) → live_system name t.after ≡ Some s
-      → IsSettledSystem (snapshot_of t.after) s
-  settled_system settled s is =
+  pub own_choice : ChoiceStands t.after → (s : SystemState) → live_system name t.after ≡ Some s
+      → HasSettledChoice (snapshot_of t.after) s
+  own_choice stands s is =
       let live = found_live name t.after.stations s is in
-      subst (IsSettledSystem (snapshot_of t.after)) live.state
-      (settled live.place live.station live.here live.live
+      subst (HasSettledChoice (snapshot_of t.after)) live.state
+      (stands live.place live.station live.here live.live
       (subst (IsNear (snapshot_of t.after)) (sym live.is_named)
       (subst (λ h. IsNear h name) (sym kept.same) near)))
 
-  -- where it leaves a settled world, and offsets are exact, the error of its receipt is within the bound
-  act_within : Settled t.after → IsExact d.network.params t.before (at_of t) t.after t.told.done → (error : ℤ)
+  -- where the choice stands in the world that it leaves, and offsets are exact, the error of its receipt is within the
+  -- bound
+  act_within : ChoiceStands t.after → IsExact d.network.params t.before (at_of t) t.after t.told.done → (error : ℤ)
       → receives name t ≡ true → error_at name t ≡ Some error → unsigned_abs error ≤ bound
-  act_within settled exact error own is =
+  act_within stands exact error own is =
       let e = has_error name t error is in
       let clocks = kept.before.claim.world.sound.wired.clocks in
       let (x, member, clock_is, ports, named) = stands_there t.after name e.own e.lives in
       let (s, lives) = lives_there t.before name x clocks
       (subst (λ (h : Snapshot). In x h.systems) kept.same member) (clock_is ∙ named) in
-      let (best, is_best, root_is) = (settled_system settled e.own e.lives).root in
+      let (best, is_best, root_is) = (own_choice stands e.own e.lives).root in
       let there : IsBest (snapshot_of t.before) name best =
       subst (λ h. IsBest h name best) kept.same (subst (λ v. IsBest (snapshot_of t.after) v best) named is_best) in
       let best_named : clock_of e.own.root ≡ best.clock =
@@ -179,7 +180,7 @@ module _ {F : Type 0} (answers : Bounds → ℕ → F → Option ℕ → F → T
     (begun : Begun answers d.network fate started start)
     (run : RunsTo answers p 0 (events_by until d.events) started start) (due : p.from ≤ until) (on : p.from ≤ p.to)
     (time choice exact : ℕ) (past : PastBy time (events_by p.from d.events)) (le : time ≤ p.from)
-    (bounds : IsChoiceBound d time choice) (told : come_from d time choice ≤ exact) (later : time < exact)
+    (bounds : IsChoiceAloneBound d time choice) (told : come_from d time choice ≤ exact) (later : time < exact)
     (a : ActTrace) (member : In a p.acts) (late : exact ≤ at_of a) where
   abbrev events : List Timed
   events = events_by p.from d.events
@@ -199,8 +200,8 @@ module _ {F : Type 0} (answers : Bounds → ℕ → F → Option ℕ → F → T
       let soon : event.at ≤ time = each_there (λ (e : Timed). e.at ≤ time) events past place event there in
       absurd (omega (arith, soon, behind))
 
-  pub bounded : IsChoiceBound short time choice
-  bounded = short_bound d p.from time choice le bounds
+  pub bounded : IsChoiceAloneBound short time choice
+  bounded = short_alone d p.from time choice le bounds
 
   pub soon : at_of a ≤ p.to
   soon = acts_by answers short p.to fate start p.after run.ts runs a (run.among a member)
@@ -210,7 +211,7 @@ module _ {F : Type 0} (answers : Bounds → ℕ → F → Option ℕ → F → T
 
   pub told_short : come_from short time choice ≤ exact
   told_short =
-      subst (λ es. max (time + choice) (last_set es + largest_interval (pace_of d.network))
+      subst (λ es. max (time + choice) (arrived_by (longest_delay d.network es) es)
       + window_span d.network.params
       + (sync_paths d.network es).systems * (d.network.params.threshold + d.network.params.residence)
       ≤ exact) (sym (by_sooner time p.from d.events le)) told
@@ -226,13 +227,13 @@ module _ {F : Type 0} (answers : Bounds → ℕ → F → Option ℕ → F → T
 
   module _ (names : List ℕ) (g : Snapshot) (name from bound : ℕ)
       (has : HasBound answers d playable names events g name from bound) where
-    pub settled : Settled a.after
-    settled =
+    pub stands : ChoiceStands a.after
+    stands =
         let passed = stands_then answers short time choice exact (suc p.to) p.to fate start p.after run.ts a fit runs
         (run.among a member) bounded none told_short behind late early has.steps name bound
         (way answers d playable names events events g name from bound has a kept) in
-        (choice_bounds_hold answers short time choice (suc p.to) p.to fate start p.after run.ts a fit runs
-        (run.among a member) bounded none passed early).0.settled.tree.settled
+        (choice_alone_bounds_hold answers short time choice (suc p.to) p.to fate start p.after run.ts a fit runs
+        (run.among a member) bounded none passed early).0.choice
 
     -- time is carried right since a Sync may have come down the way
     pub carried : p.to ≤ 10 ^ 18
@@ -254,17 +255,17 @@ module _ {F : Type 0} (answers : Bounds → ℕ → F → Option ℕ → F → T
     pub stretch_within : p.to ≤ 10 ^ 18 → ErrorIsWithin name exact bound a
     stretch_within ends error from_then own is =
         let by = soon in
-        act_within answers d playable names events events g name from bound has a kept settled
+        act_within answers d playable names events events g name from bound has a kept stands
         (exact_then answers short time choice exact (suc p.to) p.to fate start p.after run.ts a fit runs
         (run.among a member) bounded none told_short behind late early (omega (arith, by, ends)))
         error own is
 
 -- ---- what is told of a time
 
--- From a time on errors hold of a document as it is at another: by a choice bound of its last change.
+-- From a time on errors hold of a document as it is at another: by a bound of the choice of its last change.
 pub record IsTold (d : DocumentState) (at from : ℕ) : Type 0 where
   pub choice : ℕ
-  pub bounds : IsChoiceBound d (last_change (events_by at d.events)) choice
+  pub bounds : IsChoiceAloneBound d (last_change (events_by at d.events)) choice
   pub told : come_from d (last_change (events_by at d.events)) choice ≤ from
 
 -- the settling from which a time is told
@@ -280,9 +281,9 @@ is_told d at from playable is =
     let (time, among, at_is, told) = settling_told (settling_times d) last s settling in
     let (earlier, so_then) = time_so d playable time s among told in
     let so : IsSo d playable earlier last s = subst (λ at. IsSo d playable earlier at s) at_is so_then in record {
-      choice = s.roles;
-      bounds = (earlier, so.bounds);
-      told = subst (λ e. come_from d last s.roles ≤ e) exact_is (told_later d playable earlier last s so);
+      choice = s.choice;
+      bounds = (earlier, so.choice);
+      told = subst (λ e. come_from d last s.choice ≤ e) exact_is (told_later d playable earlier last s so);
     }
 
 -- Where errors are said of a system, a path has two systems at least, so that is later than the last change.

@@ -31,7 +31,7 @@ use Rattle.gptp_scenario.specs.Network.{NetworkState, pace_of}
 use Rattle.gptp_scenario.specs.SettlingTime.{settling_span_with}
 use Rattle.gptp_scenario.specs.SyncWait.{sync_paths, sync_wait}
 use Rattle.gptp_scenario.specs.declared.change.Timed.{Timed}
-use Rattle.gptp_settling_time.specs.HowSoon.{BoundsChoice, IsChoiceBound}
+use Rattle.gptp_settling_time.specs.HowSoon.{BoundsChoice, IsChoiceAloneBound}
 use Rattle.gptp_settling_time.proofs.MomentLemmas.{last_by}
 use Rattle.gptp_system.specs.Syncing.{held_reading, reading_by}
 use Rattle.gptp_system.specs.State.{can_lead, SystemState}
@@ -189,18 +189,26 @@ choice_of : (n : NetworkState) (Sharp : Type 0) (events : List Timed) (choice : 
 choice_of n Sharp events choice above (calm, inl (some, is)) = is
 choice_of n Sharp events choice above (calm, inr (off, sharp)) = absurd (omega (arith, off, above))
 
-choice_is : (d : DocumentState) (at choice : ℕ) → 0 < d.network.params.sync_timeout → IsChoiceBound d at choice
+choice_is : (d : DocumentState) (at choice : ℕ) → 0 < d.network.params.sync_timeout → IsChoiceAloneBound d at choice
     → choice ≡ span_at d at
 choice_is d at choice above ([], inl (first, bounds)) =
     choice_of d.network _ (events_by at d.events) choice above bounds
 choice_is d at choice above ((last ∷ earlier), inl (late, between, bounds)) =
     choice_of d.network _ (events_by at d.events) choice above bounds
-choice_is d at choice above ([], inr (alone, none)) = absurd none
-choice_is d at choice above ((last ∷ earlier), inr (alone, inl (late, between, calm, off, before, loses))) =
+choice_is d at choice above ([], inr (roles, none)) = absurd none
+choice_is d at choice above ((last ∷ earlier), inr (roles, inl (late, between, calm, off, before))) =
     absurd (omega (arith, off, above))
-choice_is d at choice above ((last ∷ earlier), inr (alone, inr (inl (late, between, calm, off, before, one, asks)))) =
+choice_is d at choice above ((last ∷ earlier), inr (roles, inr (inl (late, between, calm, off, before, one, asks)))) =
     absurd (omega (arith, off, above))
-choice_is d at choice above ((last ∷ earlier), inr (alone, inr (inr (late, between, calm, off, before, one, asks)))) =
+choice_is d at choice above (
+  (last ∷ earlier),
+  inr (roles, inr (inr (inl (late, between, calm, off, before, one, asks)))),
+) =
+    absurd (omega (arith, off, above))
+choice_is d at choice above (
+  (last ∷ earlier),
+  inr (roles, inr (inr (inr (late, between, calm, off, before, fails)))),
+) =
     absurd (omega (arith, off, above))
 
 pub over_by : (d : DocumentState) (at from : ℕ) → IsTold d at from → 0 < d.network.params.sync_timeout

@@ -12,7 +12,7 @@ use Rattle.gptp_graph.specs.PathBound.{path_bound}
 use Rattle.gptp_graph.specs.Snapshot.{IsWellFormed, Snapshot}
 use Rattle.gptp_graph.proofs.ParentLemmas.{parent_exists}
 use Rattle.gptp_bmca_machine.specs.Settled.{IsSlaveOf}
-use Rattle.gptp_invariants.specs.ChoiceSettled.{IsSettledSystem}
+use Rattle.gptp_invariants.specs.ChoiceSettled.{HasSettledChoice}
 use Rattle.gptp_invariants.specs.WorldStanding.{snapshot_of}
 use Rattle.gptp_invariants.specs.SyncFollowers.{follower_parts}
 use Rattle.gptp_links.specs.declared.bounds.Bounds.{Bounds}
@@ -149,9 +149,9 @@ pub record IsRight (name : ℕ) (error_then : ℕ → ℕ) (t : ActTrace) (w : W
   pub reads : (rs : List SystemReading) → receives name t ≡ true
       → (u : NewReading) × (new_in t rs ≡ Some u) × (u.clock ≡ name)
 
--- ---- an act in a settled world
+-- ---- an act in a world where the choice stands
 
--- What it takes: the system has so many links and one more to its best, it is settled after the act, and what a
+-- What it takes: the system has so many links and one more to its best, its choice stands after the act, and what a
 -- Follow_Up leaves it is read, and exact.
 pub record ReadsSo (name : ℕ) (way : Way) (steps : ℕ) (t : ActTrace) (w : WorldState) : Type 0 where
   pub well : IsWellFormed (snapshot_of w)
@@ -159,7 +159,7 @@ pub record ReadsSo (name : ℕ) (way : Way) (steps : ℕ) (t : ActTrace) (w : Wo
   pub same : snapshot_of t.after ≡ snapshot_of w
   pub own : HaveOwnClocks w
   pub own_after : HaveOwnClocks t.after
-  pub settled : (s : SystemState) → live_system name t.after ≡ Some s → IsSettledSystem (snapshot_of t.after) s
+  pub choice : (s : SystemState) → live_system name t.after ≡ Some s → HasSettledChoice (snapshot_of t.after) s
   pub draws : List Draw
   pub acts : Acts t.told.timed.act (at (at_of t) w) draws t.told.done t.after
   pub used : UsesFollowUp name t.told.done
@@ -173,7 +173,7 @@ module _ (name : ℕ) (way : Way) (steps : ℕ) (t : ActTrace) (w : WorldState) 
   no_takeover u named taken =
       let lives : live_system name t.after ≡ Some taken.own =
       subst (λ n. live_system n t.after ≡ Some taken.own) named taken.lives in
-      let rests = so.settled taken.own lives in
+      let chosen = so.choice taken.own lives in
       let none : taken.own.slave ≡ None = none_is taken.own.slave (and_first (is_none taken.own.slave) _
       taken.sends) in
       let (x, member, clock_is, ports, is_named) = stands_there t.after name taken.own lives in
@@ -181,7 +181,7 @@ module _ (name : ℕ) (way : Way) (steps : ℕ) (t : ActTrace) (w : WorldState) 
       let there : IsParent (snapshot_of t.after) (clock taken.own) l =
       subst (λ v. IsParent (snapshot_of t.after) v l) (sym is_named)
       (subst (λ h. IsParent h name l) (sym so.same) parent) in
-      subst (IsSlaveOf (snapshot_of t.after) (clock taken.own)) none rests.slave l there
+      subst (IsSlaveOf (snapshot_of t.after) (clock taken.own)) none chosen.slave l there
 
   -- and each receipt leaves an exact reading
   receipt_bounds : (u : NewReading) → u.clock ≡ name → IsReceived t.told.done t.after u → (base : WorldState)
@@ -199,7 +199,7 @@ module _ (name : ℕ) (way : Way) (steps : ℕ) (t : ActTrace) (w : WorldState) 
       within : (time : ℕ) (error : ℤ) → at_of t ≤ time → reading_error time base name u.after ≡ Some error
           → unsigned_abs error ≤ reading_error_at way steps (time - at_of t)
       within time error behind is =
-          let (best, is_best, root_is) = (so.settled r.own lives).root in
+          let (best, is_best, root_is) = (so.choice r.own lives).root in
           let (x, member, clock_is, ports, is_named) = stands_there t.after name r.own lives in
           let there : IsBest (snapshot_of w) name best =
           subst (λ h. IsBest h name best) so.same (subst (λ v. IsBest (snapshot_of t.after) v best) is_named is_best) in
@@ -329,8 +329,10 @@ module _ {F : Type 0} (answers : Bounds → ℕ → F → Option ℕ → F → T
           own = keeps.claimed.world.sound.wired.clocks;
           own_after = (keeps_act answers d playable names events until t fate drawn w happens
               keeps).claimed.world.sound.wired.clocks;
-          settled = λ s lives. (rest answers d playable names events g name from bound has until t fate drawn w happens
-              keeps late s lives).settled;
+          choice = λ s lives.
+              let is = (rest answers d playable names events g name from bound has until t fate drawn w happens keeps
+              late s lives).settled in
+              record { root = is.root; steps = is.steps; slave = is.slave; parent = is.parent };
           draws = was.draws;
           acts = was.acts;
           used = λ uses.

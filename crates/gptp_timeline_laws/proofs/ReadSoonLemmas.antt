@@ -4,10 +4,10 @@ use Rattle.gptp_accuracy.specs.TimeErrors.{AreTimeErrors}
 use Rattle.gptp_accuracy.specs.declared.errors.TimeErrors.{TimeErrors}
 use Rattle.gptp_error_laws.specs.TimeError.{reading_error_at}
 use Rattle.gptp_graph.specs.Snapshot.{Snapshot}
-use Rattle.gptp_invariants.specs.ChoiceSettled.{Settled}
+use Rattle.gptp_invariants.specs.ChoiceSettled.{ChoiceStands}
 use Rattle.gptp_links.specs.declared.bounds.Bounds.{Bounds}
 use Rattle.gptp_lists.specs.Members.{In}
-use Rattle.gptp_model.specs.Views.{rising_clocks, ShowsLive}
+use Rattle.gptp_model.specs.Views.{rising_clocks}
 use Rattle.gptp_model.specs.World.{WorldState}
 use Rattle.gptp_network.specs.Document.{DocumentState}
 use Rattle.gptp_network.specs.Snapshot.{events_by}
@@ -16,10 +16,8 @@ use Rattle.gptp_scenario.specs.Network.{pace_of}
 use Rattle.gptp_scenario.specs.SettlingTime.{window_span}
 use Rattle.gptp_scenario.specs.declared.change.Timed.{Timed}
 use Rattle.gptp_how_soon_laws.proofs.StepLemmas.{IsKept}
-use Rattle.gptp_settling_time.proofs.AsIfChangedLemmas.{changed_at, shows_so}
 use Rattle.gptp_settling_time.proofs.ExactInTurnLemmas.{IsCarried}
 use Rattle.gptp_settling_time.proofs.MomentLemmas.{last_by}
-use Rattle.gptp_system.specs.State.{SystemState}
 use Rattle.gptp_theorem.specs.PlayedLaws.{IsPlayable}
 use Rattle.gptp_reading.proofs.ExactLemmas.{carried_have_readings, carried_reads, used_shows}
 use Rattle.gptp_timeline.specs.Laws.{exact_by_span, IsExactBySpan, SayBound}
@@ -34,7 +32,7 @@ use Rattle.gptp_timeline_laws.specs.ExactSoon.{TimelinesBoundReceiptsSoon, Timel
 use Rattle.gptp_timeline_laws.specs.Moments.{BeginsWith}
 use Rattle.gptp_timeline_laws.proofs.ExactLemmas.{stretch_reads}
 use Rattle.gptp_how_soon_laws.proofs.ExactLemmas.{carried_from}
-use Rattle.gptp_timeline_laws.proofs.ExactSoonLemmas.{carried, far, is_told, IsTold, kept, later_told, leads_there, near, settled, settled_system, well}
+use Rattle.gptp_timeline_laws.proofs.ExactSoonLemmas.{carried, far, is_told, IsTold, kept, later_told, leads_there, near, own_choice, stands, well}
 use Rattle.gptp_timeline_laws.proofs.HeldLemmas.{AreRight, IsRight, right_for}
 use Rattle.gptp_timeline_laws.proofs.MomentLemmas.{Found, timeline_found}
 use Rattle.gptp_timeline_laws.proofs.ReceiptLemmas.{moment_reads}
@@ -44,29 +42,16 @@ use Rattle.gptp_world.specs.Transitions.{ActTrace}
 
 -- ---- an act
 
--- an act in which time is carried right, and that leaves a settled world, is right for a system
+-- an act in which time is carried right, and that leaves a world where the choice stands, is right for a system
 module _ {F : Type 0} (answers : Bounds → ℕ → F → Option ℕ → F → Type 0) (d : DocumentState) (playable : IsPlayable d)
     (names : List ℕ) (events es : List Timed) (g : Snapshot) (name from bound : ℕ)
     (has : HasBound answers d playable names events g name from bound) (t : ActTrace)
-    (kept_so : IsKept (record { network = d.network; events = es }) events t) (settled_so : Settled t.after)
+    (kept_so : IsKept (record { network = d.network; events = es }) events t) (stands_so : ChoiceStands t.after)
     (start : ℕ) (is : IsCarried answers (pace_of d.network) start t)
     (late : start + window_span d.network.params
     + suc has.steps * (d.network.params.threshold + d.network.params.residence) ≤ at_of t) where
-  -- a live system of the world as if it had been changed last at another time
-  back : {number : ℕ} {w : WorldState} {s : SystemState} → ShowsLive number (changed_at is.since w) s
-      → ShowsLive number w s
-  back k = record {
-    place = k.place;
-    station = k.station;
-    is = record { here = k.is.here; named = k.is.named };
-    live = k.live;
-    state = k.state;
-  }
-
   pub carried_is_right : IsRight name (reading_error_at has.way has.steps) t t.before
   carried_is_right =
-      let before : WorldState = changed_at is.since t.before in
-      let after : WorldState = changed_at is.since t.after in
       let right = is.right (omega (arith, late)) in
       let close = near answers d playable names events es g name from bound has t kept_so in
       let (phase, leads) = leads_there answers d playable names events es g name from bound has t kept_so in
@@ -76,37 +61,25 @@ module _ {F : Type 0} (answers : Bounds → ℕ → F → Option ℕ → F → T
         same = kept_so.same;
         own = kept_so.before.claim.world.sound.wired.clocks;
         own_after = kept_so.after.claim.world.sound.wired.clocks;
-        settled = settled_system answers d playable names events es g name from bound has t kept_so settled_so;
+        choice = own_choice answers d playable names events es g name from bound has t kept_so stands_so;
         draws = kept_so.draws;
         acts = kept_so.acts;
         used = λ uses.
-            let (s, shows) = used_shows answers t.told.timed is.fate is.drawn before after t.told.done name is.was
+            let (s, shows) = used_shows answers t.told.timed is.fate is.drawn t.before t.after t.told.done name is.was
             uses in (
               s,
-              back shows,
-              carried_have_readings answers t.told.timed is.fate is.drawn before after t.told.done is.was
+              shows,
+              carried_have_readings answers t.told.timed is.fate is.drawn t.before t.after t.told.done is.was
                   (pace_of d.network) (start + window_span d.network.params) has.steps name right.is right.right
                   right.carries late close s has.way phase
                   uses shows leads,
             );
         exact = λ later read shown leaves best.
-            carried_reads answers t.told.timed is.fate is.drawn before after t.told.done is.was (pace_of d.network)
+            carried_reads answers t.told.timed is.fate is.drawn t.before t.after t.told.done is.was (pace_of d.network)
             (start + window_span d.network.params) has.steps name right.is right.right right.carries late close later
-            (reading_error_at has.way has.steps later) read shown
-            (record {
-              uses = leaves.uses;
-              system = leaves.system;
-              shows = shows_so is.since leaves.shows;
-              is = leaves.is;
-            })
+            (reading_error_at has.way has.steps later) read shown leaves
             (record { way = has.way; phase = phase; leads = leads; is = refl })
-            (record {
-              best = best.best;
-              is_best = best.is_best;
-              root = best.root;
-              shows = shows_so is.since best.shows;
-              is = best.is;
-            });
+            best;
       })
 
 -- ---- a stretch
@@ -206,7 +179,7 @@ module _ {F : Type 0} (answers : Bounds → ℕ → F → Option ℕ → F → T
           say.snapshot name span_from bound h a
           (kept answers d playable until p fate t.started t.start t.begun run begun goes_on last told.choice from past
           (last_by p.from d.events) told.bounds told.told later a member late)
-          (settled answers d playable until p fate t.started t.start t.begun run begun goes_on last told.choice from
+          (stands answers d playable until p fate t.started t.start t.begun run begun goes_on last told.choice from
           past (last_by p.from d.events) told.bounds told.told later a member late names say.snapshot name span_from
           bound h)
           (carried_from (shortened p.from d) last told.choice + 1) is_carried down

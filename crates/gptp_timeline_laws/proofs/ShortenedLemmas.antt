@@ -1,5 +1,5 @@
 -- A document without its events after a time.
-use Rattle.std.proofs.Common.{◌≡◌, inl, inr, ◌<◌, ◌≤◌, ◌+◌, ℕ, Bool, true, false, nat_le, List, [], ◌∷◌, refl, sym, ap, subst, arith}
+use Rattle.std.proofs.Common.{◌≡◌, inl, inr, ◌<◌, ◌≤◌, ◌+◌, ℕ, Bool, true, false, nat_le, List, [], ◌∷◌, suc, refl, sym, ap, subst, arith}
 use Rattle.std.specs.Prelude.{◌==◌, if◌then◌else◌}
 use Rattle.std.proofs.lemmas.Bool.{ne_eqb}
 use Rattle.std.proofs.lemmas.Bool.Decides.{nat_tests}
@@ -9,11 +9,13 @@ use Rattle.gptp_network.specs.Document.{DocumentState}
 use Rattle.gptp_network.specs.Events.{IsEvent}
 use Rattle.gptp_network.specs.Snapshot.{events_by}
 use Rattle.gptp_network.proofs.SnapshotLemmas.{from_filter}
-use Rattle.gptp_scenario.specs.Calm.{IsCalm}
+use Rattle.gptp_scenario.specs.Calm.{IsCalm, NothingLapses}
 use Rattle.gptp_scenario.specs.Network.{NetworkState}
 use Rattle.gptp_scenario.specs.declared.change.Timed.{Timed}
+use Rattle.gptp_settling_time.specs.Arrivals.{HasArrivedBy}
 use Rattle.gptp_settling_time.specs.TreeLosses.{LowersTree, TurnsTreeLink}
-use Rattle.gptp_settling_time.specs.HowSoon.{BoundsChoice, BoundsEvents, BoundsFirst, BoundsLoss, BoundsNext, BoundsStart, BoundsTree, IsChoiceAloneBound, IsChoiceBound, IsChoiceBoundAfter, IsLossBoundAfter, IsRestBoundAfter, LosesNext, OneEvent, RestsAfterLoss, RestsTree, TreeNext, events_at}
+use Rattle.gptp_settling_time.specs.HowSoon.{BeforeRepeats, BesideIdle, BoundsChoice, BoundsEvents, BoundsFirst, BoundsLoss, BoundsNext, BoundsSplit, BoundsStart, BoundsTree, FailsTreesFirst, HasArrivedNext, IsChoiceAloneBound, IsChoiceBound, IsChoiceBoundAfter, IsLossBoundAfter, IsRestBoundAfter, LosesNext, NoneBetween, OneEvent, RestsAfterLoss, RestsTree, SplitsNext, TreeNext, events_at}
+use Rattle.gptp_settling_time.specs.InTurn.{turned_echo_span}
 use Rattle.gptp_theorem.specs.PlayedLaws.{IsPlayable}
 use Rattle.gptp_timeline.proofs.EventLemmas.{filter_each, filter_in_order}
 use Rattle.gptp_timeline.proofs.PastLemmas.{by_sooner}
@@ -97,28 +99,66 @@ module _ (n : NetworkState) (all : List Timed) (until : ℕ) where
           bounds),
     )
 
-    loses_by : (Asks : List Timed → List Timed → Type 0) → LosesNext n all Then last time Asks
-        → LosesNext n (events_by until all) More last time Asks
-    loses_by Asks (late, between, calm, off, (before, bound, soon), loses) = (
+    -- what comes where the time before so stands, and this is so of the events
+    abbrev Comes : (ℕ → Type 0) → (List Timed → ℕ → Type 0) → List Timed → Type 0
+    Comes So Said events =
+        (last < time)
+        × NoneBetween events last time
+        × IsCalm n (events_by time events)
+        × NothingLapses n.params
+        × ((before : ℕ) × So before × Said events before)
+
+    comes_by : (Said : List Timed → ℕ → Type 0)
+        → (last ≤ until → (before : ℕ) → Said all before → Said (events_by until all) before)
+        → Comes Then Said all → Comes More Said (events_by until all)
+    comes_by Said short (late, between, calm, off, (before, bound, said)) = (
       late,
       λ event member. between event (from_filter (λ (t : Timed). nat_le t.at until) event all member).0,
       subst (IsCalm n) (sym (by_sooner time until all le)) calm,
       off,
-      (before, more (omega (arith, late, le)) before bound, soon),
-      events_so Asks last time (omega (arith, late, le)) le loses,
+      (before, more (omega (arith, late, le)) before bound, short (omega (arith, late, le)) before said),
     )
+
+    loses_by : (Asks : List Timed → List Timed → Type 0) → LosesNext n all Then last time Asks
+        → LosesNext n (events_by until all) More last time Asks
+    loses_by Asks =
+        comes_by (λ events before. (last + before < time)
+        × BesideIdle n (last + before) time Asks (events_by last events) (events_at time events))
+        (λ soon before said. (said.0, events_so (BesideIdle n (last + before) time Asks) last time soon le said.1))
+
+    -- what was in flight has arrived
+    arrived_by : last ≤ until → (before : ℕ) → HasArrivedNext n all last before time
+        → HasArrivedNext n (events_by until all) last before time
+    arrived_by soon before (arrived, has, over) = (
+      arrived,
+      subst (λ es. HasArrivedBy n es (suc (last + before)) arrived) (sym (by_sooner last until all soon)) has,
+      over,
+    )
+
+    splits_by : (Asks : List Timed → List Timed → Type 0) → SplitsNext n all Then last time Asks
+        → SplitsNext n (events_by until all) More last time Asks
+    splits_by Asks (late, between, calm, off, before, fails) =
+        let Fails : List Timed → List Timed → Type 0 =
+        BeforeRepeats n (λ made now. FailsTreesFirst n made now × Asks made now) in
+        let (late', between', calm', off', before') =
+        comes_by (λ events then. HasArrivedNext n events last then time) arrived_by
+        (late, between, calm, off, before) in
+        (late', between', calm', off', before', events_so Fails last time (omega (arith, late, le)) le fails)
 
     tree_by : (Is : List Timed → Timed → Type 0) (Asks : List Timed → Type 0) → TreeNext n Is all Then last time Asks
         → TreeNext n Is (events_by until all) More last time Asks
-    tree_by Is Asks (late, between, calm, off, (before, bound, soon), lowers, asks) = (
-      late,
-      λ event member. between event (from_filter (λ (t : Timed). nat_le t.at until) event all member).0,
-      subst (IsCalm n) (sym (by_sooner time until all le)) calm,
-      off,
-      (before, more (omega (arith, late, le)) before bound, soon),
-      events_so (OneEvent Is) last time (omega (arith, late, le)) le lowers,
-      subst Asks (sym (by_sooner time until all le)) asks,
-    )
+    tree_by Is Asks (late, between, calm, off, before, lowers, asks) =
+        let (late', between', calm', off', before') =
+        comes_by (λ events then. HasArrivedNext n events last then time) arrived_by
+        (late, between, calm, off, before) in (
+          late',
+          between',
+          calm',
+          off',
+          before',
+          events_so (BeforeRepeats n (OneEvent Is)) last time (omega (arith, late, le)) le lowers,
+          subst Asks (sym (by_sooner time until all le)) asks,
+        )
 
   rest_by : (earlier : List ℕ) (time rest : ℕ) → time ≤ until → IsRestBoundAfter n all earlier time rest
       → IsRestBoundAfter n (events_by until all) earlier time rest
@@ -131,11 +171,15 @@ module _ (n : NetworkState) (all : List Timed) (until : ℕ) where
       inr (inl (loses_by (λ before. IsRestBoundAfter n all earlier last before)
       (λ before. IsRestBoundAfter n (events_by until all) earlier last before) last time le
       (λ soon before. rest_by earlier last before soon) (λ made now. RestsAfterLoss n made now rest) loses))
-  rest_by (last ∷ earlier) time rest le (inr (inr falls)) =
-      inr (inr (tree_by (λ before. IsRestBoundAfter n all earlier last before)
+  rest_by (last ∷ earlier) time rest le (inr (inr (inl falls))) =
+      inr (inr (inl (tree_by (λ before. IsRestBoundAfter n all earlier last before)
       (λ before. IsRestBoundAfter n (events_by until all) earlier last before) last time le
-      (λ soon before. rest_by earlier last before soon) (LowersTree n) (RestsTree n rest)
-      falls))
+      (λ soon before. rest_by earlier last before soon) (LowersTree n) (RestsTree n rest) falls)))
+  rest_by (last ∷ earlier) time rest le (inr (inr (inr turns))) =
+      inr (inr (inr (tree_by (λ before. IsRestBoundAfter n all earlier last before)
+      (λ before. IsRestBoundAfter n (events_by until all) earlier last before) last time le
+      (λ soon before. rest_by earlier last before soon) (TurnsTreeLink n)
+      (λ events. rest ≡ turned_echo_span n events) turns)))
 
   bound_by : (earlier : List ℕ) (time choice : ℕ) → time ≤ until → IsChoiceBoundAfter n all earlier time choice
       → IsChoiceBoundAfter n (events_by until all) earlier time choice
@@ -157,10 +201,14 @@ module _ (n : NetworkState) (all : List Timed) (until : ℕ) where
       inr (inl (tree_by (λ before. IsRestBoundAfter n all earlier last before)
       (λ before. IsRestBoundAfter n (events_by until all) earlier last before) last time le
       (λ soon before. rest_by earlier last before soon) (LowersTree n) (BoundsTree n choice roles) falls))
-  loss_by (last ∷ earlier) time choice roles le (inr (inr turns)) =
-      inr (inr (tree_by (λ before. IsRestBoundAfter n all earlier last before)
+  loss_by (last ∷ earlier) time choice roles le (inr (inr (inl turns))) =
+      inr (inr (inl (tree_by (λ before. IsRestBoundAfter n all earlier last before)
       (λ before. IsRestBoundAfter n (events_by until all) earlier last before) last time le
-      (λ soon before. rest_by earlier last before soon) (TurnsTreeLink n) (BoundsTree n choice roles) turns))
+      (λ soon before. rest_by earlier last before soon) (TurnsTreeLink n) (BoundsTree n choice roles) turns)))
+  loss_by (last ∷ earlier) time choice roles le (inr (inr (inr splits))) =
+      inr (inr (inr (splits_by (λ before. IsRestBoundAfter n all earlier last before)
+      (λ before. IsRestBoundAfter n (events_by until all) earlier last before) last time le
+      (λ soon before. rest_by earlier last before soon) (λ made now. BoundsSplit n choice roles made now) splits)))
 
 pub short_bound : (d : DocumentState) (until time choice : ℕ) → time ≤ until → IsChoiceBound d time choice
     → IsChoiceBound (shortened until d) time choice

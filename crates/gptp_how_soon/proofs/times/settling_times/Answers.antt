@@ -10,7 +10,7 @@ use Rattle.gptp_topology.proofs.StandingLemmas.{few_nodes}
 use Rattle.gptp_how_soon.specs.Times.{settling_time}
 use Rattle.gptp_how_soon.specs.Walk.{IsFirstWalk, WalkTells, view_seen}
 use Rattle.gptp_how_soon.specs.declared.bounds.SettlingTime.{SettlingTime}
-use Rattle.gptp_how_soon.proofs.TimesLemmas.{Walked, short_walked, walked_all, walked_first, walked_more}
+use Rattle.gptp_how_soon.proofs.TimesLemmas.{Walked, longest_walked, short_walked, walked_all, walked_first, walked_more}
 use Rattle.gptp_how_soon.proofs.times.settling_times.Goals as goal
 
 pub loop-event-init : goal.loop-event-init
@@ -41,6 +41,12 @@ tell-requires-clause-short c =
 pub tell-requires-clause-short_before : goal.tell-requires-clause-short_before
 tell-requires-clause-short_before c =
     short_walked c.args.document.now (subst IsNetwork c.network.ensures c.well_formed-2.ensures)
+    (drop c.loop-event.event-index c.events-events.result.now) c.loop-event.walk c.loop-event.at
+    c.loop-event.times.items c.well_formed-3.ensures.allowed c.loop-event.invariant
+
+pub tell-requires-clause-longest : goal.tell-requires-clause-longest
+tell-requires-clause-longest c =
+    longest_walked c.args.document.now (subst IsNetwork c.network.ensures c.well_formed-2.ensures)
     (drop c.loop-event.event-index c.events-events.result.now) c.loop-event.walk c.loop-event.at
     c.loop-event.times.items c.well_formed-3.ensures.allowed c.loop-event.invariant
 
@@ -78,6 +84,12 @@ settle-requires-clause-short c =
 pub settle-requires-clause-short_before : goal.settle-requires-clause-short_before
 settle-requires-clause-short_before c =
     short_walked c.args.document.now (subst IsNetwork c.network.ensures c.well_formed-2.ensures)
+    (drop c.loop-event.event-index c.events-events.result.now) c.loop-event.walk c.loop-event.at
+    c.loop-event.times.items c.well_formed-3.ensures.allowed c.loop-event.invariant
+
+pub settle-requires-clause-longest : goal.settle-requires-clause-longest
+settle-requires-clause-longest c =
+    longest_walked c.args.document.now (subst IsNetwork c.network.ensures c.well_formed-2.ensures)
     (drop c.loop-event.event-index c.events-events.result.now) c.loop-event.walk c.loop-event.at
     c.loop-event.times.items c.well_formed-3.ensures.allowed c.loop-event.invariant
 
