@@ -143,23 +143,37 @@ lost = inl (
     1000003050,
     (
       (refl, ring_begun),
-      (omega arith, inl (inl (event ∷ [], ([], (refl, (tt,
-      inr (inr (inr (inl (
-        (fails, tt),
-        (
-          3000000410,
-          11000000000,
-          inr (
+      (
+        omega arith,
+        inl (inl (
+          event ∷ [],
+          (
+            [],
             (
-              aging_span (pace_of ring_network) (sync_paths ring_network []),
-              failure_within ring_network [] event fails,
-              ages,
+              refl,
+              (
+                tt,
+                inr (inr (inr (inl (
+                  (fails, tt),
+                  (
+                    3000000410,
+                    11000000000,
+                    inr (
+                      (
+                        aging_span (pace_of ring_network) (sync_paths ring_network []),
+                        failure_within ring_network [] event fails,
+                        ages,
+                      ),
+                      span,
+                    ),
+                    inl (refl, refl),
+                  ),
+                )))),
+              ),
             ),
-            span,
           ),
-          inl (refl, refl),
-        ),
-      )))))))))),
+        )),
+      ),
     ),
   ),
 )
