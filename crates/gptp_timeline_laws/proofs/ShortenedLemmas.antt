@@ -141,7 +141,7 @@ module _ (n : NetworkState) (all : List Timed) (until : ℕ) where
         let Fails : List Timed → List Timed → Type 0 =
         BeforeRepeats n (λ made now. FailsTreesFirst n made now × Asks made now) in
         let (late', between', calm', off', before') =
-        comes_by (λ events then. HasArrivedNext n events last then time) arrived_by
+        comes_by (λ events rest. HasArrivedNext n events last rest time) arrived_by
         (late, between, calm, off, before) in
         (late', between', calm', off', before', events_so Fails last time (omega (arith, late, le)) le fails)
 
@@ -149,7 +149,7 @@ module _ (n : NetworkState) (all : List Timed) (until : ℕ) where
         → TreeNext n Is (events_by until all) More last time Asks
     tree_by Is Asks (late, between, calm, off, before, lowers, asks) =
         let (late', between', calm', off', before') =
-        comes_by (λ events then. HasArrivedNext n events last then time) arrived_by
+        comes_by (λ events rest. HasArrivedNext n events last rest time) arrived_by
         (late, between, calm, off, before) in (
           late',
           between',
