@@ -376,11 +376,11 @@ pub comes_after : (act : Act)
     (λ rest. IsRestBoundAfter ring_network (both_of act) (0 ∷ []) 30000000000 rest) 30000000000 60000000000
 comes_after act = (
   3000003690,
-  (rested act, (suc (30000000000 + 3000003690) + largest_interval (pace_of ring_network), (inl refl, later))),
+  (rested act, (suc (30000000000 + 3000003690) + largest_interval (pace_of ring_network), (inl refl, over))),
 )
   where
-    later : suc (30000000000 + 3000003690) + largest_interval (pace_of ring_network) ≤ 60000000000
-    later =
+    over : suc (30000000000 + 3000003690) + largest_interval (pace_of ring_network) ≤ 60000000000
+    over =
         subst (λ (p : SettlingParams). suc (30000000000 + 3000003690) + largest_interval p ≤ 60000000000) (sym pace_is)
         (omega arith)
 
