@@ -138,18 +138,23 @@ module _ (n : NetworkState) (all : List Timed) (until : ℕ) where
     splits_by : (Asks : List Timed → List Timed → Type 0) → SplitsNext n all Then last time Asks
         → SplitsNext n (events_by until all) More last time Asks
     splits_by Asks (late, between, calm, off, before, fails) =
-        let Fails : List Timed → List Timed → Type 0 =
-        BeforeRepeats n (λ made now. FailsTreesFirst n made now × Asks made now) in
         let (late', between', calm', off', before') =
-        comes_by (λ events then. HasArrivedNext n events last then time) arrived_by
-        (late, between, calm, off, before) in
-        (late', between', calm', off', before', events_so Fails last time (omega (arith, late, le)) le fails)
+        comes_by (λ events rest. HasArrivedNext n events last rest time) arrived_by
+        (late, between, calm, off, before) in (
+          late',
+          between',
+          calm',
+          off',
+          before',
+          events_so (BeforeRepeats n (λ made now. FailsTreesFirst n made now × Asks made now)) last time
+              (omega (arith, late, le)) le fails,
+        )
 
     tree_by : (Is : List Timed → Timed → Type 0) (Asks : List Timed → Type 0) → TreeNext n Is all Then last time Asks
         → TreeNext n Is (events_by until all) More last time Asks
     tree_by Is Asks (late, between, calm, off, before, lowers, asks) =
         let (late', between', calm', off', before') =
-        comes_by (λ events then. HasArrivedNext n events last then time) arrived_by
+        comes_by (λ events rest. HasArrivedNext n events last rest time) arrived_by
         (late, between, calm, off, before) in (
           late',
           between',
