@@ -168,7 +168,7 @@ cuts g h stands stands_then =
       first,
       subst (λ x. (v : ℕ) → In v (clocks h) → IsUnmovedOrInTree x h first v) first_is
           (subst (λ x. (v : ℕ) → In v (clocks x) → IsUnmovedOrInTree chain x first v) last_is
-          (λ v known. inr (tree, (is_cut_off, all_under v known)))),
+          (λ v known. inr (tree, is_cut_off, all_under v known))),
     )
 
 fails_trees : FailsTrees ring_network before (later fails)
@@ -195,30 +195,24 @@ lost = inr (inr (inr (
   comes_after fails,
   (
     later fails ∷ [],
+    [],
+    refl,
+    tt,
     (
-      [],
+      (fails_trees, tt),
       (
-        refl,
-        (
-          tt,
+        3000000410,
+        11000000000,
+        inr (
           (
-            (fails_trees, tt),
-            (
-              3000000410,
-              11000000000,
-              inr (
-                (
-                  aging_span (pace_of ring_network) (sync_paths ring_network before),
-                  fail_within ring_network before (later fails) first.clock refl,
-                  ages,
-                ),
-                silent,
-              ),
-              ways,
-              refl,
-            ),
+            aging_span (pace_of ring_network) (sync_paths ring_network before),
+            fail_within ring_network before (later fails) first.clock refl,
+            ages,
           ),
+          silent,
         ),
+        ways,
+        refl,
       ),
     ),
   ),
