@@ -2,6 +2,7 @@ mod TimesLemmas
 mod NamedLemmas
 mod KindLemmas
 mod ToldLemmas
+mod RepeatLemmas
 mod MoreLemmas
 mod ReadyLemmas
 mod GainLemmas
