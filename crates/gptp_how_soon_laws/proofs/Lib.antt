@@ -23,11 +23,13 @@ mod TurnedTreeTestLemmas
 mod TurnedTreeLemmas
 mod TreeEventLemmas
 mod TurnedLemmas
+mod LiveEndsLemmas
 mod SilentLemmas
 mod RowBoundLemmas
 mod RowReasonLemmas
 mod StartRowLemmas
 mod RowTestLemmas
+mod ArrivedLemmas
 mod RowLemmas
 mod AnyLossLemmas
 pub mod ChoiceLemmas
