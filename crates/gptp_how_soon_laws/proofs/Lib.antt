@@ -2,13 +2,13 @@ mod TimesLemmas
 mod NamedLemmas
 mod KindLemmas
 mod ToldLemmas
-mod RepeatLemmas
 mod MoreLemmas
 mod ReadyLemmas
 mod GainLemmas
 mod GainedLemmas
 mod WorseningLemmas
 mod UnmovedLemmas
+mod RepeatLemmas
 mod LoweredLemmas
 mod FailedLemmas
 mod CutOffLemmas
