@@ -306,13 +306,19 @@ module _ (d : DocumentState) (playable : IsPlayable d) where
         → IsRestBoundAfter n all (b.at ∷ earlier) at sound
     rests sound calm off (inl (rest, loses)) =
         let (bound, past) = sound_before rest in
-        inr (inl (late, between, calm, off, (
-          rest.settling.sound,
-          bound,
-          past,
-          beside (b.at + rest.settling.sound) (λ made now. RestsAfterLoss n made now sound) (some_rested sound loses)
-              loses,
-        )))
+        inr (inl (
+          late,
+          between,
+          calm,
+          off,
+          (
+            rest.settling.sound,
+            bound,
+            past,
+            beside (b.at + rest.settling.sound) (λ made now. RestsAfterLoss n made now sound) (some_rested sound loses)
+                loses,
+          ),
+        ))
     rests sound calm off (inr (inl (rest, tree, is))) =
         inr (inr (inl (tree_next (LowersTree n) (RestsTree n sound) calm off rest tree.comes
         (gone_by n v.paths v.used_before, tree.flight, is))))
@@ -351,10 +357,13 @@ module _ (d : DocumentState) (playable : IsPlayable d) where
         inl (rest, inl (inr (inr (inr (inl (turns, told ∙ is))))))
     rests_by sound told (inr (inr (inr (inr (inl (row, long)))))) =
         let (rest, fails) = heard n playable.network all b at late well row in
-        inl (rest, inl (inr (inr (inr (inr (
-          fails,
-          by (some_heard fails) v.used refl (subst (λ t. aged_echo_span n loss v.paths ≤ t) (sym told) long),
-        ))))))
+        inl (
+          rest,
+          inl (inr (inr (inr (inr (
+            fails,
+            by (some_heard fails) v.used refl (subst (λ t. aged_echo_span n loss v.paths ≤ t) (sym told) long),
+          ))))),
+        )
       where
         by : (now ≡ [] → ⊥) → (used : Bool) → v.used ≡ used
             → (if used then max (echo_span (pace_of n) v.paths) v.paths.delay
@@ -410,13 +419,19 @@ module _ (d : DocumentState) (playable : IsPlayable d) where
         → IsLossBoundAfter n all (b.at ∷ earlier) at s.choice s.roles
     lost s settles off (inl (rest, loses)) =
         let (bound, past) = sound_before rest in
-        inl (late, between, settles.2.0, off, (
-          rest.settling.sound,
-          bound,
-          past,
-          beside (b.at + rest.settling.sound) (λ made now. BoundsLoss n made now s.choice s.roles)
-              (some_lost s.choice s.roles loses) loses,
-        ))
+        inl (
+          late,
+          between,
+          settles.2.0,
+          off,
+          (
+            rest.settling.sound,
+            bound,
+            past,
+            beside (b.at + rest.settling.sound) (λ made now. BoundsLoss n made now s.choice s.roles)
+                (some_lost s.choice s.roles loses) loses,
+          ),
+        )
     lost s settles off (inr (inl ((rest, inl tree), choice, roles))) =
         inr (inl (tree_next (LowersTree n) (BoundsTree n s.choice s.roles) settles.2.0 off rest tree.comes
         (choice, roles)))
@@ -489,21 +504,27 @@ module _ (d : DocumentState) (playable : IsPlayable d) where
         inr (inl ((rest, inr tree), refl, refl))
     asks_by FailedHeard row own =
         let (rest, fails) = heard n playable.network all b at late well (inl row) in
-        inl (rest, inr (inr (inr (inl (
-          fails,
-          (aged_by loss, quiet_by n loss (aged_by loss), aging (some_heard fails), inl (refl, refl)),
-        )))))
+        inl (
+          rest,
+          inr (inr (inr (inl (
+            fails,
+            (aged_by loss, quiet_by n loss (aged_by loss), aging (some_heard fails), inl (refl, refl)),
+          )))),
+        )
     asks_by FailureCutsOff row own =
         let (rest, fails) = heard n playable.network all b at late well (inr row) in
-        inl (rest, inr (inr (inr (inl (
-          fails,
-          (
-            aged_by loss,
-            quiet_by n loss (aged_by loss),
-            aging (some_heard fails),
-            inr (refl, quiet_later (2 * way_span v.paths)),
-          ),
-        )))))
+        inl (
+          rest,
+          inr (inr (inr (inl (
+            fails,
+            (
+              aged_by loss,
+              quiet_by n loss (aged_by loss),
+              aging (some_heard fails),
+              inr (refl, quiet_later (2 * way_span v.paths)),
+            ),
+          )))),
+        )
     asks_by FailureCutsTrees row own =
         let x = failure_cuts n playable.network all b at late well row in
         inr (inr (
