@@ -1,8 +1,8 @@
 -- Behind events that repeat what stands all is as before: who lives, who chooses what, which links are in use, and all
 -- that is computed of a loss.
-use Rattle.std.proofs.Common.{◌≡◌, ◌≢◌, ℕ, Bool, true, false, not, List, [], ◌∷◌, ◌++◌, map, filter, Some, None, slice_get, append_assoc, append-nil, refl, sym, ap, ap₂, subst, ◌∙◌, inl, inr}
-use Rattle.std.specs.Prelude.{◌==◌, ◌&&◌, if◌then◌else◌}
-use Rattle.std.specs.List.{filter_map, list_all}
+use Rattle.std.proofs.Common.{◌≡◌, ◌≢◌, ℕ, Bool, true, false, not, List, [], ◌∷◌, ◌++◌, map, filter, Some, None, append_assoc, append-nil, refl, sym, ap, ap₂, subst, ◌∙◌, inl, inr}
+use Rattle.std.specs.Prelude.{◌==◌, if◌then◌else◌}
+use Rattle.std.specs.List.{list_all}
 use Rattle.std.specs.List.Sorted.{IsPermutation}
 use Rattle.std.proofs.lemmas.Bool.{and_parts, not-true}
 use Rattle.gptp_lists.specs.Members.{In}
@@ -44,7 +44,7 @@ use Rattle.gptp_how_soon_laws.proofs.UnmovedLemmas.{AreWell}
 -- ---- events that are told to repeat what stands
 
 module _ (n : NetworkState) (network : IsNetwork n) where
-  repeats_by : (made : List Timed) (event : Timed) → repeats (told_at n made event.act) ≡ true → Repeats n made event
+  pub repeats_by : (made : List Timed) (event : Timed) → repeats (told_at n made event.act) ≡ true → Repeats n made event
   repeats_by made event is =
       let (idle, other) =
       and_parts (is_idle (told_at n made event.act)) (not (is_priority1 (told_at n made event.act))) is in (
@@ -88,7 +88,7 @@ identity_stays (acts.Change (changes.Priority1 clock value)) own s other = absur
 identity_stays (acts.Change (changes.Inject clock port octets)) own s other = refl
 
 module _ (n : NetworkState) (network : IsNetwork n) where
-  repeat_same : (made : List Timed) (event : Timed) → Repeats n made event → IsSame n made (made ++ event ∷ [])
+  pub repeat_same : (made : List Timed) (event : Timed) → Repeats n made event → IsSame n made (made ++ event ∷ [])
   repeat_same made event (nothing, other) =
       let same : StandSame n made (made ++ event ∷ []) = idle_same n network made event nothing in
       record {
@@ -222,13 +222,13 @@ module _ (n : NetworkState) (made events more : List Timed) (same : IsSame n eve
 
 -- ---- one link that goes down, and events behind it that repeat what stands
 
+-- a link goes down by the first event
 pub record LowersFirst (n : NetworkState) (made now : List Timed) : Type 0 where
-  pub first : List Timed
+  pub event : Timed
   pub others : List Timed
-  pub split : now ≡ first ++ others
-  pub repeats : EachEvent (Repeats n) (made ++ first) others
-  pub one : lowers_one (told_of n made first) ≡ true
-  pub some : first ≡ [] → ⊥
+  pub split : now ≡ event ∷ others
+  pub lowers : is_lowering (told_at n made event.act) ≡ true
+  pub repeats : EachEvent (Repeats n) (made ++ event ∷ []) others
 
 pub lowers_first : (n : NetworkState) → IsNetwork n → (made now : List Timed) → lowers_one (told_of n made now) ≡ true
     → LowersFirst n made now
@@ -237,27 +237,27 @@ lowers_first n network made (event ∷ others) is =
     let (lowers, rest) = and_parts (is_lowering (told_at n made event.act))
     (list_all repeats (told_of n (made ++ event ∷ []) others)) is in
     record {
-      first = event ∷ [];
+      event = event;
       others = others;
       split = refl;
+      lowers = lowers;
       repeats = each_repeats n network (made ++ event ∷ []) others rest;
-      one = ap (λ b. b && true) lowers;
-      some = λ none. absurd cc;
     }
 
 module _ (n : NetworkState) (network : IsNetwork n) (made now : List Timed) (x : LowersFirst n made now) where
-  whole : (made ++ x.first) ++ x.others ≡ made ++ now
-  whole = append_assoc made x.first x.others ∙ ap (λ es. made ++ es) (sym x.split)
+  whole : (made ++ x.event ∷ []) ++ x.others ≡ made ++ now
+  whole = append_assoc made (x.event ∷ []) x.others ∙ ap (λ es. made ++ es) (sym x.split)
 
-  pub first_same : IsSame n (made ++ x.first) (made ++ now)
+  pub first_same : IsSame n (made ++ x.event ∷ []) (made ++ now)
   first_same =
-      subst (IsSame n (made ++ x.first)) whole (repeats_same n network (made ++ x.first) x.others x.repeats)
+      subst (IsSame n (made ++ x.event ∷ [])) whole
+      (repeats_same n network (made ++ x.event ∷ []) x.others x.repeats)
 
-  pub first_well : AreWell n (made ++ now) → AreWell n (made ++ x.first)
+  pub first_well : AreWell n (made ++ now) → AreWell n (made ++ x.event ∷ [])
   first_well well events left are =
       well events (left ++ x.others)
       (sym (append_assoc events left x.others) ∙ ap (λ es. es ++ x.others) are ∙ whole)
 
-  -- what is so of the first is so beside those that repeat what stands
-  pub beside_repeats : (Are : List Timed → List Timed → Type 0) → Are made x.first → BeforeRepeats n Are made now
-  beside_repeats Are is = (x.first, x.others, x.split, x.repeats, is)
+  -- what is so of it is so before those that repeat what stands
+  pub before_repeats : (Are : List Timed → List Timed → Type 0) → Are made (x.event ∷ []) → BeforeRepeats n Are made now
+  before_repeats Are is = (x.event ∷ [], x.others, x.split, x.repeats, is)
