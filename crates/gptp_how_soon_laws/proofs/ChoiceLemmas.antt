@@ -147,10 +147,10 @@ module _ (d : DocumentState) (playable : IsPlayable d) where
     sound_before : (rest : HasComeToRest b at)
         → IsRestBoundAfter n all earlier b.at rest.settling.sound × (b.at + rest.settling.sound < at)
     sound_before rest =
-        let then = so rest.settling rest.is in
-        let less = then.rest in
+        let told = so rest.settling rest.is in
+        let less = told.rest in
         let passed = rest.passed in
-        (then.sound, omega (arith, less, passed))
+        (told.sound, omega (arith, less, passed))
 
     sharp : (choice : ℕ) → (rest : HasComeToRest b at)
         → BoundsEvents n made now (b.at + rest.settling.sound) at choice → Sharp choice
@@ -276,13 +276,13 @@ module _ (d : DocumentState) (playable : IsPlayable d) where
     some_rested sound (inl (inr (inr (inl (lowers, gone))))) = some_now (LowersOneLink n made) (λ none. none) lowers
     some_rested sound (inl (inr (inr (inr (inl (turns, is)))))) = some_now (TurnsOneLink n made) (λ none. none) turns
     some_rested sound (inl (inr (inr (inr (inr (fails, told)))))) = some_heard fails
-    some_rested sound (inr (choice, loses, more)) = some_now (LosesEvents n made) (λ none. none) loses
+    some_rested sound (inr (choice, bounds)) = some_now (LosesEvents n made) (λ none. none) bounds.0
 
     -- an event of this kind comes once what was in flight has arrived, and all ask for this
     tree_next : (Is : List Timed → Timed → Type 0) (Asks : List Timed → Type 0) → IsCalm n (events_by at all)
         → NothingLapses n.params → (rest : HasComeToRest b at) → ComesLate n playable.network all b at late Is rest
         → Asks (made ++ now)
-        → TreeNext n Is all (λ then. IsRestBoundAfter n all earlier b.at then) b.at at Asks
+        → TreeNext n Is all (λ before. IsRestBoundAfter n all earlier b.at before) b.at at Asks
     tree_next Is Asks calm off rest tree asks = (
       late,
       between,

@@ -50,7 +50,7 @@ in_range first (suc count) place least most = elim (same_place place first) [
 -- the place of each member of a list is one of those that are asked
 pub place_in_range : {X : Type 0} (xs : List X) (i : ℕ) (x : X) → slice_get xs i ≡ Some x
     → In i (range_with_len 0 (length xs))
-place_in_range xs i x there =
+place_in_range {X} xs i x there =
     let less = bound xs i there in in_range 0 (length xs) i (omega arith) (omega (arith, less))
   where
     bound : (ys : List X) (place : ℕ) → slice_get ys place ≡ Some x → place < length ys

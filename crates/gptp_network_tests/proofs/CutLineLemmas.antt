@@ -367,8 +367,8 @@ rested act =
 
 -- what was sent until then has arrived an announce interval later, before the next event
 pub comes_after : (act : Act)
-    → ComesAfterRest ring_network (both_of act) (λ then. IsRestBoundAfter ring_network (both_of act) (0 ∷ []) 30000000000
-    then) 30000000000 60000000000
+    → ComesAfterRest ring_network (both_of act)
+    (λ then. IsRestBoundAfter ring_network (both_of act) (0 ∷ []) 30000000000 then) 30000000000 60000000000
 comes_after act = (
   3000003690,
   (rested act, (suc (30000000000 + 3000003690) + largest_interval (pace_of ring_network), (inl refl, later))),
