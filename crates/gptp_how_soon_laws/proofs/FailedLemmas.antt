@@ -411,7 +411,8 @@ module _ (n : NetworkState) (network : IsNetwork n) where
   down_each made [] all = tt
   down_each made (event ∷ now) all =
       let t = told_at n made event.act in
-      let (first, others) = and_parts (is_down_too t) (list_all is_down_too (told_of n (made ++ event ∷ []) now)) all in (
+      let (first, others) =
+      and_parts (is_down_too t) (list_all is_down_too (told_of n (made ++ event ∷ []) now)) all in (
         elim (or_cases (lowers_unused t) (repeats t) first) [
           | inl lowers ↦ inl (unused_lowers n network made event lowers)
           | inr same ↦ inr (repeats_by n network made event same)

@@ -44,7 +44,8 @@ use Rattle.gptp_how_soon_laws.proofs.UnmovedLemmas.{AreWell}
 -- ---- events that are told to repeat what stands
 
 module _ (n : NetworkState) (network : IsNetwork n) where
-  pub repeats_by : (made : List Timed) (event : Timed) → repeats (told_at n made event.act) ≡ true → Repeats n made event
+  pub repeats_by : (made : List Timed) (event : Timed) → repeats (told_at n made event.act) ≡ true
+      → Repeats n made event
   repeats_by made event is =
       let (idle, other) =
       and_parts (is_idle (told_at n made event.act)) (not (is_priority1 (told_at n made event.act))) is in (
