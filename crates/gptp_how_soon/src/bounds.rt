@@ -75,7 +75,7 @@ pub enum Row {
     /// So it is, but systems are moved, all of which are cut off.
     FailureCutsOff,
     /// One link goes down so that moves one system alone. That keeps its root, and turns to others for it.
-    OneTurned,
+    SystemTurned,
     /// One link goes down so that cuts off a tree, whose systems have a worse root then.
     TreeCutOff,
     /// One link goes down so that moves a tree. Its systems keep their root, and get it by one other link.
@@ -276,7 +276,7 @@ fn choice_by(network: &Network, loss: Loss, paths: SyncPaths, row: Row, gained: 
         Row::Unchanged | Row::Lowered | Row::FailedEnd => 0,
         Row::FailedHeard => aged_by(loss),
         Row::FailureCutsOff | Row::FailureCutsTrees => aged_by(loss) + 2 * way_span(paths),
-        Row::CutOff | Row::OneTurned | Row::TreeCutOff | Row::TreeTurned => 2 * way_span(paths),
+        Row::CutOff | Row::SystemTurned | Row::TreeCutOff | Row::TreeTurned => 2 * way_span(paths),
         Row::AnyLosses => any_loss_span(network, loss, paths),
         Row::Gained => gained,
     }
@@ -303,7 +303,7 @@ fn roles_by(network: &Network, loss: Loss, paths: SyncPaths, row: Row, gained: u
         Row::FailureCutsOff | Row::FailureCutsTrees => {
             quiet_by(network, loss, aged_by(loss) + 2 * way_span(paths))
         }
-        Row::CutOff | Row::OneTurned | Row::TreeCutOff | Row::TreeTurned => 2 * way_span(paths),
+        Row::CutOff | Row::SystemTurned | Row::TreeCutOff | Row::TreeTurned => 2 * way_span(paths),
         Row::AnyLosses => quiet_by(network, loss, any_loss_span(network, loss, paths)),
         Row::Gained => gained,
     }
@@ -378,7 +378,7 @@ fn sound_by(network: &Network, loss: Loss, paths: SyncPaths, row: Row, gained: u
             let aged = aged_by(loss) + 2 * way_span(paths);
             aged.max(aged_echo_span(network, loss, paths))
         }
-        Row::OneTurned | Row::TreeTurned => 2 * way_span(paths) + echo_span(network, paths),
+        Row::SystemTurned | Row::TreeTurned => 2 * way_span(paths) + echo_span(network, paths),
         Row::AnyLosses | Row::FailureCutsTrees => {
             quiet_by(network, loss, any_loss_span(network, loss, paths))
         }
@@ -407,7 +407,7 @@ fn retold_by(network: &Network, loss: Loss, paths: SyncPaths, row: Row, gained: 
         Row::FailureCutsOff | Row::FailureCutsTrees => {
             aged_by(loss) + 2 * way_span(paths) + echo_span(network, paths)
         }
-        Row::OneTurned | Row::TreeTurned => echo_span(network, paths) + 2 * way_span(paths),
+        Row::SystemTurned | Row::TreeTurned => echo_span(network, paths) + 2 * way_span(paths),
         Row::CutOff | Row::TreeCutOff => 2 * way_span(paths),
         Row::AnyLosses => any_loss_span(network, loss, paths),
         Row::Gained => gained,

@@ -24,7 +24,7 @@ use Rattle.gptp_how_soon.specs.Silent.{own_intervals}
 use Rattle.gptp_how_soon.specs.Times.{View, events_at, gained_at, last_set, loss_at, ready_at, row_at, settling_time, settling_times, settling_times_from, time_at, view_at}
 use Rattle.gptp_how_soon.specs.declared.bounds.Loss.{Loss}
 use Rattle.gptp_how_soon.specs.declared.bounds.Row.{Row}
-use Rattle.gptp_how_soon.specs.declared.bounds.Row.TheVariants.{AnyLosses, AnyPast, CutOff, FailedEnd, FailedHeard, FailureCutsOff, FailureCutsTrees, Gained, Lowered, OneTurned, TreeCutOff, TreeTurned, Unchanged}
+use Rattle.gptp_how_soon.specs.declared.bounds.Row.TheVariants.{AnyLosses, AnyPast, CutOff, FailedEnd, FailedHeard, FailureCutsOff, FailureCutsTrees, Gained, Lowered, SystemTurned, TreeCutOff, TreeTurned, Unchanged}
 use Rattle.gptp_how_soon.specs.declared.bounds.Settling.{Settling}
 use Rattle.gptp_how_soon.specs.declared.bounds.SettlingTime.{SettlingTime}
 use Rattle.gptp_settling_time.specs.HowSoon.{BeforeRepeats, BesideIdle, BoundsAging, BoundsAnyLoss, BoundsChoice, BoundsEvents, BoundsLoss, BoundsSplit, BoundsStart, BoundsTree, CutsOneEnd, FailsEndFirst, FailsHeardFirst, FailsTreesFirst, HeldFor, IsChoiceBoundAfter, IsLossBoundAfter, IsRestBoundAfter, LosesEvents, LowersOneLink, NoneBetween, RestsAfterLoss, RestsOnceTold, RestsTree, RolesAfterFailure, TreeNext, TurnsOneLink}
@@ -542,7 +542,7 @@ module _ (d : DocumentState) (playable : IsPlayable d) where
             → RolesAfterFailure n made now (if silent then max 0 (silence_span (pace_of n)) else 0)
         by true is = inr (omega arith)
         by false is = inl (none_left n playable.network all b at late is, refl)
-    asks_by OneTurned row own =
+    asks_by SystemTurned row own =
         let (rest, (g, turns)) = turned n playable.network all b at late well row in
         let way : ℕ = 2 * way_span v.paths in
         let same = same_paths n playable.network all b at late g in

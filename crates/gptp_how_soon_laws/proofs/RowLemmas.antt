@@ -22,7 +22,7 @@ use Rattle.gptp_how_soon.specs.Times.{View, events_at, gained_at, has_come_after
 use Rattle.gptp_how_soon.specs.Tree.{cuts_tree_after}
 use Rattle.gptp_how_soon.specs.TurnedTree.{turns_tree_after}
 use Rattle.gptp_how_soon.specs.declared.bounds.Row.{Row}
-use Rattle.gptp_how_soon.specs.declared.bounds.Row.TheVariants.{AnyLosses, CutOff, FailedEnd, FailedHeard, FailureCutsOff, FailureCutsTrees, Gained, Lowered, OneTurned, TreeCutOff, TreeTurned, Unchanged}
+use Rattle.gptp_how_soon.specs.declared.bounds.Row.TheVariants.{AnyLosses, CutOff, FailedEnd, FailedHeard, FailureCutsOff, FailureCutsTrees, Gained, Lowered, SystemTurned, TreeCutOff, TreeTurned, Unchanged}
 use Rattle.gptp_how_soon.specs.declared.bounds.Settling.{Settling}
 use Rattle.gptp_how_soon.specs.declared.bounds.SettlingTime.{SettlingTime}
 use Rattle.gptp_how_soon.specs.declared.kinds.Told.{Told}
@@ -74,7 +74,7 @@ module _ (n : NetworkState) (network : IsNetwork n) (events : List Timed) (b : S
     branch = is_lowering_followed v.paths_before v.paths v.told && v.moves.tree_turns;
     fails = is_failing_followed v.paths_before v.paths v.told && not v.moves.moved;
     far = v.moves.far;
-    any = v.moves.any;
+    moved = v.moves.any_moved;
     trees = is_failing_followed v.paths_before v.paths v.told && v.moves.trees_fall;
     loss = list_any is_loss v.told;
     only = list_all brings_nothing v.told;
@@ -429,10 +429,10 @@ module _ (n : NetworkState) (network : IsNetwork n) (events : List Timed) (b : S
       }
 
   -- or one system turns
-  pub turned : AreWell n (made ++ now) → row_at v ≡ OneTurned
+  pub turned : AreWell n (made ++ now) → row_at v ≡ SystemTurned
       → HasComeToRest b at × ((g : GoesFirst) × TurnsLink n made g.x.event)
   turned well row =
-      let (from, turns) = why OneTurned row in
+      let (from, turns) = why SystemTurned row in
       let (followed, one) = and_parts (is_lowering_followed v.paths_before v.paths v.told) v.moves.turned turns in
       let (keeps, lowers) = and_parts (keeps_paths v.paths_before v.paths) (lowers_one v.told) followed in
       let g = goes_first keeps lowers in (
