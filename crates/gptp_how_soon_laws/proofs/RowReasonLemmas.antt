@@ -81,15 +81,15 @@ reason true false false true false turns falls branch fails far moved trees loss
 reason true false false false cut true falls branch fails far moved trees loss only = (refl, refl)
 reason true false false false cut false true branch fails far moved trees loss only = (refl, refl)
 reason true false false false cut false false true fails far moved trees loss only = (refl, refl)
-reason true false false false cut false false false true true any trees loss only = (refl, refl, refl)
+reason true false false false cut false false false true true moved trees loss only = (refl, refl, refl)
 reason true false false false cut false false false true false true trees loss only = (refl, refl)
 reason true false false false cut false false false true false false trees loss only = (refl, refl)
-reason true false false false cut false false false false far any true loss only = (refl, refl)
-reason true false false false cut false false false false far any false true true = (refl, refl, refl)
-reason true false false false cut false false false false far any false true false = tt
-reason true false false false cut false false false false far any false false only = (refl, refl, refl)
+reason true false false false cut false false false false far moved true loss only = (refl, refl)
+reason true false false false cut false false false false far moved false true true = (refl, refl, refl)
+reason true false false false cut false false false false far moved false true false = tt
+reason true false false false cut false false false false far moved false false only = (refl, refl, refl)
 
 pub reason_of : (t : Tests) (row : Row) → RowBy t ≡ row → ReasonOf t row
 reason_of t row is =
     subst (ReasonOf t) is
-    (reason t.rest t.idle t.left t.lowers t.cut t.turns t.falls t.branch t.fails t.far t.any t.trees t.loss t.only)
+    (reason t.rest t.idle t.left t.lowers t.cut t.turns t.falls t.branch t.fails t.far t.moved t.trees t.loss t.only)
