@@ -193,20 +193,28 @@ lost = inr (inr (inr (
   record { links = links_rest; lapses = inl refl },
   refl,
   comes_after fails,
-  (fails_trees, tt),
   (
-    3000000410,
-    11000000000,
-    inr (
-      (
-        aging_span (pace_of ring_network) (sync_paths ring_network before),
-        fail_within ring_network before (later fails) first.clock refl,
-        ages,
-      ),
-      silent,
-    ),
-    ways,
+    later fails ∷ [],
+    [],
     refl,
+    tt,
+    (
+      (fails_trees, tt),
+      (
+        3000000410,
+        11000000000,
+        inr (
+          (
+            aging_span (pace_of ring_network) (sync_paths ring_network before),
+            fail_within ring_network before (later fails) first.clock refl,
+            ages,
+          ),
+          silent,
+        ),
+        ways,
+        refl,
+      ),
+    ),
   ),
 )))
   where

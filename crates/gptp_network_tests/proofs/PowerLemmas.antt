@@ -194,12 +194,22 @@ lost = inl (
       ((λ later. omega arith), ((λ later. omega arith), ((λ later. omega arith), tt))),
   record { links = links_rest; lapses = inl refl },
   refl,
-  (1000003050, (refl, ring_begun), omega arith),
-  inr (inl (
-    (fails, (lowers_first, (lowers_second, tt))),
-    refl,
-    inl (up_none_silent ring_network [] both_down used, refl),
-  )),
+  (
+    1000003050,
+    (refl, ring_begun),
+    omega arith,
+    inl (inl (
+      both_down,
+      [],
+      refl,
+      tt,
+      inr (inl (
+        (fails, (inl lowers_first, (inl lowers_second, tt))),
+        refl,
+        inl (up_none_silent ring_network [] both_down used, refl),
+      )),
+    )),
+  ),
 )
 
 pub dark_choice : IsChoiceAloneBound dark_document 30000000000 0
