@@ -24,6 +24,7 @@ use Rattle.gptp_network.specs.Snapshot.{StandsAfter, joins_two, link_of, system_
 use Rattle.gptp_theorem.proofs.EventLemmas.{system_behind}
 use Rattle.gptp_topology.specs.After.{standing_then, standings_after, system_then, systems_after}
 use Rattle.gptp_topology.specs.Course.{cable_is_used, cable_of}
+use Rattle.gptp_topology.specs.declared.nodes.System.{System}
 use Rattle.gptp_how_soon.specs.Chosen.{any_joined_moved, any_moved, chosen_after, chosen_over, ends_in_use, ends_of, lost_ends, moves_joined, moves_some, used_ends}
 use Rattle.gptp_how_soon.specs.CutTrees.{cuts_trees, cuts_trees_after}
 use Rattle.gptp_how_soon.specs.Far.{all_cut_far_ends, cut_far_ends_after}
@@ -70,6 +71,14 @@ pub record IsSame (n : NetworkState) (events more : List Timed) : Type 0 where
   pub members : (m : SystemSpec) → In m n.systems → system_after more m ≡ system_after events m
   pub links : (v : LinkSpec) → In v n.links → link_after more v ≡ link_after events v
 
+-- a system with this identity that lives or has failed
+state : ℕ → Bool → State
+state identity live = record { identity = identity; live = live }
+
+state_is : (s t : State) → s.identity ≡ t.identity → s.live ≡ t.live → s ≡ t
+unfolding state
+state_is s t identity live = ap₂ state identity live
+
 -- such an event sets no identity
 live_alone : (test live : Bool) (s : State) → (if test then with_live live s else s).identity ≡ s.identity
 live_alone true live s = refl
@@ -94,7 +103,7 @@ module _ (n : NetworkState) (network : IsNetwork n) where
       let same : StandSame n made (made ++ event ∷ []) = idle_same n network made event nothing in
       record {
         members = λ m member.
-            ap₂ (λ (identity : ℕ) (live : Bool). record { identity = identity; live = live })
+            state_is (system_after (made ++ event ∷ []) m) (system_after made m)
             (ap (λ (s : State). s.identity) (system_behind made event (clock_of m.identity) (standing m))
             ∙ identity_stays event.act (clock_of m.identity) (system_after made m) other)
             (same.systems m member);
@@ -122,6 +131,10 @@ each_same f g [] same = refl
 each_same f g (x ∷ xs) same =
     ap₂ (λ y ys. y ∷ ys) (same x (inl refl)) (each_same f g xs (λ y member. same y (inr member)))
 
+-- a system of the network as it is seen
+abbrev seen_as : SystemSpec → State → System
+seen_as m s = record { clock = clock_of m.identity; identity = s.identity; lives = s.live }
+
 module _ (n : NetworkState) (events more : List Timed) (same : IsSame n events more) where
   pub stand_same : StandSame n events more
   stand_same = record {
@@ -134,9 +147,8 @@ module _ (n : NetworkState) (events more : List Timed) (same : IsSame n events m
 
   pub systems_seen : systems_after n more ≡ systems_after n events
   systems_seen =
-      each_same (system_then more) (system_then events) n.systems (λ m member.
-      ap (λ (s : State). record { clock = clock_of m.identity; identity = s.identity; lives = s.live })
-      (same.members m member))
+      each_same (system_then more) (system_then events) n.systems
+      (λ m member. ap (seen_as m) (same.members m member))
 
   pub standings_seen : standings_after n more ≡ standings_after n events
   standings_seen =
@@ -229,7 +241,7 @@ pub record LowersFirst (n : NetworkState) (made now : List Timed) : Type 0 where
   pub others : List Timed
   pub split : now ≡ event ∷ others
   pub lowers : is_lowering (told_at n made event.act) ≡ true
-  pub repeats : EachEvent (Repeats n) (made ++ event ∷ []) others
+  pub each : EachEvent (Repeats n) (made ++ event ∷ []) others
 
 pub lowers_first : (n : NetworkState) → IsNetwork n → (made now : List Timed) → lowers_one (told_of n made now) ≡ true
     → LowersFirst n made now
@@ -242,7 +254,7 @@ lowers_first n network made (event ∷ others) is =
       others = others;
       split = refl;
       lowers = lowers;
-      repeats = each_repeats n network (made ++ event ∷ []) others rest;
+      each = each_repeats n network (made ++ event ∷ []) others rest;
     }
 
 module _ (n : NetworkState) (network : IsNetwork n) (made now : List Timed) (x : LowersFirst n made now) where
@@ -252,7 +264,7 @@ module _ (n : NetworkState) (network : IsNetwork n) (made now : List Timed) (x :
   pub first_same : IsSame n (made ++ x.event ∷ []) (made ++ now)
   first_same =
       subst (IsSame n (made ++ x.event ∷ [])) whole
-      (repeats_same n network (made ++ x.event ∷ []) x.others x.repeats)
+      (repeats_same n network (made ++ x.event ∷ []) x.others x.each)
 
   pub first_well : AreWell n (made ++ now) → AreWell n (made ++ x.event ∷ [])
   first_well well events left are =
@@ -261,4 +273,4 @@ module _ (n : NetworkState) (network : IsNetwork n) (made now : List Timed) (x :
 
   -- what is so of it is so before those that repeat what stands
   pub before_repeats : (Are : List Timed → List Timed → Type 0) → Are made (x.event ∷ []) → BeforeRepeats n Are made now
-  before_repeats Are is = (x.event ∷ [], x.others, x.split, x.repeats, is)
+  before_repeats Are is = (x.event ∷ [], x.others, x.split, x.each, is)
