@@ -72,11 +72,10 @@ pub record IsSame (n : NetworkState) (events more : List Timed) : Type 0 where
   pub links : (v : LinkSpec) → In v n.links → link_after more v ≡ link_after events v
 
 -- a system with this identity that lives or has failed
-state : ℕ → Bool → State
+abbrev state : ℕ → Bool → State
 state identity live = record { identity = identity; live = live }
 
 state_is : (s t : State) → s.identity ≡ t.identity → s.live ≡ t.live → s ≡ t
-unfolding state
 state_is s t identity live = ap₂ state identity live
 
 -- such an event sets no identity
