@@ -13,7 +13,7 @@ use Rattle.gptp_how_soon.specs.Kinds.{recovers}
 use Rattle.gptp_how_soon.specs.Links.{varies}
 use Rattle.gptp_how_soon.specs.declared.bounds.Loss.{Loss}
 use Rattle.gptp_how_soon.specs.declared.bounds.Row.{Row}
-use Rattle.gptp_how_soon.specs.declared.bounds.Row.TheVariants.{AnyLosses, AnyPast, CutOff, FailedEnd, FailedHeard, FailureCutsOff, FailureCutsTrees, Gained, Lowered, OneTurned, TreeCutOff, TreeTurned, Unchanged}
+use Rattle.gptp_how_soon.specs.declared.bounds.Row.TheVariants.{AnyLosses, AnyPast, CutOff, FailedEnd, FailedHeard, FailureCutsOff, FailureCutsTrees, Gained, Lowered, SystemTurned, TreeCutOff, TreeTurned, Unchanged}
 use Rattle.gptp_how_soon.specs.declared.bounds.Settling.{Settling}
 use Rattle.gptp_how_soon.specs.declared.bounds.SettlingTime.{SettlingTime}
 use Rattle.gptp_how_soon.specs.declared.kinds.Told.{Told}
@@ -77,7 +77,7 @@ choice_of_row n loss paths CutOff gained = 2 * way_span paths
 choice_of_row n loss paths FailedEnd gained = 0
 choice_of_row n loss paths FailedHeard gained = aged_by loss
 choice_of_row n loss paths FailureCutsOff gained = aged_by loss + 2 * way_span paths
-choice_of_row n loss paths OneTurned gained = 2 * way_span paths
+choice_of_row n loss paths SystemTurned gained = 2 * way_span paths
 choice_of_row n loss paths TreeCutOff gained = 2 * way_span paths
 choice_of_row n loss paths TreeTurned gained = 2 * way_span paths
 choice_of_row n loss paths FailureCutsTrees gained = aged_by loss + 2 * way_span paths
@@ -98,7 +98,7 @@ roles_of_row n loss paths CutOff gained = 2 * way_span paths
 roles_of_row n loss paths FailedEnd gained = quiet_by n loss 0
 roles_of_row n loss paths FailedHeard gained = quiet_by n loss (choice_of_row n loss paths FailedHeard gained)
 roles_of_row n loss paths FailureCutsOff gained = quiet_by n loss (choice_of_row n loss paths FailureCutsOff gained)
-roles_of_row n loss paths OneTurned gained = choice_of_row n loss paths OneTurned gained
+roles_of_row n loss paths SystemTurned gained = choice_of_row n loss paths SystemTurned gained
 roles_of_row n loss paths TreeCutOff gained = choice_of_row n loss paths TreeCutOff gained
 roles_of_row n loss paths TreeTurned gained = choice_of_row n loss paths TreeTurned gained
 roles_of_row n loss paths FailureCutsTrees gained =
@@ -140,7 +140,7 @@ sound_of_row n loss paths FailedEnd gained = quiet_by n loss (gone_by n loss.pat
 sound_of_row n loss paths FailedHeard gained = aged_echo_span n loss paths
 sound_of_row n loss paths FailureCutsOff gained =
     max (aged_by loss + 2 * way_span paths) (aged_echo_span n loss paths)
-sound_of_row n loss paths OneTurned gained = 2 * way_span paths + echo_span (pace_of n) paths
+sound_of_row n loss paths SystemTurned gained = 2 * way_span paths + echo_span (pace_of n) paths
 sound_of_row n loss paths TreeCutOff gained = max (2 * way_span paths) (gone_by n paths loss.used_before)
 sound_of_row n loss paths TreeTurned gained = 2 * way_span paths + echo_span (pace_of n) paths
 sound_of_row n loss paths FailureCutsTrees gained = quiet_by n loss (any_loss_span n loss paths)
@@ -158,7 +158,7 @@ abbrev pub echo_of_row : NetworkState → SyncPaths → Row → ℕ
 echo_of_row n paths Lowered = echo_span (pace_of n) paths
 echo_of_row n paths FailedHeard = echo_span (pace_of n) paths
 echo_of_row n paths FailureCutsOff = echo_span (pace_of n) paths
-echo_of_row n paths OneTurned = echo_span (pace_of n) paths
+echo_of_row n paths SystemTurned = echo_span (pace_of n) paths
 echo_of_row n paths TreeTurned = echo_span (pace_of n) paths
 echo_of_row n paths FailureCutsTrees = echo_span (pace_of n) paths
 echo_of_row n paths row = 0

@@ -168,6 +168,10 @@ leaves_links e = makes_nothing e || (is_loss e && is_priority1 e)
 abbrev pub lowers_unused : Told → Bool
 lowers_unused e = is_unused e && is_link_down e
 
+-- it repeats what stands: it changes nothing, and sets no priority1
+abbrev pub repeats : Told → Bool
+repeats e = is_idle e && not (is_priority1 e)
+
 -- an act sets the bounds of a link, idly or not
 abbrev pub sets_bounds : Act → Bool
 sets_bounds act = elim (what_of act) [ whats.LinkSet ↦ true | _ ↦ false ]
@@ -187,16 +191,18 @@ abbrev pub first_wider_by : List Told → ℕ
 first_wider_by [] = 0
 first_wider_by (e ∷ es) = wider_by e
 
--- one event comes, by which a link in use goes down
+-- a link in use goes down by the first, and the others repeat what stands
 abbrev pub lowers_one : List Told → Bool
 lowers_one [] = false
-lowers_one (e ∷ []) = is_lowering e
-lowers_one (e ∷ f ∷ es) = false
+lowers_one (e ∷ es) = is_lowering e && list_all repeats es
 
--- a live system fails by the first, and by the others links go down of which an end has failed
+-- A live system fails by the first. By the others links go down of which an end has failed, or they repeat what stands.
+abbrev pub is_down_too : Told → Bool
+is_down_too e = lowers_unused e || repeats e
+
 abbrev pub fails_first : List Told → Bool
 fails_first [] = false
-fails_first (e ∷ es) = is_failing e && list_all lowers_unused es
+fails_first (e ∷ es) = is_failing e && list_all is_down_too es
 
 -- one link or one system is taken away
 abbrev pub takes_one : List Told → Bool

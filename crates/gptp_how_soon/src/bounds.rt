@@ -63,9 +63,10 @@ pub enum Row {
     AnyPast,
     /// Its events leave what stands as it was.
     Unchanged,
-    /// By its one event a link goes down. No system is moved but such as are cut off, none of which was a far end.
+    /// By the first event a link goes down, and the others repeat what stands. No system is moved but such as are cut
+    /// off, none of which was a far end.
     Lowered,
-    /// By its one event a link goes down that cuts off its far end. No other system is moved.
+    /// One link goes down so that cuts off its far end. No other system is moved.
     CutOff,
     /// A system fails that was the far end of its links.
     FailedEnd,
@@ -73,11 +74,11 @@ pub enum Row {
     FailedHeard,
     /// So it is, but systems are moved, all of which are cut off.
     FailureCutsOff,
-    /// By its one event a link goes down that moves one system alone. That keeps its root, and turns to others for it.
-    OneTurned,
-    /// By its one event a link goes down that cuts off a tree, whose systems have a worse root then.
+    /// One link goes down so that moves one system alone. That keeps its root, and turns to others for it.
+    SystemTurned,
+    /// One link goes down so that cuts off a tree, whose systems have a worse root then.
     TreeCutOff,
-    /// By its one event a link goes down that moves a tree. Its systems keep their root, and get it by one other link.
+    /// One link goes down so that moves a tree. Its systems keep their root, and get it by one other link.
     TreeTurned,
     /// A system fails, and all that are moved are trees that it cuts off.
     FailureCutsTrees,
@@ -275,7 +276,7 @@ fn choice_by(network: &Network, loss: Loss, paths: SyncPaths, row: Row, gained: 
         Row::Unchanged | Row::Lowered | Row::FailedEnd => 0,
         Row::FailedHeard => aged_by(loss),
         Row::FailureCutsOff | Row::FailureCutsTrees => aged_by(loss) + 2 * way_span(paths),
-        Row::CutOff | Row::OneTurned | Row::TreeCutOff | Row::TreeTurned => 2 * way_span(paths),
+        Row::CutOff | Row::SystemTurned | Row::TreeCutOff | Row::TreeTurned => 2 * way_span(paths),
         Row::AnyLosses => any_loss_span(network, loss, paths),
         Row::Gained => gained,
     }
@@ -302,7 +303,7 @@ fn roles_by(network: &Network, loss: Loss, paths: SyncPaths, row: Row, gained: u
         Row::FailureCutsOff | Row::FailureCutsTrees => {
             quiet_by(network, loss, aged_by(loss) + 2 * way_span(paths))
         }
-        Row::CutOff | Row::OneTurned | Row::TreeCutOff | Row::TreeTurned => 2 * way_span(paths),
+        Row::CutOff | Row::SystemTurned | Row::TreeCutOff | Row::TreeTurned => 2 * way_span(paths),
         Row::AnyLosses => quiet_by(network, loss, any_loss_span(network, loss, paths)),
         Row::Gained => gained,
     }
@@ -377,7 +378,7 @@ fn sound_by(network: &Network, loss: Loss, paths: SyncPaths, row: Row, gained: u
             let aged = aged_by(loss) + 2 * way_span(paths);
             aged.max(aged_echo_span(network, loss, paths))
         }
-        Row::OneTurned | Row::TreeTurned => 2 * way_span(paths) + echo_span(network, paths),
+        Row::SystemTurned | Row::TreeTurned => 2 * way_span(paths) + echo_span(network, paths),
         Row::AnyLosses | Row::FailureCutsTrees => {
             quiet_by(network, loss, any_loss_span(network, loss, paths))
         }
@@ -406,7 +407,7 @@ fn retold_by(network: &Network, loss: Loss, paths: SyncPaths, row: Row, gained: 
         Row::FailureCutsOff | Row::FailureCutsTrees => {
             aged_by(loss) + 2 * way_span(paths) + echo_span(network, paths)
         }
-        Row::OneTurned | Row::TreeTurned => echo_span(network, paths) + 2 * way_span(paths),
+        Row::SystemTurned | Row::TreeTurned => echo_span(network, paths) + 2 * way_span(paths),
         Row::CutOff | Row::TreeCutOff => 2 * way_span(paths),
         Row::AnyLosses => any_loss_span(network, loss, paths),
         Row::Gained => gained,

@@ -13,6 +13,7 @@ use Rattle.gptp_scenario.specs.Network.{NetworkState, pace_of}
 use Rattle.gptp_scenario.specs.SettlingTime.{echo_span, silence_span, way_span, window_span}
 use Rattle.gptp_scenario.specs.SyncWait.{sync_paths}
 use Rattle.gptp_scenario.specs.declared.change.Timed.{Timed}
+use Rattle.gptp_scenario.specs.declared.sync_wait.SyncPaths.{SyncPaths}
 use Rattle.gptp_network.specs.Document.{DocumentState}
 use Rattle.gptp_network.specs.Snapshot.{events_by}
 use Rattle.gptp_network.proofs.SnapshotLemmas.{from_filter}
@@ -23,20 +24,21 @@ use Rattle.gptp_how_soon.specs.Silent.{own_intervals}
 use Rattle.gptp_how_soon.specs.Times.{View, events_at, gained_at, last_set, loss_at, ready_at, row_at, settling_time, settling_times, settling_times_from, time_at, view_at}
 use Rattle.gptp_how_soon.specs.declared.bounds.Loss.{Loss}
 use Rattle.gptp_how_soon.specs.declared.bounds.Row.{Row}
-use Rattle.gptp_how_soon.specs.declared.bounds.Row.TheVariants.{AnyLosses, AnyPast, CutOff, FailedEnd, FailedHeard, FailureCutsOff, FailureCutsTrees, Gained, Lowered, OneTurned, TreeCutOff, TreeTurned, Unchanged}
+use Rattle.gptp_how_soon.specs.declared.bounds.Row.TheVariants.{AnyLosses, AnyPast, CutOff, FailedEnd, FailedHeard, FailureCutsOff, FailureCutsTrees, Gained, Lowered, SystemTurned, TreeCutOff, TreeTurned, Unchanged}
 use Rattle.gptp_how_soon.specs.declared.bounds.Settling.{Settling}
 use Rattle.gptp_how_soon.specs.declared.bounds.SettlingTime.{SettlingTime}
-use Rattle.gptp_settling_time.specs.HowSoon.{BesideIdle, BoundsAging, BoundsAnyLoss, BoundsChoice, BoundsEvents, BoundsLoss, BoundsSplit, BoundsStart, BoundsTree, CutsOneEnd, FailsEndFirst, FailsHeardFirst, FailsTreesFirst, HeldFor, IsChoiceBoundAfter, IsLossBoundAfter, IsRestBoundAfter, LosesEvents, LowersOneLink, NoneBetween, OneEvent, RestsAfterLoss, RestsOnceTold, RestsTree, RolesAfterFailure, TreeNext, TurnsOneLink}
+use Rattle.gptp_settling_time.specs.HowSoon.{BeforeRepeats, BesideIdle, BoundsAging, BoundsAnyLoss, BoundsChoice, BoundsEvents, BoundsLoss, BoundsSplit, BoundsStart, BoundsTree, CutsOneEnd, FailsEndFirst, FailsHeardFirst, FailsTreesFirst, HeldFor, IsChoiceBoundAfter, IsLossBoundAfter, IsRestBoundAfter, LosesEvents, LowersOneLink, NoneBetween, RestsAfterLoss, RestsOnceTold, RestsTree, RolesAfterFailure, TreeNext, TurnsOneLink}
 use Rattle.gptp_settling_time.specs.InTurn.{FlightIsGone, turned_echo_span}
 use Rattle.gptp_settling_time.specs.Losses.{NoneSilent}
 use Rattle.gptp_settling_time.specs.TreeLosses.{LowersTree, TurnsTreeLink}
-use Rattle.gptp_settling_time.proofs.BesideIdleLemmas.{before_none, beside_none}
+use Rattle.gptp_settling_time.proofs.BesideIdleLemmas.{before_none}
 use Rattle.gptp_settling_time.proofs.MomentLemmas.{all_at, last_by, parted}
 use Rattle.gptp_settling_time.proofs.WellFormedLemmas.{after_well}
 use Rattle.gptp_how_soon_laws.specs.Choice.{SettlingsAreChoiceBounds}
 use Rattle.gptp_how_soon_laws.proofs.FailedLemmas.{used_up}
 use Rattle.gptp_how_soon_laws.proofs.RowBoundLemmas.{HasOwnBounds, IsSoundSooner, IsTelling, bounds_choice, choice_or_own, past_row, sound_or_sooner, tells}
-use Rattle.gptp_how_soon_laws.proofs.RowLemmas.{ComesLate, CutsLate, FailsLate, cut_off, failed, failure_cuts, gained, heard, losses, lowered, none_left, tree_cut, tree_turned, turned, unchanged}
+use Rattle.gptp_how_soon_laws.proofs.RowLemmas.{ComesLate, CutsLate, FailsLate, GoesFirst, cut_off, failed, failure_cuts, gained, heard, losses, lowered, none_left, same_paths, tree_cut, tree_turned, turned, unchanged}
+use Rattle.gptp_how_soon_laws.proofs.RepeatLemmas.{before_repeats}
 use Rattle.gptp_how_soon_laws.proofs.RowTestLemmas.{HasComeToRest}
 use Rattle.gptp_how_soon_laws.proofs.SilentLemmas.{held_for, last_now, none_ages}
 use Rattle.gptp_how_soon_laws.proofs.StartRowLemmas.{first_past, first_roles, first_sound, never_unchanged, started}
@@ -252,31 +254,64 @@ module _ (d : DocumentState) (playable : IsPlayable d) where
     some_trees : FailsTreesFirst n made now → now ≡ [] → ⊥
     some_trees = some_now (FailsTreesFirst n made) (λ none. none)
 
-    -- no event stands beside what is lost
-    beside : (settled : ℕ) (Are : List Timed → List Timed → Type 0) → (now ≡ [] → ⊥) → Are made now
+    -- no other event stands beside what is lost but such as repeat what stands
+    beside : (settled : ℕ) (Are : List Timed → List Timed → Type 0) → (now ≡ [] → ⊥) → BeforeRepeats n Are made now
         → BesideIdle n settled at Are made now
     beside settled Are some is = by now refl
       where
         by : (events : List Timed) → now ≡ events → BesideIdle n settled at Are made events
         by [] none = absurd (some none)
-        by (event ∷ events) same = beside_none n settled at Are made event events (subst (Are made) same is)
+        by (event ∷ events) same = inl (inl (subst (BeforeRepeats n Are made) same is))
 
-    -- an event comes by which something is taken away
-    some_lost : (choice roles : ℕ) → BoundsLoss n made now choice roles → now ≡ [] → ⊥
-    some_lost choice roles (inl (lowers, same, which)) = some_now (LowersOneLink n made) (λ none. none) lowers
-    some_lost choice roles (inr (inl (fails, none, which))) = some_now (FailsEndFirst n made) (λ none. none) fails
-    some_lost choice roles (inr (inr (inl (turns, is, same)))) = some_now (TurnsOneLink n made) (λ none. none) turns
-    some_lost choice roles (inr (inr (inr (inl (fails, aging))))) = some_heard fails
-    some_lost choice roles (inr (inr (inr (inr (loses, is, later))))) =
-        some_now (LosesEvents n made) (λ none. none) loses
+    -- some event comes by which something is taken away
+    some_before : (Are : List Timed → List Timed → Type 0) → ((events : List Timed) → Are made events → events ≡ [] → ⊥)
+        → BeforeRepeats n Are made now → now ≡ [] → ⊥
+    some_before Are some (first, others, split, each, are) none = by first refl
+      where
+        by : (events : List Timed) → first ≡ events → ⊥
+        by [] is = some first are is
+        by (event ∷ events) is = let no = sym none ∙ split ∙ ap (λ es. es ++ others) is in absurd cc
 
-    some_rested : (sound : ℕ) → RestsAfterLoss n made now sound → now ≡ [] → ⊥
-    some_rested sound (inl (inl (cuts, gone))) = some_now (CutsOneEnd n made) (λ none. none) cuts
-    some_rested sound (inl (inr (inl (fails, gone)))) = some_now (FailsEndFirst n made) (λ none. none) fails
-    some_rested sound (inl (inr (inr (inl (lowers, gone))))) = some_now (LowersOneLink n made) (λ none. none) lowers
-    some_rested sound (inl (inr (inr (inr (inl (turns, is)))))) = some_now (TurnsOneLink n made) (λ none. none) turns
-    some_rested sound (inl (inr (inr (inr (inr (fails, told)))))) = some_heard fails
-    some_rested sound (inr (choice, bounds)) = some_now (LosesEvents n made) (λ none. none) bounds.0
+    some_of : (Are : List Timed → Type 0) → (Are [] → ⊥) → (events : List Timed) → Are events → events ≡ [] → ⊥
+    some_of Are none events are same = none (subst Are same are)
+
+    some_lost : (choice roles : ℕ) (events : List Timed) → BoundsLoss n made events choice roles → events ≡ [] → ⊥
+    some_lost choice roles events (inl (lowers, same, which)) =
+        some_of (LowersOneLink n made) (λ none. none) events lowers
+    some_lost choice roles events (inr (inl (fails, none, which))) =
+        some_of (FailsEndFirst n made) (λ none. none) events fails
+    some_lost choice roles events (inr (inr (inl (turns, is, same)))) =
+        some_of (TurnsOneLink n made) (λ none. none) events turns
+    some_lost choice roles events (inr (inr (inr (inl (fails, aging))))) =
+        some_of (FailsHeardFirst n made) (λ none. none) events fails
+    some_lost choice roles events (inr (inr (inr (inr (loses, is, later))))) =
+        some_of (LosesEvents n made) (λ none. none) events loses
+
+    some_rested : (sound : ℕ) (events : List Timed) → RestsAfterLoss n made events sound → events ≡ [] → ⊥
+    some_rested sound events (inl (inl (cuts, gone))) = some_of (CutsOneEnd n made) (λ none. none) events cuts
+    some_rested sound events (inl (inr (inl (fails, gone)))) =
+        some_of (FailsEndFirst n made) (λ none. none) events fails
+    some_rested sound events (inl (inr (inr (inl (lowers, gone))))) =
+        some_of (LowersOneLink n made) (λ none. none) events lowers
+    some_rested sound events (inl (inr (inr (inr (inl (turns, is)))))) =
+        some_of (TurnsOneLink n made) (λ none. none) events turns
+    some_rested sound events (inl (inr (inr (inr (inr (fails, told)))))) =
+        some_of (FailsHeardFirst n made) (λ none. none) events fails
+    some_rested sound events (inr (choice, bounds)) = some_of (LosesEvents n made) (λ none. none) events bounds.0
+
+    -- what is so of all events, or of the first, before such that repeat what stands
+    alone : (Are : List Timed → List Timed → Type 0) → Are made now → BeforeRepeats n Are made now
+    alone Are is = before_none n Are made now is
+
+    behind : (g : GoesFirst n playable.network all b at late) (Are : List Timed → List Timed → Type 0)
+        → Are made (g.x.event ∷ []) → BeforeRepeats n Are made now
+    behind g Are is = before_repeats n playable.network made now g.x Are is
+
+    abbrev Resting : ℕ → List Timed → List Timed → Type 0
+    Resting sound made now = RestsAfterLoss n made now sound
+
+    abbrev Losing : ℕ → ℕ → List Timed → List Timed → Type 0
+    Losing choice roles made now = BoundsLoss n made now choice roles
 
     -- an event of this kind comes once what was in flight has arrived, and all ask for this
     tree_next : (Is : List Timed → Timed → Type 0) (Asks : List Timed → Type 0) → IsCalm n (events_by at all)
@@ -289,14 +324,14 @@ module _ (d : DocumentState) (playable : IsPlayable d) where
       calm,
       off,
       (rest.settling.sound, (sound_before rest).0, tree.come),
-      before_none n (OneEvent Is) made now tree.lowers,
+      tree.lowers,
       subst Asks (sym (parted all b.at at playable.events.in_order late between)) asks,
     )
 
     -- it comes to rest so after a loss, after a tree is cut off, or after one turns
     abbrev Rests : ℕ → Type 0
     Rests sound =
-        (HasComeToRest b at × RestsAfterLoss n made now sound)
+        (HasComeToRest b at × BeforeRepeats n (Resting sound) made now)
         ⊎ (((rest : HasComeToRest b at) × CutsLate n playable.network all b at late rest
         × (sound ≡ max (2 * way_span v.paths) (gone_by n v.paths v.used_before)))
         ⊎ ((rest : HasComeToRest b at) × ComesLate n playable.network all b at late (TurnsTreeLink n) rest
@@ -315,7 +350,7 @@ module _ (d : DocumentState) (playable : IsPlayable d) where
             rest.settling.sound,
             bound,
             past,
-            beside (b.at + rest.settling.sound) (λ made now. RestsAfterLoss n made now sound) (some_rested sound loses)
+            beside (b.at + rest.settling.sound) (Resting sound) (some_before (Resting sound) (some_rested sound) loses)
                 loses,
           ),
         ))
@@ -331,7 +366,7 @@ module _ (d : DocumentState) (playable : IsPlayable d) where
         → IsSoundSooner n loss v.paths (row_at v) (sound_by n loss v.paths (row_at v) (gained_at n v)) → Rests sound
     rests_by sound told (inl (row, is)) =
         let (rest, fails, flight) = failed n playable.network all b at late well row in
-        inl (rest, inl (inr (inl (fails, by v.silent refl flight (told ∙ is)))))
+        inl (rest, alone (Resting sound) (inl (inr (inl (fails, by v.silent refl flight (told ∙ is))))))
       where
         gone : ℕ
         gone = gone_by n v.paths_before v.used_before
@@ -344,25 +379,33 @@ module _ (d : DocumentState) (playable : IsPlayable d) where
         by false silent flight same =
             inl (none_left n playable.network all b at late silent, subst (FlightIsGone n made) (sym same) flight)
     rests_by sound told (inr (inl (row, is))) =
-        let (rest, lowers, flight) = lowered n playable.network all b at late well row in
-        inl (rest, inl (inr (inr (inl (lowers, (gone_by n v.paths v.used_before, flight, told ∙ is))))))
+        let (rest, (l, flight)) = lowered n playable.network all b at late well row in
+        let same = same_paths n playable.network all b at late l.first in
+        let gone : ℕ = gone_by n v.paths v.used_before in
+        let is_first = told ∙ is ∙ ap (λ (p : SyncPaths). max (echo_span (pace_of n) p) gone) same in
+        inl (rest, behind l.first (Resting sound) (inl (inr (inr (inl (l.lowers, (gone, flight, is_first)))))))
     rests_by sound told (inr (inr (inl (row, is)))) =
         let x = cut_off n playable.network all b at late well row in
-        inl (x.rested, inl (inl (x.cuts, (gone_by n v.paths v.used_before, x.flight, told ∙ is))))
+        let same = same_paths n playable.network all b at late x.none.first in
+        let gone : ℕ = gone_by n v.paths v.used_before in
+        let is_first = told ∙ is ∙ ap (λ (p : SyncPaths). max (2 * way_span p) gone) same in
+        inl (x.rested, behind x.none.first (Resting sound) (inl (inl (x.cuts, (gone, x.flight, is_first)))))
     rests_by sound told (inr (inr (inr (inl (inr row, is))))) =
         let (rest, tree) = tree_turned n playable.network all b at late well row in
         inr (inr (rest, tree, told ∙ is))
     rests_by sound told (inr (inr (inr (inl (inl row, is))))) =
-        let (rest, turns) = turned n playable.network all b at late well row in
-        inl (rest, inl (inr (inr (inr (inl (turns, told ∙ is))))))
+        let (rest, (g, turns)) = turned n playable.network all b at late well row in
+        let same = same_paths n playable.network all b at late g in
+        let is_first = told ∙ is ∙ ap (λ (p : SyncPaths). 2 * way_span p + echo_span (pace_of n) p) same in
+        inl (rest, behind g (Resting sound) (inl (inr (inr (inr (inl (turns, is_first)))))))
     rests_by sound told (inr (inr (inr (inr (inl (row, long)))))) =
         let (rest, fails) = heard n playable.network all b at late well row in
         inl (
           rest,
-          inl (inr (inr (inr (inr (
+          alone (Resting sound) (inl (inr (inr (inr (inr (
             fails,
             by (some_heard fails) v.used refl (subst (λ t. aged_echo_span n loss v.paths ≤ t) (sym told) long),
-          ))))),
+          )))))),
         )
       where
         by : (now ≡ [] → ⊥) → (used : Bool) → v.used ≡ used
@@ -378,11 +421,11 @@ module _ (d : DocumentState) (playable : IsPlayable d) where
         let (rest, loses, roles) = losses n playable.network all b at late row in
         inl (
           rest,
-          inr (
+          alone (Resting sound) (inr (
             any_loss_span n loss v.paths,
             subst (λ t. BoundsAnyLoss n made now (any_loss_span n loss v.paths) t) (sym (told ∙ is))
                 (loses, refl, roles (any_loss_span n loss v.paths)),
-          ),
+          )),
         )
     rests_by sound told (inr (inr (inr (inr (inr (inr (row, is))))))) =
         let (rest, tree) = tree_cut n playable.network all b at late well row in inr (inl (rest, tree, told ∙ is))
@@ -407,7 +450,7 @@ module _ (d : DocumentState) (playable : IsPlayable d) where
     -- What a loss asks for from rest, or a tree that falls off or turns, or a failure that cuts trees off.
     abbrev Asks : ℕ → ℕ → Type 0
     Asks choice roles =
-        (HasComeToRest b at × BoundsLoss n made now choice roles)
+        (HasComeToRest b at × BeforeRepeats n (Losing choice roles) made now)
         ⊎ ((((rest : HasComeToRest b at)
         × (CutsLate n playable.network all b at late rest
         ⊎ ComesLate n playable.network all b at late (TurnsTreeLink n) rest))
@@ -428,8 +471,8 @@ module _ (d : DocumentState) (playable : IsPlayable d) where
             rest.settling.sound,
             bound,
             past,
-            beside (b.at + rest.settling.sound) (λ made now. BoundsLoss n made now s.choice s.roles)
-                (some_lost s.choice s.roles loses) loses,
+            beside (b.at + rest.settling.sound) (Losing s.choice s.roles)
+                (some_before (Losing s.choice s.roles) (some_lost s.choice s.roles) loses) loses,
           ),
         )
     lost s settles off (inr (inl ((rest, inl tree), choice, roles))) =
@@ -450,25 +493,25 @@ module _ (d : DocumentState) (playable : IsPlayable d) where
         )))
 
     -- what ages does no later than ports beside a failed system are off
-    ages_first : (aged quiet : ℕ) → BoundsAging n made now aged quiet → aged ≤ quiet
-    ages_first aged quiet (inl (used, none, no_roles)) = omega (arith, none)
-    ages_first aged quiet (inr ((span, within, is), is_roles)) =
+    ages_first : (aged quiet : ℕ) (events : List Timed) → BoundsAging n made events aged quiet → aged ≤ quiet
+    ages_first aged quiet events (inl (used, none, no_roles)) = omega (arith, none)
+    ages_first aged quiet events (inr ((span, within, is), is_roles)) =
         lesser aged quiet span (silence_span (pace_of n)) is is_roles
 
-    no_later : (choice roles : ℕ) → BoundsLoss n made now choice roles → choice ≤ roles
-    no_later choice roles (inl (lowers, same, which)) = omega (arith, same)
-    no_later choice roles (inr (inl (fails, none, which))) = omega (arith, none)
-    no_later choice roles (inr (inr (inl (turns, is, same)))) = omega (arith, same)
-    no_later choice roles (inr (inr (inr (inl (fails, (aged, quiet, aging, inl (same, roles_same))))))) =
-        let first = ages_first aged quiet aging in omega (arith, same, roles_same, first)
-    no_later choice roles (inr (inr (inr (inl (fails, (aged, quiet, aging, inr (is, later))))))) =
+    no_later : (choice roles : ℕ) (events : List Timed) → BoundsLoss n made events choice roles → choice ≤ roles
+    no_later choice roles events (inl (lowers, same, which)) = omega (arith, same)
+    no_later choice roles events (inr (inl (fails, none, which))) = omega (arith, none)
+    no_later choice roles events (inr (inr (inl (turns, is, same)))) = omega (arith, same)
+    no_later choice roles events (inr (inr (inr (inl (fails, (aged, quiet, aging, inl (same, roles_same))))))) =
+        let first = ages_first aged quiet events aging in omega (arith, same, roles_same, first)
+    no_later choice roles events (inr (inr (inr (inl (fails, (aged, quiet, aging, inr (is, later))))))) =
         greater choice roles quiet later
-    no_later choice roles (inr (inr (inr (inr (loses, is, inl (quiet, same)))))) = omega (arith, same)
-    no_later choice roles (inr (inr (inr (inr (loses, is, inr later))))) =
+    no_later choice roles events (inr (inr (inr (inr (loses, is, inl (quiet, same)))))) = omega (arith, same)
+    no_later choice roles events (inr (inr (inr (inr (loses, is, inr later))))) =
         greater choice roles (silence_span (pace_of n)) later
 
     asked_later : (choice roles : ℕ) → Asks choice roles → choice ≤ roles
-    asked_later choice roles (inl (rest, loses)) = no_later choice roles loses
+    asked_later choice roles (inl (rest, (first, others, split, each, loses))) = no_later choice roles first loses
     asked_later choice roles (inr (inl (tree, is, same))) = omega (arith, same)
     asked_later choice roles (inr (inr (x, (aged, quiet, aging, is, later)))) = greater choice roles quiet later
 
@@ -480,22 +523,33 @@ module _ (d : DocumentState) (playable : IsPlayable d) where
     asks_by Unchanged row own = absurd own
     asks_by Gained row own = absurd own
     asks_by Lowered row own =
-        let (rest, lowers, flight) = lowered n playable.network all b at late well row in
-        inl (rest, inl (lowers, refl, inl refl))
+        let (rest, (l, flight)) = lowered n playable.network all b at late well row in
+        inl (rest, behind l.first (Losing 0 0) (inl (l.lowers, refl, inl refl)))
     asks_by CutOff row own =
         let x = cut_off n playable.network all b at late well row in
-        inl (x.rested, inl (x.lowers, refl, inr (x.cuts, refl)))
+        let way : ℕ = 2 * way_span v.paths in
+        let same = same_paths n playable.network all b at late x.none.first in
+        inl (
+          x.rested,
+          behind x.none.first (Losing way way)
+              (inl (x.none.lowers, refl, inr (x.cuts, ap (λ (p : SyncPaths). 2 * way_span p) same))),
+        )
     asks_by FailedEnd row own =
         let (rest, fails, flight) = failed n playable.network all b at late well row in
-        inl (rest, inr (inl (fails, refl, by v.silent refl)))
+        inl (rest, alone (Losing 0 (quiet_by n loss 0)) (inr (inl (fails, refl, by v.silent refl))))
       where
         by : (silent : Bool) → v.silent ≡ silent
             → RolesAfterFailure n made now (if silent then max 0 (silence_span (pace_of n)) else 0)
         by true is = inr (omega arith)
         by false is = inl (none_left n playable.network all b at late is, refl)
-    asks_by OneTurned row own =
-        let (rest, turns) = turned n playable.network all b at late well row in
-        inl (rest, inr (inr (inl (turns, refl, refl))))
+    asks_by SystemTurned row own =
+        let (rest, (g, turns)) = turned n playable.network all b at late well row in
+        let way : ℕ = 2 * way_span v.paths in
+        let same = same_paths n playable.network all b at late g in
+        inl (
+          rest,
+          behind g (Losing way way) (inr (inr (inl (turns, ap (λ (p : SyncPaths). 2 * way_span p) same, refl)))),
+        )
     asks_by TreeCutOff row own =
         let (rest, tree) = tree_cut n playable.network all b at late well row in
         inr (inl ((rest, inl tree), refl, refl))
@@ -506,16 +560,17 @@ module _ (d : DocumentState) (playable : IsPlayable d) where
         let (rest, fails) = heard n playable.network all b at late well (inl row) in
         inl (
           rest,
-          inr (inr (inr (inl (
+          alone (Losing (aged_by loss) (quiet_by n loss (aged_by loss))) (inr (inr (inr (inl (
             fails,
             (aged_by loss, quiet_by n loss (aged_by loss), aging (some_heard fails), inl (refl, refl)),
-          )))),
+          ))))),
         )
     asks_by FailureCutsOff row own =
         let (rest, fails) = heard n playable.network all b at late well (inr row) in
         inl (
           rest,
-          inr (inr (inr (inl (
+          alone (Losing (aged_by loss + 2 * way_span v.paths) (quiet_by n loss (aged_by loss + 2 * way_span v.paths)))
+              (inr (inr (inr (inl (
             fails,
             (
               aged_by loss,
@@ -523,7 +578,7 @@ module _ (d : DocumentState) (playable : IsPlayable d) where
               aging (some_heard fails),
               inr (refl, quiet_later (2 * way_span v.paths)),
             ),
-          )))),
+          ))))),
         )
     asks_by FailureCutsTrees row own =
         let x = failure_cuts n playable.network all b at late well row in
@@ -539,7 +594,8 @@ module _ (d : DocumentState) (playable : IsPlayable d) where
         ))
     asks_by AnyLosses row own =
         let (rest, loses, roles) = losses n playable.network all b at late (inl row) in
-        inl (rest, inr (inr (inr (inr (loses, refl, roles (any_loss_span n loss v.paths))))))
+        let span : ℕ = any_loss_span n loss v.paths in
+        inl (rest, alone (Losing span (quiet_by n loss span)) (inr (inr (inr (inr (loses, refl, roles span))))))
 
     sooner_so : (s : Settling) → IsTelling n v s → IsChoiceBoundAfter n all (b.at ∷ earlier) at settled_by → IsSooner s
     sooner_so s it settles = elim (choice_or_own n loss v.paths (row_at v) (gained_at n v)) [

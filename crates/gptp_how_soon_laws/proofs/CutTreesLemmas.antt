@@ -35,7 +35,6 @@ use Rattle.gptp_how_soon.proofs.ChosenLemmas.{IsAt, at_port, chosen_there}
 use Rattle.gptp_settling_time.specs.HowSoon.{FailsTreesFirst}
 use Rattle.gptp_settling_time.specs.Losses.{IsUnmoved}
 use Rattle.gptp_settling_time.specs.TreeLosses.{CutsTreesFrom, IsTreeCutOff, IsUnmovedOrInTree}
-use Rattle.gptp_settling_time.proofs.BesideIdleLemmas.{down_alone}
 use Rattle.gptp_how_soon_laws.proofs.FailedLemmas.{Fails, clock_before, each_is, fails, first_delay, first_paths, others, parts, stands_on}
 use Rattle.gptp_how_soon_laws.proofs.ToldLemmas.{loss_fails}
 use Rattle.gptp_how_soon_laws.proofs.TreeBelowLemmas.{IsTop, below_same, best, best_so, cut_off, tree}
@@ -413,7 +412,7 @@ fails_trees_first n network made (event ∷ events) well splits delay paths few 
         paths = first_paths n network made event events delay paths few is;
         few = few;
       },
-      down_alone n (made ++ event ∷ []) events (others n network made event events delay paths few is),
+      others n network made event events delay paths few is,
     )
   where
     cuts : CutsTreesFrom n made event

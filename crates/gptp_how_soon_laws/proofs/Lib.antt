@@ -8,6 +8,7 @@ mod GainLemmas
 mod GainedLemmas
 mod WorseningLemmas
 mod UnmovedLemmas
+mod RepeatLemmas
 mod LoweredLemmas
 mod FailedLemmas
 mod CutOffLemmas

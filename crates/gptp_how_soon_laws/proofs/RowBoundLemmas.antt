@@ -17,7 +17,7 @@ use Rattle.gptp_how_soon.specs.Kinds.{sets_link}
 use Rattle.gptp_how_soon.specs.Times.{View, gained_at, loss_at, row_at, settling_time}
 use Rattle.gptp_how_soon.specs.declared.bounds.Loss.{Loss}
 use Rattle.gptp_how_soon.specs.declared.bounds.Row.{Row}
-use Rattle.gptp_how_soon.specs.declared.bounds.Row.TheVariants.{AnyLosses, AnyPast, CutOff, FailedEnd, FailedHeard, FailureCutsOff, FailureCutsTrees, Gained, Lowered, OneTurned, TreeCutOff, TreeTurned, Unchanged}
+use Rattle.gptp_how_soon.specs.declared.bounds.Row.TheVariants.{AnyLosses, AnyPast, CutOff, FailedEnd, FailedHeard, FailureCutsOff, FailureCutsTrees, Gained, Lowered, SystemTurned, TreeCutOff, TreeTurned, Unchanged}
 use Rattle.gptp_how_soon.specs.declared.bounds.Settling.{Settling}
 use Rattle.gptp_settling_time.specs.HowSoon.{BoundsChoice}
 use Rattle.gptp_topology.proofs.RestLemmas.{calm_from}
@@ -31,7 +31,7 @@ past_row CutOff = AnyPast
 past_row FailedEnd = AnyPast
 past_row FailedHeard = AnyPast
 past_row FailureCutsOff = AnyPast
-past_row OneTurned = AnyPast
+past_row SystemTurned = AnyPast
 past_row TreeCutOff = AnyPast
 past_row TreeTurned = AnyPast
 past_row FailureCutsTrees = AnyPast
@@ -62,7 +62,7 @@ bounds_choice n Sharp loss events row gained calm unchanged is_gained =
     by_row off FailedEnd is = inl refl
     by_row off FailedHeard is = inl refl
     by_row off FailureCutsOff is = inl refl
-    by_row off OneTurned is = inl refl
+    by_row off SystemTurned is = inl refl
     by_row off TreeCutOff is = inl refl
     by_row off TreeTurned is = inl refl
     by_row off FailureCutsTrees is = inl refl
@@ -115,7 +115,7 @@ choice_or_own n loss paths row gained = by (n.params.sync_timeout == 0) refl row
     by true is FailedEnd = inr (eqb-true n.params.sync_timeout 0 is, tt, refl, refl)
     by true is FailedHeard = inr (eqb-true n.params.sync_timeout 0 is, tt, refl, refl)
     by true is FailureCutsOff = inr (eqb-true n.params.sync_timeout 0 is, tt, refl, refl)
-    by true is OneTurned = inr (eqb-true n.params.sync_timeout 0 is, tt, refl, refl)
+    by true is SystemTurned = inr (eqb-true n.params.sync_timeout 0 is, tt, refl, refl)
     by true is TreeCutOff = inr (eqb-true n.params.sync_timeout 0 is, tt, refl, refl)
     by true is TreeTurned = inr (eqb-true n.params.sync_timeout 0 is, tt, refl, refl)
     by true is FailureCutsTrees = inr (eqb-true n.params.sync_timeout 0 is, tt, refl, refl)
@@ -131,7 +131,7 @@ IsSoundSooner n loss paths row sound =
     ((row ≡ FailedEnd) × (sound ≡ quiet_by n loss (gone_by n loss.paths_before loss.used_before)))
     ⊎ (((row ≡ Lowered) × (sound ≡ max (echo_span (pace_of n) paths) (gone_by n paths loss.used_before)))
     ⊎ (((row ≡ CutOff) × (sound ≡ max (2 * way_span paths) (gone_by n paths loss.used_before)))
-    ⊎ ((((row ≡ OneTurned) ⊎ (row ≡ TreeTurned)) × (sound ≡ 2 * way_span paths + echo_span (pace_of n) paths))
+    ⊎ ((((row ≡ SystemTurned) ⊎ (row ≡ TreeTurned)) × (sound ≡ 2 * way_span paths + echo_span (pace_of n) paths))
     ⊎ ((((row ≡ FailedHeard) ⊎ (row ≡ FailureCutsOff)) × (aged_echo_span n loss paths ≤ sound))
     ⊎ ((HasLossSpan row × (sound ≡ quiet_by n loss (any_loss_span n loss paths)))
     ⊎ ((row ≡ TreeCutOff) × (sound ≡ max (2 * way_span paths) (gone_by n paths loss.used_before))))))))
@@ -159,7 +159,7 @@ sound_or_sooner n loss paths row gained = by (n.params.sync_timeout == 0) refl r
     by true is FailedEnd = inr (eqb-true n.params.sync_timeout 0 is, inl (refl, refl))
     by true is Lowered = inr (eqb-true n.params.sync_timeout 0 is, inr (inl (refl, refl)))
     by true is CutOff = inr (eqb-true n.params.sync_timeout 0 is, inr (inr (inl (refl, refl))))
-    by true is OneTurned = inr (eqb-true n.params.sync_timeout 0 is, inr (inr (inr (inl (inl refl, refl)))))
+    by true is SystemTurned = inr (eqb-true n.params.sync_timeout 0 is, inr (inr (inr (inl (inl refl, refl)))))
     by true is TreeTurned = inr (eqb-true n.params.sync_timeout 0 is, inr (inr (inr (inl (inr refl, refl)))))
     by true is FailedHeard =
         inr (eqb-true n.params.sync_timeout 0 is, inr (inr (inr (inr (inl (inl refl, omega arith))))))

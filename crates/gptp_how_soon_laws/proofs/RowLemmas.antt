@@ -11,6 +11,7 @@ use Rattle.gptp_scenario.specs.Network.{IsNetwork, NetworkState, pace_of}
 use Rattle.gptp_scenario.specs.SettlingTime.{silence_span, way_span}
 use Rattle.gptp_scenario.specs.SyncWait.{sync_paths}
 use Rattle.gptp_scenario.specs.declared.change.Timed.{Timed}
+use Rattle.gptp_scenario.specs.declared.sync_wait.SyncPaths.{SyncPaths}
 use Rattle.gptp_network.specs.Snapshot.{events_by}
 use Rattle.gptp_how_soon.specs.Bounds.{is_hard_to_hear, gone_by, quiet_by}
 use Rattle.gptp_how_soon.specs.Chosen.{moves_joined}
@@ -21,14 +22,14 @@ use Rattle.gptp_how_soon.specs.Times.{View, events_at, gained_at, has_come_after
 use Rattle.gptp_how_soon.specs.Tree.{cuts_tree_after}
 use Rattle.gptp_how_soon.specs.TurnedTree.{turns_tree_after}
 use Rattle.gptp_how_soon.specs.declared.bounds.Row.{Row}
-use Rattle.gptp_how_soon.specs.declared.bounds.Row.TheVariants.{AnyLosses, CutOff, FailedEnd, FailedHeard, FailureCutsOff, FailureCutsTrees, Gained, Lowered, OneTurned, TreeCutOff, TreeTurned, Unchanged}
+use Rattle.gptp_how_soon.specs.declared.bounds.Row.TheVariants.{AnyLosses, CutOff, FailedEnd, FailedHeard, FailureCutsOff, FailureCutsTrees, Gained, Lowered, SystemTurned, TreeCutOff, TreeTurned, Unchanged}
 use Rattle.gptp_how_soon.specs.declared.bounds.Settling.{Settling}
 use Rattle.gptp_how_soon.specs.declared.bounds.SettlingTime.{SettlingTime}
 use Rattle.gptp_how_soon.specs.declared.kinds.Told.{Told}
 use Rattle.gptp_settling_time.specs.Arrivals.{HasArrivedBy}
-use Rattle.gptp_settling_time.specs.HowSoon.{AreWiderEvents, BoundsGains, CutsOneEnd, EachEvent, FailsEndFirst, FailsHeardFirst, FailsTreesFirst, IsStillEvent, LosesEvents, LowersOneLink, OneEvent, RolesAfterLoss, TurnsOneLink}
+use Rattle.gptp_settling_time.specs.HowSoon.{AreWiderEvents, BeforeRepeats, BoundsGains, EachEvent, FailsEndFirst, FailsHeardFirst, FailsTreesFirst, IsStillEvent, LosesEvents, OneEvent, RolesAfterLoss}
 use Rattle.gptp_settling_time.specs.InTurn.{FlightIsGone}
-use Rattle.gptp_settling_time.specs.Losses.{LowersLink, NoneSilent}
+use Rattle.gptp_settling_time.specs.Losses.{CutsFarEnd, LowersLink, NoneSilent, TurnsLink}
 use Rattle.gptp_settling_time.specs.TreeLosses.{LowersTree, TurnsTreeLink}
 use Rattle.gptp_settling_time.proofs.CutLemmas.{all_by}
 use Rattle.gptp_settling_time.proofs.LeadOnLemmas.{all_still}
@@ -38,11 +39,12 @@ use Rattle.gptp_how_soon_laws.proofs.ArrivedLemmas.{has_come_so, longest_within}
 use Rattle.gptp_how_soon_laws.proofs.GainLemmas.{AreFollowed, AreTurnsFollowed}
 use Rattle.gptp_how_soon_laws.proofs.GainedLemmas.{all_gained, all_heard, all_idle, all_wider}
 use Rattle.gptp_how_soon_laws.proofs.FailedLemmas.{fails_end_first, fails_heard_first, used_up}
-use Rattle.gptp_how_soon_laws.proofs.CutOffLemmas.{cuts_one_end}
+use Rattle.gptp_how_soon_laws.proofs.CutOffLemmas.{cuts_far}
 use Rattle.gptp_how_soon_laws.proofs.CutTreesLemmas.{fails_trees_first}
-use Rattle.gptp_how_soon_laws.proofs.LoweredLemmas.{GoesDown, lowers_one_link, one_as, used_on}
-use Rattle.gptp_how_soon_laws.proofs.TreeEventLemmas.{lowers_tree, turns_tree_by}
-use Rattle.gptp_how_soon_laws.proofs.TurnedLemmas.{turns_one_link}
+use Rattle.gptp_how_soon_laws.proofs.LoweredLemmas.{lowers_link, used_on}
+use Rattle.gptp_how_soon_laws.proofs.RepeatLemmas.{IsSame, LowersFirst, before_repeats, cut_seen, falls_seen, first_same, first_well, joined_seen, lowers_first, paths_seen, turned_seen, turns_seen, used_still}
+use Rattle.gptp_how_soon_laws.proofs.TreeEventLemmas.{lowers_one_tree, turns_tree_link}
+use Rattle.gptp_how_soon_laws.proofs.TurnedLemmas.{turns_link}
 use Rattle.gptp_how_soon_laws.proofs.UnmovedLemmas.{AreWell, all_still_unmoved}
 use Rattle.gptp_how_soon_laws.proofs.RowBoundLemmas.{HasLossSpan}
 use Rattle.gptp_how_soon_laws.proofs.RowReasonLemmas.{ReasonOf, Tests, reason_of}
@@ -72,7 +74,7 @@ module _ (n : NetworkState) (network : IsNetwork n) (events : List Timed) (b : S
     branch = is_lowering_followed v.paths_before v.paths v.told && v.moves.tree_turns;
     fails = is_failing_followed v.paths_before v.paths v.told && not v.moves.moved;
     far = v.moves.far;
-    any = v.moves.any;
+    moved = v.moves.any_moved;
     trees = is_failing_followed v.paths_before v.paths v.told && v.moves.trees_fall;
     loss = list_any is_loss v.told;
     only = list_all brings_nothing v.told;
@@ -272,27 +274,23 @@ module _ (n : NetworkState) (network : IsNetwork n) (events : List Timed) (b : S
         few = at_most v.paths_before.systems 255 few;
       }
 
-  -- a loss of this kind comes, by which no system is moved but such as are cut off
-  record TakesOne (kind : List Told → Bool) : Type 0 where
-    pub one : kind v.told ≡ true
+  -- a system fails by the first event, by which no system is moved but such as are cut off
+  record FailsOne : Type 0 where
+    pub one : fails_first v.told ≡ true
     pub unmoved : moves_joined n made (made ++ now) ≡ false
     pub keeps : KeepsPaths
 
-  takes_so : (kind : List Told → Bool) → ((es : List Told) → kind es ≡ true → takes_one es ≡ true)
-      → (keeps_paths v.paths_before v.paths && kind v.told && not v.moves.moved) ≡ true → TakesOne kind
-  takes_so kind takes is =
-      let (followed, none) = and_parts (keeps_paths v.paths_before v.paths && kind v.told) (not v.moves.moved) is in
-      let (keeps, one) = and_parts (keeps_paths v.paths_before v.paths) (kind v.told) followed in
+  fails_so : (is_failing_followed v.paths_before v.paths v.told && not v.moves.moved) ≡ true → FailsOne
+  fails_so is =
+      let (followed, none) =
+      and_parts (keeps_paths v.paths_before v.paths && fails_first v.told) (not v.moves.moved) is in
+      let (keeps, one) = and_parts (keeps_paths v.paths_before v.paths) (fails_first v.told) followed in
       record {
         one = one;
-        unmoved = counts_joined (takes_one v.told) n made (made ++ now) (takes v.told one)
+        unmoved = counts_joined (takes_one v.told) n made (made ++ now) (failing_takes v.told one)
             (not-true v.moves.moved none);
         keeps = keeps_so keeps;
       }
-
-  -- a system fails by the first event
-  fails_so : (is_failing_followed v.paths_before v.paths v.told && not v.moves.moved) ≡ true → TakesOne fails_first
-  fails_so = takes_so fails_first failing_takes
 
   failing_heard : AreWell n (made ++ now)
       → (is_failing_followed v.paths_before v.paths v.told && not v.moves.moved) ≡ true → FailsHeardFirst n made now
@@ -308,22 +306,67 @@ module _ (n : NetworkState) (network : IsNetwork n) (events : List Timed) (b : S
       let x = fails_so fails in
       fails_end_first n network made now well x.unmoved x.keeps.delay x.keeps.paths x.keeps.few x.one far
 
-  -- a link goes down by the one event
-  goes_down : (is_lowering_followed v.paths_before v.paths v.told && not v.moves.moved) ≡ true → TakesOne lowers_one
-  goes_down = takes_so lowers_one lowering_takes
+  -- a link goes down by the first event, and paths get no longer by it
+  pub record GoesFirst : Type 0 where
+    pub x : LowersFirst n made now
+    pub delay : (sync_paths n (made ++ x.event ∷ [])).delay ≤ (sync_paths n made).delay
+    pub paths : (sync_paths n (made ++ x.event ∷ [])).systems ≤ (sync_paths n made).systems
+    pub few : (sync_paths n made).systems ≤ 255
+
+  -- what stands behind it stands behind all
+  pub first_stays : (g : GoesFirst) → IsSame n (made ++ g.x.event ∷ []) (made ++ now)
+  first_stays g = first_same n network made now g.x
+
+  pub same_paths : (g : GoesFirst) → sync_paths n (made ++ now) ≡ sync_paths n (made ++ g.x.event ∷ [])
+  same_paths g = paths_seen n (made ++ g.x.event ∷ []) (made ++ now) (first_stays g)
+
+  goes_first : keeps_paths v.paths_before v.paths ≡ true → lowers_one v.told ≡ true → GoesFirst
+  goes_first keeps lowers =
+      let x = lowers_first n network made now lowers in
+      let k = keeps_so keeps in
+      let same = paths_seen n (made ++ x.event ∷ []) (made ++ now) (first_same n network made now x) in
+      record {
+        x = x;
+        delay = subst (λ (p : SyncPaths). p.delay ≤ (sync_paths n made).delay) same k.delay;
+        paths = subst (λ (p : SyncPaths). p.systems ≤ (sync_paths n made).systems) same k.paths;
+        few = k.few;
+      }
+
+  -- by which no system is moved but such as are cut off
+  pub record LowersNone : Type 0 where
+    pub first : GoesFirst
+    pub lowers : LowersLink n made first.x.event
+
+  lowers_none : AreWell n (made ++ now)
+      → (is_lowering_followed v.paths_before v.paths v.told && not v.moves.moved) ≡ true
+      → (g : GoesFirst) × (moves_joined n made (made ++ g.x.event ∷ []) ≡ false)
+  lowers_none well is =
+      let (followed, none) =
+      and_parts (keeps_paths v.paths_before v.paths && lowers_one v.told) (not v.moves.moved) is in
+      let (keeps, one) = and_parts (keeps_paths v.paths_before v.paths) (lowers_one v.told) followed in
+      let g = goes_first keeps one in (
+        g,
+        sym (joined_seen n made (made ++ g.x.event ∷ []) (made ++ now) (first_stays g))
+            ∙ counts_joined (takes_one v.told) n made (made ++ now) (lowering_takes v.told one)
+            (not-true v.moves.moved none),
+      )
 
   lowers_so : AreWell n (made ++ now) → (is_lowering_followed v.paths_before v.paths v.told && not v.moves.moved) ≡ true
-      → LowersOneLink n made now
-  lowers_so well lowers =
-      let x = goes_down lowers in
-      lowers_one_link n network made now well x.unmoved x.keeps.delay x.keeps.paths x.keeps.few x.one
+      → LowersNone
+  lowers_so well is =
+      let (g, unmoved) = lowers_none well is in
+      record {
+        first = g;
+        lowers = lowers_link n network made g.x.event (first_well n network made now g.x well) unmoved g.delay g.paths
+            g.few g.x.lowers;
+      }
 
   -- and it cuts off a far end
-  cuts_so : AreWell n (made ++ now) → (is_lowering_followed v.paths_before v.paths v.told && not v.moves.moved) ≡ true
-      → v.moves.cut ≡ true → CutsOneEnd n made now
-  cuts_so well lowers cut =
-      let x = goes_down lowers in
-      cuts_one_end n network made now well x.unmoved cut x.keeps.delay x.keeps.paths x.keeps.few x.one
+  cuts_so : AreWell n (made ++ now) → (l : LowersNone) → v.moves.cut ≡ true → CutsFarEnd n made l.first.x.event
+  cuts_so well l cut =
+      let g = l.first in
+      cuts_far n network made g.x.event (first_well n network made now g.x well)
+      (sym (cut_seen n made (made ++ g.x.event ∷ []) (made ++ now) (first_stays g)) ∙ cut) g.x.lowers l.lowers
 
   -- what was in flight is gone by then
   flight_so : FlightIsGone n made (gone_by n v.paths_before v.used_before)
@@ -333,62 +376,83 @@ module _ (n : NetworkState) (network : IsNetwork n) (events : List Timed) (b : S
       by true is = inl (used_up n network made is, refl)
       by false is = inr refl
 
-  -- so it is after a link goes down
-  flight_on : OneEvent GoesDown made now → FlightIsGone n (made ++ now) (gone_by n v.paths v.used_before)
-  flight_on down = by v.used_before refl
+  -- so it is behind a link that goes down
+  flight_first : (g : GoesFirst) → FlightIsGone n (made ++ g.x.event ∷ []) (gone_by n v.paths v.used_before)
+  flight_first g =
+      subst (λ (p : SyncPaths). FlightIsGone n (made ++ g.x.event ∷ []) (gone_by n p v.used_before))
+      (sym (same_paths g)) (by v.used_before refl)
     where
-      by : (used : Bool) → v.used_before ≡ used → FlightIsGone n (made ++ now) (gone_by n v.paths used)
-      by true is = inl (used_on n made now down (used_up n network made is), refl)
+      by : (used : Bool) → v.used_before ≡ used
+          → FlightIsGone n (made ++ g.x.event ∷ [])
+          (gone_by n (sync_paths n (made ++ g.x.event ∷ [])) used)
+      by true is = inl (used_on n network made g.x.event g.x.lowers (used_up n network made is), refl)
       by false is = inr refl
 
-  flight_lowered : LowersOneLink n made now → FlightIsGone n (made ++ now) (gone_by n v.paths v.used_before)
-  flight_lowered lowers =
-      flight_on (one_as (LowersLink n) GoesDown made now (λ event l. (l.clock, l.port, l.act)) lowers)
+  -- and behind all
+  flight_all : (g : GoesFirst) → FlightIsGone n (made ++ now) (gone_by n v.paths v.used_before)
+  flight_all g = by v.used_before refl
+    where
+      by : (used : Bool) → v.used_before ≡ used → FlightIsGone n (made ++ now) (gone_by n v.paths used)
+      by true is =
+          inl (
+            used_still n (made ++ g.x.event ∷ []) (made ++ now) (first_stays g)
+                (used_on n network made g.x.event g.x.lowers (used_up n network made is)),
+            refl,
+          )
+      by false is = inr refl
 
-  -- what stands goes on, as a link goes down by the one event and no system is moved
+  -- what stands goes on, as a link goes down and no system is moved
   pub lowered : AreWell n (made ++ now) → row_at v ≡ Lowered
-      → HasComeToRest b at × LowersOneLink n made now × FlightIsGone n (made ++ now) (gone_by n v.paths v.used_before)
+      → HasComeToRest b at × ((l : LowersNone)
+      × FlightIsGone n (made ++ l.first.x.event ∷ []) (gone_by n v.paths v.used_before))
   lowered well row =
       let (from, lowers) = why Lowered row in
-      let one = lowers_so well lowers in
-      ((from_rest from).rested, one, flight_lowered one)
+      let l = lowers_so well lowers in
+      ((from_rest from).rested, (l, flight_first l.first))
 
   -- or it cuts off its far end
   pub record CutsEnd : Type 0 where
     pub rested : HasComeToRest b at
-    pub cuts : CutsOneEnd n made now
-    pub lowers : LowersOneLink n made now
-    pub flight : FlightIsGone n (made ++ now) (gone_by n v.paths v.used_before)
+    pub none : LowersNone
+    pub cuts : CutsFarEnd n made none.first.x.event
+    pub flight : FlightIsGone n (made ++ none.first.x.event ∷ []) (gone_by n v.paths v.used_before)
 
   pub cut_off : AreWell n (made ++ now) → row_at v ≡ CutOff → CutsEnd
   cut_off well row =
       let (from, lowers, cut) = why CutOff row in
-      let one = lowers_so well lowers in
+      let l = lowers_so well lowers in
       record {
         rested = (from_rest from).rested;
-        cuts = cuts_so well lowers cut;
-        lowers = one;
-        flight = flight_lowered one;
+        none = l;
+        cuts = cuts_so well l cut;
+        flight = flight_first l.first;
       }
 
   -- or one system turns
-  pub turned : AreWell n (made ++ now) → row_at v ≡ OneTurned
-      → HasComeToRest b at × TurnsOneLink n made now
+  pub turned : AreWell n (made ++ now) → row_at v ≡ SystemTurned
+      → HasComeToRest b at × ((g : GoesFirst) × TurnsLink n made g.x.event)
   turned well row =
-      let (from, turns) = why OneTurned row in
+      let (from, turns) = why SystemTurned row in
       let (followed, one) = and_parts (is_lowering_followed v.paths_before v.paths v.told) v.moves.turned turns in
       let (keeps, lowers) = and_parts (keeps_paths v.paths_before v.paths) (lowers_one v.told) followed in
-      let x = keeps_so keeps in
-      ((from_rest from).rested, turns_one_link n network made now well one x.delay x.paths x.few lowers)
+      let g = goes_first keeps lowers in (
+        (from_rest from).rested,
+        (
+          g,
+          turns_link n network made g.x.event (first_well n network made now g.x well)
+              (sym (turned_seen n made (made ++ g.x.event ∷ []) (made ++ now) (first_stays g)) ∙ one) g.delay g.paths
+              g.few g.x.lowers,
+        ),
+      )
 
   -- what was in flight as the time before was sound has arrived
   abbrev pub HasCome : HasComeToRest b at → Type 0
   HasCome rest =
       (arrived : ℕ) × HasArrivedBy n made (suc (b.at + rest.settling.sound)) arrived × (arrived ≤ at)
 
-  -- an event of this kind comes then
+  -- an event of this kind comes then, and others that repeat what stands
   pub record ComesLate (Is : List Timed → Timed → Type 0) (rest : HasComeToRest b at) : Type 0 where
-    pub lowers : OneEvent Is made now
+    pub lowers : BeforeRepeats n (OneEvent Is) made now
     pub come : HasCome rest
 
   -- by which a tree is cut off
@@ -399,24 +463,30 @@ module _ (n : NetworkState) (network : IsNetwork n) (events : List Timed) (b : S
   -- events of this kind come then, and paths get no longer
   late_by : (kind : List Told → Bool) (test : Bool) → (keeps_paths v.paths_before v.paths && kind v.told
       && (has_come_after n made (Some b) at && test)) ≡ true
-      → KeepsPaths × (kind v.told ≡ true) × (test ≡ true) × ((rest : HasComeToRest b at) → HasCome rest)
+      → (keeps_paths v.paths_before v.paths ≡ true) × (kind v.told ≡ true) × (test ≡ true)
+      × ((rest : HasComeToRest b at) → HasCome rest)
   late_by kind test is =
       let come : Bool = has_come_after n made (Some b) at in
       let (followed, both) = and_parts (keeps_paths v.paths_before v.paths && kind v.told) (come && test) is in
       let (keeps, one) = and_parts (keeps_paths v.paths_before v.paths) (kind v.told) followed in
       let (come_is, so) = and_parts come test both in
-      (keeps_so keeps, one, so, λ rest. has_come_so n made b at rest.settling rest.is come_is)
+      (keeps, one, so, λ rest. has_come_so n made b at rest.settling rest.is come_is)
 
   pub tree_cut : AreWell n (made ++ now) → row_at v ≡ TreeCutOff → (rest : HasComeToRest b at) × CutsLate rest
   tree_cut well row =
       let (from, falls) = why TreeCutOff row in
-      let (x, lowers, tree, come) = late_by lowers_one (cuts_tree_after n made (made ++ now)) falls in
+      let (keeps, lowers, tree, come) = late_by lowers_one (cuts_tree_after n made (made ++ now)) falls in
       let rest = (from_rest from).rested in
-      let one = lowers_tree n network made now well x.delay x.paths x.few lowers tree in (
+      let g = goes_first keeps lowers in
+      let one = lowers_one_tree n network made g.x.event (first_well n network made now g.x well) g.delay g.paths g.few
+      g.x.lowers (sym (falls_seen n made (made ++ g.x.event ∷ []) (made ++ now) (first_stays g)) ∙ tree) in (
         rest,
         record {
-          comes = record { lowers = one; come = come rest };
-          flight = flight_on (one_as (LowersTree n) GoesDown made now (λ event l. (l.clock, l.port, l.act)) one);
+          comes = record {
+            lowers = before_repeats n network made now g.x (OneEvent (LowersTree n)) one;
+            come = come rest;
+          };
+          flight = flight_all g;
         },
       )
 
@@ -425,11 +495,14 @@ module _ (n : NetworkState) (network : IsNetwork n) (events : List Timed) (b : S
       → (rest : HasComeToRest b at) × ComesLate (TurnsTreeLink n) rest
   tree_turned well row =
       let (from, turns) = why TreeTurned row in
-      let (x, lowers, tree, come) = late_by lowers_one (turns_tree_after n made (made ++ now)) turns in
-      let rest = (from_rest from).rested in (
+      let (keeps, lowers, tree, come) = late_by lowers_one (turns_tree_after n made (made ++ now)) turns in
+      let rest = (from_rest from).rested in
+      let g = goes_first keeps lowers in
+      let one = turns_tree_link n network made g.x.event (first_well n network made now g.x well) g.delay g.paths g.few
+      g.x.lowers (sym (turns_seen n made (made ++ g.x.event ∷ []) (made ++ now) (first_stays g)) ∙ tree) in (
         rest,
         record {
-          lowers = turns_tree_by n network made now well x.delay x.paths x.few lowers tree;
+          lowers = before_repeats n network made now g.x (OneEvent (TurnsTreeLink n)) one;
           come = come rest;
         },
       )
@@ -443,7 +516,8 @@ module _ (n : NetworkState) (network : IsNetwork n) (events : List Timed) (b : S
   pub failure_cuts : AreWell n (made ++ now) → row_at v ≡ FailureCutsTrees → FailsLate
   failure_cuts well row =
       let (from, trees) = why FailureCutsTrees row in
-      let (x, one, cut, come) = late_by fails_first (cuts_trees_after n made (made ++ now)) trees in
+      let (keeps, one, cut, come) = late_by fails_first (cuts_trees_after n made (made ++ now)) trees in
+      let x = keeps_so keeps in
       let rest = (from_rest from).rested in
       record {
         rest = rest;
