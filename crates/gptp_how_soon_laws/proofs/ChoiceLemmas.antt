@@ -323,8 +323,8 @@ module _ (d : DocumentState) (playable : IsPlayable d) where
         inr (inr (inl (tree_next (LowersTree n) (RestsTree n sound) calm off rest tree.comes
         (gone_by n v.paths v.used_before, tree.flight, is))))
     rests sound calm off (inr (inr (rest, tree, is))) =
-        inr (inr (inr (tree_next (TurnsTreeLink n) (λ events. sound ≡ turned_echo_span n events) calm off rest tree
-        is)))
+        inr (inr (inr (inl (tree_next (TurnsTreeLink n) (λ events. sound ≡ turned_echo_span n events) calm off rest
+        tree is))))
 
     -- it has come to rest by what the row of this loss says
     rests_by : (sound : ℕ) → sound ≡ sound_by n loss v.paths (row_at v) (gained_at n v)

@@ -143,6 +143,7 @@ pub mod SoundButOldLemmas
 pub mod LeadOnLemmas
 pub mod LossLeadLemmas
 pub mod LossRestLemmas
+pub mod SplitFollowedLemmas
 pub mod RightStageLemmas
 pub mod DueLemmas
 pub mod TellsRightLemmas
