@@ -1,11 +1,12 @@
--- After a system has failed and so cut trees off a network comes to rest: right traces are told since the trees settled.
+-- After a system has failed and so cut trees off a network comes to rest, once right traces are told since the trees
+-- settled.
 use Rattle.std.proofs.Common.{List, [], arith, inl, inr, max, min, refl, subst, suc, sym, ℕ, ◌*◌, ◌++◌, ◌+◌, ◌<◌, ◌∙◌, ◌∷◌, ◌≡◌, ◌≤◌, ◌⊎◌}
 use Rattle.std.specs.List.{AllByRecursion}
 use Rattle.std.proofs.Math.Nat.{le-max_left, le-max_right}
 use Rattle.gptp_setup.specs.SettlingParams.{largest_interval}
 use Rattle.gptp_scenario.specs.Calm.{IsCalm, NothingLapses, last_change}
 use Rattle.gptp_scenario.specs.Network.{IsNetwork, NetworkState, pace_of}
-use Rattle.gptp_scenario.specs.SettlingTime.{silence_span, way_span}
+use Rattle.gptp_scenario.specs.SettlingTime.{echo_span, silence_span, way_span}
 use Rattle.gptp_scenario.specs.SyncWait.{sync_paths}
 use Rattle.gptp_scenario.specs.declared.change.Timed.{Timed}
 use Rattle.gptp_settling_time.specs.Arrivals.{HasArrivedBy}
@@ -15,7 +16,7 @@ use Rattle.gptp_settling_time.specs.Losses.{AgesWithin, NoneSilent}
 use Rattle.gptp_settling_time.proofs.BesideIdleLemmas.{LeadsTo}
 use Rattle.gptp_settling_time.proofs.LeadOnLemmas.{HasRested, HasSettled}
 use Rattle.gptp_settling_time.proofs.LossLeadLemmas.{splits_lead}
-use Rattle.gptp_settling_time.proofs.LossRestLemmas.{last_at}
+use Rattle.gptp_settling_time.proofs.LossRestLemmas.{last_at, nearer_within}
 use Rattle.gptp_settling_time.proofs.SilentSpanLemmas.{none_silent}
 
 module _ (n : NetworkState) (network : IsNetwork n) (off : NothingLapses n.params) (time rest : ℕ) where
@@ -47,7 +48,15 @@ module _ (n : NetworkState) (network : IsNetwork n) (off : NothingLapses n.param
       others_here = subst (λ t. AllByRecursion (λ (u : Timed). u.at ≡ t) now) (sym here) at.1
 
       abbrev told : ℕ
-      told = choice + nearer_echo_span n (made ++ event ∷ now) + largest_interval (pace_of n)
+      told = choice + max (echo_span (pace_of n) (sync_paths n (made ++ event ∷ now))) (largest_interval (pace_of n))
+
+      -- what was in flight is gone as right traces are told
+      nearer : nearer_echo_span n (made ++ event ∷ now) + largest_interval (pace_of n)
+          ≤ max (echo_span (pace_of n) (sync_paths n (made ++ event ∷ now))) (largest_interval (pace_of n))
+      nearer =
+          nearer_within (sync_paths n (made ++ event ∷ now)).systems
+          (largest_interval (pace_of n) + (sync_paths n (made ++ event ∷ now)).delay) (largest_interval (pace_of n))
+          (omega arith)
 
       rested : (span : ℕ) → AgesWithin n made (made ++ event ∷ now) event.at span → min span silence ≤ held
           → (silence ≤ quiet) ⊎ NoneSilent n made (made ++ event ∷ now) → IsRestedTo made (event ∷ now) past
@@ -58,6 +67,7 @@ module _ (n : NetworkState) (network : IsNetwork n) (off : NothingLapses n.param
           let asked = le-max_right choice quiet in
           let stands = le-max_left roles told in
           let anew = le-max_right roles told in
+          let soon = nearer in
           let over : start + way ≤ suc (time + rest) = omega (arith, here, is_choice, less, anew, enough) in
           record {
             last = Split made gone silent;
@@ -72,7 +82,7 @@ module _ (n : NetworkState) (network : IsNetwork n) (off : NothingLapses n.param
                   calm = calm_now;
                   off = off;
                   since = omega (arith, here, last);
-                  told = omega (arith, here, is_choice, less, anew, enough);
+                  told = omega (arith, here, is_choice, less, soon, anew, enough);
                   later = omega arith;
                   unlinked = elim dark [
                     | inl soon_dark ↦ inl (omega (arith, here, soon_dark, is_roles, asked, stands, enough))

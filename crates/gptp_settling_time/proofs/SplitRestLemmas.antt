@@ -1,5 +1,5 @@
--- A world since a failure that cut trees off: once it has settled, two ways after what was held is gone, traces are told
--- anew. So claims are made of it as of one since news.
+-- A world since a failure that cut trees off: once it has settled, two ways after what was held is gone, traces are
+-- told anew. So claims are made of it as of one since news.
 use Rattle.std.proofs.Common.{◌≡◌, ◌⊎◌, ◌<◌, ◌≤◌, ◌+◌, ◌*◌, ℕ, suc, pred, zero, List, refl, sym, ap, subst, ◌∙◌, inl, inr, arith}
 use Rattle.gptp_graph.specs.Snapshot.{PortIdentity, Snapshot}
 use Rattle.gptp_graph.proofs.ExistenceLemmas.{distance_exists}
@@ -52,8 +52,8 @@ SplitNamesAlone p silent w = HaveQuietLinks p.params w → NothingLapses p.param
 abbrev pub settles_at : ℕ → WorldState → ℕ
 settles_at gone w = pred gone + 2 * way_in w
 
--- What is claimed of it: it settles, what has no steps names its sender alone, and then traces are told anew, if nothing
--- has changed since.
+-- What is claimed of it: it settles, what has no steps names its sender alone, and then traces are told anew, if
+-- nothing has changed since.
 pub record IsSplitAnew (p : SettlingParams) (g : Snapshot) (By : PortIdentity → ℕ → Type 0) (failed gone silent : ℕ)
     (w : WorldState) : Type 0 where
   pub split : IsSplitAlways p g By failed gone silent w
@@ -75,9 +75,9 @@ split_near p g s v known = elim (s.cuts.all v known) [
       (d, here, omega (arith, within, few))
 ]
 
-module _ (p : SettlingParams) (g : Snapshot) (By : PortIdentity → ℕ → Type 0) (failed gone silent : ℕ) (w : WorldState)
-    (split : IsSplitAlways p g By failed gone silent w) (some : failed < gone) (alone : SplitNamesAlone p silent w)
-    where
+module _ (p : SettlingParams) (g : Snapshot) (By : PortIdentity → ℕ → Type 0) (failed gone silent : ℕ)
+    (w : WorldState) (split : IsSplitAlways p g By failed gone silent w) (some : failed < gone)
+    (alone : SplitNamesAlone p silent w) where
   near : AllAreNear (snapshot_of w)
   near = subst (λ (z : Network). AllAreNear z.graph) (sym split.same) (split_near p g split.split)
 
@@ -85,7 +85,8 @@ module _ (p : SettlingParams) (g : Snapshot) (By : PortIdentity → ℕ → Type
       → IsSettledState says_announce (left_network p silent w) (view w)
   state quiet off late =
       let one = one_before gone failed some in
-      split_state p g By failed gone silent w split quiet off (pred gone) (omega (arith, one)) (omega (arith, late)) near
+      split_state p g By failed gone silent w split quiet off (pred gone) (omega (arith, one)) (omega (arith, late))
+      near
 
   -- so what a best tells is right
   root : HaveQuietLinks p.params w → NothingLapses p.params → settles_at gone w < w.time → (base : ℕ)
@@ -156,8 +157,8 @@ anew_later p g By failed gone silent time w later first is =
     (split_later p g By failed gone silent time w later first is.split) (later_keeps time w)
     (inl (record { time = time; later = later; is = refl }))
 
-pub anew_acts : (p : SettlingParams) (g : Snapshot) (By : PortIdentity → ℕ → Type 0) (failed gone silent : ℕ) (act : Act)
-    (w : WorldState) (draws : List Draw) (done : Done) (w' : WorldState) → IsNoChange act → SetsAnOctet act
+pub anew_acts : (p : SettlingParams) (g : Snapshot) (By : PortIdentity → ℕ → Type 0) (failed gone silent : ℕ)
+    (act : Act) (w : WorldState) (draws : List Draw) (done : Done) (w' : WorldState) → IsNoChange act → SetsAnOctet act
     → Acts act w draws done w' → IsSplitAnew p g By failed gone silent w → IsSplitAnew p g By failed gone silent w'
 anew_acts p g By failed gone silent act w draws done w' none octet acts is =
     let world = is.split.standing.world in
@@ -168,8 +169,8 @@ anew_acts p g By failed gone silent act w draws done w' none octet acts is =
 
 -- ---- rest
 
--- An announce interval and a delay for each system of a path but two, and then an interval later, claims are made of all
--- links always.
+-- An announce interval and a delay for each system of a path but two, and then an interval later, claims are made of
+-- all links always.
 pub split_anew_claimed : (p : SettlingParams) (g : Snapshot) (By : PortIdentity → ℕ → Type 0) (failed gone silent : ℕ)
     (w : WorldState) → IsSplitAnew p g By failed gone silent w → HaveQuietLinks p.params w → NothingLapses p.params
     → w.last_change ≡ failed → told_by p (settles_at gone w) w + largest_interval p < w.time

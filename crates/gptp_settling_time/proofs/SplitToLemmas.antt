@@ -182,8 +182,8 @@ module _ (d : DocumentState) (ago events : List Timed) (gone silent : ℕ) where
       → HasToldApart d.network ago events gone silent start w.time → IsClaimedTo d events start w
   split_to_claimed w start so playable rest = record {
     keeps = so.keeps;
-    since = split_anew_claimed q so.before (GoesOver d.network so.before ago events so.failed gone silent) so.failed gone
-        silent w so.since
+    since = split_anew_claimed q so.before (GoesOver d.network so.before ago events so.failed gone silent) so.failed
+        gone silent w so.since
         (quiet_stands d.network events w playable.network so.keeps.stands so.keeps.claim.world.sound rest.calm).links
         rest.off changed told start later dark;
   }
