@@ -47,16 +47,25 @@ module _ (n : NetworkState) (network : IsNetwork n) (off : NothingLapses n.param
       others_here : AllByRecursion (λ (t : Timed). t.at ≡ event.at) now
       others_here = subst (λ t. AllByRecursion (λ (u : Timed). u.at ≡ t) now) (sym here) at.1
 
-      abbrev told : ℕ
-      told = choice + max (echo_span (pace_of n) (sync_paths n (made ++ event ∷ now))) (largest_interval (pace_of n))
+      hop : ℕ
+      hop = largest_interval (pace_of n) + (sync_paths n (made ++ event ∷ now)).delay
 
-      -- what was in flight is gone as right traces are told
-      nearer : nearer_echo_span n (made ++ event ∷ now) + largest_interval (pace_of n)
-          ≤ max (echo_span (pace_of n) (sync_paths n (made ++ event ∷ now))) (largest_interval (pace_of n))
-      nearer =
-          nearer_within (sync_paths n (made ++ event ∷ now)).systems
-          (largest_interval (pace_of n) + (sync_paths n (made ++ event ∷ now)).delay) (largest_interval (pace_of n))
-          (omega arith)
+      -- so roles stand by then
+      stands : roles ≤ rest
+      stands =
+          let most = le-max_left roles
+          (choice + max (echo_span (pace_of n) (sync_paths n (made ++ event ∷ now))) (largest_interval (pace_of n))) in
+          omega (arith, most, enough)
+
+      -- and right traces are told, and what was in flight is gone
+      told : choice + (nearer_echo_span n (made ++ event ∷ now) + largest_interval (pace_of n)) ≤ rest
+      told =
+          let most = le-max_right roles
+          (choice + max (echo_span (pace_of n) (sync_paths n (made ++ event ∷ now))) (largest_interval (pace_of n))) in
+          let nearer : nearer_echo_span n (made ++ event ∷ now) + largest_interval (pace_of n)
+          ≤ max (echo_span (pace_of n) (sync_paths n (made ++ event ∷ now))) (largest_interval (pace_of n)) =
+          nearer_within (sync_paths n (made ++ event ∷ now)).systems hop (largest_interval (pace_of n)) (omega arith) in
+          omega (arith, most, nearer, enough)
 
       rested : (span : ℕ) → AgesWithin n made (made ++ event ∷ now) event.at span → min span silence ≤ held
           → (silence ≤ quiet) ⊎ NoneSilent n made (made ++ event ∷ now) → IsRestedTo made (event ∷ now) past
@@ -65,10 +74,9 @@ module _ (n : NetworkState) (network : IsNetwork n) (off : NothingLapses n.param
           let silent : ℕ = suc (event.at + silence) in
           let start : ℕ = gone + way in
           let asked = le-max_right choice quiet in
-          let stands = le-max_left roles told in
-          let anew = le-max_right roles told in
-          let soon = nearer in
-          let over : start + way ≤ suc (time + rest) = omega (arith, here, is_choice, less, anew, enough) in
+          let all_stand = stands in
+          let over : start + way ≤ suc (time + rest) =
+          let anew = told in omega (arith, here, is_choice, less, anew) in
           record {
             last = Split made gone silent;
             lead = splits_lead n network off made event now past stood arrived span calm has later arrives
@@ -82,10 +90,10 @@ module _ (n : NetworkState) (network : IsNetwork n) (off : NothingLapses n.param
                   calm = calm_now;
                   off = off;
                   since = omega (arith, here, last);
-                  told = omega (arith, here, is_choice, less, soon, anew, enough);
+                  told = let anew = told in omega (arith, here, is_choice, less, anew);
                   later = omega arith;
                   unlinked = elim dark [
-                    | inl soon_dark ↦ inl (omega (arith, here, soon_dark, is_roles, asked, stands, enough))
+                    | inl soon_dark ↦ inl (omega (arith, here, soon_dark, is_roles, asked, all_stand))
                     | inr none ↦ inr none
                   ];
                   over = over;
