@@ -355,10 +355,9 @@ rested act =
       refl,
       (
         1000003050,
-        (
-          (refl, ring_begun),
-          (omega arith, inl (inl (event ∷ [], ([], (refl, (tt, inl (inr (inr (inr (inl (turns, told))))))))))),
-        ),
+        (refl, ring_begun),
+        omega arith,
+        inl (inl (event ∷ [], [], refl, tt, inl (inr (inr (inr (inl (turns, told))))))),
       ),
     ))
   where
@@ -373,10 +372,11 @@ rested act =
 -- what was sent until then has arrived an announce interval later, before the next event
 pub comes_after : (act : Act)
     → ComesAfterRest ring_network (both_of act)
-    (λ then. IsRestBoundAfter ring_network (both_of act) (0 ∷ []) 30000000000 then) 30000000000 60000000000
+    (λ rest. IsRestBoundAfter ring_network (both_of act) (0 ∷ []) 30000000000 rest) 30000000000 60000000000
 comes_after act = (
   3000003690,
-  (rested act, (suc (30000000000 + 3000003690) + largest_interval (pace_of ring_network), (inl refl, later))),
+  rested act,
+  (suc (30000000000 + 3000003690) + largest_interval (pace_of ring_network), inl refl, later),
 )
   where
     later : suc (30000000000 + 3000003690) + largest_interval (pace_of ring_network) ≤ 60000000000
@@ -398,7 +398,7 @@ lost =
       record { links = links_rest; lapses = inl refl },
       refl,
       comes_after (Changing (LinkDown first.clock 2)),
-      (cut ∷ [], ([], (refl, (tt, lowers)))),
+      (cut ∷ [], [], refl, tt, lowers),
       (ways, refl),
     ))
   where

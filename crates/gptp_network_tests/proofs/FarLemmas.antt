@@ -310,10 +310,9 @@ lost = inl (
   refl,
   (
     1000003050,
-    (
-      (refl, ring_begun),
-      (omega arith, inl (inl (event ∷ [], ([], (refl, (tt, inr (inl ((fails, tt), refl, inr span)))))))),
-    ),
+    (refl, ring_begun),
+    omega arith,
+    inl (inl (event ∷ [], [], refl, tt, inr (inl ((fails, tt), refl, inr span)))),
   ),
 )
   where

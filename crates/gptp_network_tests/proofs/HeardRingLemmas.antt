@@ -141,40 +141,30 @@ lost = inl (
   refl,
   (
     1000003050,
-    (
-      (refl, ring_begun),
-      (
-        omega arith,
-        inl (inl (
-          event ∷ [],
-          (
-            [],
+    (refl, ring_begun),
+    omega arith,
+    inl (inl (
+      event ∷ [],
+      [],
+      refl,
+      tt,
+      inr (inr (inr (inl (
+        (fails, tt),
+        (
+          3000000410,
+          11000000000,
+          inr (
             (
-              refl,
-              (
-                tt,
-                inr (inr (inr (inl (
-                  (fails, tt),
-                  (
-                    3000000410,
-                    11000000000,
-                    inr (
-                      (
-                        aging_span (pace_of ring_network) (sync_paths ring_network []),
-                        failure_within ring_network [] event fails,
-                        ages,
-                      ),
-                      span,
-                    ),
-                    inl (refl, refl),
-                  ),
-                )))),
-              ),
+              aging_span (pace_of ring_network) (sync_paths ring_network []),
+              failure_within ring_network [] event fails,
+              ages,
             ),
+            span,
           ),
-        )),
-      ),
-    ),
+          inl (refl, refl),
+        ),
+      )))),
+    )),
   ),
 )
   where

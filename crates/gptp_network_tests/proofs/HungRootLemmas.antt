@@ -195,30 +195,24 @@ lost = inr (inr (inr (
   comes_after fails,
   (
     later fails ∷ [],
+    [],
+    refl,
+    tt,
     (
-      [],
+      (fails_trees, tt),
       (
-        refl,
-        (
-          tt,
+        3000000410,
+        11000000000,
+        inr (
           (
-            (fails_trees, tt),
-            (
-              3000000410,
-              11000000000,
-              inr (
-                (
-                  aging_span (pace_of ring_network) (sync_paths ring_network before),
-                  fail_within ring_network before (later fails) first.clock refl,
-                  ages,
-                ),
-                silent,
-              ),
-              ways,
-              refl,
-            ),
+            aging_span (pace_of ring_network) (sync_paths ring_network before),
+            fail_within ring_network before (later fails) first.clock refl,
+            ages,
           ),
+          silent,
         ),
+        ways,
+        refl,
       ),
     ),
   ),

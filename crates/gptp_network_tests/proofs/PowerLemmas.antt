@@ -196,29 +196,19 @@ lost = inl (
   refl,
   (
     1000003050,
-    (
-      (refl, ring_begun),
-      (
-        omega arith,
-        inl (inl (
-          both_down,
-          (
-            [],
-            (
-              refl,
-              (
-                tt,
-                inr (inl (
-                  (fails, (inl lowers_first, (inl lowers_second, tt))),
-                  refl,
-                  inl (up_none_silent ring_network [] both_down used, refl),
-                )),
-              ),
-            ),
-          ),
-        )),
-      ),
-    ),
+    (refl, ring_begun),
+    omega arith,
+    inl (inl (
+      both_down,
+      [],
+      refl,
+      tt,
+      inr (inl (
+        (fails, (inl lowers_first, (inl lowers_second, tt))),
+        refl,
+        inl (up_none_silent ring_network [] both_down used, refl),
+      )),
+    )),
   ),
 )
 

@@ -46,13 +46,9 @@ lost = inl (
   refl,
   (
     1000003050,
-    (
-      (refl, ring_begun),
-      (
-        omega arith,
-        inl (inl (event ∷ [], ([], (refl, (tt, inr (inr (inr (inr (inl (live, tt), turns, inr silent))))))))),
-      ),
-    ),
+    (refl, ring_begun),
+    omega arith,
+    inl (inl (event ∷ [], [], refl, tt, inr (inr (inr (inr (inl (live, tt), turns, inr silent)))))),
   ),
 )
   where

@@ -282,10 +282,9 @@ lost = inl (
   refl,
   (
     1000003050,
-    (
-      (refl, ring_begun),
-      (omega arith, inl (inl (event ∷ [], ([], (refl, (tt, inr (inr (inl (turns, ways, refl))))))))),
-    ),
+    (refl, ring_begun),
+    omega arith,
+    inl (inl (event ∷ [], [], refl, tt, inr (inr (inl (turns, ways, refl))))),
   ),
 )
   where

@@ -121,10 +121,18 @@ module _ (n : NetworkState) (all : List Timed) (until : ℕ) where
 
     loses_by : (Asks : List Timed → List Timed → Type 0) → LosesNext n all Then last time Asks
         → LosesNext n (events_by until all) More last time Asks
-    loses_by Asks =
-        comes_by (λ events before. (last + before < time)
-        × BesideIdle n (last + before) time Asks (events_by last events) (events_at time events))
-        (λ soon before said. (said.0, events_so (BesideIdle n (last + before) time Asks) last time soon le said.1))
+    loses_by Asks (late, between, calm, off, (before, bound, over, beside)) =
+        let (late', between', calm', off', (before', bound', said)) =
+        comes_by (λ events rest. (last + rest < time)
+        × BesideIdle n (last + rest) time Asks (events_by last events) (events_at time events))
+        (λ soon rest said. (said.0, events_so (BesideIdle n (last + rest) time Asks) last time soon le said.1))
+        (late, between, calm, off, (before, bound, (over, beside))) in (
+          late',
+          between',
+          calm',
+          off',
+          (before', bound', said.0, said.1),
+        )
 
     -- what was in flight has arrived
     arrived_by : last ≤ until → (before : ℕ) → HasArrivedNext n all last before time
@@ -138,18 +146,23 @@ module _ (n : NetworkState) (all : List Timed) (until : ℕ) where
     splits_by : (Asks : List Timed → List Timed → Type 0) → SplitsNext n all Then last time Asks
         → SplitsNext n (events_by until all) More last time Asks
     splits_by Asks (late, between, calm, off, before, fails) =
-        let Fails : List Timed → List Timed → Type 0 =
-        BeforeRepeats n (λ made now. FailsTreesFirst n made now × Asks made now) in
         let (late', between', calm', off', before') =
-        comes_by (λ events then. HasArrivedNext n events last then time) arrived_by
-        (late, between, calm, off, before) in
-        (late', between', calm', off', before', events_so Fails last time (omega (arith, late, le)) le fails)
+        comes_by (λ events rest. HasArrivedNext n events last rest time) arrived_by
+        (late, between, calm, off, before) in (
+          late',
+          between',
+          calm',
+          off',
+          before',
+          events_so (BeforeRepeats n (λ made now. FailsTreesFirst n made now × Asks made now)) last time
+              (omega (arith, late, le)) le fails,
+        )
 
     tree_by : (Is : List Timed → Timed → Type 0) (Asks : List Timed → Type 0) → TreeNext n Is all Then last time Asks
         → TreeNext n Is (events_by until all) More last time Asks
     tree_by Is Asks (late, between, calm, off, before, lowers, asks) =
         let (late', between', calm', off', before') =
-        comes_by (λ events then. HasArrivedNext n events last then time) arrived_by
+        comes_by (λ events rest. HasArrivedNext n events last rest time) arrived_by
         (late, between, calm, off, before) in (
           late',
           between',
