@@ -190,7 +190,11 @@ module _ (n : NetworkState) (network : IsNetwork n) (paths : SyncPaths) (few : p
         by SystemTurned = let w = way in let e = echo in omega (arith, w, e)
         by TreeCutOff = let w = way in let g = gone paths short in omega (arith, w, g)
         by TreeTurned = let w = way in let e = echo in omega (arith, w, e)
-        by FailureCutsTrees = roles_lost
+        by FailureCutsTrees =
+            let w = way in let e = echo in let l = largest in let a = aged_most in
+            quiet
+            (aged_by loss + (2 * way_span paths + max (echo_span (pace_of n) paths) (largest_interval (pace_of n))))
+            (omega (arith, w, e, l, a))
         by AnyLosses = roles_lost
         by Gained = early
 

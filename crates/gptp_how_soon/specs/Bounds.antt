@@ -128,9 +128,9 @@ aged_echo_span n loss paths =
 -- By when all that is held and in flight is sound: as soon as the choice stands, but after a loss it may name what is
 -- gone. After a far end or a tree is cut off, or a far end fails, only what was in flight does; of one that fails by
 -- links of before too. After a link goes down by which no system is moved traces have to be told anew first. So they do
--- once the choice stands where one system or a tree turns, or one fails that others heard. After losses without a row
--- of their own all is sound once roles stand; and no later where trees are cut off. After others it is as soon as the
--- choice stands from any past.
+-- once the choice stands where one system or a tree turns, or one fails that others heard; where that cuts trees off
+-- what was in flight as they settled has to be gone too. After losses without a row of their own all is sound once
+-- roles stand. After others it is as soon as the choice stands from any past.
 abbrev pub sound_of_row : NetworkState → Loss → SyncPaths → Row → ℕ → ℕ
 sound_of_row n loss paths AnyPast gained = settling_span_at_once (pace_of n) paths
 sound_of_row n loss paths Unchanged gained = 0
@@ -143,7 +143,9 @@ sound_of_row n loss paths FailureCutsOff gained =
 sound_of_row n loss paths SystemTurned gained = 2 * way_span paths + echo_span (pace_of n) paths
 sound_of_row n loss paths TreeCutOff gained = max (2 * way_span paths) (gone_by n paths loss.used_before)
 sound_of_row n loss paths TreeTurned gained = 2 * way_span paths + echo_span (pace_of n) paths
-sound_of_row n loss paths FailureCutsTrees gained = quiet_by n loss (any_loss_span n loss paths)
+sound_of_row n loss paths FailureCutsTrees gained =
+    quiet_by n loss
+    (aged_by loss + (2 * way_span paths + max (echo_span (pace_of n) paths) (largest_interval (pace_of n))))
 sound_of_row n loss paths AnyLosses gained = quiet_by n loss (any_loss_span n loss paths)
 sound_of_row n loss paths Gained gained = gained
 

@@ -379,9 +379,12 @@ fn sound_by(network: &Network, loss: Loss, paths: SyncPaths, row: Row, gained: u
             aged.max(aged_echo_span(network, loss, paths))
         }
         Row::SystemTurned | Row::TreeTurned => 2 * way_span(paths) + echo_span(network, paths),
-        Row::AnyLosses | Row::FailureCutsTrees => {
-            quiet_by(network, loss, any_loss_span(network, loss, paths))
+        Row::FailureCutsTrees => {
+            network.well_formed();
+            let told = echo_span(network, paths).max(interval_of(network.largest()));
+            quiet_by(network, loss, aged_by(loss) + (2 * way_span(paths) + told))
         }
+        Row::AnyLosses => quiet_by(network, loss, any_loss_span(network, loss, paths)),
         Row::Gained => gained,
     }
 }

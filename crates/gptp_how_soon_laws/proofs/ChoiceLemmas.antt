@@ -27,7 +27,7 @@ use Rattle.gptp_how_soon.specs.declared.bounds.Row.{Row}
 use Rattle.gptp_how_soon.specs.declared.bounds.Row.TheVariants.{AnyLosses, AnyPast, CutOff, FailedEnd, FailedHeard, FailureCutsOff, FailureCutsTrees, Gained, Lowered, SystemTurned, TreeCutOff, TreeTurned, Unchanged}
 use Rattle.gptp_how_soon.specs.declared.bounds.Settling.{Settling}
 use Rattle.gptp_how_soon.specs.declared.bounds.SettlingTime.{SettlingTime}
-use Rattle.gptp_settling_time.specs.HowSoon.{BeforeRepeats, BesideIdle, BoundsAging, BoundsAnyLoss, BoundsChoice, BoundsEvents, BoundsLoss, BoundsSplit, BoundsStart, BoundsTree, CutsOneEnd, FailsEndFirst, FailsHeardFirst, FailsTreesFirst, HeldFor, IsChoiceBoundAfter, IsLossBoundAfter, IsRestBoundAfter, LosesEvents, LowersOneLink, NoneBetween, RestsAfterLoss, RestsOnceTold, RestsTree, RolesAfterFailure, TreeNext, TurnsOneLink}
+use Rattle.gptp_settling_time.specs.HowSoon.{BeforeRepeats, BesideIdle, BoundsAging, BoundsAnyLoss, BoundsChoice, BoundsEvents, BoundsLoss, BoundsSplit, BoundsStart, BoundsTree, CutsOneEnd, FailsEndFirst, FailsHeardFirst, FailsTreesFirst, HeldFor, IsChoiceBoundAfter, IsLossBoundAfter, IsRestBoundAfter, LosesEvents, LowersOneLink, NoneBetween, RestsAfterLoss, RestsOnceTold, RestsSplit, RestsTree, RolesAfterFailure, TreeNext, TurnsOneLink}
 use Rattle.gptp_settling_time.specs.InTurn.{FlightIsGone, turned_echo_span}
 use Rattle.gptp_settling_time.specs.Losses.{NoneSilent}
 use Rattle.gptp_settling_time.specs.TreeLosses.{LowersTree, TurnsTreeLink}
@@ -63,6 +63,10 @@ begin_at (event ∷ events) = by (nat_le event.at 0) (event.at == 0) refl refl (
         let behind : 0 < event.at = grind (arith, nat_tests) in
         absurd (omega (arith, is, behind))
     by false false f g rest = rest
+
+rested_late : (aged ways echo quiet sound : ℕ) → sound ≡ max (aged + (ways + echo)) quiet
+    → max (max (aged + ways) quiet) (aged + ways + echo) ≤ sound
+rested_late aged ways echo quiet sound is = omega (arith, is)
 
 lesser : (choice roles a b : ℕ) → choice ≡ min a b → roles ≡ b → choice ≤ roles
 lesser choice roles a b is same = omega (arith, is, same)
@@ -328,14 +332,15 @@ module _ (d : DocumentState) (playable : IsPlayable d) where
       subst Asks (sym (parted all b.at at playable.events.in_order late between)) asks,
     )
 
-    -- it comes to rest so after a loss, after a tree is cut off, or after one turns
+    -- it comes to rest so after a loss, or after a tree is cut off, one turns, or a failure cuts trees off
     abbrev Rests : ℕ → Type 0
     Rests sound =
         (HasComeToRest b at × BeforeRepeats n (Resting sound) made now)
         ⊎ (((rest : HasComeToRest b at) × CutsLate n playable.network all b at late rest
         × (sound ≡ max (2 * way_span v.paths) (gone_by n v.paths v.used_before)))
-        ⊎ ((rest : HasComeToRest b at) × ComesLate n playable.network all b at late (TurnsTreeLink n) rest
-        × (sound ≡ turned_echo_span n (made ++ now))))
+        ⊎ (((rest : HasComeToRest b at) × ComesLate n playable.network all b at late (TurnsTreeLink n) rest
+        × (sound ≡ turned_echo_span n (made ++ now)))
+        ⊎ (FailsLate n playable.network all b at late × RestsSplit n sound made now)))
 
     rests : (sound : ℕ) → IsCalm n (events_by at all) → NothingLapses n.params → Rests sound
         → IsRestBoundAfter n all (b.at ∷ earlier) at sound
@@ -357,9 +362,19 @@ module _ (d : DocumentState) (playable : IsPlayable d) where
     rests sound calm off (inr (inl (rest, tree, is))) =
         inr (inr (inl (tree_next (LowersTree n) (RestsTree n sound) calm off rest tree.comes
         (gone_by n v.paths v.used_before, tree.flight, is))))
-    rests sound calm off (inr (inr (rest, tree, is))) =
-        inr (inr (inr (tree_next (TurnsTreeLink n) (λ events. sound ≡ turned_echo_span n events) calm off rest tree
-        is)))
+    rests sound calm off (inr (inr (inr (x, splits)))) =
+        inr (inr (inr (inr (
+          late,
+          between,
+          calm,
+          off,
+          (x.rest.settling.sound, (sound_before x.rest).0, x.come),
+          before_none n (λ made now. FailsTreesFirst n made now × RestsSplit n sound made now) made now
+              (x.fails, splits),
+        ))))
+    rests sound calm off (inr (inr (inl (rest, tree, is)))) =
+        inr (inr (inr (inl (tree_next (TurnsTreeLink n) (λ events. sound ≡ turned_echo_span n events) calm off rest
+        tree is))))
 
     -- it has come to rest by what the row of this loss says
     rests_by : (sound : ℕ) → sound ≡ sound_by n loss v.paths (row_at v) (gained_at n v)
@@ -392,7 +407,7 @@ module _ (d : DocumentState) (playable : IsPlayable d) where
         inl (x.rested, behind x.none.first (Resting sound) (inl (inl (x.cuts, (gone, x.flight, is_first)))))
     rests_by sound told (inr (inr (inr (inl (inr row, is))))) =
         let (rest, tree) = tree_turned n playable.network all b at late well row in
-        inr (inr (rest, tree, told ∙ is))
+        inr (inr (inl (rest, tree, told ∙ is)))
     rests_by sound told (inr (inr (inr (inl (inl row, is))))) =
         let (rest, (g, turns)) = turned n playable.network all b at late well row in
         let same = same_paths n playable.network all b at late g in
@@ -427,8 +442,21 @@ module _ (d : DocumentState) (playable : IsPlayable d) where
                 (loses, refl, roles (any_loss_span n loss v.paths)),
           )),
         )
-    rests_by sound told (inr (inr (inr (inr (inr (inr (row, is))))))) =
+    rests_by sound told (inr (inr (inr (inr (inr (inr (inl (row, is)))))))) =
         let (rest, tree) = tree_cut n playable.network all b at late well row in inr (inl (rest, tree, told ∙ is))
+    rests_by sound told (inr (inr (inr (inr (inr (inr (inr (row, is)))))))) =
+        let x = failure_cuts n playable.network all b at late well row in
+        let echo : ℕ = max (echo_span (pace_of n) v.paths) (largest_interval (pace_of n)) in
+        inr (inr (inr (
+          x,
+          (
+            aged_by loss + 2 * way_span v.paths,
+            max (aged_by loss + 2 * way_span v.paths) (quiet_by n loss (aged_by loss)),
+            (aged_by loss, quiet_by n loss (aged_by loss), aging (some_trees x.fails), refl, refl),
+            rested_late (aged_by loss) (2 * way_span v.paths) echo (quiet_by n loss (aged_by loss)) sound
+                (told ∙ is ∙ quiet_later (2 * way_span v.paths + echo)),
+          ),
+        )))
 
     -- it has come to rest as soon as it settles from any past, or sooner after a loss
     rest_so : (s : Settling) → IsTelling n v s → IsChoiceBoundAfter n all (b.at ∷ earlier) at settled_by
@@ -593,7 +621,7 @@ module _ (d : DocumentState) (playable : IsPlayable d) where
           ),
         ))
     asks_by AnyLosses row own =
-        let (rest, loses, roles) = losses n playable.network all b at late (inl row) in
+        let (rest, loses, roles) = losses n playable.network all b at late row in
         let span : ℕ = any_loss_span n loss v.paths in
         inl (rest, alone (Losing span (quiet_by n loss span)) (inr (inr (inr (inr (loses, refl, roles span))))))
 

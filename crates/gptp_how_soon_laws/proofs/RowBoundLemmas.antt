@@ -4,6 +4,7 @@ use Rattle.std.proofs.Common.{◌≡◌, ◌≤◌, ◌⊎◌, inl, inr, ◌+◌
 use Rattle.std.specs.Prelude.{⊤, ◌==◌, not, max, if◌then◌else◌}
 use Rattle.std.proofs.lemmas.Bool.{eqb-false, eqb-true}
 use Rattle.gptp_lists.proofs.MappedLemmas.{some_same}
+use Rattle.gptp_setup.specs.SettlingParams.{largest_interval}
 use Rattle.gptp_scenario.specs.Calm.{NothingLapses}
 use Rattle.gptp_scenario.specs.Network.{NetworkState, pace_of}
 use Rattle.gptp_scenario.specs.SettlingAtOnce.{settling_span_at_once}
@@ -12,7 +13,7 @@ use Rattle.gptp_scenario.specs.SyncWait.{sync_paths}
 use Rattle.gptp_scenario.specs.declared.change.Timed.{Timed}
 use Rattle.gptp_scenario.specs.declared.sync_wait.SyncPaths.{SyncPaths}
 use Rattle.gptp_topology.specs.After.{is_calm}
-use Rattle.gptp_how_soon.specs.Bounds.{aged_echo_span, any_loss_span, arrived_by, choice_by, choice_of_row, gone_by, quiet_by, roles_by, roles_of_row, settled, sound_by, sound_of_row}
+use Rattle.gptp_how_soon.specs.Bounds.{aged_by, aged_echo_span, any_loss_span, arrived_by, choice_by, choice_of_row, gone_by, quiet_by, roles_by, roles_of_row, settled, sound_by, sound_of_row}
 use Rattle.gptp_how_soon.specs.Kinds.{sets_link}
 use Rattle.gptp_how_soon.specs.Times.{View, gained_at, loss_at, row_at, settling_time}
 use Rattle.gptp_how_soon.specs.declared.bounds.Loss.{Loss}
@@ -121,10 +122,6 @@ choice_or_own n loss paths row gained = by (n.params.sync_timeout == 0) refl row
     by true is FailureCutsTrees = inr (eqb-true n.params.sync_timeout 0 is, tt, refl, refl)
     by true is AnyLosses = inr (eqb-true n.params.sync_timeout 0 is, tt, refl, refl)
 
--- all is sound as after any loss
-abbrev pub HasLossSpan : Row → Type 0
-HasLossSpan row = (row ≡ AnyLosses) ⊎ (row ≡ FailureCutsTrees)
-
 -- All is sound by that bound. Or nothing lapses, and it is sooner after a loss.
 abbrev pub IsSoundSooner : NetworkState → Loss → SyncPaths → Row → ℕ → Type 0
 IsSoundSooner n loss paths row sound =
@@ -133,8 +130,11 @@ IsSoundSooner n loss paths row sound =
     ⊎ (((row ≡ CutOff) × (sound ≡ max (2 * way_span paths) (gone_by n paths loss.used_before)))
     ⊎ ((((row ≡ SystemTurned) ⊎ (row ≡ TreeTurned)) × (sound ≡ 2 * way_span paths + echo_span (pace_of n) paths))
     ⊎ ((((row ≡ FailedHeard) ⊎ (row ≡ FailureCutsOff)) × (aged_echo_span n loss paths ≤ sound))
-    ⊎ ((HasLossSpan row × (sound ≡ quiet_by n loss (any_loss_span n loss paths)))
-    ⊎ ((row ≡ TreeCutOff) × (sound ≡ max (2 * way_span paths) (gone_by n paths loss.used_before))))))))
+    ⊎ (((row ≡ AnyLosses) × (sound ≡ quiet_by n loss (any_loss_span n loss paths)))
+    ⊎ (((row ≡ TreeCutOff) × (sound ≡ max (2 * way_span paths) (gone_by n paths loss.used_before)))
+    ⊎ ((row ≡ FailureCutsTrees)
+    × (sound ≡ quiet_by n loss
+    (aged_by loss + (2 * way_span paths + max (echo_span (pace_of n) paths) (largest_interval (pace_of n))))))))))))
 
 pub sound_or_sooner : (n : NetworkState) (loss : Loss) (paths : SyncPaths) (row : Row)
     (gained : ℕ)
@@ -166,11 +166,11 @@ sound_or_sooner n loss paths row gained = by (n.params.sync_timeout == 0) refl r
     by true is FailureCutsOff =
         inr (eqb-true n.params.sync_timeout 0 is, inr (inr (inr (inr (inl (inr refl, omega arith))))))
     by true is AnyLosses =
-        inr (eqb-true n.params.sync_timeout 0 is, inr (inr (inr (inr (inr (inl (inl refl, refl)))))))
+        inr (eqb-true n.params.sync_timeout 0 is, inr (inr (inr (inr (inr (inl (refl, refl)))))))
     by true is FailureCutsTrees =
-        inr (eqb-true n.params.sync_timeout 0 is, inr (inr (inr (inr (inr (inl (inr refl, refl)))))))
+        inr (eqb-true n.params.sync_timeout 0 is, inr (inr (inr (inr (inr (inr (inr (refl, refl))))))))
     by true is TreeCutOff =
-        inr (eqb-true n.params.sync_timeout 0 is, inr (inr (inr (inr (inr (inr (refl, refl)))))))
+        inr (eqb-true n.params.sync_timeout 0 is, inr (inr (inr (inr (inr (inr (inl (refl, refl))))))))
 
 -- what is told of a calm network
 pub record IsTelling (n : NetworkState) (v : View) (s : Settling) : Type 0 where

@@ -34,7 +34,7 @@ use Rattle.gptp_settling_time.specs.TreeLosses.{LowersTree, TurnsTreeLink}
 use Rattle.gptp_settling_time.proofs.CutLemmas.{all_by}
 use Rattle.gptp_settling_time.proofs.LeadOnLemmas.{all_still}
 use Rattle.gptp_settling_time.proofs.MomentLemmas.{all_at}
-use Rattle.gptp_how_soon_laws.proofs.AnyLossLemmas.{all_losses, failing_loses}
+use Rattle.gptp_how_soon_laws.proofs.AnyLossLemmas.{all_losses}
 use Rattle.gptp_how_soon_laws.proofs.ArrivedLemmas.{has_come_so, longest_within}
 use Rattle.gptp_how_soon_laws.proofs.GainLemmas.{AreFollowed, AreTurnsFollowed}
 use Rattle.gptp_how_soon_laws.proofs.GainedLemmas.{all_gained, all_heard, all_idle, all_wider}
@@ -46,7 +46,6 @@ use Rattle.gptp_how_soon_laws.proofs.RepeatLemmas.{IsSame, LowersFirst, before_r
 use Rattle.gptp_how_soon_laws.proofs.TreeEventLemmas.{lowers_one_tree, turns_tree_link}
 use Rattle.gptp_how_soon_laws.proofs.TurnedLemmas.{turns_link}
 use Rattle.gptp_how_soon_laws.proofs.UnmovedLemmas.{AreWell, all_still_unmoved}
-use Rattle.gptp_how_soon_laws.proofs.RowBoundLemmas.{HasLossSpan}
 use Rattle.gptp_how_soon_laws.proofs.RowReasonLemmas.{ReasonOf, Tests, reason_of}
 use Rattle.gptp_how_soon_laws.proofs.SilentLemmas.{none_silent}
 use Rattle.gptp_how_soon_laws.proofs.RowTestLemmas.{HasComeToRest, at_most, counts_all, counts_joined, failing_takes, leaves_all, lowering_takes, not_both, over_before, rested_so}
@@ -564,12 +563,5 @@ module _ (n : NetworkState) (network : IsNetwork n) (events : List Timed) (b : S
       by true is choice = inr refl
       by false is choice = inl (none_left is, refl)
 
-  -- so it is where a system fails and cuts trees off
-  pub losses : HasLossSpan (row_at v) → LosesSome
-  losses (inl row) = let (from, loss, only) = why AnyLosses row in loses_some from only loss
-  losses (inr row) =
-      let (from, trees) = why FailureCutsTrees row in
-      let (followed, fall) = and_parts (is_failing_followed v.paths_before v.paths v.told) v.moves.trees_fall trees in
-      let (keeps, fails) = and_parts (keeps_paths v.paths_before v.paths) (fails_first v.told) followed in
-      let (only, loss) = failing_loses v.told fails in
-      loses_some from only loss
+  pub losses : row_at v ≡ AnyLosses → LosesSome
+  losses row = let (from, loss, only) = why AnyLosses row in loses_some from only loss

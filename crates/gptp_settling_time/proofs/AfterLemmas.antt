@@ -41,7 +41,7 @@ use Rattle.gptp_settling_time.proofs.LeftToLemmas.{IsLeftTo, left_to_act, left_t
 use Rattle.gptp_settling_time.proofs.FallenToLemmas.{IsFallenTo, fallen_to_act, fallen_to_claimed, fallen_to_later, fallen_to_settled}
 use Rattle.gptp_settling_time.proofs.LostToLemmas.{IsLostTo, lost_to_act, lost_to_chooses, lost_to_claimed, lost_to_later, lost_to_settled}
 use Rattle.gptp_settling_time.proofs.TurnedTreeToLemmas.{IsTurnedTreeTo, turned_tree_to_act, turned_tree_to_claimed, turned_tree_to_later, turned_tree_to_settled}
-use Rattle.gptp_settling_time.proofs.SplitToLemmas.{IsSplitTo, split_to_act, split_to_chooses, split_to_later, split_to_settled}
+use Rattle.gptp_settling_time.proofs.SplitToLemmas.{IsSplitTo, split_to_act, split_to_chooses, split_to_claimed, split_to_later, split_to_settled}
 use Rattle.gptp_settling_time.proofs.TurnedToLemmas.{IsTurnedTo, turned_to_act, turned_to_claimed, turned_to_later, turned_to_settled}
 use Rattle.gptp_settling_time.proofs.StartEventLemmas.{IsStartingTo, begun_soon_claimed, begun_soon_news, starting_act, starting_begins, starting_later}
 use Rattle.gptp_settling_time.proofs.TimedNewsLemmas.{CanSettle, has_settled}
@@ -143,7 +143,8 @@ module _ (d : DocumentState) (playable : IsPlayable d) (events : List Timed) (w 
       cleared_to_claimed d ago events since silent right old w start so playable rest
   rests_from (Aging ago aged silent) start rest so =
       aging_to_claimed d ago events aged silent w start so playable rest
-  rests_from (Split ago gone silent) start none so = absurd none
+  rests_from (Split ago gone silent) start rest so =
+      split_to_claimed d ago events gone silent w start so playable rest
   rests_from (Lost ago since most silent) start rest so =
       lost_to_claimed d ago events since most silent w start so playable rest
 

@@ -6,7 +6,7 @@ use Rattle.gptp_scenario.specs.Calm.{IsCalm, IsUsed, NothingLapses, last_change}
 use Rattle.gptp_scenario.specs.Change.{link_after}
 use Rattle.gptp_scenario.specs.Network.{IsEnd, IsNetwork, NetworkState, pace_of}
 use Rattle.gptp_scenario.specs.SettlingAtOnce.{settling_span_at_once}
-use Rattle.gptp_scenario.specs.SettlingTime.{loss_span, settling_span_with, way_span}
+use Rattle.gptp_scenario.specs.SettlingTime.{loss_span, settling_span_with, silence_span, way_span}
 use Rattle.gptp_scenario.specs.SyncWait.{sync_paths}
 use Rattle.gptp_scenario.specs.declared.change.Timed.{Timed}
 use Rattle.gptp_scenario.specs.declared.network.LinkSpec.{LinkSpec}
@@ -188,7 +188,16 @@ module _ (n : NetworkState) (off : NothingLapses n.params) (events more : List T
     unlinked = is.unlinked;
     over = still_over start time is.over;
   }
-  rests_same (Split ago gone silent) time start none = absurd none
+  rests_same (Split ago gone silent) time start is = record {
+    calm = still_calm is.calm;
+    off = is.off;
+    since = is.since ∙ ap (λ t. suc (t + silence_span (pace_of n))) (sym last);
+    told = subst (λ (x : SyncPaths). gone + 2 * way_span x + pred (pred x.systems) * (largest_interval (pace_of n)
+        + x.delay) + largest_interval (pace_of n) ≤ time) (sym paths) is.told;
+    later = subst (λ x. gone + way_span x ≤ start) (sym paths) is.later;
+    unlinked = still_dark ago silent time is.unlinked;
+    over = still_over start time is.over;
+  }
   rests_same (Lost ago lost_at most silent) time start is = record {
     off = is.off;
     later = subst (λ x. lost_at + loss_span (pace_of n) x most < start + way_span x) (sym paths) is.later;
@@ -253,7 +262,7 @@ module _ (n : NetworkState) (network : IsNetwork n) (off : NothingLapses n.param
     repeats_lead (made ++ event ∷ []) others past begun (last_behind made event ∙ here) at each,
   )
 
-  repeats_same : (made others : List Timed) → EachEvent (Repeats n) made others → StandSame n made (made ++ others)
+  pub repeats_same : (made others : List Timed) → EachEvent (Repeats n) made others → StandSame n made (made ++ others)
   repeats_same made [] each = subst (StandSame n made) (sym (append-nil made)) (same_itself n made)
   repeats_same made (event ∷ others) (one, each) =
       subst (StandSame n made) (append_assoc made (event ∷ []) others)

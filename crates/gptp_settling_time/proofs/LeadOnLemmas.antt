@@ -141,7 +141,18 @@ taken_later n events past seen time later less (inr (start, same, rests)) = inr 
           unlinked = omega (arith, unlinked, less);
           over = omega (arith, over, less);
         }
-    by (Split ago gone silent) none = absurd none
+    by (Split ago gone silent) is =
+        let told = is.told in
+        let over = is.over in
+        record {
+          calm = is.calm;
+          off = is.off;
+          since = is.since;
+          told = omega (arith, told, less);
+          later = is.later;
+          unlinked = elim is.unlinked [ inl past ↦ inl (omega (arith, past, less)) | inr none ↦ inr none ];
+          over = omega (arith, over, less);
+        }
     by (Lost ago begun most silent) is =
         let over = is.over in
         record {
@@ -195,7 +206,7 @@ rested_so n events past time off (seen, inr (start, same, rests), is) = by past 
     by (TurnedTree silent now) (rest, later) = let told = rest.told in (off, omega (arith, told))
     by (Cleared ago begun silent right old) rest = (off, rest.unlinked)
     by (Aging ago aged silent) rest = (off, inl rest.unlinked)
-    by (Split ago gone silent) none = absurd none
+    by (Split ago gone silent) rest = let told = rest.told in (off, omega (arith, told), rest.unlinked)
     by (Lost ago begun most silent) rest =
         let later = rest.later in
         let over = rest.over in

@@ -115,14 +115,14 @@ module _ (d : DocumentState) (playable : IsPlayable d) (made : List Timed) (even
       let later = arrives_later n made stood now.arrived now.arrives in
       let quiet = now.quiet in
       subst (λ es. IsSplitTo d es more gone silent w') (sym same)
-      (split_to d playable made event then draws done w' acts at_time time keeps after start
+      (split_to d playable made event then draws done w' acts at_time time last keeps after start
       (rest (omega (arith, later, quiet))) stood gone silent now (named now.arrived now.arrives))
 
   -- they fall back where a link goes down of which an end has failed, or all stays as it stands
   splits_still : (ago : List Timed) (gone silent : ℕ) → IsDownNow n made event → IsSplitTo d ago made gone silent then
       → IsSplitTo d ago more gone silent w'
   splits_still ago gone silent (inl falls) so =
-      split_on d playable made event then draws done w' acts at_time time keeps after ago gone silent falls so
+      split_on d playable made event then draws done w' acts at_time time last keeps after ago gone silent falls so
   splits_still ago gone silent (inr repeats) so =
       split_repeated d playable made event then draws done w' acts at_time keeps after repeats ago gone silent so
 
@@ -157,7 +157,7 @@ module _ (d : DocumentState) (playable : IsPlayable d) (made : List Timed) (even
         | inl same ↦
             subst (λ time. IsSplitTo d old more time start w') (sym same) (splits_still old was start falls so)
         | inr (now, is_gone) ↦
-            split_sooner d playable made event then draws done w' acts at_time time keeps after old was start
+            split_sooner d playable made event then draws done w' acts at_time time last keeps after old was start
             (splits_still old was start falls so) gone now is_gone
       ]))
   leads_to_split (Lost old since most start) ago gone silent none named so = absurd none

@@ -143,6 +143,7 @@ pub mod SoundButOldLemmas
 pub mod LeadOnLemmas
 pub mod LossLeadLemmas
 pub mod LossRestLemmas
+pub mod SplitFollowedLemmas
 pub mod RightStageLemmas
 pub mod DueLemmas
 pub mod TellsRightLemmas
@@ -199,6 +200,7 @@ pub mod SplitLemmas
 pub mod SplitAlwaysLemmas
 pub mod SplitDownLemmas
 pub mod SplitSettlesLemmas
+pub mod SplitRestLemmas
 pub mod SplitFailLemmas
 pub mod SplitToLemmas
 pub mod SplitMadeLemmas

@@ -218,7 +218,8 @@ last_at made event (next ∷ now) time (here, at) =
     ap last_change (sym (append_assoc made (event ∷ []) (next ∷ now))) ∙ last_at (made ++ event ∷ []) next now time at
 
 -- What was in flight as all but the neighbours of the best tell what is right is gone once they do too.
-nearer_within : (systems hop gone : ℕ) → gone ≤ hop → pred (pred systems) * hop + gone ≤ max (pred systems * hop) gone
+pub nearer_within : (systems hop gone : ℕ) → gone ≤ hop
+    → pred (pred systems) * hop + gone ≤ max (pred systems * hop) gone
 nearer_within zero hop gone soon = let least = le-max_right (0 * hop) gone in omega (arith, least)
 nearer_within (suc zero) hop gone soon = let least = le-max_right (0 * hop) gone in omega (arith, least)
 nearer_within (suc (suc k)) hop gone soon =

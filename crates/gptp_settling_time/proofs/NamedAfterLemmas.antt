@@ -131,7 +131,8 @@ chooses_as n events (Aging ago aged silent) time start stood rest (off, over) =
         | inr quiet ↦ inr (inl (omega (arith, quiet, later, over)))
       ],
     )
-chooses_as n events (Split ago gone silent) time start stood none (off, over) = absurd none
+chooses_as n events (Split ago gone silent) time start stood rest (off, over) =
+    let later = rest.later in (off, omega (arith, later, over))
 chooses_as n events (Lost ago since most silent) time start stood rest (off, over) =
     let later = rest.later in (off, omega (arith, later, over))
 

@@ -1,6 +1,6 @@
 -- An event repeats what stands, at the time of the event before: the world stays the very same, and with it all that is
 -- claimed of a loss.
-use Rattle.std.proofs.Common.{◌≡◌, ◌≤◌, ◌+◌, ℕ, suc, true, refl, List, [], ◌∷◌, ◌++◌, sym, ap, subst, ◌∙◌, inl, arith}
+use Rattle.std.proofs.Common.{◌≡◌, ◌≤◌, ◌+◌, ℕ, suc, true, refl, List, [], ◌∷◌, ◌++◌, sym, ap, subst, ◌∙◌, inl}
 use Rattle.gptp_lists.proofs.SystemSpecLemmas.{In-slice_get}
 use Rattle.gptp_graph.specs.Snapshot.{PortIdentity, Snapshot}
 use Rattle.gptp_links.specs.Fate.{Draw}
@@ -38,8 +38,8 @@ use Rattle.gptp_settling_time.proofs.LostClaimedLemmas.{IsLostAlways}
 use Rattle.gptp_settling_time.proofs.LostToLemmas.{IsLostTo}
 use Rattle.gptp_settling_time.proofs.SamePathsLemmas.{StandSame, idle_same, same_back, same_lives}
 use Rattle.gptp_settling_time.proofs.SilentLinksLemmas.{AgesOver}
-use Rattle.gptp_settling_time.proofs.SplitAlwaysLemmas.{IsSplitAlways}
-use Rattle.gptp_settling_time.proofs.SplitToLemmas.{GoesOver, IsSplitTo, over_gone, split_by}
+use Rattle.gptp_settling_time.proofs.SplitRestLemmas.{IsSplitAnew}
+use Rattle.gptp_settling_time.proofs.SplitToLemmas.{GoesOver, IsSplitTo, anew_by, over_gone}
 use Rattle.gptp_settling_time.proofs.TurnedAlwaysLemmas.{IsTurnedAlways}
 use Rattle.gptp_settling_time.proofs.TurnedToLemmas.{IsTurnedTo}
 use Rattle.gptp_settling_time.proofs.TurnedTreeRestLemmas.{IsTurnedTreeAnew}
@@ -199,18 +199,16 @@ module _ (d : DocumentState) (playable : IsPlayable d) (made : List Timed) (even
     keeps = after;
     before = so.before;
     failed = so.failed;
-    since = subst (IsSplitAlways p so.before (GoesOver n so.before ago more so.failed gone silent) so.failed gone
-        silent)
+    since = subst (IsSplitAnew p so.before (GoesOver n so.before ago more so.failed gone silent) so.failed gone silent)
         (sym same)
-        (split_by p so.before (GoesOver n so.before ago made so.failed gone silent) so.failed gone silent then so.since
-        (GoesOver n so.before ago more so.failed gone silent) gone
+        (anew_by p so.before (GoesOver n so.before ago made so.failed gone silent) so.failed gone silent then so.since
+        (GoesOver n so.before ago more so.failed gone silent)
         (λ quiet.
         by_map says_announce (snapshot_of then) (stay_of p) (GoesOver n so.before ago made so.failed gone silent)
         (GoesOver n so.before ago more so.failed gone silent) (view then)
         (λ port until unlinked (over, soon).
-        (over_same n so.before ago made more alike so.failed port until over, soon)) (so.since.by quiet))
-        (over_gone n so.before ago more so.failed gone silent) (inl (omega arith)));
+        (over_same n so.before ago made more alike so.failed port until over, soon)) (so.since.split.by quiet))
+        (over_gone n so.before ago more so.failed gone silent));
     were = subst (WereSilent n ago) (sym same) so.were;
-    some = so.some;
     unanswered = so.unanswered;
   }

@@ -56,10 +56,12 @@ use Rattle.gptp_settling_time.proofs.FallAlwaysLemmas.{settles_by}
 use Rattle.gptp_settling_time.proofs.FallDownLemmas.{FlightNames}
 use Rattle.gptp_settling_time.proofs.LeftClaimedLemmas.{HaveAskedLong}
 use Rattle.gptp_settling_time.proofs.LinkBetweenLemmas.{IsLinkBetween, between_alike, lane_between, way_between}
+use Rattle.gptp_settling_time.proofs.NamesItselfLemmas.{whole_alone}
 use Rattle.gptp_settling_time.proofs.OffForGoodLemmas.{good_fails}
 use Rattle.gptp_settling_time.proofs.SettledSeenLemmas.{IsSettledSeen, always_seen, sound_fits}
 use Rattle.gptp_settling_time.proofs.SplitAlwaysLemmas.{GoesUntil, IsSplitAlways, MayStart, split_after, split_network}
 use Rattle.gptp_settling_time.proofs.SplitLemmas.{IsSplit, SplitSettles, SplitState, SplitsBack}
+use Rattle.gptp_settling_time.proofs.SplitRestLemmas.{IsSplitAnew, SplitNamesAlone, split_anew_begins}
 
 module _ (p : SettlingParams) (number : ℕ) (w : WorldState) (draws : List Draw) (done : Done) (w' : WorldState)
     (is : IsWorld p w) (is' : IsWorld p w') (acts : Acts (Changing (Fail number)) w draws done w')
@@ -195,6 +197,21 @@ module _ (p : SettlingParams) (number : ℕ) (w : WorldState) (draws : List Draw
       );
     }
 
+    -- what has no steps names its sender alone
+    names_alone : SplitNamesAlone p silent w'
+    names_alone quiet' off = record {
+      lanes = λ j l f a at among said known.
+          let stood = lane_still j l at in
+          let lived = lived_before p number w draws done w' is is' acts lives seen sound next pace measured past ready
+          quiet silent_before l.to.clock known in
+          whole_alone g l.from a (sound.lanes j l stood f a among said).source
+          (whole0 j l f a stood among said (fits0.lanes j l f a stood among said lived).joins);
+      stations = λ i s at live place r holds.
+          let stood = alone.stood_seen p number w draws done w' is is' acts lives i s at live in
+          let came = rests.whole.stations i s place r stood live holds in
+          whole_alone g came.from r.said came.source came.whole;
+    }
+
     -- what it told is held for longer than an interval and a delay
     stays_long : (a b : PortIdentity) → Joins g a b → n'.interval_of a + n0.most < stay_of p (n'.log_of a)
     stays_long a b joins =
@@ -324,7 +341,7 @@ module _ (p : SettlingParams) (number : ℕ) (w : WorldState) (draws : List Draw
         started start (inl soon) = let time = time_now in omega (arith, soon, later, time)
         started start (inr (since, now)) = let time = time_now in omega (arith, since, time)
 
-        pub split_begins : IsSplitAlways p g By w.time gone silent w'
+        split_begins : IsSplitAlways p g By w.time gone silent w'
         split_begins = record {
           standing = standing';
           asked = asked';
@@ -341,3 +358,7 @@ module _ (p : SettlingParams) (number : ℕ) (w : WorldState) (draws : List Draw
               let now = started start may in
               (back' quiet' off start now, settles' quiet' off start now);
         }
+
+        -- and traces are told anew later
+        pub anew_begins : w'.last_change ≡ w'.time → IsSplitAnew p g By w.time gone silent w'
+        anew_begins = split_anew_begins p g By w.time gone silent w' split_begins later names_alone

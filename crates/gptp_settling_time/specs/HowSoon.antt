@@ -463,6 +463,14 @@ abbrev pub RestsTree : NetworkState → ℕ → List Timed → Type 0
 RestsTree n rest events =
     (gone : ℕ) × FlightIsGone n events gone × (rest ≡ max (2 * way_span (sync_paths n events)) gone)
 
+-- After trees were cut off, as a system failed, it has come to rest once right traces have been told by distance since
+-- they settled, and what was in flight is gone. Roles have to stand too.
+abbrev pub RestsSplit : NetworkState → ℕ → List Timed → List Timed → Type 0
+RestsSplit n rest made now =
+    (choice : ℕ) × (roles : ℕ) × BoundsSplit n choice roles made now
+    × (max roles (choice + max (echo_span (pace_of n) (sync_paths n (made ++ now))) (largest_interval (pace_of n)))
+    ≤ rest)
+
 -- By so much later than a time the network has come to rest, by the times before it, the latest first: it has settled,
 -- and nothing that is held, or in flight, names what is gone. The first time of all is 0. After a tree has turned right
 -- traces have to be told anew, as where one system is moved.
@@ -473,8 +481,10 @@ IsRestBoundAfter n events (last ∷ earlier) time rest =
     ⊎ (LosesNext n events (λ then. IsRestBoundAfter n events earlier last then) last time
     (λ made now. RestsAfterLoss n made now rest)
     ⊎ (FallsNext n events (λ then. IsRestBoundAfter n events earlier last then) last time (RestsTree n rest)
-    ⊎ TurnsNext n events (λ then. IsRestBoundAfter n events earlier last then) last time
-    (λ all. rest ≡ turned_echo_span n all)))
+    ⊎ (TurnsNext n events (λ then. IsRestBoundAfter n events earlier last then) last time
+    (λ all. rest ≡ turned_echo_span n all)
+    ⊎ SplitsNext n events (λ then. IsRestBoundAfter n events earlier last then) last time
+    (λ made now. RestsSplit n rest made now))))
 
 -- ---- bounds
 

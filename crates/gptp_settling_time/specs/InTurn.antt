@@ -22,7 +22,9 @@
 --   network has come to rest, as if all had been heard, once right traces have been told by distance since, what was in
 --   flight is gone, and ports without a link aren't capable.
 -- - Split: a system failed that others heard, and so cut trees off. What they hold of it goes. The network settles
---   twice the greatest delay for each system of a path but one later, once ports without a link aren't capable.
+--   twice the greatest delay for each system of a path but one later, once ports without a link aren't capable. It has
+--   come to rest, as if all had been heard, once right traces have been told by distance since and what was in flight
+--   is gone, if nothing has changed since the system failed.
 -- - Lost: anything was taken away at one time, whatever was moved. The network settles as one that has gained, once all
 --   that is held is told by live systems over links in use. It has come to rest then, as if all had been heard.
 --
@@ -712,6 +714,21 @@ pub record HasFallenBack (n : NetworkState) (events : List Timed) (fallen start 
   pub gone : fallen + flight < time
   pub over : HasSettledHeard n events start time
 
+-- A network from which trees were cut off, as a system failed, has come to rest by a time, as one whose ports are
+-- capable from a start on. Nothing has changed since. What others held of it was gone by a moment, and a way later, by
+-- that start, the trees had dropped the best of before. They settled within another way. Right traces have been told by
+-- distance since, and what was in flight is gone. Ports without a link aren't capable any more, or no lost link is
+-- silent. And the greatest delay has passed since the start for each system of a path but one.
+pub record HasToldApart (n : NetworkState) (ago events : List Timed) (gone silent start time : ℕ) : Type 0 where
+  pub calm : IsCalm n events
+  pub off : NothingLapses n.params
+  pub since : silent ≡ suc (last_change events + silence_span (pace_of n))
+  pub told : gone + 2 * way_span (sync_paths n events) + nearer_echo_span n events + largest_interval (pace_of n)
+      ≤ time
+  pub later : gone + way_span (sync_paths n events) ≤ start
+  pub unlinked : (silent ≤ time) ⊎ NoneSilent n ago events
+  pub over : HasSettledHeard n events start time
+
 -- A network that has lost at a time has come to rest by another, as one whose ports are capable from a start on. The
 -- greatest delay has passed since the start for each system of a path but one, and by then the choice stands. Ports
 -- without a link aren't capable by the other time, or no lost link is silent.
@@ -730,6 +747,7 @@ RestsFrom n events (TurnedTree silent turned) time start =
     HasToldAnew n events turned start time × (turned + way_span (sync_paths n events) < start)
 RestsFrom n events (Cleared ago since silent right old) time start = HasCleared n ago events since silent old start time
 RestsFrom n events (Aging ago aged silent) time start = HasAged n events aged silent start time
+RestsFrom n events (Split ago gone silent) time start = HasToldApart n ago events gone silent start time
 RestsFrom n events (Lost ago since most silent) time start = HasToldAll n ago events since most silent start time
 RestsFrom n events past time start = ⊥
 
