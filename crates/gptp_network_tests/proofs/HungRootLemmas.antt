@@ -168,7 +168,7 @@ cuts g h stands stands_then =
       first,
       subst (λ x. (v : ℕ) → In v (clocks h) → IsUnmovedOrInTree x h first v) first_is
           (subst (λ x. (v : ℕ) → In v (clocks x) → IsUnmovedOrInTree chain x first v) last_is
-          (λ v known. inr (tree, (is_cut_off, all_under v known)))),
+          (λ v known. inr (tree, is_cut_off, all_under v known))),
     )
 
 fails_trees : FailsTrees ring_network before (later fails)
