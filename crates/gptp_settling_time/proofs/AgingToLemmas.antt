@@ -41,7 +41,7 @@ pub record IsAgingTo (d : DocumentState) (ago events : List Timed) (aged silent 
   pub sound : AgedIsSound (pace_of d.network) aged silent w
   pub failed : ℕ
   pub unanswered : silent ≡ suc (failed + silence_span (pace_of d.network))
-  pub by : WorldAgesBy (pace_of d.network) (AgesOver d.network ago events failed) w
+  pub by : WorldAgesBy (pace_of d.network) (AgesOver d.network before ago events failed) w
 
 module _ (d : DocumentState) (ago events : List Timed) (aged silent : ℕ) where
   pub aging_to_later : (w : WorldState) (time : ℕ) → w.time ≤ time → NothingBefore time w.net.pending
@@ -53,8 +53,8 @@ module _ (d : DocumentState) (ago events : List Timed) (aged silent : ℕ) where
     sound = aged_sound_later (pace_of d.network) so.before aged silent time w later first so.since so.sound;
     failed = so.failed;
     unanswered = so.unanswered;
-    by = by_later (pace_of d.network) so.before aged silent (AgesOver d.network ago events so.failed) time w later first
-        so.since so.by;
+    by = by_later (pace_of d.network) so.before aged silent (AgesOver d.network so.before ago events so.failed) time w
+        later first so.since so.by;
   }
 
   pub aging_to_act : {F : Type 0} (answers : Bounds → ℕ → F → Option ℕ → F → Type 0) (t : ActTrace) (fate drawn : F)
@@ -76,11 +76,12 @@ module _ (d : DocumentState) (ago events : List Timed) (aged silent : ℕ) where
             (aged_sound_later p so.before aged silent timed.at w now first so.since so.sound);
         failed = so.failed;
         unanswered = so.unanswered;
-        by = by_acts p so.before aged silent (AgesOver d.network ago events so.failed) timed.act (at timed.at w)
+        by = by_acts p so.before aged silent (AgesOver d.network so.before ago events so.failed) timed.act
+            (at timed.at w)
             was.draws t.told.done t.after (no_change next.item timed.act w next.act)
             (next_octet next.item timed.act w next.act) was.acts then
-            (by_later p so.before aged silent (AgesOver d.network ago events so.failed) timed.at w now first so.since
-            so.by);
+            (by_later p so.before aged silent (AgesOver d.network so.before ago events so.failed) timed.at w now first
+            so.since so.by);
       }
 
   module _ (w : WorldState) (so : IsAgingTo d ago events aged silent w) (playable : IsPlayable d)

@@ -175,16 +175,16 @@ module _ (d : DocumentState) (playable : IsPlayable d) (made : List Timed) (even
       after.claim.world after.claim.measured came so.since quiet falls.off
       (up_so n made then keeps.stands end x.up came.1.place came.1.channel came.1.is)
       (unused_so n made then keeps.stands world.sound end x.failed)
-      (AgesOver n ago made so.failed) so.by in
+      (AgesOver n so.before ago made so.failed) so.by in
       let world' = after.claim.world in
-      let by : WorldAgesBy p (AgesOver n ago more so.failed) w' =
+      let by : WorldAgesBy p (AgesOver n so.before ago more so.failed) w' =
       λ links. by_map says_announce (snapshot_of w') (stay_of p)
-      (λ port until. AgesOver n ago made so.failed port until × IsUpAt w' port)
-      (AgesOver n ago more so.failed) (view w')
+      (λ port until. AgesOver n so.before ago made so.failed port until × IsUpAt w' port)
+      (AgesOver n so.before ago more so.failed) (view w')
       (λ port until unlinked (is_over, is_up).
-      over_down n ago made event x w' after.stands world'.sound world'.encodable so.failed port until is_over
+      over_down n ago made event x w' after.stands world'.sound world'.encodable so.before so.failed port until is_over
       is_up)
-      (by_up p w' world' (AgesOver n ago made so.failed) by_down links) in
+      (by_up p w' world' (AgesOver n so.before ago made so.failed) by_down links) in
       record {
         keeps = after;
         before = so.before;
@@ -201,10 +201,10 @@ module _ (d : DocumentState) (playable : IsPlayable d) (made : List Timed) (even
   ages_sooner ago gone aged silent (failed, span, same, within, is) so =
       let unanswered = so.unanswered in
       let time : failed ≡ so.failed = omega (arith, same, unanswered) in
-      let since = aging_by p so.before gone silent (AgesOver n ago more so.failed) aged w' so.since so.by
-      (λ port until is_over.
-      let less = over_within n ago more so.failed span (subst (λ t. AgesWithin n ago more t span) time within) port
-      until is_over in
+      let since = aging_by p so.before gone silent (AgesOver n so.before ago more so.failed) aged w' so.since so.by
+      (λ port until heard is_over.
+      let less = over_within n so.before ago more so.failed span
+      (subst (λ t. AgesWithin n ago more t span) time within) port until heard is_over in
       omega (arith, less, is, time)) in
       record {
         keeps = so.keeps;

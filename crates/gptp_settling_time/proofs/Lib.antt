@@ -145,6 +145,7 @@ pub mod TellsRightLemmas
 pub mod RightKeptLemmas
 pub mod RightLemmas
 pub mod AgingLemmas
+pub mod NearEndLemmas
 pub mod AgingStillLemmas
 pub mod AgesByLemmas
 pub mod NamesIntervalLemmas

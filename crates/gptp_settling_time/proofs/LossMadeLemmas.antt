@@ -337,13 +337,14 @@ module _ (d : DocumentState) (playable : IsPlayable d) (made : List Timed) (even
         let by_link = failed_ages_by p x.clock then draws done w' world_then after.claim.world came lived
         (seen_then now.calm now.off) rest.sound start keeps.claim.pace keeps.claim.measured past rest.ready quiet
         rest.silent keeps.named in
-        let by : WorldAgesBy p (AgesOver n made more then.time) w' =
-        ages_over n made event x.clock x.act then w' world_then keeps.stands after.stands after.claim.world.sound
-        keeps.claim.pace.largest by_link in
+        let by : WorldAgesBy p (AgesOver n (snapshot_of then) made more then.time) w' =
+        ages_over n made event x.clock x.act then w' playable.network world_then keeps.stands after.stands
+        after.claim.world.sound keeps.claim.pace.largest by_link in
         let within = subst (λ t. AgesWithin n made more t now.span) (sym at_time) now.within in
-        let since = aging_by p (snapshot_of then) late silent (AgesOver n made more then.time) aged w' since_late by
-        (λ port until is_over.
-        let less = over_within n made more then.time now.span within port until is_over in
+        let since = aging_by p (snapshot_of then) late silent (AgesOver n (snapshot_of then) made more then.time) aged
+        w' since_late by
+        (λ port until heard is_over.
+        let less = over_within n (snapshot_of then) made more then.time now.span within port until heard is_over in
         omega (arith, less, gone, at_time)) in
         record {
           keeps = after;

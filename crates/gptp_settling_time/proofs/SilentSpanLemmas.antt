@@ -68,7 +68,7 @@ module _ (systems : List SystemSpec) (events : List Timed) where
 pub within_delay : (n : NetworkState) (made events : List Timed) (time : ℕ)
     → ((v : LinkSpec) → (link_after events v).bounds.max ≡ (link_after made v).bounds.max)
     → AgesWithin n made events time (aging_span (pace_of n) (sync_paths n made))
-within_delay n made events time stay place v failed there (used, up, end, gone) =
+within_delay n made events time stay place v failed there (used, up, end, gone) lives =
     let most = greatest_most n.systems made n.links place v there used in
     let same = stay v in
     (longest_span (pace_of n), inl refl, omega (arith, most, same))
@@ -114,7 +114,7 @@ failures_within n made (event ∷ now) (fails, lowers) =
 -- where each link that is up is in use none is silent
 pub none_silent : (n : NetworkState) (made events : List Timed) (time span : ℕ) → UpIsUsed n events
     → AgesWithin n made events time span
-none_silent n made events time span used place v failed there (was, up, end, gone) =
+none_silent n made events time span used place v failed there (was, up, end, gone) far =
     absurd (gone (lives end (used place v there up)))
   where
     lives : IsEnd failed (link_after events v) → IsUsed n.systems events (link_after events v)
