@@ -93,11 +93,11 @@ module _ (d : DocumentState) (playable : IsPlayable d) (all : List Timed) (calm 
       by (inr (short, late)) = omega (arith, late, on)
   have_measured (Heard start) w so (off, late) links on =
       news_measured p start w so.since.news links (omega (arith, late, on))
-  have_measured (Left silent) w so settles links on =
-      let change = (after_keeps d all (Left silent) w so).stands.last in
+  have_measured (Left ago silent) w so settles links on =
+      let change = (after_keeps d all (Left ago silent) w so).stands.last in
       left_measured p so.before silent w so.since links (omega (arith, behind, on, change))
-  have_measured (Cleared since silent right old) w so settles links on =
-      let change = (after_keeps d all (Cleared since silent right old) w so).stands.last in
+  have_measured (Cleared ago since silent right old) w so settles links on =
+      let change = (after_keeps d all (Cleared ago since silent right old) w so).stands.last in
       left_measured p so.before silent w so.is.left links (omega (arith, behind, on, change))
   have_measured (Turned silent time) w so settles links on =
       let change = (after_keeps d all (Turned silent time) w so).stands.last in

@@ -44,7 +44,7 @@ use Rattle.gptp_invariants.specs.DelayMeasured.{LinkIsMeasured, LinkStandsAt, St
 use Rattle.gptp_invariants.specs.FailedUnanswered.{IsFailedAmong, IsLastAnswered, IsUnansweredAt, StandsUnanswered, silent_view}
 use Rattle.gptp_invariants.specs.WorldNews.{AreReadyBy, AreSilentBy, IsSilentBy}
 use Rattle.gptp_invariants.specs.WorldSound.{IsSoundWorld}
-use Rattle.gptp_invariants.specs.WorldStanding.{live_stations, snapshot_of, standing_system}
+use Rattle.gptp_invariants.specs.WorldStanding.{channel_is_used, live_stations, snapshot_of, standing_system}
 use Rattle.gptp_invariants.proofs.ChoicePlaceLemmas.{station_from, station_there}
 use Rattle.gptp_invariants.proofs.DelayClaimedCapableLemmas.{clock_has, used_if}
 use Rattle.gptp_invariants.proofs.DelayLinkLemmas.{good_between}
@@ -225,7 +225,7 @@ module _ (p : SettlingParams) (number : ℕ) (w : WorldState) (draws : List Draw
       pub asked : IsAsItWas at.asking s.asking.station
       asked = stood at.asking s.asking.station s.asking.here s.asking.live
 
-      here_before : slice_get w.net.channels at.link ≡ Some s.channel
+      pub here_before : slice_get w.net.channels at.link ≡ Some s.channel
       here_before = ap (λ cs. slice_get cs at.link) (sym channels_now) ∙ s.here
 
       -- beside one that had failed before they stay as they are
@@ -302,12 +302,15 @@ module _ (p : SettlingParams) (number : ℕ) (w : WorldState) (draws : List Draw
             (sym (get-set_same w.stations k.place k.station dead k.is.here) ∙ set) in
             ap (λ (x : Station). clock x.system) one ∙ s.answering.named
 
-        links : IsQuietLink p.params s.channel
-        links =
-            quiet at.link s.channel here_before
-            (used_if w.stations at.direction s.channel s.up
+        -- its link was in use
+        pub link_used : channel_is_used (live_stations w.stations) s.channel ≡ true
+        link_used =
+            used_if w.stations at.direction s.channel s.up
             (clock_has w.stations at.asking s.asking.station _ asked.here s.asking.live s.asking.named)
-            (clock_has w.stations at.answering k.station _ answered lives answers))
+            (clock_has w.stations at.answering k.station _ answered lives answers)
+
+        links : IsQuietLink p.params s.channel
+        links = quiet at.link s.channel here_before link_used
 
         pub stood_good : LinkStandsAt at w
         stood_good = record {

@@ -64,22 +64,22 @@ module _ {F : Type 0} (answers : Bounds → ℕ → F → Option ℕ → F → T
     leads_to_gain (Heard start) next (inl (nothing, capable)) so =
         news_news answers d playable made event fate fate_after w w' done is fit k start next
         (record { keeps = keeps; news = inl so.since.news }) nothing capable
-    leads_to_gain (Left start) next (inl (nothing, none)) so = absurd none
+    leads_to_gain (Left ago start) next (inl (nothing, none)) so = absurd none
     leads_to_gain (Turned silent now) next (inl (nothing, none)) so = absurd none
     leads_to_gain (Fallen silent now) next (inl (nothing, none)) so = absurd none
     leads_to_gain (TurnedTree silent now) next (inl (nothing, none)) so = absurd none
-    leads_to_gain (Cleared since silent right old) next (inl (nothing, none)) so = absurd none
+    leads_to_gain (Cleared ago since silent right old) next (inl (nothing, none)) so = absurd none
     leads_to_gain (Aging ago aged silent) next (inl (nothing, none)) so = absurd none
     leads_to_gain (Split ago gone silent) next (inl (nothing, none)) so = absurd none
     leads_to_gain (Lost since most silent) next (inl (nothing, none)) so = absurd none
     leads_to_gain Starting next (inl (nothing, none)) so = absurd none
     leads_to_gain AnyPast next (inr (inl (nothing, stays))) so = absurd stays
     leads_to_gain Starting next (inr (inl (nothing, stays))) so = absurd stays
-    leads_to_gain (Left start) next (inr (inl (nothing, stays))) so = absurd stays
+    leads_to_gain (Left ago start) next (inr (inl (nothing, stays))) so = absurd stays
     leads_to_gain (Turned silent now) next (inr (inl (nothing, stays))) so = absurd stays
     leads_to_gain (Fallen silent now) next (inr (inl (nothing, stays))) so = absurd stays
     leads_to_gain (TurnedTree silent now) next (inr (inl (nothing, stays))) so = absurd stays
-    leads_to_gain (Cleared since silent right old) next (inr (inl (nothing, stays))) so = absurd stays
+    leads_to_gain (Cleared ago since silent right old) next (inr (inl (nothing, stays))) so = absurd stays
     leads_to_gain (Aging ago aged silent) next (inr (inl (nothing, stays))) so = absurd stays
     leads_to_gain (Split ago gone silent) next (inr (inl (nothing, stays))) so = absurd stays
     leads_to_gain (Lost since most silent) next (inr (inl (nothing, stays))) so = absurd stays
@@ -94,11 +94,11 @@ module _ {F : Type 0} (answers : Bounds → ℕ → F → Option ℕ → F → T
         (starting_now answers d playable made event fate fate_after w w' done is fit k keeps so starts.now))
     leads_to_gain (Gained start) next (inr (inr none)) so = absurd none
     leads_to_gain (Heard start) next (inr (inr none)) so = absurd none
-    leads_to_gain (Left start) next (inr (inr none)) so = absurd none
+    leads_to_gain (Left ago start) next (inr (inr none)) so = absurd none
     leads_to_gain (Turned silent now) next (inr (inr none)) so = absurd none
     leads_to_gain (Fallen silent now) next (inr (inr none)) so = absurd none
     leads_to_gain (TurnedTree silent now) next (inr (inr none)) so = absurd none
-    leads_to_gain (Cleared since silent right old) next (inr (inr none)) so = absurd none
+    leads_to_gain (Cleared ago since silent right old) next (inr (inr none)) so = absurd none
     leads_to_gain (Aging ago aged silent) next (inr (inr none)) so = absurd none
     leads_to_gain (Split ago gone silent) next (inr (inr none)) so = absurd none
     leads_to_gain (Lost since most silent) next (inr (inr none)) so = absurd none
@@ -111,11 +111,11 @@ module _ {F : Type 0} (answers : Bounds → ℕ → F → Option ℕ → F → T
         (starting_now answers d playable made event fate fate_after w w' done is fit k keeps so now)
     leads_to_start (Gained start) none so = absurd none
     leads_to_start (Heard start) none so = absurd none
-    leads_to_start (Left start) none so = absurd none
+    leads_to_start (Left ago start) none so = absurd none
     leads_to_start (Turned silent now) none so = absurd none
     leads_to_start (Fallen silent now) none so = absurd none
     leads_to_start (TurnedTree silent now) none so = absurd none
-    leads_to_start (Cleared since silent right old) none so = absurd none
+    leads_to_start (Cleared ago since silent right old) none so = absurd none
     leads_to_start (Aging ago aged silent) none so = absurd none
     leads_to_start (Split ago gone silent) none so = absurd none
     leads_to_start (Lost since most silent) none so = absurd none
@@ -130,10 +130,9 @@ module _ {F : Type 0} (answers : Bounds → ℕ → F → Option ℕ → F → T
     leads_to past (Gained next) leads named so = record { keeps = after; news = leads_to_gain past next leads so }
     leads_to past (Heard next) leads named so =
         leads_to_heard answers d playable made event fate fate_after w w' done is fit k keeps moment past next leads so
-    leads_to past (Left next) leads named so =
+    leads_to past (Left ago next) leads named so =
         leads_to_left d playable made event then k.draws done w' k.acts refl time_now last_now keeps_then after past
-        next
-        leads (later past so)
+        ago next leads (later past so)
     leads_to past (Turned silent now) leads named so =
         leads_to_turned d playable made event then k.draws done w' k.acts refl time_now last_now keeps_then after past
         silent now leads (later past so)
@@ -143,9 +142,9 @@ module _ {F : Type 0} (answers : Bounds → ℕ → F → Option ℕ → F → T
     leads_to past (TurnedTree silent now) leads named so =
         leads_to_turned_tree d playable made event then k.draws done w' k.acts refl time_now last_now keeps_then after
         past silent now leads named (later past so)
-    leads_to past (Cleared since silent right old) leads named so =
+    leads_to past (Cleared ago since silent right old) leads named so =
         leads_to_cleared d playable made event then k.draws done w' k.acts refl time_now last_now keeps_then after past
-        since silent right old leads (later past so)
+        ago since silent right old leads (later past so)
     leads_to past (Aging ago aged silent) leads named so =
         leads_to_aging d playable made event then k.draws done w' k.acts refl time_now last_now keeps_then after past
         ago aged silent leads (later past so)

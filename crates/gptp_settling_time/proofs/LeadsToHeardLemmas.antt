@@ -381,11 +381,11 @@ module _ {F : Type 0} (answers : Bounds → ℕ → F → Option ℕ → F → T
     leads_to_heard (Heard start) next (inr (inr (nothing, same))) so =
         subst (λ time. IsClaimedTo d more time w') (sym same)
         (left_so start (since_later p start event.at w k.ready.timely.now k.ready.timely.first so.since) nothing)
-    leads_to_heard (Left start) next none so = absurd none
+    leads_to_heard (Left ago start) next none so = absurd none
     leads_to_heard (Turned silent now) next none so = absurd none
     leads_to_heard (Fallen silent now) next none so = absurd none
     leads_to_heard (TurnedTree silent now) next none so = absurd none
-    leads_to_heard (Cleared since silent right old) next none so = absurd none
+    leads_to_heard (Cleared ago since silent right old) next none so = absurd none
     leads_to_heard (Aging ago aged silent) next none so = absurd none
     leads_to_heard (Split ago gone silent) next none so = absurd none
     leads_to_heard (Lost since most silent) next none so = absurd none

@@ -47,6 +47,7 @@ use Rattle.gptp_settling_time.proofs.ClearedToLemmas.{IsClearedTo}
 use Rattle.gptp_settling_time.proofs.ClearsLemmas.{cleared_reduced}
 use Rattle.gptp_settling_time.proofs.LeftClaimedLemmas.{IsLeftAlways}
 use Rattle.gptp_settling_time.proofs.RestedSoLemmas.{rested_any, rested_gained, rested_heard}
+use Rattle.gptp_settling_time.proofs.WereSilentLemmas.{WereSilent, were_down}
 
 module _ (d : DocumentState) (playable : IsPlayable d) (made : List Timed) (event : Timed) (then : WorldState)
     (draws : List Draw) (done : Done) (w' : WorldState) (acts : Acts event.act then draws done w')
@@ -63,11 +64,11 @@ module _ (d : DocumentState) (playable : IsPlayable d) (made : List Timed) (even
 
   -- ---- a link goes down, or a system fails
 
-  loses : (start next : ℕ) → HasRestedSo p start event.at then → LeavesStanding n made event start next
-      → IsLeftTo d more next w'
-  loses start next rest =
-      left_to d playable made event then draws done w' acts at_time time last keeps after start rest
-      next
+  loses : (ago : List Timed) (start next : ℕ) → HasRestedSo p start event.at then → ago ≡ made
+      → LeavesStanding n made event start next → IsLeftTo d ago more next w'
+  loses ago start next rest same leaves =
+      subst (λ es. IsLeftTo d es more next w') (sym same)
+      (left_to d playable made event then draws done w' acts at_time time last keeps after start rest next leaves)
 
   turns : (start silent now : ℕ) → HasRestedSo p start event.at then → TurnsNow n made event start silent now
       → IsTurnedTo d more silent now w'
@@ -115,26 +116,41 @@ module _ (d : DocumentState) (playable : IsPlayable d) (made : List Timed) (even
         (unused_so n made then keeps.stands keeps.claim.world.sound end x.failed) since is.asked)
         is
 
-  pub leads_to_left : (past : Past) (next : ℕ) → EventLeads n made past event (Left next) → IsAfter d made past then
-      → IsLeftTo d more next w'
-  leads_to_left AnyPast next (settled, leaves) so =
-      loses (last_change made + capability_span p) next (rested_any d playable made event then at_time keeps settled)
-      leaves
-  leads_to_left Starting next none so = absurd none
-  leads_to_left (Gained start) next (settled, leaves) so =
-      loses start next (rested_gained d playable made event then at_time keeps start settled so.news) leaves
-  leads_to_left (Heard start) next (settled, leaves) so =
-      loses start next (rested_heard d playable made event then at_time keeps start settled so.since) leaves
-  leads_to_left (Left silent) next (falls, same) so =
-      subst (λ t. IsLeftTo d more t w') (sym same)
-      (record { keeps = after; before = so.before; since = fallen_left so.before silent falls so.since })
-  leads_to_left (Turned silent now) next none so = absurd none
-  leads_to_left (Fallen silent now) next none so = absurd none
-  leads_to_left (TurnedTree silent now) next none so = absurd none
-  leads_to_left (Cleared since silent right old) next none so = absurd none
-  leads_to_left (Aging ago aged silent) next none so = absurd none
-  leads_to_left (Split ago gone silent) next none so = absurd none
-  leads_to_left (Lost since most silent) next none so = absurd none
+  -- so do the ports beside failed systems
+  fallen_were : (ago : List Timed) → LowersUnusedCalm n made event → WereSilent n ago then → WereSilent n ago w'
+  fallen_were ago falls =
+      let x = falls.lowers in
+      let came : Acts (Changing (LinkDown x.clock x.port)) then draws done w' =
+      subst (λ act. Acts act then draws done w') x.act acts in
+      were_down n ago then draws done w' keeps.claim.world after.claim.world x.clock x.port came
+      (up_so n made then keeps.stands (port_id x.clock x.port) x.up came.1.place came.1.channel came.1.is)
+
+  pub leads_to_left : (past : Past) (ago : List Timed) (next : ℕ) → EventLeads n made past event (Left ago next)
+      → IsAfter d made past then → IsLeftTo d ago more next w'
+  leads_to_left AnyPast ago next (settled, same, leaves) so =
+      loses ago (last_change made + capability_span p) next
+      (rested_any d playable made event then at_time keeps settled) same leaves
+  leads_to_left Starting ago next none so = absurd none
+  leads_to_left (Gained start) ago next (settled, same, leaves) so =
+      loses ago start next (rested_gained d playable made event then at_time keeps start settled so.news) same leaves
+  leads_to_left (Heard start) ago next (settled, same, leaves) so =
+      loses ago start next (rested_heard d playable made event then at_time keeps start settled so.since) same leaves
+  leads_to_left (Left old silent) ago next (falls, same_ago, same) so =
+      subst (λ es. IsLeftTo d es more next w') (sym same_ago)
+      (subst (λ t. IsLeftTo d old more t w') (sym same)
+      (record {
+        keeps = after;
+        before = so.before;
+        since = fallen_left so.before silent falls so.since;
+        were = fallen_were old falls so.were;
+      }))
+  leads_to_left (Turned silent now) ago next none so = absurd none
+  leads_to_left (Fallen silent now) ago next none so = absurd none
+  leads_to_left (TurnedTree silent now) ago next none so = absurd none
+  leads_to_left (Cleared was since silent right old) ago next none so = absurd none
+  leads_to_left (Aging old aged silent) ago next none so = absurd none
+  leads_to_left (Split old gone silent) ago next none so = absurd none
+  leads_to_left (Lost since most silent) ago next none so = absurd none
 
   pub leads_to_turned : (past : Past) (silent now : ℕ) → EventLeads n made past event (Turned silent now)
       → IsAfter d made past then → IsTurnedTo d more silent now w'
@@ -146,20 +162,21 @@ module _ (d : DocumentState) (playable : IsPlayable d) (made : List Timed) (even
       turns start silent now (rested_gained d playable made event then at_time keeps start settled so.news) by
   leads_to_turned (Heard start) silent now (settled, by) so =
       turns start silent now (rested_heard d playable made event then at_time keeps start settled so.since) by
-  leads_to_turned (Left start) silent now none so = absurd none
+  leads_to_turned (Left ago start) silent now none so = absurd none
   leads_to_turned (Turned start was) silent now none so = absurd none
   leads_to_turned (Fallen start was) silent now none so = absurd none
   leads_to_turned (TurnedTree start was) silent now none so = absurd none
-  leads_to_turned (Cleared since start right old) silent now none so = absurd none
+  leads_to_turned (Cleared ago since start right old) silent now none so = absurd none
   leads_to_turned (Aging ago aged start) silent now none so = absurd none
   leads_to_turned (Split ago gone start) silent now none so = absurd none
   leads_to_turned (Lost since most start) silent now none so = absurd none
 
-  clears : (start since silent right old : ℕ) → HasRestedSo p start event.at then
-      → ClearsBy n made event start since silent right old → IsClearedTo d more since silent right old w'
-  clears start since silent right old rest =
-      cleared_to d playable made event then draws done w' acts at_time time last keeps after start rest
-      since silent right old
+  clears : (ago : List Timed) (start since silent right old : ℕ) → HasRestedSo p start event.at then → ago ≡ made
+      → ClearsBy n made event start since silent right old → IsClearedTo d ago more since silent right old w'
+  clears ago start since silent right old rest same by =
+      subst (λ es. IsClearedTo d es more since silent right old w') (sym same)
+      (cleared_to d playable made event then draws done w' acts at_time time last keeps after start rest since silent
+      right old by)
 
   -- what ages goes on to age
   ages_on : (ago : List Timed) (aged silent : ℕ) → LowersUnusedCalm n made event → IsAgingTo d ago made aged silent then
@@ -193,6 +210,7 @@ module _ (d : DocumentState) (playable : IsPlayable d) (made : List Timed) (even
         failed = so.failed;
         unanswered = so.unanswered;
         by = by;
+        were = fallen_were ago falls so.were;
       }
 
   -- it has aged sooner where faster links alone are silent still
@@ -214,41 +232,46 @@ module _ (d : DocumentState) (playable : IsPlayable d) (made : List Timed) (even
         failed = so.failed;
         unanswered = so.unanswered;
         by = so.by;
+        were = so.were;
       }
 
-  pub leads_to_cleared : (past : Past) (since silent right old : ℕ)
-      → EventLeads n made past event (Cleared since silent right old)
-      → IsAfter d made past then → IsClearedTo d more since silent right old w'
-  leads_to_cleared AnyPast since silent right old (settled, by) so =
-      clears (last_change made + capability_span p) since silent right old
-      (rested_any d playable made event then at_time keeps settled) by
-  leads_to_cleared Starting since silent right old none so = absurd none
-  leads_to_cleared (Gained start) since silent right old (settled, by) so =
-      clears start since silent right old (rested_gained d playable made event then at_time keeps start settled so.news)
-      by
-  leads_to_cleared (Heard start) since silent right old (settled, by) so =
-      clears start since silent right old (rested_heard d playable made event then at_time keeps start settled so.since)
-      by
-  leads_to_cleared (Left start) since silent right old none so = absurd none
-  leads_to_cleared (Turned start now) since silent right old none so = absurd none
-  leads_to_cleared (Fallen start now) since silent right old none so = absurd none
-  leads_to_cleared (TurnedTree start now) since silent right old none so = absurd none
-  leads_to_cleared (Cleared start dark clean last) since silent right old (falls, past, (begun, by, is, gone)) so =
-      subst (λ t. IsClearedTo d more t silent right old w') (sym begun)
-      (subst (λ t. IsClearedTo d more start t right old w') (sym by)
-      (subst (λ t. IsClearedTo d more start dark t old w') (sym is)
-      (subst (λ t. IsClearedTo d more start dark clean t w') (sym gone)
+  pub leads_to_cleared : (past : Past) (ago : List Timed) (since silent right old : ℕ)
+      → EventLeads n made past event (Cleared ago since silent right old)
+      → IsAfter d made past then → IsClearedTo d ago more since silent right old w'
+  leads_to_cleared AnyPast ago since silent right old (settled, same, by) so =
+      clears ago (last_change made + capability_span p) since silent right old
+      (rested_any d playable made event then at_time keeps settled) same by
+  leads_to_cleared Starting ago since silent right old none so = absurd none
+  leads_to_cleared (Gained start) ago since silent right old (settled, same, by) so =
+      clears ago start since silent right old
+      (rested_gained d playable made event then at_time keeps start settled so.news) same by
+  leads_to_cleared (Heard start) ago since silent right old (settled, same, by) so =
+      clears ago start since silent right old
+      (rested_heard d playable made event then at_time keeps start settled so.since) same by
+  leads_to_cleared (Left was start) ago since silent right old none so = absurd none
+  leads_to_cleared (Turned start now) ago since silent right old none so = absurd none
+  leads_to_cleared (Fallen start now) ago since silent right old none so = absurd none
+  leads_to_cleared (TurnedTree start now) ago since silent right old none so = absurd none
+  leads_to_cleared (Cleared was start dark clean gone) ago since silent right old
+      (falls, past, same_ago, (begun, by, is, same)) so =
+      subst (λ es. IsClearedTo d es more since silent right old w') (sym same_ago)
+      (subst (λ t. IsClearedTo d was more t silent right old w') (sym begun)
+      (subst (λ t. IsClearedTo d was more start t right old w') (sym by)
+      (subst (λ t. IsClearedTo d was more start dark t old w') (sym is)
+      (subst (λ t. IsClearedTo d was more start dark clean t w') (sym same)
       (record {
         keeps = after;
         before = so.before;
-        is = fallen_cleared so.before dark falls so.is.left start clean last past so.is;
-      }))))
-  leads_to_cleared (Aging ago aged dark) since silent right old (falls, same, anew) so =
-      subst (λ t. IsClearedTo d more since t right old w') (sym same)
-      (told_anew d playable ago more event.at aged dark since right old w' after time last
-      (ages_on ago aged dark falls so) anew)
-  leads_to_cleared (Split ago gone dark) since silent right old none so = absurd none
-  leads_to_cleared (Lost begun most start) since silent right old none so = absurd none
+        is = fallen_cleared so.before dark falls so.is.left start clean gone past so.is;
+        were = fallen_were was falls so.were;
+      })))))
+  leads_to_cleared (Aging was aged dark) ago since silent right old (falls, same_ago, same, anew) so =
+      subst (λ es. IsClearedTo d es more since silent right old w') (sym same_ago)
+      (subst (λ t. IsClearedTo d was more since t right old w') (sym same)
+      (told_anew d playable was more event.at aged dark since right old w' after time last
+      (ages_on was aged dark falls so) anew))
+  leads_to_cleared (Split was gone dark) ago since silent right old none so = absurd none
+  leads_to_cleared (Lost begun most start) ago since silent right old none so = absurd none
 
   ages : (ago : List Timed) (start aged silent : ℕ) → HasRestedSo p start event.at then → ago ≡ made
       → FailsNow n made event aged silent → IsAgingTo d ago more aged silent w'
@@ -268,11 +291,11 @@ module _ (d : DocumentState) (playable : IsPlayable d) (made : List Timed) (even
       ages ago start aged silent (rested_gained d playable made event then at_time keeps start settled so.news) same now
   leads_to_aging (Heard start) ago aged silent (settled, same, now) so =
       ages ago start aged silent (rested_heard d playable made event then at_time keeps start settled so.since) same now
-  leads_to_aging (Left start) ago aged silent none so = absurd none
+  leads_to_aging (Left was start) ago aged silent none so = absurd none
   leads_to_aging (Turned start was) ago aged silent none so = absurd none
   leads_to_aging (Fallen start was) ago aged silent none so = absurd none
   leads_to_aging (TurnedTree start was) ago aged silent none so = absurd none
-  leads_to_aging (Cleared since start right old) ago aged silent none so = absurd none
+  leads_to_aging (Cleared was since start right old) ago aged silent none so = absurd none
   leads_to_aging (Aging old gone start) ago aged silent (falls, same_ago, same_silent, sooner) so =
       subst (λ es. IsAgingTo d es more aged silent w') (sym same_ago)
       (subst (λ time. IsAgingTo d old more aged time w') (sym same_silent)
@@ -302,11 +325,11 @@ module _ (d : DocumentState) (playable : IsPlayable d) (made : List Timed) (even
     leads_to_lost (Heard start) since most silent (settled, now) so =
         loses_now start since most silent (rested_heard d playable made event then at_time keeps start settled so.since)
         now
-    leads_to_lost (Left start) since most silent none so = absurd none
+    leads_to_lost (Left ago start) since most silent none so = absurd none
     leads_to_lost (Turned start was) since most silent none so = absurd none
     leads_to_lost (Fallen start was) since most silent none so = absurd none
     leads_to_lost (TurnedTree start was) since most silent none so = absurd none
-    leads_to_lost (Cleared begun start right old) since most silent none so = absurd none
+    leads_to_lost (Cleared ago begun start right old) since most silent none so = absurd none
     leads_to_lost (Aging ago aged start) since most silent none so = absurd none
     leads_to_lost (Split ago gone start) since most silent none so = absurd none
     leads_to_lost (Lost begun delay start) since most silent (more_now, same_since, same_most, same_silent) so =

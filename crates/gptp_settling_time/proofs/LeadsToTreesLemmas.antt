@@ -75,11 +75,11 @@ module _ (d : DocumentState) (playable : IsPlayable d) (made : List Timed) (even
         (λ arrived later quiet. rested_heard d playable made event then at_time keeps start
         (omega (arith, settled, later, quiet)) so.since)
         (λ later moves arrived. named stood arrived (calm moves) (few moves) (off moves, settled) later) tree
-    leads_by_tree (Left start) silent now none named so = absurd none
+    leads_by_tree (Left ago start) silent now none named so = absurd none
     leads_by_tree (Turned start was) silent now none named so = absurd none
     leads_by_tree (Fallen start was) silent now none named so = absurd none
     leads_by_tree (TurnedTree start was) silent now none named so = absurd none
-    leads_by_tree (Cleared since start right old) silent now none named so = absurd none
+    leads_by_tree (Cleared ago since start right old) silent now none named so = absurd none
     leads_by_tree (Aging ago aged start) silent now none named so = absurd none
     leads_by_tree (Split ago gone start) silent now none named so = absurd none
     leads_by_tree (Lost since most start) silent now none named so = absurd none
@@ -129,11 +129,11 @@ module _ (d : DocumentState) (playable : IsPlayable d) (made : List Timed) (even
       splits start stood ago gone silent same now
       (λ later. rested_heard d playable made event then at_time keeps start (omega (arith, settled, later)) so.since)
       (λ late. named stood late now.calm now.fails.few (now.off, settled) now.later)
-  leads_to_split (Left start) ago gone silent none named so = absurd none
+  leads_to_split (Left old start) ago gone silent none named so = absurd none
   leads_to_split (Turned start was) ago gone silent none named so = absurd none
   leads_to_split (Fallen start was) ago gone silent none named so = absurd none
   leads_to_split (TurnedTree start was) ago gone silent none named so = absurd none
-  leads_to_split (Cleared since start right old) ago gone silent none named so = absurd none
+  leads_to_split (Cleared was since start right old) ago gone silent none named so = absurd none
   leads_to_split (Aging old aged start) ago gone silent none named so = absurd none
   leads_to_split (Split old was start) ago gone silent (falls, same_ago, same_silent, sooner) named so =
       subst (λ es. IsSplitTo d es more gone silent w') (sym same_ago)

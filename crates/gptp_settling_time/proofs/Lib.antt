@@ -48,6 +48,7 @@ pub mod BesideUpLemmas
 pub mod LinkStoodLemmas
 pub mod LinkUpLemmas
 pub mod FailedUpLemmas
+pub mod StaySilentLemmas
 pub mod TakenDownLemmas
 pub mod FailedDownLemmas
 pub mod RestClaimedLemmas
@@ -95,6 +96,7 @@ pub mod LoweredLemmas
 pub mod DeadDownLemmas
 pub mod CalmLessLemmas
 pub mod FailedAloneLemmas
+pub mod WereSilentLemmas
 pub mod LeftToLemmas
 pub mod WellFormedLemmas
 pub mod ClaimLemmas

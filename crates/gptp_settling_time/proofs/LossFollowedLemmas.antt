@@ -14,7 +14,7 @@ use Rattle.gptp_network.specs.Snapshot.{events_by}
 use Rattle.gptp_settling_time.specs.HowSoon.{BoundsAging, BoundsAnyLoss, BoundsLoss, BoundsSplit, EachEvent, events_at, FailsTreesFirst, HasArrivedNext, IsLossBoundAfter, NoneBetween, OneEvent}
 use Rattle.gptp_settling_time.specs.InTurn.{Aging, BeginsBy, ChoosesAfter, EventLeads, Fallen, LeadOn, Left, Lost, Past, SettlesAfter, Split, Turned, TurnedTree}
 use Rattle.gptp_settling_time.specs.TreeLosses.{LowersTree, TurnsTreeLink}
-use Rattle.gptp_settling_time.specs.Losses.{AgesWithin, FailsHeard, LowersLink, LowersUnused, TurnsLink, UpIsUsed}
+use Rattle.gptp_settling_time.specs.Losses.{AgesWithin, FailsHeard, LowersLink, LowersUnused, NoneSilent, TurnsLink, UpIsUsed}
 use Rattle.gptp_settling_time.proofs.CalmLessLemmas.{fails_calm}
 use Rattle.gptp_settling_time.proofs.MomentLemmas.{all_at, last_by, parted}
 use Rattle.gptp_settling_time.proofs.LeadOnLemmas.{HasSettled, lead_as, leads_on, next, settled_later, taken_later}
@@ -84,14 +84,14 @@ module _ (d : DocumentState) (network : IsNetwork d.network) (order : AreInOrder
 
         -- by the first the network is left, and the others leave it so
         left : (span : ℕ) (x : IsLeftBy n earlier event span seen)
-            → LeadOn n (earlier ++ event ∷ []) (Left x.silent) now (Left x.silent)
+            → LeadOn n (earlier ++ event ∷ []) (Left earlier x.silent) now (Left earlier x.silent)
             → ((settled : ℕ) → time + roles < settled
-            → SettlesAfter n (events_by time d.events) (Left x.silent) settled) → IsLost
+            → SettlesAfter n (events_by time d.events) (Left earlier x.silent) settled) → IsLost
         left span x others settles = record {
           first = before.first;
           begins = before.begins;
-          last = Left x.silent;
-          lead = led (Left x.silent) (Left x.silent) x.leads others;
+          last = Left earlier x.silent;
+          lead = led (Left earlier x.silent) (Left earlier x.silent) x.leads others;
           calm = calm;
           settles = settles;
           chooses = λ settled late. off;
@@ -103,7 +103,9 @@ module _ (d : DocumentState) (network : IsNetwork d.network) (order : AreInOrder
             let x = loss_leads n earlier event 0 seen then
             (inl (record { lowers = lowers; calm = calm_then; off = off }, refl)) in
             let over = x.over in
-            left 0 x (subst (λ es. LeadOn n (earlier ++ event ∷ []) (Left x.silent) es (Left x.silent)) (sym same) refl)
+            left 0 x
+            (subst (λ es. LeadOn n (earlier ++ event ∷ []) (Left earlier x.silent) es (Left earlier x.silent))
+            (sym same) refl)
             (λ settled late. (off, inl (omega (arith, over, here, late))))
 
         -- by the one event a system turns
@@ -144,16 +146,17 @@ module _ (d : DocumentState) (network : IsNetwork d.network) (order : AreInOrder
         heard : (held quiet : ℕ) → held ≤ choice → quiet ≤ roles → FailsHeard n earlier event
             → EachEvent (LowersUnused n) (earlier ++ event ∷ []) now → BoundsAging n earlier (event ∷ now) held quiet
             → IsLost
-        heard held quiet less quiet_less fails others (inl (used, is_choice, is_roles)) =
-            let used_so : UpIsUsed n (events_by time d.events) = subst (UpIsUsed n) (sym parts) used in
+        heard held quiet less quiet_less fails others (inl (none, is_choice, is_roles)) =
+            let none_so : NoneSilent n earlier (events_by time d.events) =
+            subst (NoneSilent n earlier) (sym parts) none in
             record {
               first = before.first;
               begins = before.begins;
               last = Aging earlier (suc (event.at + 0)) (suc (event.at + silence_span (pace_of n)));
-              lead = aging 0 fails others (none_silent n earlier (earlier ++ event ∷ now) event.at 0 used);
+              lead = aging 0 fails others (none_silent n earlier (earlier ++ event ∷ now) event.at 0 none);
               calm = calm;
-              settles = λ settled late. (off, inr used_so);
-              chooses = λ settled late. (off, inr (inr used_so));
+              settles = λ settled late. (off, inr none_so);
+              chooses = λ settled late. (off, inr (inr none_so));
             }
         heard held quiet less quiet_less fails others (inr ((span, within, is_choice), is_roles)) = record {
           first = before.first;
@@ -213,12 +216,12 @@ module _ (d : DocumentState) (network : IsNetwork d.network) (order : AreInOrder
             (inr (record { fails = fails; calm = calm_then; off = off }, refl)) in
             let over = x.over in
             left span x
-            (dead_lead n (earlier ++ event ∷ []) now x.silent off (fails_calm n earlier event off calm_then fails)
+            (dead_lead n earlier (earlier ++ event ∷ []) now x.silent off (fails_calm n earlier event off calm_then fails)
             others)
             (λ settled late. (
               off,
               elim after [
-                | inl (used, is_none) ↦ inr (subst (UpIsUsed n) (sym parts) used)
+                | inl (none, is_none) ↦ inr (subst (NoneSilent n earlier) (sym parts) none)
                 | inr long ↦ inl (omega (arith, over, here, long, late))
               ],
             ))
@@ -314,7 +317,7 @@ module _ (d : DocumentState) (network : IsNetwork d.network) (order : AreInOrder
 
         lost : (span : ℕ) → AgesWithin n earlier (earlier ++ event ∷ now) event.at span
             → min span (silence_span (pace_of n)) ≤ held
-            → (silence_span (pace_of n) ≤ quiet) ⊎ UpIsUsed n (events_by time d.events) → IsLost
+            → (silence_span (pace_of n) ≤ quiet) ⊎ NoneSilent n earlier (events_by time d.events) → IsLost
         lost span within less dark =
             let chosen = le-max_left choice quiet in
             let asked = le-max_right choice quiet in
@@ -329,16 +332,16 @@ module _ (d : DocumentState) (network : IsNetwork d.network) (order : AreInOrder
                 omega (arith, here, paths, less, is_roles, chosen, late),
                 elim dark [
                   | inl soon_dark ↦ inl (omega (arith, here, soon_dark, is_roles, asked, late))
-                  | inr used ↦ inr used
+                  | inr none ↦ inr none
                 ],
               );
               chooses = λ settled late. (off, omega (arith, here, paths, less, late));
             }
 
         by : BoundsAging n earlier (event ∷ now) held quiet → IsLost
-        by (inl (used, is_none, is_quiet)) =
-            lost 0 (none_silent n earlier (earlier ++ event ∷ now) event.at 0 used) (omega arith)
-            (inr (subst (UpIsUsed n) (sym parts) used))
+        by (inl (none, is_none, is_quiet)) =
+            lost 0 (none_silent n earlier (earlier ++ event ∷ now) event.at 0 none) (omega arith)
+            (inr (subst (NoneSilent n earlier) (sym parts) none))
         by (inr ((span, within, is_held), is_quiet)) =
             lost span
             (subst (λ t. AgesWithin n earlier (earlier ++ event ∷ now) t span)

@@ -115,14 +115,14 @@ chooses_as n events AnyPast time start stood none (off, over) = absurd none
 chooses_as n events Starting time start stood none (off, over) = absurd none
 chooses_as n events (Gained since) time start stood none (off, over) = absurd none
 chooses_as n events (Heard since) time start stood none (off, over) = absurd none
-chooses_as n events (Left silent) time start stood none (off, over) = absurd none
+chooses_as n events (Left ago silent) time start stood none (off, over) = absurd none
 chooses_as n events (Turned silent now) time start stood rest (off, over) =
     let later = rest.later in (off, omega (arith, later, over))
 chooses_as n events (Fallen silent now) time start stood rest (off, over) =
     let later = rest.later in (off, omega (arith, later, over))
 chooses_as n events (TurnedTree silent now) time start stood (rest, later) (off, over) =
     (off, omega (arith, later, over))
-chooses_as n events (Cleared since silent right old) time start stood rest (off, over) = off
+chooses_as n events (Cleared ago since silent right old) time start stood rest (off, over) = off
 chooses_as n events (Aging ago aged silent) time start stood rest (off, over) =
     let later = rest.later in (
       off,

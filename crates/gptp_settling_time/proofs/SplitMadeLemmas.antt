@@ -54,6 +54,7 @@ use Rattle.gptp_settling_time.proofs.SplitDownLemmas.{down_splits}
 use Rattle.gptp_settling_time.proofs.SplitFailLemmas.{split_begins}
 use Rattle.gptp_settling_time.proofs.SplitToLemmas.{GoesOver, IsSplitTo, over_gone, split_by}
 use Rattle.gptp_settling_time.proofs.UpPortsLemmas.{IsUpAt, by_up}
+use Rattle.gptp_settling_time.proofs.WereSilentLemmas.{WereSilent, were_down, were_failed}
 use Rattle.gptp_settling_time.proofs.WorldMovesLemmas.{adjacent_alike, alike_so, joins_alike, near_so, unmoved_alike}
 
 -- a tree is so cut off between two snapshots where it is between others of the same systems and links
@@ -225,6 +226,8 @@ module _ (d : DocumentState) (playable : IsPlayable d) (made : List Timed) (even
               (λ port until unlinked over_it.
               goes_over n before made more then.time gone silent is_gone silent_is port until over_it) (by links))
               (over_gone n before made more then.time gone silent) some late_then;
+          were = were_failed n made x.clock then draws done w' world_then after.claim.world came lived keeps.stands
+              quiet start past rest.silent;
           some = some;
           unanswered = silent_is;
         }
@@ -255,6 +258,11 @@ module _ (d : DocumentState) (playable : IsPlayable d) (made : List Timed) (even
         (up_so n made then keeps.stands end y.up lowered.1.place lowered.1.channel lowered.1.is)
         (unused_so n made then keeps.stands world_then.sound end y.failed) falls.off
 
+    more_were : WereSilent n ago w'
+    more_were =
+        were_down n ago then draws done w' world_then after.claim.world y.clock y.port lowered
+        (up_so n made then keeps.stands end y.up lowered.1.place lowered.1.channel lowered.1.is) so.were
+
     -- what came over links that are silent still ages
     over_more : WorldAgesBy p (Over more gone) w'
     over_more links =
@@ -274,6 +282,7 @@ module _ (d : DocumentState) (playable : IsPlayable d) (made : List Timed) (even
       failed = so.failed;
       since = split_by p so.before (Over made gone) so.failed gone silent w' down (Over more gone) gone over_more
           (over_gone n so.before ago more so.failed gone silent) (inl (omega arith));
+      were = more_were;
       some = so.some;
       unanswered = so.unanswered;
     }
@@ -296,6 +305,7 @@ module _ (d : DocumentState) (playable : IsPlayable d) (made : List Timed) (even
               goes_over n so.before ago more so.failed sooner silent gone_then unanswered port until is_over.0)
               (over_more links))
               (over_gone n so.before ago more so.failed sooner silent) (inr (some, omega (arith, time, failed)));
+          were = more_were;
           some = some;
           unanswered = so.unanswered;
         }

@@ -24,11 +24,11 @@ use Rattle.gptp_invariants.specs.WorldStanding.{snapshot_of}
 use Rattle.gptp_theorem.specs.PlayedLaws.{IsPlayable}
 use Rattle.gptp_theorem.proofs.CalmLemmas.{quiet_stands}
 use Rattle.gptp_theorem.proofs.CalmKeptLemmas.{no_change}
-use Rattle.gptp_settling_time.specs.Losses.{UpIsUsed}
+use Rattle.gptp_settling_time.specs.Losses.{NoneSilent}
 use Rattle.gptp_settling_time.proofs.AgesByWorldLemmas.{WorldAgesBy}
 use Rattle.gptp_settling_time.proofs.AgingLemmas.{HeardNearer}
 use Rattle.gptp_settling_time.proofs.KeptToLemmas.{KeepsTo, keeps_act, keeps_later}
-use Rattle.gptp_settling_time.proofs.LeftToLemmas.{none_unanswered}
+use Rattle.gptp_settling_time.proofs.WereSilentLemmas.{WereSilent, none_silent_from, were_act, were_later}
 use Rattle.gptp_settling_time.proofs.SilentLinksLemmas.{AgesOver}
 use Rattle.gptp_settling_time.proofs.SplitAlwaysLemmas.{GoesUntil, IsSplitAlways, MayStart, split_acts, split_later}
 use Rattle.gptp_settling_time.proofs.SplitSettlesLemmas.{split_chooses, split_settles}
@@ -85,6 +85,7 @@ pub record IsSplitTo (d : DocumentState) (ago events : List Timed) (gone silent 
   pub failed : ℕ
   pub since : IsSplitAlways (pace_of d.network) before (GoesOver d.network before ago events failed gone silent) failed
       gone silent w
+  pub were : WereSilent d.network ago w
   pub some : failed < gone
   pub unanswered : silent ≡ suc (failed + silence_span (pace_of d.network))
 
@@ -102,6 +103,7 @@ module _ (d : DocumentState) (ago events : List Timed) (gone silent : ℕ) where
     failed = so.failed;
     since = split_later (pace_of d.network) so.before (GoesOver d.network so.before ago events so.failed gone silent)
         so.failed gone silent time w later first so.since;
+    were = were_later d.network ago w time later so.were;
     some = so.some;
     unanswered = so.unanswered;
   }
@@ -121,6 +123,7 @@ module _ (d : DocumentState) (ago events : List Timed) (gone silent : ℕ) where
         failed = so.failed;
         since = split_acts p so.before By so.failed gone silent timed.act (at timed.at w) was.draws t.told.done t.after
             (no_change next.item timed.act w next.act) (next_octet next.item timed.act w next.act) was.acts then;
+        were = were_act d ago events answers t fate drawn w next was so.keeps so.were;
         some = so.some;
         unanswered = so.unanswered;
       }
@@ -154,10 +157,10 @@ module _ (d : DocumentState) (ago events : List Timed) (gone silent : ℕ) where
     split_to_chooses = split_chooses p so.before By so.failed gone silent w so.since quiet off start may late_now
 
     -- it has settled
-    pub split_to_settled : (silent ≤ w.time) ⊎ UpIsUsed d.network events → Settled w × IsBoundedWorld w
+    pub split_to_settled : (silent ≤ w.time) ⊎ NoneSilent d.network ago events → Settled w × IsBoundedWorld w
     split_to_settled (inl now) =
         split_settles p so.before By so.failed gone silent w so.since quiet off start may late_now silent
         so.since.standing.silent now
-    split_to_settled (inr used) =
+    split_to_settled (inr none) =
         split_settles p so.before By so.failed gone silent w so.since quiet off start may late_now w.time
-        (none_unanswered d events w so.keeps w.time used) (omega arith)
+        (none_silent_from d ago events w so.keeps so.were none w.time) (omega arith)

@@ -139,6 +139,12 @@ IsSilent n made events v failed =
     × IsEnd failed (link_after events v)
     × (IsLive n.systems events failed.clock → ⊥)
 
+-- no such link has a system at its other end that lives
+abbrev pub NoneSilent : NetworkState → List Timed → List Timed → Type 0
+NoneSilent n made events = (place : ℕ) (v : LinkSpec) (failed end : PortId) → slice_get n.links place ≡ Some v
+    → IsSilent n made events v failed → IsEnd end (link_after events v) → IsLive n.systems events end.clock
+    → ⊥
+
 -- the port announces at this interval
 pub record AnnouncesAt (n : NetworkState) (port : PortId) (log : ℤ) : Type 0 where
   pub place : ℕ
