@@ -183,9 +183,8 @@ module _ (n : NetworkState) (network : IsNetwork n) (paths : SyncPaths) (few : p
         by Lowered = let e = echo in let g = gone paths short in omega (arith, e, g)
         by CutOff = let w = way in let g = gone paths short in omega (arith, w, g)
         by FailedEnd =
-            let s = silence_most in let g = gone loss.paths_before soon in
-            either_most loss.used (gone_by n loss.paths_before loss.used_before) _ 195000000000000 (omega (arith, g))
-            (omega (arith, s, g))
+            let g = gone loss.paths_before soon in
+            quiet (gone_by n loss.paths_before loss.used_before) (omega (arith, g))
         by FailedHeard = aged
         by FailureCutsOff = let w = way in let a = aged in let b = aged_most in omega (arith, w, a, b)
         by OneTurned = let w = way in let e = echo in omega (arith, w, e)

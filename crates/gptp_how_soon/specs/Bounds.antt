@@ -116,11 +116,6 @@ roles_by n loss paths row gained =
 abbrev pub gone_by : NetworkState → SyncPaths → Bool → ℕ
 gone_by n paths used_before = if used_before then paths.delay else largest_interval (pace_of n)
 
--- Where each link that is up is in use so much later is sound what was in flight; else no sooner than ports at other
--- links that are up aren't capable any more.
-abbrev pub silent_by : NetworkState → Loss → ℕ → ℕ
-silent_by n loss gone = if loss.used then gone else max (silence_span (pace_of n)) gone
-
 -- How much later than a system fails that others heard each tells a right trace, and what was in flight is gone. They
 -- do at once where each link that is up is in use. Else they do once nobody holds what names it, 1 ns later than the
 -- choice stands; and ports at other links that are up have to be off.
@@ -141,7 +136,7 @@ sound_of_row n loss paths AnyPast gained = settling_span_at_once (pace_of n) pat
 sound_of_row n loss paths Unchanged gained = 0
 sound_of_row n loss paths Lowered gained = max (echo_span (pace_of n) paths) (gone_by n paths loss.used_before)
 sound_of_row n loss paths CutOff gained = max (2 * way_span paths) (gone_by n paths loss.used_before)
-sound_of_row n loss paths FailedEnd gained = silent_by n loss (gone_by n loss.paths_before loss.used_before)
+sound_of_row n loss paths FailedEnd gained = quiet_by n loss (gone_by n loss.paths_before loss.used_before)
 sound_of_row n loss paths FailedHeard gained = aged_echo_span n loss paths
 sound_of_row n loss paths FailureCutsOff gained =
     max (aged_by loss + 2 * way_span paths) (aged_echo_span n loss paths)

@@ -7,7 +7,7 @@ ghost use Rattle.gptp_setup.specs.SettlingParams.{largest_interval};
 ghost use Rattle.gptp_scenario.specs.Network.{pace_of};
 ghost use Rattle.gptp_scenario.specs.SettlingAtOnce.{settling_span_at_once};
 ghost use Rattle.gptp_scenario.specs.SettlingTime.{capability_span, echo_span, silence_span, way_span};
-ghost use Rattle.gptp_how_soon.specs.Bounds.{aged_by, aged_echo_span, any_loss_span, arrived_by, asked_again, choice_by, exact_from, exact_span, gone_by, heard_by, is_again, is_hard_to_hear, quiet_by, ready, retold_by, roles_by, set_span, settled, silent_by, sound_by, times_by, two_exchanges, watch};
+ghost use Rattle.gptp_how_soon.specs.Bounds.{aged_by, aged_echo_span, any_loss_span, arrived_by, asked_again, choice_by, exact_from, exact_span, gone_by, heard_by, is_again, is_hard_to_hear, quiet_by, ready, retold_by, roles_by, set_span, settled, sound_by, times_by, two_exchanges, watch};
 
 use crate::kinds::{Told, recovers};
 use crate::links::varies;
@@ -334,19 +334,6 @@ fn gone_by(network: &Network, paths: SyncPaths, used_before: bool) -> u64
     }
 }
 
-/// By how much later than a system fails what was in flight is sound, in ns, where that is gone by so much.
-fn silent_by(network: &Network, loss: Loss, gone: u64) -> u64
-    requires { gone ≤ 16000000000 }
-    ensures is { result ≡ silent_by network.now loss gone }
-    ensures bound { result ≤ 4112000000000 }
-{
-    if loss.used {
-        gone
-    } else {
-        silence_span(network).max(gone)
-    }
-}
-
 /// By how much later than a system fails that others heard each tells a trace without it, in ns, and what was in flight
 /// is gone.
 fn aged_echo_span(network: &Network, loss: Loss, paths: SyncPaths) -> u64
@@ -385,7 +372,7 @@ fn sound_by(network: &Network, loss: Loss, paths: SyncPaths, row: Row, gained: u
         Row::Unchanged => 0,
         Row::Lowered => echo_span(network, paths).max(gone),
         Row::CutOff | Row::TreeCutOff => (2 * way_span(paths)).max(gone),
-        Row::FailedEnd => silent_by(network, loss, gone_before),
+        Row::FailedEnd => quiet_by(network, loss, gone_before),
         Row::FailedHeard => aged_echo_span(network, loss, paths),
         Row::FailureCutsOff => {
             let aged = aged_by(loss) + 2 * way_span(paths);
