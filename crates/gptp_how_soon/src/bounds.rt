@@ -63,9 +63,10 @@ pub enum Row {
     AnyPast,
     /// Its events leave what stands as it was.
     Unchanged,
-    /// By its one event a link goes down. No system is moved but such as are cut off, none of which was a far end.
+    /// By one event a link goes down, and the others change nothing. No system is moved but such as are cut off, none of
+    /// which was a far end.
     Lowered,
-    /// By its one event a link goes down that cuts off its far end. No other system is moved.
+    /// One link goes down so that cuts off its far end. No other system is moved.
     CutOff,
     /// A system fails that was the far end of its links.
     FailedEnd,
@@ -73,11 +74,11 @@ pub enum Row {
     FailedHeard,
     /// So it is, but systems are moved, all of which are cut off.
     FailureCutsOff,
-    /// By its one event a link goes down that moves one system alone. That keeps its root, and turns to others for it.
+    /// One link goes down so that moves one system alone. That keeps its root, and turns to others for it.
     OneTurned,
-    /// By its one event a link goes down that cuts off a tree, whose systems have a worse root then.
+    /// One link goes down so that cuts off a tree, whose systems have a worse root then.
     TreeCutOff,
-    /// By its one event a link goes down that moves a tree. Its systems keep their root, and get it by one other link.
+    /// One link goes down so that moves a tree. Its systems keep their root, and get it by one other link.
     TreeTurned,
     /// A system fails, and all that are moved are trees that it cuts off.
     FailureCutsTrees,

@@ -8,7 +8,7 @@ use crate::bounds::{Row, SettlingTime, way_span};
 use crate::kinds::{
     Told, all_bring_nothing, all_leave_links, all_make_nothing, all_tell_nothing, any_better,
     any_gain, any_loss, any_lowers_unused, any_other, any_recovery, any_wider, are_heard,
-    begins_wider, fails_and_recovers, fails_first, first_wider_by, lowers_one,
+    begins_wider, fails_and_recovers, fails_one, first_wider_by, lowers_one,
 };
 use gptp_scenario::SyncPaths;
 
@@ -211,7 +211,7 @@ fn is_lowering_followed(paths_before: SyncPaths, paths: SyncPaths, told: &[Told]
 fn is_failing_followed(paths_before: SyncPaths, paths: SyncPaths, told: &[Told]) -> bool
     ensures { result ≡ is_failing_followed paths_before paths told.now }
 {
-    keeps_paths(paths_before, paths) && fails_first(told)
+    keeps_paths(paths_before, paths) && fails_one(told)
 }
 
 /// Whether it counts whom its events move.

@@ -69,8 +69,11 @@ module _ (n : NetworkState) (off : NothingLapses n.params) (events more : List T
 
   pub settles_same : (past : Past) (settled : ℕ) → SettlesAfter n events past settled → SettlesAfter n more past settled
   settles_same AnyPast settled (inl (off, late)) =
-      inl (off, subst (λ t. t + settling_span_at_once (pace_of n) (sync_paths n more) ≤ settled) (sym last)
-      (subst (λ x. last_change events + settling_span_at_once (pace_of n) x ≤ settled) (sym paths) late))
+      inl (
+        off,
+        subst (λ t. t + settling_span_at_once (pace_of n) (sync_paths n more) ≤ settled) (sym last)
+            (subst (λ x. last_change events + settling_span_at_once (pace_of n) x ≤ settled) (sym paths) late),
+      )
   settles_same AnyPast settled (inr late) =
       inr (subst (λ t. t + settling_span_with (pace_of n) (sync_paths n more) (sync_paths n more).systems ≤ settled)
       (sym last)
@@ -265,7 +268,8 @@ split_now time (event ∷ first) others (here, at) =
     let (one, other) = split_now time first others at in ((here, one), other)
 
 module _ (n : NetworkState) (network : IsNetwork n) (off : NothingLapses n.params) (time : ℕ)
-    (So : List Timed → Past → Type 0) (begun : (events : List Timed) (past : Past) → So events past → past ≡ Starting → ⊥)
+    (So : List Timed → Past → Type 0) (begun : (events : List Timed) (past : Past) → So events past → past ≡ Starting →
+    ⊥)
     (same : (events more : List Timed) (past : Past) → StandSame n events more
     → last_change more ≡ last_change events → So events past → So more past) where
   -- others come at this time that repeat what stands
@@ -275,7 +279,8 @@ module _ (n : NetworkState) (network : IsNetwork n) (off : NothingLapses n.param
   repeats_to made first others past last at each x = record {
     last = x.last;
     lead = leads_on n made past x.last x.last first others x.lead
-        (repeats_lead n network off time (made ++ first) others x.last (begun (made ++ first) x.last x.so) last at each);
+        (repeats_lead n network off time (made ++ first) others x.last (begun (made ++ first) x.last x.so) last at
+        each);
     so = subst (λ es. So es x.last) (append_assoc made first others)
         (same (made ++ first) ((made ++ first) ++ others) x.last (repeats_same n network off time (made ++ first) others
         each) (last_on n network off time (made ++ first) others last at ∙ sym last) x.so);
@@ -343,9 +348,11 @@ module _ (n : NetworkState) (network : IsNetwork n) (off : NothingLapses n.param
         → settled < time → IsCalm n made → IsCalm n (made ++ event ∷ now)
         → BesideIdle n settled time Are made (event ∷ now) → LeadsTo n made (event ∷ now) past So
     beside_idle made event now past settled at has soon calm calm_now (inl is) =
-        after_still made (event ∷ now) past at (settled_later n made past (suc settled) time (omega (arith, soon)) has) calm
+        after_still made (event ∷ now) past at (settled_later n made past (suc settled) time (omega (arith, soon)) has)
+        calm
         calm_now is
-    beside_idle made event now past settled (here, at) has soon calm calm_now (inr (by, widens, early, calm_wider, is)) =
+    beside_idle made event now past settled (here, at) has soon calm calm_now (inr (by, widens, early, calm_wider, is))
+        =
         let (next, leads, then) = widens_leads n network off time made event past (suc settled) by here calm has
         (omega (arith, soon)) widens (omega (arith, early)) in
         let x = after_still (made ++ event ∷ []) now (Heard next) at then calm_wider

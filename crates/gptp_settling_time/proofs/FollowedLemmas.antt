@@ -370,7 +370,8 @@ module _ (n : NetworkState) (network : IsNetwork n) (off : NothingLapses n.param
     -- or once the tree has turned and traces are told anew
     turn_followed : (then rest : ℕ) → IsCalm n before_now → IsCalm n (events_by time all)
         → IsFollowedTo n before_now last then → HasArrivedNext n all last then time
-        → BeforeRepeats n (OneEvent (TurnsTreeLink n)) before_now at_now → rest ≡ turned_echo_span n (events_by time all)
+        → BeforeRepeats n (OneEvent (TurnsTreeLink n)) before_now at_now → rest ≡ turned_echo_span n
+        (events_by time all)
         → IsFollowedTo n (events_by time all) time rest
     turn_followed then rest calm_then calm before arrives turns is =
         let (silent, lead) = turns_on then calm_then before arrives turns in

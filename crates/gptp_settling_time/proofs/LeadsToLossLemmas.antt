@@ -145,7 +145,8 @@ module _ (d : DocumentState) (playable : IsPlayable d) (made : List Timed) (even
           since = fallen_left so.before silent lowers so.since;
           were = fallen_were old lowers so.were;
         }
-        | inr repeats ↦ left_repeated d playable made event then draws done w' acts at_time keeps after repeats old silent so
+        | inr repeats ↦ left_repeated d playable made event then draws done w' acts at_time keeps after repeats old
+            silent so
       ]))
   leads_to_left (Turned silent now) ago next none so = absurd none
   leads_to_left (Fallen silent now) ago next none so = absurd none
@@ -279,7 +280,8 @@ module _ (d : DocumentState) (playable : IsPlayable d) (made : List Timed) (even
           is = fallen_cleared so.before dark lowers so.is.left start clean gone past so.is;
           were = fallen_were was lowers so.were;
         }
-        | inr repeats ↦ cleared_repeated d playable made event then draws done w' acts at_time keeps after repeats was start dark clean gone so
+        | inr repeats ↦ cleared_repeated d playable made event then draws done w' acts at_time keeps after repeats was
+            start dark clean gone so
       ])))))
   leads_to_cleared (Aging was aged dark) ago since silent right old (falls, same_ago, same, anew) so =
       subst (λ es. IsClearedTo d es more since silent right old w') (sym same_ago)
@@ -357,5 +359,6 @@ module _ (d : DocumentState) (playable : IsPlayable d) (made : List Timed) (even
           | inl more_now ↦
               loses_more d playable made event then draws done w' is acts octet at_time time last keeps after since most
               silent lost.is more_now
-          | inr repeats ↦ lost_repeated d playable made event then draws done w' acts at_time keeps after repeats since most silent lost
+          | inr repeats ↦ lost_repeated d playable made event then draws done w' acts at_time keeps after repeats since
+              most silent lost
         ]

@@ -93,7 +93,8 @@ module _ (d : DocumentState) (playable : IsPlayable d) (made : List Timed) (even
       fallen_to d playable made event then draws done w' acts at_time time keeps after start rest stood arrived named
       arrives quiet falls) past silent now leads named so
   leads_to_fallen past silent now (inr (repeats, same)) named so =
-      fallen_repeated d playable made event then draws done w' acts at_time keeps after repeats silent now (subst (λ x. IsAfter d made x then) same so)
+      fallen_repeated d playable made event then draws done w' acts at_time keeps after repeats silent now
+      (subst (λ x. IsAfter d made x then) same so)
 
   pub leads_to_turned_tree : (past : Past) (silent now : ℕ) → EventLeads n made past event (TurnedTree silent now)
       → NamesAfter d made past then → IsAfter d made past then → IsTurnedTreeTo d more silent now w'
@@ -103,7 +104,8 @@ module _ (d : DocumentState) (playable : IsPlayable d) (made : List Timed) (even
       turned_tree_to d playable made event then draws done w' acts at_time time keeps after start rest stood arrived
       named arrives quiet turns last) past silent now leads named so
   leads_to_turned_tree past silent now (inr (repeats, same)) named so =
-      turned_tree_repeated d playable made event then draws done w' acts at_time keeps after repeats silent now (subst (λ x. IsAfter d made x then) same so)
+      turned_tree_repeated d playable made event then draws done w' acts at_time keeps after repeats silent now
+      (subst (λ x. IsAfter d made x then) same so)
 
   -- trees are, as a system fails
   splits : (start stood : ℕ) (ago : List Timed) (gone silent : ℕ) → ago ≡ made

@@ -77,7 +77,8 @@ module _ (n : NetworkState) (network : IsNetwork n) (off : NothingLapses n.param
       left : (span : ℕ) (x : IsLeftBy n earlier event span seen)
           → LeadOn n (earlier ++ event ∷ []) (Left earlier x.silent) now (Left earlier x.silent)
           → ((settled : ℕ) → time + roles < settled
-          → SettlesAfter n (earlier ++ event ∷ now) (Left earlier x.silent) settled) → IsLostTo earlier (event ∷ now) seen
+          → SettlesAfter n (earlier ++ event ∷ now) (Left earlier x.silent) settled) → IsLostTo earlier (event ∷ now)
+          seen
       left span x others settles = record {
         last = Left earlier x.silent;
         lead = (seen, inl refl, Left earlier x.silent, x.leads, others);
@@ -91,7 +92,8 @@ module _ (n : NetworkState) (network : IsNetwork n) (off : NothingLapses n.param
           let x = loss_leads n earlier event 0 seen then
           (inl (record { lowers = lowers; calm = calm_then; off = off }, refl)) in
           let over = x.over in
-          left 0 x (subst (λ es. LeadOn n (earlier ++ event ∷ []) (Left earlier x.silent) es (Left earlier x.silent)) (sym same) refl)
+          left 0 x (subst (λ es. LeadOn n (earlier ++ event ∷ []) (Left earlier x.silent) es (Left earlier x.silent))
+          (sym same) refl)
           (λ settled late. (off, inl (omega (arith, over, here, late))))
 
       -- by the one event a system turns
@@ -193,7 +195,8 @@ module _ (n : NetworkState) (network : IsNetwork n) (off : NothingLapses n.param
   -- by one that cuts trees off, once what was sent before the choice stood has arrived
   split_leads : (made now : List Timed) (past : Past) (stood arrived : ℕ)
       → AllByRecursion (λ (t : Timed). t.at ≡ time) now → HasSettled n made past stood → last_change made < stood
-      → HasArrivedBy n made stood arrived → arrived ≤ time → IsCalm n made → FailsTreesFirst n made now → BoundsSplit n choice roles made now → IsLostTo made now past
+      → HasArrivedBy n made stood arrived → arrived ≤ time → IsCalm n made → FailsTreesFirst n made now → BoundsSplit n
+      choice roles made now → IsLostTo made now past
   split_leads made [] past stood arrived at has later arrives quiet_then calm none bounds = absurd none
   split_leads made (event ∷ now) past stood arrived at has later arrives quiet_then calm (fails, others)
       (held, quiet, bounds, is_choice, is_roles) = by bounds
@@ -252,8 +255,10 @@ module _ (d : DocumentState) (network : IsNetwork d.network) (order : AreInOrder
       pub last : Past
       pub lead : LeadOn d.network [] first (events_by time d.events) last
       pub calm : IsCalm d.network (events_by time d.events)
-      pub settles : (settled : ℕ) → time + roles < settled → SettlesAfter d.network (events_by time d.events) last settled
-      pub chooses : (settled : ℕ) → time + choice < settled → ChoosesAfter d.network (events_by time d.events) last settled
+      pub settles : (settled : ℕ) → time + roles < settled → SettlesAfter d.network (events_by time d.events) last
+          settled
+      pub chooses : (settled : ℕ) → time + choice < settled → ChoosesAfter d.network (events_by time d.events) last
+          settled
 
     -- a tree is cut off, or turns to its one way out
     tree_by : (last choice_then : ℕ) (less : last < time) (between : NoneBetween d.events last time)

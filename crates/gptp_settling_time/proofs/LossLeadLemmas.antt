@@ -350,7 +350,8 @@ pub splits_lead : (n : NetworkState) → IsNetwork n → NothingLapses n.params 
     → AgesWithin n made (made ++ event ∷ now) event.at span
     → LeadOn n made past (event ∷ now)
     (Split made (suc (event.at + min span (silence_span (pace_of n)))) (suc (event.at + silence_span (pace_of n))))
-splits_lead n network off made event [] past stood arrived span calm settled later arrives quiet fails down here within =
+splits_lead n network off made event [] past stood arrived span calm settled later arrives quiet fails down here within
+    =
     let gone = suc (event.at + min span (silence_span (pace_of n))) in
     let silent = suc (event.at + silence_span (pace_of n)) in (
       past,

@@ -193,7 +193,8 @@ module _ (d : DocumentState) (playable : IsPlayable d) (made : List Timed) (even
     keeps = after;
     before = so.before;
     failed = so.failed;
-    since = subst (IsSplitAlways p so.before (GoesOver n so.before ago more so.failed gone silent) so.failed gone silent)
+    since = subst (IsSplitAlways p so.before (GoesOver n so.before ago more so.failed gone silent) so.failed gone
+        silent)
         (sym same)
         (split_by p so.before (GoesOver n so.before ago made so.failed gone silent) so.failed gone silent then so.since
         (GoesOver n so.before ago more so.failed gone silent) gone
