@@ -15,13 +15,31 @@ use Rattle.gptp_setup.specs.SettlingParams.{largest_interval}
 use Rattle.gptp_theorem.proofs.EventLemmas.{last_behind}
 use Rattle.gptp_settling_time.specs.Exactly.{SettlesBy}
 use Rattle.gptp_settling_time.specs.Gains.{Repeats, RepeatsNow}
-use Rattle.gptp_settling_time.specs.HowSoon.{AfterIdleEvents, BeforeRepeats, BesideIdle, EachEvent}
+use Rattle.gptp_settling_time.specs.HowSoon.{AfterIdleEvents, BeforeRepeats, BesideIdle, EachEvent, IsDownToo}
 use Rattle.gptp_settling_time.specs.InTurn.{Aging, AnyPast, ChoosesAfter, Cleared, EventLeads, Fallen, FlightIsGone, Gained, HasToldAnew, Heard, LeadOn, Left, Lost, Past, RestsFrom, SettlesAfter, Split, Starting, Turned, TurnedTree}
-use Rattle.gptp_settling_time.specs.Losses.{NoneSilent, UpIsUsed}
+use Rattle.gptp_settling_time.specs.Losses.{LowersUnused, NoneSilent, UpIsUsed}
 use Rattle.gptp_settling_time.proofs.CalmStillLemmas.{alike_calm, idle_calm}
 use Rattle.gptp_settling_time.proofs.LeadOnLemmas.{HasRested, HasSettled, idle_leads, idle_settled, leads_on, settled_later, since, widens_leads}
 use Rattle.gptp_settling_time.proofs.LossRestLemmas.{last_at}
 use Rattle.gptp_settling_time.proofs.SamePathsLemmas.{StandSame, idle_same, paths_same, same_alike, same_back, same_itself, same_lives, same_on}
+
+-- ---- no such event is there
+
+-- none comes behind a loss
+pub before_none : (n : NetworkState) (Are : List Timed → List Timed → Type 0) (made now : List Timed) → Are made now
+    → BeforeRepeats n Are made now
+before_none n Are made now is = (now, [], sym (append-nil now), tt, is)
+
+-- nor before it
+pub beside_none : (n : NetworkState) (settled time : ℕ) (Are : List Timed → List Timed → Type 0) (made : List Timed)
+    (event : Timed) (now : List Timed) → Are made (event ∷ now) → BesideIdle n settled time Are made (event ∷ now)
+beside_none n settled time Are made event now is = inl (inl (before_none n Are made (event ∷ now) is))
+
+-- nor beside links that go down behind a failure
+pub down_alone : (n : NetworkState) (made now : List Timed) → EachEvent (LowersUnused n) made now
+    → EachEvent (IsDownToo n) made now
+down_alone n made [] each = tt
+down_alone n made (event ∷ now) (lowers, each) = (inl lowers, down_alone n (made ++ event ∷ []) now each)
 
 -- ---- what settles by events settles by others after which all stands the same
 
