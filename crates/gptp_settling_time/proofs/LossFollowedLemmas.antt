@@ -14,7 +14,7 @@ use Rattle.gptp_network.specs.Snapshot.{events_by}
 use Rattle.gptp_settling_time.specs.HowSoon.{BoundsAging, BoundsAnyLoss, BoundsLoss, BoundsSplit, EachEvent, events_at, FailsTreesFirst, HasArrivedNext, IsLossBoundAfter, NoneBetween, OneEvent}
 use Rattle.gptp_settling_time.specs.InTurn.{Aging, BeginsBy, ChoosesAfter, EventLeads, Fallen, LeadOn, Left, Lost, Past, SettlesAfter, Split, Turned, TurnedTree}
 use Rattle.gptp_settling_time.specs.TreeLosses.{LowersTree, TurnsTreeLink}
-use Rattle.gptp_settling_time.specs.Losses.{AgesWithin, FailsHeard, LowersLink, LowersUnused, NoneSilent, TurnsLink, UpIsUsed}
+use Rattle.gptp_settling_time.specs.Losses.{AgesWithin, FailsHeard, LowersLink, LowersUnused, NoneSilent, TurnsLink}
 use Rattle.gptp_settling_time.proofs.CalmLessLemmas.{fails_calm}
 use Rattle.gptp_settling_time.proofs.MomentLemmas.{all_at, last_by, parted}
 use Rattle.gptp_settling_time.proofs.LeadOnLemmas.{HasSettled, lead_as, leads_on, next, settled_later, taken_later}
@@ -183,7 +183,7 @@ module _ (d : DocumentState) (network : IsNetwork d.network) (order : AreInOrder
             loses_by n time network off earlier (event ∷ now) seen
             (subst (AllByRecursion (λ (t : Timed). t.at ≡ time)) is (all_at time d.events))
             (subst (HasSettled n earlier seen) here then) calm_then choice roles bounds in
-            let past : Past = Lost time x.most x.silent in
+            let past : Past = Lost earlier time x.most x.silent in
             let paths : choice ≡ loss_span (pace_of n) (sync_paths n (events_by time d.events)) x.most =
             x.span ∙ ap (λ es. loss_span (pace_of n) (sync_paths n es) x.most) (sym parts) in
             let more = x.more in
@@ -202,7 +202,7 @@ module _ (d : DocumentState) (network : IsNetwork d.network) (order : AreInOrder
                 omega (arith, late, paths, more),
                 elim x.quiet [
                   | inl quiet ↦ inl (omega (arith, late, quiet))
-                  | inr used ↦ inr (subst (UpIsUsed n) (sym parts) used)
+                  | inr none ↦ inr (subst (NoneSilent n earlier) (sym parts) none)
                 ],
               );
               chooses = λ settled late. (off, omega (arith, late, paths));
