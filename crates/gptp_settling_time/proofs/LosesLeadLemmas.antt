@@ -121,7 +121,8 @@ module _ (n : NetworkState) (time : ℕ) where
               (idle_settled n made event network off (inl idle) past then))
               (idle_calm n network off made event idle calm)
               (subst (λ (x : SyncPaths). x.delay ≤ most) (sym stays) less)
-              (λ place v there now_used. used place v there (idle_since n network made event idle place v there now_used))
+              (λ place v there now_used.
+              used place v there (idle_since n network made event idle place v there now_used))
               others quiet,
         )
 

@@ -1,5 +1,5 @@
 -- What makes nothing of what stands takes nothing away from a world, among events that do.
-use Rattle.std.proofs.Common.{ℕ, refl, sym, ap, subst, ◌∙◌}
+use Rattle.std.proofs.Common.{ℕ, refl, sym, ap, subst, ◌∙◌, inl, inr}
 use Rattle.gptp_lists.specs.Members.{In}
 use Rattle.gptp_graph.specs.Snapshot.{Snapshot, clocks}
 use Rattle.gptp_setup.specs.SettlingParams.{SettlingParams}

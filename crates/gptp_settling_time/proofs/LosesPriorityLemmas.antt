@@ -1,5 +1,5 @@
 -- The priority1 of a live system is set: among events that take something away it takes nothing but its identity.
-use Rattle.std.proofs.Common.{◌≡◌, ◌<◌, ℕ, true, List, Some, slice_get, refl, sym, ap, subst, ◌∙◌}
+use Rattle.std.proofs.Common.{◌≡◌, ◌<◌, ℕ, true, List, Some, slice_get, refl, sym, ap, subst, ◌∙◌, inl, inr}
 use Rattle.gptp_lists.specs.Members.{In}
 use Rattle.gptp_lists.proofs.MappedLemmas.{alike, same_there}
 use Rattle.gptp_graph.specs.Snapshot.{Snapshot, clocks}

@@ -216,8 +216,8 @@ module _ (d : DocumentState) (network : IsNetwork d.network) (order : AreInOrder
             (inr (record { fails = fails; calm = calm_then; off = off }, refl)) in
             let over = x.over in
             left span x
-            (dead_lead n earlier (earlier ++ event ∷ []) now x.silent off (fails_calm n earlier event off calm_then fails)
-            others)
+            (dead_lead n earlier (earlier ++ event ∷ []) now x.silent off
+            (fails_calm n earlier event off calm_then fails) others)
             (λ settled late. (
               off,
               elim after [

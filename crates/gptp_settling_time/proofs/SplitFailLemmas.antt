@@ -256,7 +256,8 @@ module _ (p : SettlingParams) (number : ℕ) (w : WorldState) (draws : List Draw
 
       module _ (By : PortIdentity → ℕ → Type 0) (gone : ℕ) (measured' : LinkIsMeasured w')
           (long : w.time + silence_span p < silent) (by : WorldAgesBy p By w')
-          (is_gone : GoesUntil g By gone ⊎ (silent ≤ gone)) (later : w.time < gone) (late' : delay_in w' ≤ w'.time) where
+          (is_gone : GoesUntil g By gone ⊎ (silent ≤ gone)) (later : w.time < gone)
+          (late' : delay_in w' ≤ w'.time) where
         standing' : IsStanding p silent w'
         standing' =
             alone.standing_then p number w draws done w' is is' acts lives next silent pace measured measured' past

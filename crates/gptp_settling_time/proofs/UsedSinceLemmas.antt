@@ -1,5 +1,6 @@
 -- Links in use stay those that were, where events make nothing of what stands.
 use Rattle.std.proofs.Common.{◌≡◌, true, List, [], ◌∷◌, ◌++◌, sym, ◌∙◌, inl, inr}
+use Rattle.std.specs.Prelude.{◌&&◌}
 use Rattle.gptp_graph.proofs.Sure.{and_true}
 use Rattle.gptp_lists.proofs.SystemSpecLemmas.{In-slice_get}
 use Rattle.gptp_scenario.specs.Calm.{IsUsed}
@@ -16,7 +17,7 @@ use Rattle.gptp_settling_time.proofs.SilentSpanLemmas.{used_from}
 used_back : (n : NetworkState) (events : List Timed) (v : LinkSpec) → is_used n.systems events v ≡ true
     → IsUsed n.systems events v
 used_back n events v used =
-    let (up, both) = and_true v.up _ used in
+    let (up, both) = and_true v.up (lives n.systems events v.a.clock && lives n.systems events v.b.clock) used in
     let (a, b) = and_true (lives n.systems events v.a.clock) (lives n.systems events v.b.clock) both in
     record { up = up; a = lives_back n events v.a.clock a; b = lives_back n events v.b.clock b }
 
@@ -25,8 +26,8 @@ alike_since n events more same place v there used =
     used_back n events (link_after events v)
     (sym (same.used v (In-slice_get v n.links place there)) ∙ used_from n.systems more (link_after more v) used)
 
-pub idle_since : (n : NetworkState) (network : IsNetwork n) (made : List Timed) (event : Timed) → IsIdleEvent n made event
-    → AreUsedSince n made (made ++ event ∷ [])
+pub idle_since : (n : NetworkState) (network : IsNetwork n) (made : List Timed) (event : Timed)
+    → IsIdleEvent n made event → AreUsedSince n made (made ++ event ∷ [])
 idle_since n network made event (inl nothing) =
     alike_since n made (made ++ event ∷ []) (idle_alike n network made event nothing)
 idle_since n network made event (inr turns) =

@@ -176,8 +176,8 @@ module _ (n : NetworkState) (ago made : List Timed) (less : AreUsedSince n ago m
 pub used_then : (n : NetworkState) (made : List Timed) (w : WorldState) → IsWorld (pace_of n) w
     → StandsAsPlanned n made w → (link : ℕ) → WasUsedIn w link → WasUsedAt n made link
 used_then n made w is stands link was =
-    let (v, there, same) = alike (link_after made) channel_wire n.links w.net.channels (sym stands.links) link was.channel
-    was.here in
+    let (v, there, same) = alike (link_after made) channel_wire n.links w.net.channels (sym stands.links) link
+    was.channel was.here in
     record {
       spec = v;
       there = there;

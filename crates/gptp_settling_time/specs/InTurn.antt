@@ -649,8 +649,8 @@ EventLeads n before past event (Lost ago since most silent) =
 -- ---- rest
 
 -- A cleared network has come to rest by a time, as one whose ports are capable from a start on. What was in flight is
--- gone. Ports without a link aren't capable any more, or no lost link is silent. And the greatest delay has passed since
--- the start for each system of a path but one.
+-- gone. Ports without a link aren't capable any more, or no lost link is silent. And the greatest delay has passed
+-- since the start for each system of a path but one.
 pub record HasCleared (n : NetworkState) (ago events : List Timed) (since silent old start time : ℕ) : Type 0 where
   pub calm : IsCalm n events
   pub off : NothingLapses n.params
