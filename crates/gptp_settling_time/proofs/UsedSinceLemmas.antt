@@ -17,8 +17,8 @@ use Rattle.gptp_settling_time.proofs.SilentSpanLemmas.{used_from}
 used_back : (n : NetworkState) (events : List Timed) (v : LinkSpec) → is_used n.systems events v ≡ true
     → IsUsed n.systems events v
 used_back n events v used =
-    let (up, both) = and_true v.up (lives n.systems events v.a.clock && lives n.systems events v.b.clock) used in
-    let (a, b) = and_true (lives n.systems events v.a.clock) (lives n.systems events v.b.clock) both in
+    let (both, b) = and_true (v.up && lives n.systems events v.a.clock) (lives n.systems events v.b.clock) used in
+    let (up, a) = and_true v.up (lives n.systems events v.a.clock) both in
     record { up = up; a = lives_back n events v.a.clock a; b = lives_back n events v.b.clock b }
 
 alike_since : (n : NetworkState) (events more : List Timed) → StandAlike n events more → AreUsedSince n events more
