@@ -60,7 +60,7 @@ IsAfter d events (TurnedTree silent now) w = IsTurnedTreeTo d events silent now 
 IsAfter d events (Cleared ago since silent right old) w = IsClearedTo d ago events since silent right old w
 IsAfter d events (Aging ago aged silent) w = IsAgingTo d ago events aged silent w
 IsAfter d events (Split ago gone silent) w = IsSplitTo d ago events gone silent w
-IsAfter d events (Lost since most silent) w = IsLostTo d events since most silent w
+IsAfter d events (Lost ago since most silent) w = IsLostTo d ago events since most silent w
 
 module _ (d : DocumentState) (events : List Timed) where
   pub after_keeps : (past : Past) (w : WorldState) → IsAfter d events past w → KeepsTo d events w
@@ -75,7 +75,7 @@ module _ (d : DocumentState) (events : List Timed) where
   after_keeps (Cleared ago since silent right old) w so = so.keeps
   after_keeps (Aging ago aged silent) w so = so.keeps
   after_keeps (Split ago gone silent) w so = so.keeps
-  after_keeps (Lost since most silent) w so = so.keeps
+  after_keeps (Lost ago since most silent) w so = so.keeps
 
   pub after_later : (past : Past) (w : WorldState) (time : ℕ) → w.time ≤ time → NothingBefore time w.net.pending
       → IsAfter d events past w → IsAfter d events past (at time w)
@@ -88,15 +88,14 @@ module _ (d : DocumentState) (events : List Timed) where
   after_later (Fallen silent now) w time later first so = fallen_to_later d events silent now w time later first so
   after_later (TurnedTree silent now) w time later first so =
       turned_tree_to_later d events silent now w time later first so
-  after_later (Cleared ago since silent right old) w time later first so = cleared_to_later d ago events since silent
-      right old
-      w time later first so
+  after_later (Cleared ago since silent right old) w time later first so =
+      cleared_to_later d ago events since silent right old w time later first so
   after_later (Aging ago aged silent) w time later first so =
       aging_to_later d ago events aged silent w time later first so
   after_later (Split ago gone silent) w time later first so =
       split_to_later d ago events gone silent w time later first so
-  after_later (Lost since most silent) w time later first so =
-      lost_to_later d events since most silent w time later first so
+  after_later (Lost ago since most silent) w time later first so =
+      lost_to_later d ago events since most silent w time later first so
 
   pub after_act : {F : Type 0} (answers : Bounds → ℕ → F → Option ℕ → F → Type 0) (past : Past) (t : ActTrace)
       (fate drawn : F) (w : WorldState) → IsNextAct w t.told.timed
@@ -108,9 +107,8 @@ module _ (d : DocumentState) (events : List Timed) where
       news_act_to d events answers t fate drawn w next was start so
   after_act answers (Heard start) t fate drawn w next was so = claimed_act d events start answers t fate drawn w next
       was so
-  after_act answers (Left ago start) t fate drawn w next was so = left_to_act d ago events start answers t fate drawn w
-      next was
-      so
+  after_act answers (Left ago start) t fate drawn w next was so =
+      left_to_act d ago events start answers t fate drawn w next was so
   after_act answers (Turned silent now) t fate drawn w next was so =
       turned_to_act d events silent now answers t fate drawn w next was so
   after_act answers (Fallen silent now) t fate drawn w next was so =
@@ -123,8 +121,8 @@ module _ (d : DocumentState) (events : List Timed) where
       aging_to_act d ago events aged silent answers t fate drawn w next was so
   after_act answers (Split ago gone silent) t fate drawn w next was so =
       split_to_act d ago events gone silent answers t fate drawn w next was so
-  after_act answers (Lost since most silent) t fate drawn w next was so =
-      lost_to_act d events since most silent answers t fate drawn w next was so
+  after_act answers (Lost ago since most silent) t fate drawn w next was so =
+      lost_to_act d ago events since most silent answers t fate drawn w next was so
 
 -- ---- rest
 
@@ -146,8 +144,8 @@ module _ (d : DocumentState) (playable : IsPlayable d) (events : List Timed) (w 
   rests_from (Aging ago aged silent) start rest so =
       aging_to_claimed d ago events aged silent w start so playable rest
   rests_from (Split ago gone silent) start none so = absurd none
-  rests_from (Lost since most silent) start rest so =
-      lost_to_claimed d events since most silent w start so playable rest
+  rests_from (Lost ago since most silent) start rest so =
+      lost_to_claimed d ago events since most silent w start so playable rest
 
   pub taken_as : (past seen : Past) → IsTakenAs d.network events past w.time seen → IsAfter d events past w
       → IsAfter d events seen w
@@ -179,7 +177,7 @@ begins_after answers d playable fate until first w ts k (TurnedTree silent now) 
 begins_after answers d playable fate until first w ts k (Cleared ago since silent right old) none = absurd none
 begins_after answers d playable fate until first w ts k (Aging ago aged silent) none = absurd none
 begins_after answers d playable fate until first w ts k (Split ago gone silent) none = absurd none
-begins_after answers d playable fate until first w ts k (Lost since most silent) none = absurd none
+begins_after answers d playable fate until first w ts k (Lost ago since most silent) none = absurd none
 
 -- ---- it settles
 
@@ -260,8 +258,8 @@ module _ (d : DocumentState) (playable : IsPlayable d) (all : List Timed) (calm 
       claimed_settled d all start w so playable calm off (omega (arith, passed, on))
   after_settles (Left ago silent) so (off, inl passed) =
       left_to_settled d ago all silent w so playable calm off (inl (omega (arith, passed, on)))
-  after_settles (Left ago silent) so (off, inr used) = left_to_settled d ago all silent w so playable calm off
-      (inr used)
+  after_settles (Left ago silent) so (off, inr none) =
+      left_to_settled d ago all silent w so playable calm off (inr none)
   after_settles (Turned silent now) so (off, passed) =
       turned_to_settled d all silent now w so playable calm off
       (subst (λ (x : SyncPaths). now + 1 + pred x.systems * x.delay ≤ w.time) (paths so.keeps)
@@ -289,10 +287,11 @@ module _ (d : DocumentState) (playable : IsPlayable d) (all : List Timed) (calm 
       (subst (λ (x : SyncPaths). gone + 2 * (pred x.systems * x.delay) ≤ w.time) (paths so.keeps)
       (omega (arith, passed, on)))
       (elim late [ inl now ↦ inl (omega (arith, now, on)) | inr used ↦ inr used ])
-  after_settles (Lost since most silent) so (off, passed, inl late) =
-      lost_to_settled d all since most silent w so playable (omega (arith, passed, on)) (inl (omega (arith, late, on)))
-  after_settles (Lost since most silent) so (off, passed, inr used) =
-      lost_to_settled d all since most silent w so playable (omega (arith, passed, on)) (inr used)
+  after_settles (Lost ago since most silent) so (off, passed, inl late) =
+      lost_to_settled d ago all since most silent w so playable (omega (arith, passed, on))
+      (inl (omega (arith, late, on)))
+  after_settles (Lost ago since most silent) so (off, passed, inr used) =
+      lost_to_settled d ago all since most silent w so playable (omega (arith, passed, on)) (inr used)
 
   pub after_chooses : (past : Past) → IsAfter d all past w → ChoosesAfter d.network all past settled → ChoiceStands w
   after_chooses AnyPast so settles = choice_stands w (after_settles AnyPast so settles).0
@@ -316,5 +315,5 @@ module _ (d : DocumentState) (playable : IsPlayable d) (all : List Timed) (calm 
       split_to_chooses d ago all gone silent w so playable calm off
       (subst (λ (x : SyncPaths). gone + 2 * (pred x.systems * x.delay) ≤ w.time) (paths so.keeps)
       (omega (arith, passed, on)))
-  after_chooses (Lost since most silent) so (off, passed) =
-      lost_to_chooses d all since most silent w so playable (omega (arith, passed, on))
+  after_chooses (Lost ago since most silent) so (off, passed) =
+      lost_to_chooses d ago all since most silent w so playable (omega (arith, passed, on))

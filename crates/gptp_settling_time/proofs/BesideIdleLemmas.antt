@@ -62,10 +62,6 @@ module _ (n : NetworkState) (off : NothingLapses n.params) (events more : List T
         b = same_lives n events more same (link_after events v).b.clock was.b;
       })
 
-  still_up : (silent settled : ℕ) → (silent ≤ settled) ⊎ UpIsUsed n events → (silent ≤ settled) ⊎ UpIsUsed n more
-  still_up silent settled (inl late) = inl late
-  still_up silent settled (inr used) = inr (still_used used)
-
   still_none : (ago : List Timed) → NoneSilent n ago events → NoneSilent n ago more
   still_none ago none place v failed end there (used, up, is_failed, gone) is_end lives =
       let one = same.links v (In-slice_get v n.links place there) in
@@ -112,10 +108,10 @@ module _ (n : NetworkState) (off : NothingLapses n.params) (events more : List T
   settles_same (Aging ago aged silent) settled (off, dark) = (off, still_dark ago silent settled dark)
   settles_same (Split ago gone silent) settled (off, late, dark) =
       (off, subst (λ x. gone + 2 * way_span x ≤ settled) (sym paths) late, still_dark ago silent settled dark)
-  settles_same (Lost lost_at most silent) settled (off, late, dark) = (
+  settles_same (Lost ago lost_at most silent) settled (off, late, dark) = (
     off,
     subst (λ x. suc (lost_at + loss_span (pace_of n) x most) ≤ settled) (sym paths) late,
-    still_up silent settled dark,
+    still_dark ago silent settled dark,
   )
 
   pub chooses_same : (past : Past) (settled : ℕ) → ChoosesAfter n events past settled → ChoosesAfter n more past settled
@@ -132,7 +128,7 @@ module _ (n : NetworkState) (off : NothingLapses n.params) (events more : List T
   chooses_same (Aging ago aged silent) settled (off, inr dark) = (off, inr (still_dark ago silent settled dark))
   chooses_same (Split ago gone silent) settled (off, late) =
       (off, subst (λ x. gone + 2 * way_span x ≤ settled) (sym paths) late)
-  chooses_same (Lost lost_at most silent) settled (off, late) =
+  chooses_same (Lost ago lost_at most silent) settled (off, late) =
       (off, subst (λ x. suc (lost_at + loss_span (pace_of n) x most) ≤ settled) (sym paths) late)
 
   -- ---- rest
@@ -193,10 +189,10 @@ module _ (n : NetworkState) (off : NothingLapses n.params) (events more : List T
     over = still_over start time is.over;
   }
   rests_same (Split ago gone silent) time start none = absurd none
-  rests_same (Lost lost_at most silent) time start is = record {
+  rests_same (Lost ago lost_at most silent) time start is = record {
     off = is.off;
     later = subst (λ x. lost_at + loss_span (pace_of n) x most < start + way_span x) (sym paths) is.later;
-    unlinked = still_up silent time is.unlinked;
+    unlinked = still_dark ago silent time is.unlinked;
     over = still_over start time is.over;
   }
 
@@ -217,7 +213,7 @@ module _ (n : NetworkState) (off : NothingLapses n.params) (events more : List T
   settled_same (Cleared ago first silent right old) time none = absurd none
   settled_same (Aging ago aged silent) time none = absurd none
   settled_same (Split ago gone silent) time none = absurd none
-  settled_same (Lost lost_at most silent) time none = absurd none
+  settled_same (Lost ago lost_at most silent) time none = absurd none
 
   pub rested_same : (past : Past) (time : ℕ) → HasRested n events past time → HasRested n more past time
   rested_same past time (seen, inl one, is) = (seen, inl one, settled_same seen time is)
@@ -240,7 +236,7 @@ repeat_leads n made event now (TurnedTree silent time) begun = inr (now, refl)
 repeat_leads n made event now (Cleared ago first silent right old) begun = (inr now, refl, (refl, refl, refl, refl))
 repeat_leads n made event now (Aging ago aged silent) begun = (inr now, refl, refl, inl refl)
 repeat_leads n made event now (Split ago gone silent) begun = (inr now, refl, refl, inl refl)
-repeat_leads n made event now (Lost lost_at most silent) begun = (inr now, refl, refl, refl)
+repeat_leads n made event now (Lost ago lost_at most silent) begun = (inr now, refl, refl, refl, refl)
 
 module _ (n : NetworkState) (network : IsNetwork n) (off : NothingLapses n.params) (time : ℕ) where
   abbrev AllNow : List Timed → Type 0

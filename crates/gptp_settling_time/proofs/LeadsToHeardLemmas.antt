@@ -388,4 +388,4 @@ module _ {F : Type 0} (answers : Bounds → ℕ → F → Option ℕ → F → T
     leads_to_heard (Cleared ago since silent right old) next none so = absurd none
     leads_to_heard (Aging ago aged silent) next none so = absurd none
     leads_to_heard (Split ago gone silent) next none so = absurd none
-    leads_to_heard (Lost since most silent) next none so = absurd none
+    leads_to_heard (Lost ago since most silent) next none so = absurd none

@@ -19,7 +19,7 @@ use Rattle.gptp_invariants.specs.ChoiceView.{says_announce, view}
 use Rattle.gptp_invariants.specs.WorldStanding.{snapshot_of}
 use Rattle.gptp_theorem.specs.PlayedLaws.{IsMade, IsPlayable}
 use Rattle.gptp_theorem.proofs.CalmLemmas.{quiet_stands}
-use Rattle.gptp_settling_time.specs.InTurn.{AgesSooner, Aging, AnyPast, Cleared, ClearsBy, EventLeads, FailsNow, Fallen, Gained, Heard, IsDownNow, LeavesStanding, Left, LosesNow, Lost, LowersUnusedCalm, Past, Split, Starting, Turned, TurnedTree, TurnsNow}
+use Rattle.gptp_settling_time.specs.InTurn.{AgesSooner, Aging, AnyPast, AreUsedSince, Cleared, ClearsBy, EventLeads, FailsNow, Fallen, Gained, Heard, IsDownNow, LeavesStanding, Left, LosesNow, Lost, LowersUnusedCalm, Past, Split, Starting, Turned, TurnedTree, TurnsNow}
 use Rattle.gptp_settling_time.proofs.AgingDownLemmas.{down_ages}
 use Rattle.gptp_settling_time.proofs.AgesByLemmas.{by_map}
 use Rattle.gptp_settling_time.proofs.AgesByWorldLemmas.{WorldAgesBy, aging_by}
@@ -154,7 +154,7 @@ module _ (d : DocumentState) (playable : IsPlayable d) (made : List Timed) (even
   leads_to_left (Cleared was since silent right old) ago next none so = absurd none
   leads_to_left (Aging old aged silent) ago next none so = absurd none
   leads_to_left (Split old gone silent) ago next none so = absurd none
-  leads_to_left (Lost since most silent) ago next none so = absurd none
+  leads_to_left (Lost old since most silent) ago next none so = absurd none
 
   pub leads_to_turned : (past : Past) (silent now : ℕ) → EventLeads n made past event (Turned silent now)
       → IsAfter d made past then → IsTurnedTo d more silent now w'
@@ -176,7 +176,7 @@ module _ (d : DocumentState) (playable : IsPlayable d) (made : List Timed) (even
   leads_to_turned (Cleared ago since start right old) silent now none so = absurd none
   leads_to_turned (Aging ago aged start) silent now none so = absurd none
   leads_to_turned (Split ago gone start) silent now none so = absurd none
-  leads_to_turned (Lost since most start) silent now none so = absurd none
+  leads_to_turned (Lost ago since most start) silent now none so = absurd none
 
   clears : (ago : List Timed) (start since silent right old : ℕ) → HasRestedSo p start event.at then → ago ≡ made
       → ClearsBy n made event start since silent right old → IsClearedTo d ago more since silent right old w'
@@ -289,7 +289,7 @@ module _ (d : DocumentState) (playable : IsPlayable d) (made : List Timed) (even
       (told_anew d playable was more event.at aged dark since right old w' after time last
       (ages_still was aged dark falls so) anew))
   leads_to_cleared (Split was gone dark) ago since silent right old none so = absurd none
-  leads_to_cleared (Lost begun most start) ago since silent right old none so = absurd none
+  leads_to_cleared (Lost was begun most start) ago since silent right old none so = absurd none
 
   ages : (ago : List Timed) (start aged silent : ℕ) → HasRestedSo p start event.at then → ago ≡ made
       → FailsNow n made event aged silent → IsAgingTo d ago more aged silent w'
@@ -322,43 +322,47 @@ module _ (d : DocumentState) (playable : IsPlayable d) (made : List Timed) (even
         | inr is ↦ ages_sooner old gone aged start is (ages_still old gone start falls so)
       ]))
   leads_to_aging (Split old gone start) ago aged silent none so = absurd none
-  leads_to_aging (Lost since most start) ago aged silent none so = absurd none
+  leads_to_aging (Lost old since most start) ago aged silent none so = absurd none
 
   -- ---- anything is taken away
 
   module _ (is : IsMade event) (octet : SetsAnOctet event.act) where
-    loses_now : (start since most silent : ℕ) → HasRestedSo p start event.at then
-        → LosesNow n made event since most silent → IsLostTo d more since most silent w'
+    loses_now : (ago : List Timed) (start since most silent : ℕ) → HasRestedSo p start event.at then
+        → AreUsedSince n ago made → LosesNow n made event since most silent
+        → IsLostTo d ago more since most silent w'
     loses_now = loses_first d playable made event then draws done w' is acts octet at_time time last keeps after
 
-    pub leads_to_lost : (past : Past) (since most silent : ℕ) → EventLeads n made past event (Lost since most silent)
-        → IsAfter d made past then → IsLostTo d more since most silent w'
-    leads_to_lost AnyPast since most silent (settled, now) so =
-        loses_now (last_change made + capability_span p) since most silent
-        (rested_any d playable made event then at_time keeps settled) now
-    leads_to_lost Starting since most silent none so = absurd none
-    leads_to_lost (Gained start) since most silent (settled, now) so =
-        loses_now start since most silent (rested_gained d playable made event then at_time keeps start settled so.news)
-        now
-    leads_to_lost (Heard start) since most silent (settled, now) so =
-        loses_now start since most silent (rested_heard d playable made event then at_time keeps start settled so.since)
-        now
-    leads_to_lost (Left ago start) since most silent none so = absurd none
-    leads_to_lost (Turned start was) since most silent none so = absurd none
-    leads_to_lost (Fallen start was) since most silent none so = absurd none
-    leads_to_lost (TurnedTree start was) since most silent none so = absurd none
-    leads_to_lost (Cleared ago begun start right old) since most silent none so = absurd none
-    leads_to_lost (Aging ago aged start) since most silent none so = absurd none
-    leads_to_lost (Split ago gone start) since most silent none so = absurd none
-    leads_to_lost (Lost begun delay start) since most silent (which, same_since, same_most, same_silent) so =
-        let lost : IsLostTo d made since most silent then =
-        subst (λ t. IsLostTo d made t most silent then) (sym same_since)
-        (subst (λ m. IsLostTo d made begun m silent then) (sym same_most)
-        (subst (λ t. IsLostTo d made begun delay t then) (sym same_silent) so)) in
-        elim which [
+    pub leads_to_lost : (past : Past) (ago : List Timed) (since most silent : ℕ)
+        → EventLeads n made past event (Lost ago since most silent)
+        → IsAfter d made past then → IsLostTo d ago more since most silent w'
+    leads_to_lost AnyPast ago since most silent (settled, used, now) so =
+        loses_now ago (last_change made + capability_span p) since most silent
+        (rested_any d playable made event then at_time keeps settled) used now
+    leads_to_lost Starting ago since most silent none so = absurd none
+    leads_to_lost (Gained start) ago since most silent (settled, used, now) so =
+        loses_now ago start since most silent
+        (rested_gained d playable made event then at_time keeps start settled so.news) used now
+    leads_to_lost (Heard start) ago since most silent (settled, used, now) so =
+        loses_now ago start since most silent
+        (rested_heard d playable made event then at_time keeps start settled so.since) used now
+    leads_to_lost (Left old start) ago since most silent none so = absurd none
+    leads_to_lost (Turned start was) ago since most silent none so = absurd none
+    leads_to_lost (Fallen start was) ago since most silent none so = absurd none
+    leads_to_lost (TurnedTree start was) ago since most silent none so = absurd none
+    leads_to_lost (Cleared was begun start right old) ago since most silent none so = absurd none
+    leads_to_lost (Aging old aged start) ago since most silent none so = absurd none
+    leads_to_lost (Split old gone start) ago since most silent none so = absurd none
+    leads_to_lost (Lost old begun delay start) ago since most silent
+        (which, same_ago, same_since, same_most, same_silent) so =
+        let lost : IsLostTo d old made since most silent then =
+        subst (λ t. IsLostTo d old made t most silent then) (sym same_since)
+        (subst (λ m. IsLostTo d old made begun m silent then) (sym same_most)
+        (subst (λ t. IsLostTo d old made begun delay t then) (sym same_silent) so)) in
+        subst (λ es. IsLostTo d es more since most silent w') (sym same_ago)
+        (elim which [
           | inl more_now ↦
-              loses_more d playable made event then draws done w' is acts octet at_time time last keeps after since most
-              silent lost.is more_now
-          | inr repeats ↦ lost_repeated d playable made event then draws done w' acts at_time keeps after repeats since
+              loses_more d playable made event then draws done w' is acts octet at_time time last keeps after old since
+              most silent lost.is lost.less lost.were more_now
+          | inr repeats ↦ lost_repeated d playable made event then draws done w' acts at_time keeps after repeats old since
               most silent lost
-        ]
+        ])

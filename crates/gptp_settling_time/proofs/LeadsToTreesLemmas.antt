@@ -83,7 +83,7 @@ module _ (d : DocumentState) (playable : IsPlayable d) (made : List Timed) (even
     leads_by_tree (Cleared ago since start right old) silent now none named so = absurd none
     leads_by_tree (Aging ago aged start) silent now none named so = absurd none
     leads_by_tree (Split ago gone start) silent now none named so = absurd none
-    leads_by_tree (Lost since most start) silent now none named so = absurd none
+    leads_by_tree (Lost ago since most start) silent now none named so = absurd none
 
   pub leads_to_fallen : (past : Past) (silent now : ℕ) → EventLeads n made past event (Fallen silent now)
       → NamesAfter d made past then → IsAfter d made past then → IsFallenTo d more silent now w'
@@ -160,4 +160,4 @@ module _ (d : DocumentState) (playable : IsPlayable d) (made : List Timed) (even
             split_sooner d playable made event then draws done w' acts at_time time keeps after old was start
             (splits_still old was start falls so) gone now is_gone
       ]))
-  leads_to_split (Lost since most start) ago gone silent none named so = absurd none
+  leads_to_split (Lost old since most start) ago gone silent none named so = absurd none

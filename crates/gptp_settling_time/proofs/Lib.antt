@@ -180,6 +180,7 @@ pub mod LostToLemmas
 pub mod LostMadeLemmas
 pub mod LosesVainLemmas
 pub mod CalmStillLemmas
+pub mod UsedSinceLemmas
 pub mod LosesLeadLemmas
 pub mod RightBeginLemmas
 pub mod ToldAnewLemmas

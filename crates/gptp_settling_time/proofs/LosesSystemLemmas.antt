@@ -24,9 +24,12 @@ use Rattle.gptp_invariants.proofs.WorldNewsLemmas.{ready_goes_through}
 use Rattle.gptp_invariants.proofs.WorldStandsLemmas.{sender_lives, used_up}
 use Rattle.gptp_invariants.proofs.WorldSystemLemmas.{clock_from, clock_there}
 use Rattle.gptp_invariants.proofs.ChoiceCalmFactLemmas.{used_is}
-use Rattle.gptp_settling_time.proofs.FailedAloneLemmas.{channels_now, elsewhere, last_still, silent_still, stood_beside, stood_good, stood_link, systems_before, time_now}
+use Rattle.gptp_settling_time.proofs.FailedAloneLemmas.{channels_now, elsewhere, here_before, last_still, link_used, silent_still, stood_beside, stood_good, stood_link, systems_before, time_now}
 use Rattle.gptp_settling_time.proofs.LosingLemmas.{TakesAway}
 use Rattle.gptp_settling_time.proofs.WidenedLemmas.{ready_first}
+use Rattle.gptp_settling_time.proofs.StaySilentLemmas.{GoesSilent}
+use Rattle.gptp_invariants.specs.DelayLinkView.{LinkPlace}
+use Rattle.gptp_invariants.specs.FailedUnanswered.{StandsUnanswered}
 
 module _ (p : SettlingParams) (number : ℕ) (w : WorldState) (draws : List Draw) (done : Done) (w' : WorldState)
     (is : IsWorld p w) (is' : IsWorld p w') (acts : Acts (Changing (Fail number)) w draws done w') where
@@ -57,6 +60,23 @@ module _ (p : SettlingParams) (number : ℕ) (w : WorldState) (draws : List Draw
           still other is_so =
               silent_still p number w draws done w' is is' acts lives at s other silent silent (omega arith) is_so
 
+      -- else those beside it had a link in use
+      goes_now : (at : LinkPlace) → StandsUnanswered at w' → GoesSilent p at w w'
+      goes_now at s = elim (same_place at.answering k.place) [
+        | inl own ↦
+            inr (inr (record {
+              channel = s.channel;
+              here = here_before p number w draws done w' is is' acts lives at s;
+              used = link_used p number w draws done w' is is' acts lives at s own quiet;
+            }))
+        | inr other ↦
+            inr (inl (record {
+              stood = stood_beside p number w draws done w' is is' acts lives at s other;
+              silent = λ start is_so.
+                  silent_still p number w draws done w' is is' acts lives at s other start start (omega arith) is_so;
+            }))
+      ]
+
       lived : (v : ℕ) → In v (clocks (snapshot_of w')) → In v (clocks (snapshot_of w))
       lived v known =
           let (s, member, named) = system_of (snapshot_of w') v known in
@@ -76,6 +96,7 @@ module _ (p : SettlingParams) (number : ℕ) (w : WorldState) (draws : List Draw
             world = is';
             measured = measured';
             quiet = silent_now;
+            goes = goes_now;
             ready = λ at stands.
                 ready_goes_through p since at (Changing (Fail number)) w w' draws done is.sound measured
                 (elsewhere p number w draws done w' is is' acts lives at stands) acts

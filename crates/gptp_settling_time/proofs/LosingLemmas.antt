@@ -32,6 +32,9 @@ use Rattle.gptp_settling_time.proofs.ClearsLemmas.{ready_asked}
 use Rattle.gptp_settling_time.proofs.LeftClaimedLemmas.{HaveAskedBy}
 use Rattle.gptp_settling_time.proofs.LiveTracesLemmas.{TellersLive}
 use Rattle.gptp_settling_time.proofs.LostClaimedLemmas.{IsLostAlways, loss_facts, loss_setting, lost_begins}
+use Rattle.gptp_settling_time.proofs.StaySilentLemmas.{GoesSilent}
+use Rattle.gptp_invariants.specs.DelayLinkView.{LinkPlace}
+use Rattle.gptp_invariants.specs.FailedUnanswered.{StandsUnanswered}
 
 -- ---- a greatest delay
 
@@ -75,6 +78,7 @@ pub record TakesAway (p : SettlingParams) (since silent : ℕ) (w w' : WorldStat
   pub world : IsWorld p w'
   pub measured : LinkIsMeasured w'
   pub quiet : AreSilentBy p silent w'
+  pub goes : (at : LinkPlace) → StandsUnanswered at w' → GoesSilent p at w w'
   pub ready : AreReadyBy p since w'
   pub lived : (v : ℕ) → In v (clocks (snapshot_of w')) → In v (clocks (snapshot_of w))
   pub used : (link : ℕ) (new : Channel) → slice_get w'.net.channels link ≡ Some new

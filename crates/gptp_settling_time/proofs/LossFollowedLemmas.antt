@@ -155,13 +155,13 @@ module _ (n : NetworkState) (network : IsNetwork n) (off : NothingLapses n.param
           let span = x.span in
           let more = x.more in
           record {
-            last = Lost time x.most x.silent;
+            last = Lost earlier time x.most x.silent;
             lead = x.lead;
             so = (
               λ settled late. (
                 off,
                 omega (arith, late, span, more),
-                elim x.quiet [ inl quiet ↦ inl (omega (arith, late, quiet)) | inr used ↦ inr used ],
+                elim x.quiet [ inl quiet ↦ inl (omega (arith, late, quiet)) | inr none ↦ inr none ],
               ),
               λ settled late. (off, omega (arith, late, span)),
             );

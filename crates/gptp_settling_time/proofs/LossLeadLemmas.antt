@@ -10,7 +10,7 @@ use Rattle.gptp_scenario.specs.SyncWait.{sync_paths}
 use Rattle.gptp_scenario.specs.declared.change.Timed.{Timed}
 use Rattle.gptp_settling_time.specs.Arrivals.{HasArrivedBy}
 use Rattle.gptp_settling_time.specs.HowSoon.{EachEvent, IsDownToo, TurnsUnused}
-use Rattle.gptp_settling_time.specs.InTurn.{AgesSooner, Aging, AnyPast, ChoosesAfter, Cleared, EventLeads, FailsCalm, FailsNow, Fallen, Gained, Heard, IsDownNow, IsGoneBy, LeadOn, LeadsByTree, Left, LosesNow, Lost, LowersCalm, Past, SettlesAfter, Split, SplitsNow, Starting, Turned, TurnedTree, TurnsCalm}
+use Rattle.gptp_settling_time.specs.InTurn.{AgesSooner, Aging, AnyPast, AreUsedSince, ChoosesAfter, Cleared, EventLeads, FailsCalm, FailsNow, Fallen, Gained, Heard, IsDownNow, IsGoneBy, LeadOn, LeadsByTree, Left, LosesNow, Lost, LowersCalm, Past, SettlesAfter, Split, SplitsNow, Starting, Turned, TurnedTree, TurnsCalm}
 use Rattle.gptp_settling_time.specs.Losses.{AgesWithin, FailsHeard, LowersUnused}
 use Rattle.gptp_settling_time.specs.TreeLosses.{FailsTrees}
 use Rattle.gptp_settling_time.proofs.CalmLessLemmas.{failure_calm, lowers_calm}
@@ -68,7 +68,7 @@ module _ (n : NetworkState) (made : List Timed) (event : Timed) (roles : ℕ) wh
   loss_leads (Cleared ago begun silent right old) settled loses = absurd settled
   loss_leads (Aging ago aged silent) settled loses = absurd settled
   loss_leads (Split ago gone silent) settled loses = absurd settled
-  loss_leads (Lost since most silent) settled loses = absurd settled
+  loss_leads (Lost ago since most silent) settled loses = absurd settled
 
 -- after one by which a tree is so moved it is, where what was sent before the choice stood has arrived
 module _ (n : NetworkState) (made : List Timed) (event : Timed) (stood : ℕ) (later : last_change made < stood)
@@ -87,7 +87,7 @@ module _ (n : NetworkState) (made : List Timed) (event : Timed) (stood : ℕ) (l
   tree_leads (Cleared ago begun silent right old) settled moves = absurd settled
   tree_leads (Aging ago aged silent) settled moves = absurd settled
   tree_leads (Split ago gone silent) settled moves = absurd settled
-  tree_leads (Lost since most silent) settled moves = absurd settled
+  tree_leads (Lost ago since most silent) settled moves = absurd settled
 
 -- after one by which trees are cut off, as a system fails, they do too
 module _ (n : NetworkState) (made : List Timed) (event : Timed) (stood : ℕ) where
@@ -104,7 +104,7 @@ module _ (n : NetworkState) (made : List Timed) (event : Timed) (stood : ℕ) wh
   split_leads (Cleared ago begun start right old) gone silent settled now = absurd settled
   split_leads (Aging ago aged start) gone silent settled now = absurd settled
   split_leads (Split ago was start) gone silent settled now = absurd settled
-  split_leads (Lost since most start) gone silent settled now = absurd settled
+  split_leads (Lost ago since most start) gone silent settled now = absurd settled
 
 -- after one by which a system turns it has turned
 module _ (n : NetworkState) (made : List Timed) (event : Timed) where
@@ -121,7 +121,7 @@ module _ (n : NetworkState) (made : List Timed) (event : Timed) where
   turn_leads (Cleared ago begun silent right old) settled turns = absurd settled
   turn_leads (Aging ago aged silent) settled turns = absurd settled
   turn_leads (Split ago gone silent) settled turns = absurd settled
-  turn_leads (Lost since most silent) settled turns = absurd settled
+  turn_leads (Lost ago since most silent) settled turns = absurd settled
 
   -- after one of a system that others hear what they hold of it ages
   pub ages_leads : (past : Past) (aged silent : ℕ) → HasSettled n made past event.at → FailsNow n made event aged silent
@@ -137,23 +137,24 @@ module _ (n : NetworkState) (made : List Timed) (event : Timed) where
   ages_leads (Cleared ago begun start right old) aged silent settled now = absurd settled
   ages_leads (Aging ago gone start) aged silent settled now = absurd settled
   ages_leads (Split ago gone start) aged silent settled now = absurd settled
-  ages_leads (Lost since most start) aged silent settled now = absurd settled
+  ages_leads (Lost ago since most start) aged silent settled now = absurd settled
 
   -- after any other it has lost
-  pub loses_leads : (past : Past) (since most silent : ℕ) → HasSettled n made past event.at
-      → LosesNow n made event since most silent → EventLeads n made past event (Lost since most silent)
-  loses_leads AnyPast since most silent settled now = (settled, now)
-  loses_leads Starting since most silent settled now = absurd settled
-  loses_leads (Gained start) since most silent settled now = (settled, now)
-  loses_leads (Heard start) since most silent settled now = (settled, now)
-  loses_leads (Left ago start) since most silent settled now = absurd settled
-  loses_leads (Turned start was) since most silent settled now = absurd settled
-  loses_leads (Fallen start was) since most silent settled now = absurd settled
-  loses_leads (TurnedTree start was) since most silent settled now = absurd settled
-  loses_leads (Cleared ago begun start right old) since most silent settled now = absurd settled
-  loses_leads (Aging ago aged start) since most silent settled now = absurd settled
-  loses_leads (Split ago gone start) since most silent settled now = absurd settled
-  loses_leads (Lost begun delay start) since most silent settled now = absurd settled
+  pub loses_leads : (past : Past) (ago : List Timed) (since most silent : ℕ) → HasSettled n made past event.at
+      → AreUsedSince n ago made → LosesNow n made event since most silent
+      → EventLeads n made past event (Lost ago since most silent)
+  loses_leads AnyPast ago since most silent settled used now = (settled, used, now)
+  loses_leads Starting ago since most silent settled used now = absurd settled
+  loses_leads (Gained start) ago since most silent settled used now = (settled, used, now)
+  loses_leads (Heard start) ago since most silent settled used now = (settled, used, now)
+  loses_leads (Left old start) ago since most silent settled used now = absurd settled
+  loses_leads (Turned start was) ago since most silent settled used now = absurd settled
+  loses_leads (Fallen start was) ago since most silent settled used now = absurd settled
+  loses_leads (TurnedTree start was) ago since most silent settled used now = absurd settled
+  loses_leads (Cleared was begun start right old) ago since most silent settled used now = absurd settled
+  loses_leads (Aging old aged start) ago since most silent settled used now = absurd settled
+  loses_leads (Split old gone start) ago since most silent settled used now = absurd settled
+  loses_leads (Lost old begun delay start) ago since most silent settled used now = absurd settled
 
 -- what settles has its choice
 pub settles_chooses : (n : NetworkState) (events : List Timed) (past : Past) (settled : ℕ)
@@ -169,7 +170,7 @@ settles_chooses n events (TurnedTree silent now) settled so = so
 settles_chooses n events (Cleared ago begun silent right old) settled (off, late) = off
 settles_chooses n events (Aging ago aged silent) settled (off, late) = (off, inr late)
 settles_chooses n events (Split ago gone silent) settled (off, passed, late) = (off, passed)
-settles_chooses n events (Lost since most silent) settled (off, passed, late) = (off, passed)
+settles_chooses n events (Lost ago since most silent) settled (off, passed, late) = (off, passed)
 
 -- ---- behind a failure links go down of which an end has failed, or all stays as it stands
 

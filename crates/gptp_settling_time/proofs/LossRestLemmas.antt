@@ -65,7 +65,7 @@ module _ (n : NetworkState) (made : List Timed) (event : Timed) (gone : ℕ) whe
   cut_leads flight (Cleared ago begun silent right last) settled cuts = absurd settled
   cut_leads flight (Aging ago aged silent) settled cuts = absurd settled
   cut_leads flight (Split ago aged silent) settled cuts = absurd settled
-  cut_leads flight (Lost since most silent) settled cuts = absurd settled
+  cut_leads flight (Lost ago since most silent) settled cuts = absurd settled
 
   -- or as it fails, once the ports beside it have been unanswered for long enough
   fail_leads : FlightIsGone n made gone → (past : Past) → HasSettled n made past event.at → FailsCalm n made event
@@ -103,7 +103,7 @@ module _ (n : NetworkState) (made : List Timed) (event : Timed) (gone : ℕ) whe
   fail_leads flight (Cleared ago begun silent right last) settled fails = absurd settled
   fail_leads flight (Aging ago aged silent) settled fails = absurd settled
   fail_leads flight (Split ago aged silent) settled fails = absurd settled
-  fail_leads flight (Lost since most silent) settled fails = absurd settled
+  fail_leads flight (Lost ago since most silent) settled fails = absurd settled
 
 -- after another such link goes down it is, once right traces are told
 module _ (n : NetworkState) (made : List Timed) (event : Timed) (gone : ℕ)
@@ -144,7 +144,7 @@ module _ (n : NetworkState) (made : List Timed) (event : Timed) (gone : ℕ)
   right_leads (Cleared ago begun silent right last) settled lowers = absurd settled
   right_leads (Aging ago aged silent) settled lowers = absurd settled
   right_leads (Split ago aged silent) settled lowers = absurd settled
-  right_leads (Lost since most silent) settled lowers = absurd settled
+  right_leads (Lost ago since most silent) settled lowers = absurd settled
 
 -- as a system fails that others hear it is, where each link that is up then is in use
 module _ (n : NetworkState) (made : List Timed) (event : Timed) (aged silent : ℕ)
@@ -166,7 +166,7 @@ module _ (n : NetworkState) (made : List Timed) (event : Timed) (aged silent : �
   power_leads (Cleared ago begun start right last) settled = absurd settled
   power_leads (Aging ago gone start) settled = absurd settled
   power_leads (Split ago gone start) settled = absurd settled
-  power_leads (Lost since most start) settled = absurd settled
+  power_leads (Lost ago since most start) settled = absurd settled
 
 -- Else it goes on to age until the last link goes down of which an end has failed, at this time.
 power_lead : (n : NetworkState) → IsNetwork n → (ago made now : List Timed) (other : Timed) (time aged silent : ℕ)

@@ -132,7 +132,7 @@ chooses_as n events (Aging ago aged silent) time start stood rest (off, over) =
       ],
     )
 chooses_as n events (Split ago gone silent) time start stood none (off, over) = absurd none
-chooses_as n events (Lost since most silent) time start stood rest (off, over) =
+chooses_as n events (Lost ago since most silent) time start stood rest (off, over) =
     let later = rest.later in (off, omega (arith, later, over))
 
 -- it is so however the past is taken

@@ -44,6 +44,7 @@ use Rattle.gptp_settling_time.proofs.TurnedAlwaysLemmas.{IsTurnedAlways}
 use Rattle.gptp_settling_time.proofs.TurnedToLemmas.{IsTurnedTo}
 use Rattle.gptp_settling_time.proofs.TurnedTreeRestLemmas.{IsTurnedTreeAnew}
 use Rattle.gptp_settling_time.proofs.TurnedTreeToLemmas.{IsTurnedTreeTo}
+use Rattle.gptp_settling_time.proofs.UsedSinceLemmas.{idle_since}
 use Rattle.gptp_settling_time.proofs.WereSilentLemmas.{WereSilent}
 
 -- what came over a silent link ages as it did where all links and systems are as they were
@@ -165,10 +166,15 @@ module _ (d : DocumentState) (playable : IsPlayable d) (made : List Timed) (even
     were = subst (WereSilent n ago) (sym same) so.were;
   }
 
-  pub lost_repeated : (since most silent : ℕ) → IsLostTo d made since most silent then
-      → IsLostTo d more since most silent w'
-  lost_repeated since most silent so =
-      record { keeps = after; is = subst (IsLostAlways p since most silent) (sym same) so.is }
+  pub lost_repeated : (ago : List Timed) (since most silent : ℕ) → IsLostTo d ago made since most silent then
+      → IsLostTo d ago more since most silent w'
+  lost_repeated ago since most silent so = record {
+    keeps = after;
+    is = subst (IsLostAlways p since most silent) (sym same) so.is;
+    were = subst (WereSilent n ago) (sym same) so.were;
+    less = λ place v there used.
+        so.less place v there (idle_since n playable.network made event (inl now.0.0) place v there used);
+  }
 
   pub aging_repeated : (ago : List Timed) (aged silent : ℕ) → IsAgingTo d ago made aged silent then
       → IsAgingTo d ago more aged silent w'

@@ -281,23 +281,25 @@ never_used true true true (inl none) = absurd cc
 never_used true true true (inr none) = absurd cc
 
 module _ (n : NetworkState) (made : List Timed) where
+  pub lives_back : (clock : ℕ) → lives n.systems made clock ≡ true → IsLive n.systems made clock
+  lives_back clock is =
+      let (m, member, both) = any_in (λ m. (clock_of m.identity == clock) && (system_after made m).live) n.systems is in
+      let (place, there) = slice_get-In m n.systems member in
+      let (same, live) = and_true (clock_of m.identity == clock) (system_after made m).live both in
+      record {
+        place = place;
+        system = m;
+        there = there;
+        clock = eqb-true (clock_of m.identity) clock same;
+        live = live;
+      }
+
   pub lives_not : (clock : ℕ) → (IsLive n.systems made clock → ⊥) → lives n.systems made clock ≡ false
   lives_not clock none = by (lives n.systems made clock) refl
     where
       by : (live : Bool) → lives n.systems made clock ≡ live → lives n.systems made clock ≡ false
       by false is = is
-      by true is =
-          let (m, member, both) = any_in (λ m. (clock_of m.identity == clock) && (system_after made m).live) n.systems
-          is in
-          let (place, there) = slice_get-In m n.systems member in
-          let (same, live) = and_true (clock_of m.identity == clock) (system_after made m).live both in
-          absurd (none (record {
-            place = place;
-            system = m;
-            there = there;
-            clock = eqb-true (clock_of m.identity) clock same;
-            live = live;
-          }))
+      by true is = absurd (none (lives_back clock is))
 
   unused : (w : LinkSpec)
       → (IsLive n.systems made w.a.clock → ⊥) ⊎ (IsLive n.systems made w.b.clock → ⊥)

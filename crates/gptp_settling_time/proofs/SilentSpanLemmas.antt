@@ -34,7 +34,7 @@ module _ (systems : List SystemSpec) (events : List Timed) where
       (let named = eq-eqb (clock_of live.system.identity) clock live.clock in let lived = live.live in rw (named, lived)
       refl)
 
-  used_from : (v : LinkSpec) → IsUsed systems events v → is_used systems events v ≡ true
+  pub used_from : (v : LinkSpec) → IsUsed systems events v → is_used systems events v ≡ true
   used_from v used =
       let up = used.up in
       let a = lives_from v.a.clock used.a in

@@ -40,14 +40,14 @@ use Rattle.std.specs.Prelude.{◌≡◌, ◌<◌, ◌≤◌, ◌⊎◌, ◌+◌,
 use Rattle.gptp_lists.specs.Members.{In}
 use Rattle.gptp_setup.specs.Intervals.{interval_of}
 use Rattle.gptp_setup.specs.SettlingParams.{SettlingParams, largest_interval}
-use Rattle.gptp_scenario.specs.Calm.{IsCalm, IsLive, NothingLapses, last_change}
+use Rattle.gptp_scenario.specs.Calm.{IsCalm, NothingLapses, last_change}
 use Rattle.gptp_scenario.specs.Network.{NetworkState, pace_of}
 use Rattle.gptp_scenario.specs.SettlingAtOnce.{settling_span_at_once}
 use Rattle.gptp_scenario.specs.SettlingTime.{echo_span, loss_span, settling_span_with, silence_span, way_span}
 use Rattle.gptp_scenario.specs.SyncWait.{sync_paths}
 use Rattle.gptp_scenario.specs.declared.change.Act.{Act}
 use Rattle.gptp_scenario.specs.declared.change.Act.TheVariants.{Change as Changing}
-use Rattle.gptp_scenario.specs.declared.change.Change.TheVariants.{Fail, LinkDown, LinkUp}
+use Rattle.gptp_scenario.specs.declared.change.Change.TheVariants.{LinkDown, LinkUp}
 use Rattle.gptp_scenario.specs.declared.change.Timed.{Timed}
 use Rattle.gptp_scenario.specs.declared.sync_wait.SyncPaths.{SyncPaths}
 use Rattle.gptp_model.specs.World.{port_id}
@@ -294,11 +294,6 @@ AreLossEvents n made (event ∷ events) =
 abbrev pub LosesEvents : NetworkState → List Timed → List Timed → Type 0
 LosesEvents n = AfterIdleEvents n (AreLossEvents n)
 
--- by none of them a live system fails
-abbrev pub NoneFails : NetworkState → List Timed → List Timed → Type 0
-NoneFails n = EachEvent (λ made event. (number : ℕ) → event.act ≡ Changing (Fail number) → IsLive n.systems made number
-    → ⊥)
-
 -- the greatest delay of a link in use, before them or after them
 abbrev pub delay_between : NetworkState → List Timed → List Timed → ℕ
 delay_between n made now = max (sync_paths n made).delay (sync_paths n (made ++ now)).delay
@@ -306,7 +301,7 @@ delay_between n made now = max (sync_paths n made).delay (sync_paths n (made ++ 
 -- after such a loss the roles stand so soon
 abbrev pub RolesAfterLoss : NetworkState → List Timed → List Timed → ℕ → ℕ → Type 0
 RolesAfterLoss n made now choice roles =
-    ((NoneFails n made now ⊎ UpIsUsed n (made ++ now)) × (roles ≡ choice))
+    (NoneSilent n made (made ++ now) × (roles ≡ choice))
     ⊎ (roles ≡ max choice (silence_span (pace_of n)))
 
 -- By the first of them a system fails, which so cuts trees off. By the others links go down that are up, and of which

@@ -92,9 +92,9 @@ pub data Past : Type 0 where
   -- from the first on what is held of the failed system is gone; from the second on ports without a link aren't capable
   Aging : List Timed → ℕ → ℕ → Past
   Split : List Timed → ℕ → ℕ → Past
-  -- at the first something was taken away; what was in flight is gone so much later as the second says; from the third
-  -- on ports without a link aren't capable
-  Lost : ℕ → ℕ → ℕ → Past
+  -- At the first time something was taken away from what had settled after the first events; what was in flight is gone
+  -- so much later as the second says; from the third on ports without a link aren't capable.
+  Lost : List Timed → ℕ → ℕ → ℕ → Past
 
 -- ---- events at time 0
 
@@ -365,7 +365,7 @@ LeadsToGain n before (TurnedTree silent time) event next = ⊥
 LeadsToGain n before (Cleared ago since silent right old) event next = ⊥
 LeadsToGain n before (Aging ago aged silent) event next = ⊥
 LeadsToGain n before (Split ago gone silent) event next = ⊥
-LeadsToGain n before (Lost since most silent) event next = ⊥
+LeadsToGain n before (Lost ago since most silent) event next = ⊥
 
 abbrev pub LeadsToHeard : NetworkState → List Timed → Past → Timed → ℕ → Type 0
 LeadsToHeard n before AnyPast event next =
@@ -392,7 +392,7 @@ LeadsToHeard n before (TurnedTree silent time) event next = ⊥
 LeadsToHeard n before (Cleared ago since silent right old) event next = ⊥
 LeadsToHeard n before (Aging ago aged silent) event next = ⊥
 LeadsToHeard n before (Split ago gone silent) event next = ⊥
-LeadsToHeard n before (Lost since most silent) event next = ⊥
+LeadsToHeard n before (Lost ago since most silent) event next = ⊥
 
 -- a network that had settled is left so
 abbrev pub LeadsToLeft : NetworkState → List Timed → Past → Timed → List Timed → ℕ → Type 0
@@ -412,7 +412,7 @@ LeadsToLeft n before (TurnedTree silent time) event ago next = ⊥
 LeadsToLeft n before (Cleared made since silent right old) event ago next = ⊥
 LeadsToLeft n before (Aging old aged silent) event ago next = ⊥
 LeadsToLeft n before (Split old gone silent) event ago next = ⊥
-LeadsToLeft n before (Lost since most silent) event ago next = ⊥
+LeadsToLeft n before (Lost old since most silent) event ago next = ⊥
 
 -- in a network that had settled a system turns by it now
 abbrev pub TurnsNow : NetworkState → List Timed → Timed → ℕ → ℕ → ℕ → Type 0
@@ -435,7 +435,7 @@ LeadsToTurned n before (TurnedTree start now) event silent time = ⊥
 LeadsToTurned n before (Cleared ago since start right old) event silent time = ⊥
 LeadsToTurned n before (Aging ago aged start) event silent time = ⊥
 LeadsToTurned n before (Split ago gone start) event silent time = ⊥
-LeadsToTurned n before (Lost since most start) event silent time = ⊥
+LeadsToTurned n before (Lost ago since most start) event silent time = ⊥
 
 -- In a network whose choice stands a tree is so moved by it now. What was sent before the choice stood has arrived.
 abbrev pub TreeNow : NetworkState → List Timed → Timed → Type 0 → ℕ → ℕ → ℕ → ℕ → Type 0
@@ -476,7 +476,7 @@ LeadsToCleared n before (Aging made aged dark) event ago since silent right old 
     IsDownNow n before event × (ago ≡ made) × (silent ≡ dark)
     × TellsAnew n (before ++ event ∷ []) event.at since right old
 LeadsToCleared n before (Split made gone dark) event ago since silent right old = ⊥
-LeadsToCleared n before (Lost start most dark) event ago since silent right old = ⊥
+LeadsToCleared n before (Lost made start most dark) event ago since silent right old = ⊥
 
 -- Where a silent link goes down too what came over it is gone. So all has aged sooner by these events, if others were
 -- faster. Ports beside the system are off by a time that says when it failed.
@@ -504,7 +504,13 @@ LeadsToAging n before (Aging old gone start) event ago aged silent =
     IsDownNow n before event × (ago ≡ old) × (silent ≡ start)
     × ((aged ≡ gone) ⊎ AgesSooner n old (before ++ event ∷ []) aged start)
 LeadsToAging n before (Split old gone start) event ago aged silent = ⊥
-LeadsToAging n before (Lost since most start) event ago aged silent = ⊥
+LeadsToAging n before (Lost old since most start) event ago aged silent = ⊥
+
+-- a link in use after these events was in use after those
+abbrev pub AreUsedSince : NetworkState → List Timed → List Timed → Type 0
+AreUsedSince n ago events = (place : ℕ) (v : LinkSpec) → slice_get n.links place ≡ Some v
+    → IsUsed n.systems events (link_after events v)
+    → IsUsed n.systems ago (link_after ago v)
 
 -- In a network that had settled something is taken away now. What is in flight comes within a greatest delay.
 pub record LosesNow (n : NetworkState) (before : List Timed) (event : Timed) (since most silent : ℕ) : Type 0 where
@@ -521,24 +527,24 @@ pub record LosesMore (n : NetworkState) (before : List Timed) (event : Timed) (s
       ⊎ MakesNothing n before event since
   pub now : event.at ≡ since
 
-abbrev pub LeadsToLost : NetworkState → List Timed → Past → Timed → ℕ → ℕ → ℕ → Type 0
-LeadsToLost n before AnyPast event since most silent =
-    HasSettledAnyhow n before event.at × LosesNow n before event since most silent
-LeadsToLost n before Starting event since most silent = ⊥
-LeadsToLost n before (Gained start) event since most silent =
-    HasSettledSince n before start event.at × LosesNow n before event since most silent
-LeadsToLost n before (Heard start) event since most silent =
-    HasSettledHeard n before start event.at × LosesNow n before event since most silent
-LeadsToLost n before (Left ago start) event since most silent = ⊥
-LeadsToLost n before (Turned start now) event since most silent = ⊥
-LeadsToLost n before (Fallen start now) event since most silent = ⊥
-LeadsToLost n before (TurnedTree start now) event since most silent = ⊥
-LeadsToLost n before (Cleared ago begun start right old) event since most silent = ⊥
-LeadsToLost n before (Aging ago aged start) event since most silent = ⊥
-LeadsToLost n before (Split ago gone start) event since most silent = ⊥
-LeadsToLost n before (Lost begun delay start) event since most silent =
+abbrev pub LeadsToLost : NetworkState → List Timed → Past → Timed → List Timed → ℕ → ℕ → ℕ → Type 0
+LeadsToLost n before AnyPast event ago since most silent =
+    HasSettledAnyhow n before event.at × AreUsedSince n ago before × LosesNow n before event since most silent
+LeadsToLost n before Starting event ago since most silent = ⊥
+LeadsToLost n before (Gained start) event ago since most silent =
+    HasSettledSince n before start event.at × AreUsedSince n ago before × LosesNow n before event since most silent
+LeadsToLost n before (Heard start) event ago since most silent =
+    HasSettledHeard n before start event.at × AreUsedSince n ago before × LosesNow n before event since most silent
+LeadsToLost n before (Left old start) event ago since most silent = ⊥
+LeadsToLost n before (Turned start now) event ago since most silent = ⊥
+LeadsToLost n before (Fallen start now) event ago since most silent = ⊥
+LeadsToLost n before (TurnedTree start now) event ago since most silent = ⊥
+LeadsToLost n before (Cleared made begun start right old) event ago since most silent = ⊥
+LeadsToLost n before (Aging old aged start) event ago since most silent = ⊥
+LeadsToLost n before (Split old gone start) event ago since most silent = ⊥
+LeadsToLost n before (Lost old begun delay start) event ago since most silent =
     (LosesMore n before event since silent ⊎ RepeatsNow n before event)
-    × (since ≡ begun) × (most ≡ delay) × (silent ≡ start)
+    × (ago ≡ old) × (since ≡ begun) × (most ≡ delay) × (silent ≡ start)
 
 -- What others hold of a system that failed at this time is gone by another: it has aged within a span, or the ports
 -- beside the system aren't capable from then on.
@@ -579,7 +585,7 @@ LeadsToSplit n before (Split old was start) event ago gone silent =
     × ((gone ≡ was)
     ⊎ ((start ≡ suc (event.at + silence_span (pace_of n)))
     × IsGoneBy n old (before ++ event ∷ []) event.at gone))
-LeadsToSplit n before (Lost since most start) event ago gone silent = ⊥
+LeadsToSplit n before (Lost old since most start) event ago gone silent = ⊥
 
 -- from a gain, and from what is heard, the start stays
 abbrev pub StaysFrom : Past → ℕ → Type 0
@@ -594,7 +600,7 @@ StaysFrom (TurnedTree silent time) next = ⊥
 StaysFrom (Cleared ago since silent right old) next = ⊥
 StaysFrom (Aging ago aged silent) next = ⊥
 StaysFrom (Split ago gone silent) next = ⊥
-StaysFrom (Lost since most silent) next = ⊥
+StaysFrom (Lost ago since most silent) next = ⊥
 
 -- nothing is told as the network starts, and this is the last event then
 abbrev pub StartsFrom : NetworkState → List Timed → Past → Timed → ℕ → Type 0
@@ -609,7 +615,7 @@ StartsFrom n before (TurnedTree silent time) event next = ⊥
 StartsFrom n before (Cleared ago since silent right old) event next = ⊥
 StartsFrom n before (Aging ago aged silent) event next = ⊥
 StartsFrom n before (Split ago gone silent) event next = ⊥
-StartsFrom n before (Lost since most silent) event next = ⊥
+StartsFrom n before (Lost ago since most silent) event next = ⊥
 
 -- nothing is told as the network starts, nor after this event
 abbrev pub StartsStill : Past → Timed → Type 0
@@ -624,7 +630,7 @@ StartsStill (TurnedTree silent time) event = ⊥
 StartsStill (Cleared ago since silent right old) event = ⊥
 StartsStill (Aging ago aged silent) event = ⊥
 StartsStill (Split ago gone silent) event = ⊥
-StartsStill (Lost since most silent) event = ⊥
+StartsStill (Lost ago since most silent) event = ⊥
 
 abbrev pub EventLeads : NetworkState → List Timed → Past → Timed → Past → Type 0
 EventLeads n before past event AnyPast = ⊤
@@ -645,7 +651,8 @@ EventLeads n before past event (Cleared ago since silent right old) =
     LeadsToCleared n before past event ago since silent right old
 EventLeads n before past event (Aging ago aged silent) = LeadsToAging n before past event ago aged silent
 EventLeads n before past event (Split ago gone silent) = LeadsToSplit n before past event ago gone silent
-EventLeads n before past event (Lost since most silent) = LeadsToLost n before past event since most silent
+EventLeads n before past event (Lost ago since most silent) =
+    LeadsToLost n before past event ago since most silent
 
 -- ---- rest
 
@@ -707,11 +714,11 @@ pub record HasFallenBack (n : NetworkState) (events : List Timed) (fallen start 
 
 -- A network that has lost at a time has come to rest by another, as one whose ports are capable from a start on. The
 -- greatest delay has passed since the start for each system of a path but one, and by then the choice stands. Ports
--- without a link aren't capable by the other time, or no link is up that isn't in use.
-pub record HasToldAll (n : NetworkState) (events : List Timed) (since most silent start time : ℕ) : Type 0 where
+-- without a link aren't capable by the other time, or no lost link is silent.
+pub record HasToldAll (n : NetworkState) (ago events : List Timed) (since most silent start time : ℕ) : Type 0 where
   pub off : NothingLapses n.params
   pub later : since + loss_span (pace_of n) (sync_paths n events) most < start + way_span (sync_paths n events)
-  pub unlinked : (silent ≤ time) ⊎ UpIsUsed n events
+  pub unlinked : (silent ≤ time) ⊎ NoneSilent n ago events
   pub over : HasSettledHeard n events start time
 
 -- By this time it has come to rest, as one whose ports are capable from this start on. A tree that turned had dropped
@@ -723,7 +730,7 @@ RestsFrom n events (TurnedTree silent turned) time start =
     HasToldAnew n events turned start time × (turned + way_span (sync_paths n events) < start)
 RestsFrom n events (Cleared ago since silent right old) time start = HasCleared n ago events since silent old start time
 RestsFrom n events (Aging ago aged silent) time start = HasAged n events aged silent start time
-RestsFrom n events (Lost since most silent) time start = HasToldAll n events since most silent start time
+RestsFrom n events (Lost ago since most silent) time start = HasToldAll n ago events since most silent start time
 RestsFrom n events past time start = ⊥
 
 -- What the network is taken to come from as an event comes at this time: what it came from, or, once it has come to
@@ -755,7 +762,7 @@ BeginsBy n (TurnedTree silent time) = ⊥
 BeginsBy n (Cleared ago since silent right old) = ⊥
 BeginsBy n (Aging ago aged silent) = ⊥
 BeginsBy n (Split ago gone silent) = ⊥
-BeginsBy n (Lost since most silent) = ⊥
+BeginsBy n (Lost ago since most silent) = ⊥
 
 -- By this time a calm network has settled after these events. From any past the span has to pass, the sharper one where
 -- nothing lapses. Else ports become capable; then an announce interval passes where something may not be heard; and
@@ -791,10 +798,10 @@ SettlesAfter n events (Split ago gone silent) settled =
     NothingLapses n.params
     × (gone + 2 * way_span (sync_paths n events) ≤ settled)
     × ((silent ≤ settled) ⊎ NoneSilent n ago events)
-SettlesAfter n events (Lost since most silent) settled =
+SettlesAfter n events (Lost ago since most silent) settled =
     NothingLapses n.params
     × (suc (since + loss_span (pace_of n) (sync_paths n events) most) ≤ settled)
-    × ((silent ≤ settled) ⊎ UpIsUsed n events)
+    × ((silent ≤ settled) ⊎ NoneSilent n ago events)
 
 -- By this time the choice stands after these events: as soon as it has settled, and at once in a network that is left.
 -- Where something ages it does once that is gone.
@@ -812,7 +819,7 @@ ChoosesAfter n events (Aging ago aged silent) settled =
     NothingLapses n.params × ((aged ≤ settled) ⊎ ((silent ≤ settled) ⊎ NoneSilent n ago events))
 ChoosesAfter n events (Split ago gone silent) settled =
     NothingLapses n.params × (gone + 2 * way_span (sync_paths n events) ≤ settled)
-ChoosesAfter n events (Lost since most silent) settled =
+ChoosesAfter n events (Lost ago since most silent) settled =
     NothingLapses n.params × (suc (since + loss_span (pace_of n) (sync_paths n events) most) ≤ settled)
 
 -- By a time a document has settled, or its choice stands, as `So` says of what it came from: each of its events up to
