@@ -439,7 +439,7 @@ module _ (n : NetworkState) (network : IsNetwork n) where
         idle)
 
     -- a link gets wider by the first, and the others make nothing of what stands
-    widens_leads : (made : List Timed) (event : Timed) (past : Past) (settled by : ℕ) → event.at ≡ time
+    pub widens_leads : (made : List Timed) (event : Timed) (past : Past) (settled by : ℕ) → event.at ≡ time
         → IsCalm n made → HasSettled n made past settled → settled ≤ time → WidensLink n made event by
         → settled + 2 * by + way_span (sync_paths n (made ++ event ∷ [])) ≤ time + way_span (sync_paths n made)
         → (next : ℕ) × EventLeads n made past event (Heard next)

@@ -19,7 +19,7 @@ use Rattle.gptp_invariants.specs.ChoiceView.{says_announce, view}
 use Rattle.gptp_invariants.specs.WorldStanding.{snapshot_of}
 use Rattle.gptp_theorem.specs.PlayedLaws.{IsMade, IsPlayable}
 use Rattle.gptp_theorem.proofs.CalmLemmas.{quiet_stands}
-use Rattle.gptp_settling_time.specs.InTurn.{AgesSooner, Aging, AnyPast, AreUsedSince, Cleared, ClearsBy, EventLeads, FailsNow, Fallen, Gained, Heard, LeavesStanding, Left, LosesNow, Lost, LowersUnusedCalm, Past, Split, Starting, Turned, TurnedTree, TurnsNow}
+use Rattle.gptp_settling_time.specs.InTurn.{AgesSooner, Aging, AnyPast, AreUsedSince, Cleared, ClearsBy, EventLeads, FailsNow, Fallen, Gained, Heard, IsDownNow, LeavesStanding, Left, LosesNow, Lost, LowersUnusedCalm, Past, Split, Starting, Turned, TurnedTree, TurnsNow}
 use Rattle.gptp_settling_time.proofs.AgingDownLemmas.{down_ages}
 use Rattle.gptp_settling_time.proofs.AgesByLemmas.{by_map}
 use Rattle.gptp_settling_time.proofs.AgesByWorldLemmas.{WorldAgesBy, aging_by}
@@ -35,7 +35,6 @@ use Rattle.gptp_settling_time.proofs.LeftToLemmas.{IsLeftTo}
 use Rattle.gptp_settling_time.proofs.TurnedToLemmas.{IsTurnedTo}
 use Rattle.gptp_settling_time.proofs.AfterLemmas.{IsAfter}
 use Rattle.gptp_settling_time.proofs.LossMadeLemmas.{HasRestedSo, aging_so, cleared_to, left_to, turned_so}
-use Rattle.gptp_settling_time.proofs.LostClaimedLemmas.{IsLostAlways}
 use Rattle.gptp_settling_time.proofs.LostMadeLemmas.{loses_first, loses_more}
 use Rattle.gptp_settling_time.proofs.LostPowerLemmas.{told_anew}
 use Rattle.gptp_settling_time.proofs.LostToLemmas.{IsLostTo}
@@ -46,6 +45,7 @@ use Rattle.gptp_settling_time.proofs.ClearedLemmas.{IsCleared}
 use Rattle.gptp_settling_time.proofs.ClearedToLemmas.{IsClearedTo}
 use Rattle.gptp_settling_time.proofs.ClearsLemmas.{cleared_reduced}
 use Rattle.gptp_settling_time.proofs.LeftClaimedLemmas.{IsLeftAlways}
+use Rattle.gptp_settling_time.proofs.RepeatedLemmas.{aging_repeated, cleared_repeated, left_repeated, lost_repeated, turned_repeated}
 use Rattle.gptp_settling_time.proofs.RestedSoLemmas.{rested_any, rested_gained, rested_heard}
 use Rattle.gptp_settling_time.proofs.WereSilentLemmas.{WereSilent, were_down}
 
@@ -138,12 +138,16 @@ module _ (d : DocumentState) (playable : IsPlayable d) (made : List Timed) (even
   leads_to_left (Left old silent) ago next (falls, same_ago, same) so =
       subst (λ es. IsLeftTo d es more next w') (sym same_ago)
       (subst (λ t. IsLeftTo d old more t w') (sym same)
-      (record {
-        keeps = after;
-        before = so.before;
-        since = fallen_left so.before silent falls so.since;
-        were = fallen_were old falls so.were;
-      }))
+      (elim falls [
+        | inl lowers ↦ record {
+          keeps = after;
+          before = so.before;
+          since = fallen_left so.before silent lowers so.since;
+          were = fallen_were old lowers so.were;
+        }
+        | inr repeats ↦ left_repeated d playable made event then draws done w' acts at_time keeps after repeats old
+            silent so
+      ]))
   leads_to_left (Turned silent now) ago next none so = absurd none
   leads_to_left (Fallen silent now) ago next none so = absurd none
   leads_to_left (TurnedTree silent now) ago next none so = absurd none
@@ -163,7 +167,10 @@ module _ (d : DocumentState) (playable : IsPlayable d) (made : List Timed) (even
   leads_to_turned (Heard start) silent now (settled, by) so =
       turns start silent now (rested_heard d playable made event then at_time keeps start settled so.since) by
   leads_to_turned (Left ago start) silent now none so = absurd none
-  leads_to_turned (Turned start was) silent now none so = absurd none
+  leads_to_turned (Turned start was) silent now (repeats, same, here) so =
+      subst (λ t. IsTurnedTo d more t now w') (sym same)
+      (subst (λ t. IsTurnedTo d more start t w') (sym here)
+      (turned_repeated d playable made event then draws done w' acts at_time keeps after repeats start was so))
   leads_to_turned (Fallen start was) silent now none so = absurd none
   leads_to_turned (TurnedTree start was) silent now none so = absurd none
   leads_to_turned (Cleared ago since start right old) silent now none so = absurd none
@@ -213,6 +220,13 @@ module _ (d : DocumentState) (playable : IsPlayable d) (made : List Timed) (even
         were = fallen_were ago falls so.were;
       }
 
+  -- so it does where all stays as it stands
+  ages_still : (ago : List Timed) (aged silent : ℕ) → IsDownNow n made event → IsAgingTo d ago made aged silent then
+      → IsAgingTo d ago more aged silent w'
+  ages_still ago aged silent (inl falls) so = ages_on ago aged silent falls so
+  ages_still ago aged silent (inr repeats) so =
+      aging_repeated d playable made event then draws done w' acts at_time keeps after repeats ago aged silent so
+
   -- it has aged sooner where faster links alone are silent still
   ages_sooner : (ago : List Timed) (gone aged silent : ℕ) → AgesSooner n ago more aged silent
       → IsAgingTo d ago more gone silent w' → IsAgingTo d ago more aged silent w'
@@ -253,23 +267,27 @@ module _ (d : DocumentState) (playable : IsPlayable d) (made : List Timed) (even
   leads_to_cleared (Fallen start now) ago since silent right old none so = absurd none
   leads_to_cleared (TurnedTree start now) ago since silent right old none so = absurd none
   leads_to_cleared (Cleared was start dark clean gone) ago since silent right old
-      (falls, past, same_ago, (begun, by, is, same)) so =
+      (falls, same_ago, (begun, by, is, same)) so =
       subst (λ es. IsClearedTo d es more since silent right old w') (sym same_ago)
       (subst (λ t. IsClearedTo d was more t silent right old w') (sym begun)
       (subst (λ t. IsClearedTo d was more start t right old w') (sym by)
       (subst (λ t. IsClearedTo d was more start dark t old w') (sym is)
       (subst (λ t. IsClearedTo d was more start dark clean t w') (sym same)
-      (record {
-        keeps = after;
-        before = so.before;
-        is = fallen_cleared so.before dark falls so.is.left start clean gone past so.is;
-        were = fallen_were was falls so.were;
-      })))))
+      (elim falls [
+        | inl (lowers, past) ↦ record {
+          keeps = after;
+          before = so.before;
+          is = fallen_cleared so.before dark lowers so.is.left start clean gone past so.is;
+          were = fallen_were was lowers so.were;
+        }
+        | inr repeats ↦ cleared_repeated d playable made event then draws done w' acts at_time keeps after repeats was
+            start dark clean gone so
+      ])))))
   leads_to_cleared (Aging was aged dark) ago since silent right old (falls, same_ago, same, anew) so =
       subst (λ es. IsClearedTo d es more since silent right old w') (sym same_ago)
       (subst (λ t. IsClearedTo d was more since t right old w') (sym same)
       (told_anew d playable was more event.at aged dark since right old w' after time last
-      (ages_on was aged dark falls so) anew))
+      (ages_still was aged dark falls so) anew))
   leads_to_cleared (Split was gone dark) ago since silent right old none so = absurd none
   leads_to_cleared (Lost was begun most start) ago since silent right old none so = absurd none
 
@@ -300,8 +318,8 @@ module _ (d : DocumentState) (playable : IsPlayable d) (made : List Timed) (even
       subst (λ es. IsAgingTo d es more aged silent w') (sym same_ago)
       (subst (λ time. IsAgingTo d old more aged time w') (sym same_silent)
       (elim sooner [
-        | inl same ↦ subst (λ time. IsAgingTo d old more time start w') (sym same) (ages_on old gone start falls so)
-        | inr is ↦ ages_sooner old gone aged start is (ages_on old gone start falls so)
+        | inl same ↦ subst (λ time. IsAgingTo d old more time start w') (sym same) (ages_still old gone start falls so)
+        | inr is ↦ ages_sooner old gone aged start is (ages_still old gone start falls so)
       ]))
   leads_to_aging (Split old gone start) ago aged silent none so = absurd none
   leads_to_aging (Lost old since most start) ago aged silent none so = absurd none
@@ -335,10 +353,16 @@ module _ (d : DocumentState) (playable : IsPlayable d) (made : List Timed) (even
     leads_to_lost (Aging old aged start) ago since most silent none so = absurd none
     leads_to_lost (Split old gone start) ago since most silent none so = absurd none
     leads_to_lost (Lost old begun delay start) ago since most silent
-        (more_now, same_ago, same_since, same_most, same_silent) so =
+        (which, same_ago, same_since, same_most, same_silent) so =
+        let lost : IsLostTo d old made since most silent then =
+        subst (λ t. IsLostTo d old made t most silent then) (sym same_since)
+        (subst (λ m. IsLostTo d old made begun m silent then) (sym same_most)
+        (subst (λ t. IsLostTo d old made begun delay t then) (sym same_silent) so)) in
         subst (λ es. IsLostTo d es more since most silent w') (sym same_ago)
-        (loses_more d playable made event then draws done w' is acts octet at_time time last keeps after old since most
-        silent
-        (subst (λ t. IsLostAlways p t most silent then) (sym same_since)
-        (subst (λ m. IsLostAlways p begun m silent then) (sym same_most)
-        (subst (λ t. IsLostAlways p begun delay t then) (sym same_silent) so.is))) so.less so.were more_now)
+        (elim which [
+          | inl more_now ↦
+              loses_more d playable made event then draws done w' is acts octet at_time time last keeps after old since
+              most silent lost.is lost.less lost.were more_now
+          | inr repeats ↦ lost_repeated d playable made event then draws done w' acts at_time keeps after repeats old
+              since most silent lost
+        ])

@@ -72,8 +72,10 @@ pub mod UnchangedLemmas
 pub mod ExactInTurnLemmas
 pub mod SamePathsLemmas
 pub mod MomentLemmas
+pub mod BesideIdleLemmas
 pub mod FollowedLemmas
 pub mod LossFollowedLemmas
+pub mod RepeatedLemmas
 pub mod BoundSettlesLemmas
 pub mod ChoiceBoundLemmas
 pub mod ReactsLemmas

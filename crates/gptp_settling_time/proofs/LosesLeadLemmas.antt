@@ -70,7 +70,7 @@ module _ (n : NetworkState) (time : ℕ) where
       lost,
       inl refl,
       lost,
-      (record { more = inl (loses, silenced loses); now = here }, refl, refl, refl, refl),
+      (inl (record { more = inl (loses, silenced loses); now = here }), refl, refl, refl, refl),
       more_lead (made ++ event ∷ []) now at each quiet,
     )
     more_lead made (event ∷ now) (here, at) (inr idle, each) (silenced, quiet) = (
@@ -78,7 +78,7 @@ module _ (n : NetworkState) (time : ℕ) where
       inl refl,
       lost,
       (
-        record { more = inr (makes_nothing n made event time (omega (arith, here)) off idle); now = here },
+        inl (record { more = inr (makes_nothing n made event time (omega (arith, here)) off idle); now = here }),
         refl,
         refl,
         refl,

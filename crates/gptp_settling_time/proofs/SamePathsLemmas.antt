@@ -8,7 +8,7 @@ use Rattle.gptp_graph.proofs.Sure.{and_true}
 use Rattle.gptp_network.proofs.PassLemmas.{count_more}
 use Rattle.gptp_lists.specs.Members.{In}
 use Rattle.gptp_lists.proofs.MappedLemmas.{same_there}
-use Rattle.gptp_lists.proofs.SystemSpecLemmas.{slice_get-In}
+use Rattle.gptp_lists.proofs.SystemSpecLemmas.{In-slice_get, slice_get-In}
 use Rattle.gptp_vector.specs.declared.port.PortId.{PortId}
 use Rattle.gptp_roles.specs.Selection.{clock_of}
 use Rattle.gptp_links.specs.declared.bounds.Bounds.{Bounds}
@@ -80,6 +80,42 @@ module _ (n : NetworkState) (events more : List Timed)
     used = λ v member. used_same (link_after more v) ∙ used v member;
     bounds = bounds;
   }
+
+-- after more events the same systems live, and all links are as they were
+pub record StandSame (n : NetworkState) (events more : List Timed) : Type 0 where
+  pub systems : (m : SystemSpec) → In m n.systems → (system_after more m).live ≡ (system_after events m).live
+  pub links : (v : LinkSpec) → In v n.links → link_after more v ≡ link_after events v
+
+pub same_on : (n : NetworkState) (first second third : List Timed) → StandSame n first second
+    → StandSame n second third → StandSame n first third
+same_on n first second third one other = record {
+  systems = λ m member. other.systems m member ∙ one.systems m member;
+  links = λ v member. other.links v member ∙ one.links v member;
+}
+
+pub same_back : (n : NetworkState) (first second : List Timed) → StandSame n first second → StandSame n second first
+same_back n first second one = record {
+  systems = λ m member. sym (one.systems m member);
+  links = λ v member. sym (one.links v member);
+}
+
+pub same_itself : (n : NetworkState) (events : List Timed) → StandSame n events events
+same_itself n events = record { systems = λ m member. refl; links = λ v member. refl }
+
+pub same_lives : (n : NetworkState) (events more : List Timed) → StandSame n events more → (clock : ℕ)
+    → IsLive n.systems events clock → IsLive n.systems more clock
+same_lives n events more same clock x = record {
+  place = x.place;
+  system = x.system;
+  there = x.there;
+  clock = x.clock;
+  live = same.systems x.system (In-slice_get x.system n.systems x.place x.there) ∙ x.live;
+}
+
+pub same_alike : (n : NetworkState) (events more : List Timed) → StandSame n events more → StandAlike n events more
+same_alike n events more same =
+    alike_by n events more same.systems (λ v member. ap (is_used n.systems events) (same.links v member))
+    (λ v member. ap (λ (w : LinkSpec). w.bounds) (same.links v member))
 
 module _ (n : NetworkState) (events more : List Timed) (same : StandAlike n events more) where
   neighbour_same : (clock : ℕ) (v : LinkSpec) → In v n.links
@@ -202,13 +238,14 @@ module _ (n : NetworkState) (network : IsNetwork n) (made : List Timed) where
   link_idles (Priority1 number value) idle v member = refl
   link_idles (Inject number port octets) idle v member = refl
 
-  pub idle_alike : (event : Timed) → ChangesNothing n made event.act → StandAlike n made (made ++ event ∷ [])
-  idle_alike event nothing =
+  pub idle_same : (event : Timed) → ChangesNothing n made event.act → StandSame n made (made ++ event ∷ [])
+  idle_same event nothing =
       let (systems, links) = by event.act nothing in
-      alike_by n made (made ++ event ∷ [])
-      (λ m member. ap (λ s. s.live) (system_behind made event (clock_of m.identity) (standing m)) ∙ systems m member)
-      (λ v member. ap (is_used n.systems made) (link_behind made event v ∙ links v member))
-      (λ v member. ap (λ (w : LinkSpec). w.bounds) (link_behind made event v ∙ links v member))
+      record {
+        systems = λ m member.
+            ap (λ s. s.live) (system_behind made event (clock_of m.identity) (standing m)) ∙ systems m member;
+        links = λ v member. link_behind made event v ∙ links v member;
+      }
     where
       by : (act : Act) → ChangesNothing n made act
           → ((m : SystemSpec) → In m n.systems
@@ -217,6 +254,9 @@ module _ (n : NetworkState) (network : IsNetwork n) (made : List Timed) where
       by (Deliver link direction) none = absurd none
       by (Expire number timer) none = absurd none
       by (Changing change) idle = (system_idles change idle, link_idles change idle)
+
+  pub idle_alike : (event : Timed) → ChangesNothing n made event.act → StandAlike n made (made ++ event ∷ [])
+  idle_alike event nothing = same_alike n made (made ++ event ∷ []) (idle_same event nothing)
 
   pub idle_paths : (event : Timed) → ChangesNothing n made event.act
       → sync_paths n (made ++ event ∷ []) ≡ sync_paths n made

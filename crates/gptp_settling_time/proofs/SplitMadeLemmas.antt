@@ -287,25 +287,29 @@ module _ (d : DocumentState) (playable : IsPlayable d) (made : List Timed) (even
       unanswered = so.unanswered;
     }
 
-    -- it is gone sooner where faster links alone are silent still
-    pub split_sooner : (sooner : ℕ) → silent ≡ suc (event.at + silence_span p) → IsGoneBy n ago more event.at sooner
-        → IsSplitTo d ago more sooner silent w'
-    split_sooner sooner same is_gone =
-        let unanswered = so.unanswered in
-        let failed : event.at ≡ so.failed = omega (arith, same, unanswered) in
-        let gone_then = subst (λ t. IsGoneBy n ago more t sooner) failed is_gone in
-        let some = gone_later n ago more so.failed sooner gone_then in
-        record {
-          keeps = after;
-          before = so.before;
-          failed = so.failed;
-          since = split_by p so.before (Over made gone) so.failed gone silent w' down (Over more sooner) sooner
-              (λ links. by_map says_announce (snapshot_of w') (stay_of p) (Over more gone) (Over more sooner) (view w')
-              (λ port until unlinked is_over.
-              goes_over n so.before ago more so.failed sooner silent gone_then unanswered port until is_over.0)
-              (over_more links))
-              (over_gone n so.before ago more so.failed sooner silent) (inr (some, omega (arith, time, failed)));
-          were = more_were;
-          some = some;
-          unanswered = so.unanswered;
-        }
+  -- it is gone sooner where faster links alone are silent still
+  pub split_sooner : (ago : List Timed) (gone silent : ℕ) → IsSplitTo d ago more gone silent w' → (sooner : ℕ)
+      → silent ≡ suc (event.at + silence_span p) → IsGoneBy n ago more event.at sooner
+      → IsSplitTo d ago more sooner silent w'
+  split_sooner ago gone silent so sooner same is_gone =
+      let unanswered = so.unanswered in
+      let failed : event.at ≡ so.failed = omega (arith, same, unanswered) in
+      let gone_then = subst (λ t. IsGoneBy n ago more t sooner) failed is_gone in
+      let some = gone_later n ago more so.failed sooner gone_then in
+      record {
+        keeps = after;
+        before = so.before;
+        failed = so.failed;
+        since = split_by p so.before (GoesOver n so.before ago more so.failed gone silent) so.failed gone silent w'
+            so.since (GoesOver n so.before ago more so.failed sooner silent) sooner
+            (λ links. by_map says_announce (snapshot_of w') (stay_of p)
+            (GoesOver n so.before ago more so.failed gone silent)
+            (GoesOver n so.before ago more so.failed sooner silent) (view w')
+            (λ port until unlinked is_over.
+            goes_over n so.before ago more so.failed sooner silent gone_then unanswered port until is_over.0)
+            (so.since.by links))
+            (over_gone n so.before ago more so.failed sooner silent) (inr (some, omega (arith, time, failed)));
+        were = so.were;
+        some = some;
+        unanswered = so.unanswered;
+      }

@@ -54,7 +54,7 @@ use Rattle.gptp_model.specs.World.{port_id}
 use Rattle.gptp_network.specs.Document.{DocumentState}
 use Rattle.gptp_network.specs.Snapshot.{events_by}
 use Rattle.gptp_settling_time.specs.Arrivals.{HasArrivedBy}
-use Rattle.gptp_settling_time.specs.Gains.{ChangesNothing, EndHasFailed, LeavesCapable, TakesNothing}
+use Rattle.gptp_settling_time.specs.Gains.{ChangesNothing, EndHasFailed, LeavesCapable, Repeats, TakesNothing}
 use Rattle.gptp_settling_time.specs.InTurn.{AddsHeard, BettersClock, FlightIsGone, MakesNothing, NoneUsed, TellsNothing, UsedVaryLittle, WidensLink, turned_echo_span}
 use Rattle.gptp_settling_time.specs.Losses.{AgesWithin, CutsFarEnd, FailsFarEnd, FailsHeard, LeavesChoice, LosesAny, LowersLink, LowersUnused, NoneSilent, TurnsLink, UpIsUsed}
 use Rattle.gptp_settling_time.specs.TreeLosses.{FailsTrees, LowersTree, TurnsTreeLink}
@@ -103,6 +103,11 @@ IsHeardToo n next made event = AddsHeard n made event next ⊎ MakesNothing n ma
 abbrev pub IsGainToo : NetworkState → ℕ → List Timed → Timed → Type 0
 IsGainToo n next made event = IsGainEvent n next made event ⊎ MakesNothing n made event next
 
+-- Behind a failure of the same time: a link goes down that is up, and of which an end has failed; or all stays as it
+-- stands.
+abbrev pub IsDownToo : NetworkState → List Timed → Timed → Type 0
+IsDownToo n made event = LowersUnused n made event ⊎ Repeats n made event
+
 -- this is so of each of the events, by what stands just before it
 abbrev pub EachEvent : (List Timed → Timed → Type 0) → List Timed → List Timed → Type 0
 EachEvent Is made [] = ⊤
@@ -125,6 +130,24 @@ abbrev pub AfterIdleEvents : NetworkState → (List Timed → List Timed → Typ
 AfterIdleEvents n Are made [] = Are made []
 AfterIdleEvents n Are made (event ∷ events) =
     Are made (event ∷ events) ⊎ (IsIdleEvent n made event × AfterIdleEvents n Are (made ++ event ∷ []) events)
+
+-- What `Are` says is so of the first of the events, and the others repeat what stands then.
+abbrev pub BeforeRepeats : NetworkState → (List Timed → List Timed → Type 0) → List Timed → List Timed → Type 0
+BeforeRepeats n Are made events = (first : List Timed) × (others : List Timed) × (events ≡ first ++ others)
+    × EachEvent (Repeats n) (made ++ first) others
+    × Are made first
+
+-- So it is of those that are left behind the first ones, which make nothing of what stands. Or a link in use gets wider
+-- delays by the first event of all, in a calm network. It would have settled in time by these too: two more messages of
+-- it, and a way.
+abbrev pub BesideIdle : NetworkState → ℕ → ℕ → (List Timed → List Timed → Type 0) → List Timed → List Timed → Type 0
+BesideIdle n settled time Are made [] = ⊥
+BesideIdle n settled time Are made (event ∷ events) =
+    AfterIdleEvents n (BeforeRepeats n Are) made (event ∷ events)
+    ⊎ ((by : ℕ) × WidensLink n made event by
+    × (settled + 2 * by + way_span (sync_paths n (made ++ event ∷ [])) < time + way_span (sync_paths n made))
+    × IsCalm n (made ++ event ∷ [])
+    × AfterIdleEvents n (BeforeRepeats n Are) (made ++ event ∷ []) events)
 
 -- ---- sharp bounds
 
@@ -225,11 +248,11 @@ abbrev pub TurnsOneLink : NetworkState → List Timed → List Timed → Type 0
 TurnsOneLink n = OneEvent (TurnsLink n)
 
 -- By the first of them a system fails that is the far end of each of its links. By the others links go down that are
--- up, and of which an end has failed.
+-- up, and of which an end has failed, or nothing is done.
 abbrev pub FailsEndFirst : NetworkState → List Timed → List Timed → Type 0
 FailsEndFirst n made [] = ⊥
 FailsEndFirst n made (event ∷ events) =
-    FailsFarEnd n made event × EachEvent (LowersUnused n) (made ++ event ∷ []) events
+    FailsFarEnd n made event × EachEvent (IsDownToo n) (made ++ event ∷ []) events
 
 -- how soon the roles stand after them
 abbrev pub RolesAfterFailure : NetworkState → List Timed → List Timed → ℕ → Type 0
@@ -237,11 +260,11 @@ RolesAfterFailure n made now roles =
     (NoneSilent n made (made ++ now) × (roles ≡ 0)) ⊎ (roles ≡ silence_span (pace_of n))
 
 -- By the first of them a system fails that others hear. By the others links go down that are up, and of which an end
--- has failed.
+-- has failed, or nothing is done.
 abbrev pub FailsHeardFirst : NetworkState → List Timed → List Timed → Type 0
 FailsHeardFirst n made [] = ⊥
 FailsHeardFirst n made (event ∷ events) =
-    FailsHeard n made event × EachEvent (LowersUnused n) (made ++ event ∷ []) events
+    FailsHeard n made event × EachEvent (IsDownToo n) (made ++ event ∷ []) events
 
 -- What others hold of it has aged so much later, or no port beside it is capable, whichever is sooner.
 abbrev pub HeldFor : NetworkState → List Timed → List Timed → ℕ → Type 0
@@ -282,11 +305,11 @@ RolesAfterLoss n made now choice roles =
     ⊎ (roles ≡ max choice (silence_span (pace_of n)))
 
 -- By the first of them a system fails, which so cuts trees off. By the others links go down that are up, and of which
--- an end has failed.
+-- an end has failed, or nothing is done.
 abbrev pub FailsTreesFirst : NetworkState → List Timed → List Timed → Type 0
 FailsTreesFirst n made [] = ⊥
 FailsTreesFirst n made (event ∷ events) =
-    FailsTrees n made event × EachEvent (LowersUnused n) (made ++ event ∷ []) events
+    FailsTrees n made event × EachEvent (IsDownToo n) (made ++ event ∷ []) events
 
 -- ---- what a loss asks for
 
@@ -340,8 +363,8 @@ LosesNext n events Then last time Asks =
     × NoneBetween events last time
     × IsCalm n (events_by time events)
     × NothingLapses n.params
-    × ((then : ℕ) × Then then × (last + then < time))
-    × Asks (events_by last events) (events_at time events)
+    × ((then : ℕ) × Then then × (last + then < time)
+    × BesideIdle n (last + then) time Asks (events_by last events) (events_at time events))
 
 -- What was sent until so much later than a time has arrived by another.
 abbrev pub HasArrivedNext : NetworkState → List Timed → ℕ → ℕ → ℕ → Type 0
@@ -362,7 +385,7 @@ TreeNext n Moves events Then last time Asks =
     × IsCalm n (events_by time events)
     × NothingLapses n.params
     × ComesAfterRest n events Then last time
-    × OneEvent Moves (events_by last events) (events_at time events)
+    × BeforeRepeats n (OneEvent Moves) (events_by last events) (events_at time events)
     × Asks (events_by time events)
 
 -- a tree is cut off
@@ -386,8 +409,8 @@ SplitsNext n events Then last time Asks =
     × IsCalm n (events_by time events)
     × NothingLapses n.params
     × ComesAfterRest n events Then last time
-    × FailsTreesFirst n (events_by last events) (events_at time events)
-    × Asks (events_by last events) (events_at time events)
+    × BeforeRepeats n (λ made now. FailsTreesFirst n made now × Asks made now) (events_by last events)
+    (events_at time events)
 
 -- Each tree drops the best of before within a way, once nothing is held of the failed system, and settles within
 -- another.

@@ -68,7 +68,7 @@ use Rattle.gptp_settling_time.specs.Arrivals.{HasArrivedBy}
 use Rattle.gptp_settling_time.specs.ChoiceAlone.{ChoiceStandsAs}
 use Rattle.gptp_settling_time.specs.Documents.{IsSettledAs}
 use Rattle.gptp_settling_time.specs.Exactly.{SettlesBy}
-use Rattle.gptp_settling_time.specs.Gains.{AreCapableAnyway, AreCapableNext, AreCapableStill, ChangesNothing, EndHasFailed, HasRested, IsDownAfter, IsNoWorse, JoinsLive, LeavesCapable, TakesNothing, UsesNoLink, exchanged_from}
+use Rattle.gptp_settling_time.specs.Gains.{AreCapableAnyway, AreCapableNext, AreCapableStill, ChangesNothing, EndHasFailed, HasRested, IsDownAfter, IsNoWorse, JoinsLive, LeavesCapable, RepeatsNow, TakesNothing, UsesNoLink, exchanged_from}
 use Rattle.gptp_settling_time.specs.Losses.{AgesWithin, AreSilentAfter, CutsFarEnd, FailsFarEnd, FailsHeard, LeavesChoice, LosesAny, LowersLink, LowersUnused, NoneSilent, TurnsLink, UpIsUsed}
 use Rattle.gptp_settling_time.specs.TreeLosses.{FailsTrees, LowersTree, TurnsTreeLink}
 
@@ -256,6 +256,10 @@ pub record LowersUnusedCalm (n : NetworkState) (before : List Timed) (event : Ti
   pub calm : IsCalm n before
   pub off : NothingLapses n.params
 
+-- so it does, or all stays as it stands
+abbrev pub IsDownNow : NetworkState → List Timed → Timed → Type 0
+IsDownNow n before event = LowersUnusedCalm n before event ⊎ RepeatsNow n before event
+
 -- A link goes down, or a far end fails, and the choice stands. Ports without a link aren't capable from the next time
 -- on. After a link that is the time before. After a system that fails it is when too many of their requests are lost.
 abbrev pub LeavesStanding : NetworkState → List Timed → Timed → ℕ → ℕ → Type 0
@@ -401,7 +405,7 @@ LeadsToLeft n before (Gained start) event ago next =
 LeadsToLeft n before (Heard start) event ago next =
     HasSettledHeard n before start event.at × (ago ≡ before) × LeavesStanding n before event start next
 LeadsToLeft n before (Left old silent) event ago next =
-    LowersUnusedCalm n before event × (ago ≡ old) × (next ≡ silent)
+    IsDownNow n before event × (ago ≡ old) × (next ≡ silent)
 LeadsToLeft n before (Turned silent time) event ago next = ⊥
 LeadsToLeft n before (Fallen silent time) event ago next = ⊥
 LeadsToLeft n before (TurnedTree silent time) event ago next = ⊥
@@ -424,7 +428,8 @@ LeadsToTurned n before (Gained start) event silent time =
 LeadsToTurned n before (Heard start) event silent time =
     HasSettledHeard n before start event.at × TurnsNow n before event start silent time
 LeadsToTurned n before (Left ago start) event silent time = ⊥
-LeadsToTurned n before (Turned start now) event silent time = ⊥
+LeadsToTurned n before (Turned start now) event silent time =
+    RepeatsNow n before event × (silent ≡ start) × (time ≡ now)
 LeadsToTurned n before (Fallen start now) event silent time = ⊥
 LeadsToTurned n before (TurnedTree start now) event silent time = ⊥
 LeadsToTurned n before (Cleared ago since start right old) event silent time = ⊥
@@ -465,10 +470,10 @@ LeadsToCleared n before (Turned start now) event ago since silent right old = �
 LeadsToCleared n before (Fallen start now) event ago since silent right old = ⊥
 LeadsToCleared n before (TurnedTree start now) event ago since silent right old = ⊥
 LeadsToCleared n before (Cleared made start dark clean last) event ago since silent right old =
-    LowersUnusedCalm n before event × (clean ≤ event.at) × (ago ≡ made)
+    ((LowersUnusedCalm n before event × (clean ≤ event.at)) ⊎ RepeatsNow n before event) × (ago ≡ made)
     × ((since ≡ start) × (silent ≡ dark) × (right ≡ clean) × (old ≡ last))
 LeadsToCleared n before (Aging made aged dark) event ago since silent right old =
-    LowersUnusedCalm n before event × (ago ≡ made) × (silent ≡ dark)
+    IsDownNow n before event × (ago ≡ made) × (silent ≡ dark)
     × TellsAnew n (before ++ event ∷ []) event.at since right old
 LeadsToCleared n before (Split made gone dark) event ago since silent right old = ⊥
 LeadsToCleared n before (Lost made start most dark) event ago since silent right old = ⊥
@@ -496,7 +501,7 @@ LeadsToAging n before (Fallen start now) event ago aged silent = ⊥
 LeadsToAging n before (TurnedTree start now) event ago aged silent = ⊥
 LeadsToAging n before (Cleared made since start right old) event ago aged silent = ⊥
 LeadsToAging n before (Aging old gone start) event ago aged silent =
-    LowersUnusedCalm n before event × (ago ≡ old) × (silent ≡ start)
+    IsDownNow n before event × (ago ≡ old) × (silent ≡ start)
     × ((aged ≡ gone) ⊎ AgesSooner n old (before ++ event ∷ []) aged start)
 LeadsToAging n before (Split old gone start) event ago aged silent = ⊥
 LeadsToAging n before (Lost old since most start) event ago aged silent = ⊥
@@ -538,7 +543,8 @@ LeadsToLost n before (Cleared made begun start right old) event ago since most s
 LeadsToLost n before (Aging old aged start) event ago since most silent = ⊥
 LeadsToLost n before (Split old gone start) event ago since most silent = ⊥
 LeadsToLost n before (Lost old begun delay start) event ago since most silent =
-    LosesMore n before event since silent × (ago ≡ old) × (since ≡ begun) × (most ≡ delay) × (silent ≡ start)
+    (LosesMore n before event since silent ⊎ RepeatsNow n before event) × (ago ≡ old) × (since ≡ begun)
+    × (most ≡ delay) × (silent ≡ start)
 
 -- What others hold of a system that failed at this time is gone by another: it has aged within a span, or the ports
 -- beside the system aren't capable from then on.
@@ -575,7 +581,7 @@ LeadsToSplit n before (TurnedTree start now) event ago gone silent = ⊥
 LeadsToSplit n before (Cleared made since start right old) event ago gone silent = ⊥
 LeadsToSplit n before (Aging old aged start) event ago gone silent = ⊥
 LeadsToSplit n before (Split old was start) event ago gone silent =
-    LowersUnusedCalm n before event × (ago ≡ old) × (silent ≡ start)
+    IsDownNow n before event × (ago ≡ old) × (silent ≡ start)
     × ((gone ≡ was)
     ⊎ ((start ≡ suc (event.at + silence_span (pace_of n)))
     × IsGoneBy n old (before ++ event ∷ []) event.at gone))
@@ -637,8 +643,10 @@ EventLeads n before past event (Left ago next) = LeadsToLeft n before past event
 EventLeads n before past event (Turned silent time) = LeadsToTurned n before past event silent time
 EventLeads n before past event (Fallen silent time) =
     LeadsByTree n before past event (FallsCalm n before event) silent time
+    ⊎ (RepeatsNow n before event × (past ≡ Fallen silent time))
 EventLeads n before past event (TurnedTree silent time) =
     LeadsByTree n before past event (TurnsTreeCalm n before event) silent time
+    ⊎ (RepeatsNow n before event × (past ≡ TurnedTree silent time))
 EventLeads n before past event (Cleared ago since silent right old) =
     LeadsToCleared n before past event ago since silent right old
 EventLeads n before past event (Aging ago aged silent) = LeadsToAging n before past event ago aged silent
