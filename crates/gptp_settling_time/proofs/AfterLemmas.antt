@@ -88,8 +88,9 @@ module _ (d : DocumentState) (events : List Timed) where
   after_later (Fallen silent now) w time later first so = fallen_to_later d events silent now w time later first so
   after_later (TurnedTree silent now) w time later first so =
       turned_tree_to_later d events silent now w time later first so
-  after_later (Cleared ago since silent right old) w time later first so =
-      cleared_to_later d ago events since silent right old w time later first so
+  after_later (Cleared ago since silent right old) w time later first so = cleared_to_later d ago events since silent
+      right old
+      w time later first so
   after_later (Aging ago aged silent) w time later first so =
       aging_to_later d ago events aged silent w time later first so
   after_later (Split ago gone silent) w time later first so =
@@ -107,8 +108,9 @@ module _ (d : DocumentState) (events : List Timed) where
       news_act_to d events answers t fate drawn w next was start so
   after_act answers (Heard start) t fate drawn w next was so = claimed_act d events start answers t fate drawn w next
       was so
-  after_act answers (Left ago start) t fate drawn w next was so =
-      left_to_act d ago events start answers t fate drawn w next was so
+  after_act answers (Left ago start) t fate drawn w next was so = left_to_act d ago events start answers t fate drawn w
+      next was
+      so
   after_act answers (Turned silent now) t fate drawn w next was so =
       turned_to_act d events silent now answers t fate drawn w next was so
   after_act answers (Fallen silent now) t fate drawn w next was so =
@@ -258,8 +260,8 @@ module _ (d : DocumentState) (playable : IsPlayable d) (all : List Timed) (calm 
       claimed_settled d all start w so playable calm off (omega (arith, passed, on))
   after_settles (Left ago silent) so (off, inl passed) =
       left_to_settled d ago all silent w so playable calm off (inl (omega (arith, passed, on)))
-  after_settles (Left ago silent) so (off, inr none) =
-      left_to_settled d ago all silent w so playable calm off (inr none)
+  after_settles (Left ago silent) so (off, inr used) = left_to_settled d ago all silent w so playable calm off
+      (inr used)
   after_settles (Turned silent now) so (off, passed) =
       turned_to_settled d all silent now w so playable calm off
       (subst (λ (x : SyncPaths). now + 1 + pred x.systems * x.delay ≤ w.time) (paths so.keeps)
@@ -288,8 +290,7 @@ module _ (d : DocumentState) (playable : IsPlayable d) (all : List Timed) (calm 
       (omega (arith, passed, on)))
       (elim late [ inl now ↦ inl (omega (arith, now, on)) | inr used ↦ inr used ])
   after_settles (Lost ago since most silent) so (off, passed, inl late) =
-      lost_to_settled d ago all since most silent w so playable (omega (arith, passed, on))
-      (inl (omega (arith, late, on)))
+      lost_to_settled d ago all since most silent w so playable (omega (arith, passed, on)) (inl (omega (arith, late, on)))
   after_settles (Lost ago since most silent) so (off, passed, inr used) =
       lost_to_settled d ago all since most silent w so playable (omega (arith, passed, on)) (inr used)
 

@@ -363,6 +363,6 @@ module _ (d : DocumentState) (playable : IsPlayable d) (made : List Timed) (even
           | inl more_now ↦
               loses_more d playable made event then draws done w' is acts octet at_time time last keeps after old since
               most silent lost.is lost.less lost.were more_now
-          | inr repeats ↦ lost_repeated d playable made event then draws done w' acts at_time keeps after repeats old since
-              most silent lost
+          | inr repeats ↦ lost_repeated d playable made event then draws done w' acts at_time keeps after repeats old
+              since most silent lost
         ])

@@ -46,6 +46,9 @@ use Rattle.gptp_settling_time.proofs.TurnedTreeRestLemmas.{IsTurnedTreeAnew}
 use Rattle.gptp_settling_time.proofs.TurnedTreeToLemmas.{IsTurnedTreeTo}
 use Rattle.gptp_settling_time.proofs.UsedSinceLemmas.{idle_since}
 use Rattle.gptp_settling_time.proofs.WereSilentLemmas.{WereSilent}
+use Rattle.gptp_settling_time.specs.InTurn.{AreUsedSince}
+use Rattle.gptp_scenario.specs.Change.{link_after}
+use Rattle.gptp_scenario.specs.Calm.{IsUsed}
 
 -- what came over a silent link ages as it did where all links and systems are as they were
 over_same : (n : NetworkState) (before : Snapshot) (ago events more : List Timed) → StandSame n events more
@@ -166,14 +169,26 @@ module _ (d : DocumentState) (playable : IsPlayable d) (made : List Timed) (even
     were = subst (WereSilent n ago) (sym same) so.were;
   }
 
+  -- a link in use then was so before
+  used_same : AreUsedSince n made more
+  used_same place v there used =
+      let one : link_after more v ≡ link_after made v = alike.links v (In-slice_get v n.links place there) in
+      let back = same_back n made more alike in
+      let now_used : IsUsed n.systems made (link_after more v) =
+      record {
+        up = used.up;
+        a = same_lives n more made back (link_after more v).a.clock used.a;
+        b = same_lives n more made back (link_after more v).b.clock used.b;
+      } in
+      subst (IsUsed n.systems made) one now_used
+
   pub lost_repeated : (ago : List Timed) (since most silent : ℕ) → IsLostTo d ago made since most silent then
       → IsLostTo d ago more since most silent w'
   lost_repeated ago since most silent so = record {
     keeps = after;
     is = subst (IsLostAlways p since most silent) (sym same) so.is;
     were = subst (WereSilent n ago) (sym same) so.were;
-    less = λ place v there used.
-        so.less place v there (idle_since n playable.network made event (inl now.0.0) place v there used);
+    less = λ place v there used. so.less place v there (used_same place v there used);
   }
 
   pub aging_repeated : (ago : List Timed) (aged silent : ℕ) → IsAgingTo d ago made aged silent then

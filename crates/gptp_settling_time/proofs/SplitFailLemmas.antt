@@ -256,12 +256,12 @@ module _ (p : SettlingParams) (number : ℕ) (w : WorldState) (draws : List Draw
 
       module _ (By : PortIdentity → ℕ → Type 0) (gone : ℕ) (measured' : LinkIsMeasured w')
           (long : w.time + silence_span p < silent) (by : WorldAgesBy p By w')
-          (is_gone : GoesUntil g By gone ⊎ (silent ≤ gone)) (later : w.time < gone)
-          (late' : delay_in w' ≤ w'.time) where
-        standing' : IsStanding p silent w'
-        standing' =
-            alone.standing_then p number w draws done w' is is' acts lives next silent pace measured measured' past
-            ready quiet silent_before long
+          (is_gone : GoesUntil g By gone ⊎ (silent ≤ gone)) (later : w.time < gone) (late' : delay_in w' ≤ w'.time)
+        where
+          standing' : IsStanding p silent w'
+          standing' =
+              alone.standing_then p number w draws done w' is is' acts lives next silent pace measured measured' past
+              ready quiet silent_before long
 
         asked' : HaveAskedLong w'
         asked' =

@@ -543,8 +543,8 @@ LeadsToLost n before (Cleared made begun start right old) event ago since most s
 LeadsToLost n before (Aging old aged start) event ago since most silent = ⊥
 LeadsToLost n before (Split old gone start) event ago since most silent = ⊥
 LeadsToLost n before (Lost old begun delay start) event ago since most silent =
-    (LosesMore n before event since silent ⊎ RepeatsNow n before event)
-    × (ago ≡ old) × (since ≡ begun) × (most ≡ delay) × (silent ≡ start)
+    (LosesMore n before event since silent ⊎ RepeatsNow n before event) × (ago ≡ old) × (since ≡ begun)
+    × (most ≡ delay) × (silent ≡ start)
 
 -- What others hold of a system that failed at this time is gone by another: it has aged within a span, or the ports
 -- beside the system aren't capable from then on.
