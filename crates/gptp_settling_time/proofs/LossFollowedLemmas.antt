@@ -161,7 +161,7 @@ module _ (n : NetworkState) (network : IsNetwork n) (off : NothingLapses n.param
               λ settled late. (
                 off,
                 omega (arith, late, span, more),
-                elim x.quiet [ inl quiet ↦ inl (omega (arith, late, quiet)) | inr none ↦ inr none ],
+                elim x.quiet [ inl quiet ↦ inl (omega (arith, late, quiet)) | inr used ↦ inr used ],
               ),
               λ settled late. (off, omega (arith, late, span)),
             );

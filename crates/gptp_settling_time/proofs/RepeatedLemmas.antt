@@ -44,7 +44,6 @@ use Rattle.gptp_settling_time.proofs.TurnedAlwaysLemmas.{IsTurnedAlways}
 use Rattle.gptp_settling_time.proofs.TurnedToLemmas.{IsTurnedTo}
 use Rattle.gptp_settling_time.proofs.TurnedTreeRestLemmas.{IsTurnedTreeAnew}
 use Rattle.gptp_settling_time.proofs.TurnedTreeToLemmas.{IsTurnedTreeTo}
-use Rattle.gptp_settling_time.proofs.UsedSinceLemmas.{idle_since}
 use Rattle.gptp_settling_time.proofs.WereSilentLemmas.{WereSilent}
 use Rattle.gptp_settling_time.specs.InTurn.{AreUsedSince}
 use Rattle.gptp_scenario.specs.Change.{link_after}

@@ -263,81 +263,81 @@ module _ (p : SettlingParams) (number : ℕ) (w : WorldState) (draws : List Draw
               alone.standing_then p number w draws done w' is is' acts lives next silent pace measured measured' past
               ready quiet silent_before long
 
-        asked' : HaveAskedLong w'
-        asked' =
-            alone.asked_then p number w draws done w' is is' acts lives next silent pace measured measured' past ready
-            quiet silent_before long
+          asked' : HaveAskedLong w'
+          asked' =
+              alone.asked_then p number w draws done w' is is' acts lives next silent pace measured measured' past ready
+              quiet silent_before long
 
-        module _ (quiet' : HaveQuietLinks p.params w') (off : NothingLapses p.params) (start : ℕ)
-            (now : w'.time ≤ start) where
-          kept' : IsAfterLoss n' (view w')
-          kept' = split_after p silent w' standing' asked' quiet' off late'
+          module _ (quiet' : HaveQuietLinks p.params w') (off : NothingLapses p.params) (start : ℕ)
+              (now : w'.time ≤ start) where
+            kept' : IsAfterLoss n' (view w')
+            kept' = split_after p silent w' standing' asked' quiet' off late'
 
-          state' : SplitState p g split start (view w')
-          state' = record {
-            lanes = λ t cut q i joins.
-                let x = lane_between p w' (port_of number (suc q)) (port_of t.top (suc i)) is'
-                (links' (port_of number (suc q)) (port_of t.top (suc i)) joins) in
-                record { lane = x.lane; there = x.there; from = x.from_is; to = x.to_is };
-            named = named_in p w' is';
-            later = let time = time_now in omega (arith, time);
+            state' : SplitState p g split start (view w')
+            state' = record {
+              lanes = λ t cut q i joins.
+                  let x = lane_between p w' (port_of number (suc q)) (port_of t.top (suc i)) is'
+                  (links' (port_of number (suc q)) (port_of t.top (suc i)) joins) in
+                  record { lane = x.lane; there = x.there; from = x.from_is; to = x.to_is };
+              named = named_in p w' is';
+              later = let time = time_now in omega (arith, time);
+            }
+
+            fits' : EverythingFits says_announce g n' (view w')
+            fits' = loss_fits says_announce n0 n' (view w) (view w') net0 loss
+
+            tops' : (t : Tree) → (cut : IsTreeCutOff g g' best t)
+                → HoldsAtTop says_announce g n' number best (IsTreeCutOff g g' best) cuts loses start (stay_of p) w.time
+                n0.most shorter split.long t cut (view w')
+            tops' t cut =
+                top_begins says_announce n0 n' net0 (view w) (view w') loss kept' number t.top best t.next t.base t.depth
+                loses (cuts.each t cut) cut.in_top
+                (λ q i joins l at. subst (λ k. slice_get (view w).lanes k ≡ Some l) refl
+                (lane_still (n'.lane (port_of number (suc q))) l at)) (stay_of p) (named_in p w is) shorter
+                (λ q i joins. stays_long (port_of number (suc q)) (port_of t.top (suc i)) joins)
+
+            after' : IsAftermath says_announce g n' (view w')
+            after' = record {
+              kept = kept';
+              fits = fits';
+              dark = dark_by says_announce g n' number best (IsTreeCutOff g g' best) cuts loses start (stay_of p) w.time
+                  n0.most shorter split.long (view w') kept' fits' state' tops';
+            }
+
+            back' : SplitsBack p g split start (view w')
+            back' = record {
+              state = state';
+              back = fails_back says_announce n0 n' net0 (view w) (view w') loss after' best (IsTreeCutOff g g' best) cuts
+                  start now;
+              tops = tops';
+            }
+
+            settles' : SplitSettles p g split start (view w')
+            settles' = inl (
+              omega (arith, now),
+              (λ t cut.
+                  failing_settles says_announce n0 n' net0 (view w) (view w') loss after' t.top best t.next t.base t.depth
+                  (cuts.each t cut) start (settles_by n' start) (λ f. omega arith)),
+            )
+
+          started : (start : ℕ) → MayStart gone w.time start w' → w'.time ≤ start
+          started start (inl soon) = let time = time_now in omega (arith, soon, later, time)
+          started start (inr (since, now)) = let time = time_now in omega (arith, since, time)
+
+          pub split_begins : IsSplitAlways p g By w.time gone silent w'
+          split_begins = record {
+            standing = standing';
+            asked = asked';
+            good = good_fails p number w draws done w' is is' acts lives next past ready quiet silent_before;
+            split = split;
+            at = refl;
+            same = refl;
+            by = by;
+            is_gone = is_gone;
+            begun = let time = time_now in omega (arith, time);
+            late = late';
+            links = links';
+            seen = λ quiet' off start may.
+                let now = started start may in
+                (back' quiet' off start now, settles' quiet' off start now);
           }
-
-          fits' : EverythingFits says_announce g n' (view w')
-          fits' = loss_fits says_announce n0 n' (view w) (view w') net0 loss
-
-          tops' : (t : Tree) → (cut : IsTreeCutOff g g' best t)
-              → HoldsAtTop says_announce g n' number best (IsTreeCutOff g g' best) cuts loses start (stay_of p) w.time
-              n0.most shorter split.long t cut (view w')
-          tops' t cut =
-              top_begins says_announce n0 n' net0 (view w) (view w') loss kept' number t.top best t.next t.base t.depth
-              loses (cuts.each t cut) cut.in_top
-              (λ q i joins l at. subst (λ k. slice_get (view w).lanes k ≡ Some l) refl
-              (lane_still (n'.lane (port_of number (suc q))) l at)) (stay_of p) (named_in p w is) shorter
-              (λ q i joins. stays_long (port_of number (suc q)) (port_of t.top (suc i)) joins)
-
-          after' : IsAftermath says_announce g n' (view w')
-          after' = record {
-            kept = kept';
-            fits = fits';
-            dark = dark_by says_announce g n' number best (IsTreeCutOff g g' best) cuts loses start (stay_of p) w.time
-                n0.most shorter split.long (view w') kept' fits' state' tops';
-          }
-
-          back' : SplitsBack p g split start (view w')
-          back' = record {
-            state = state';
-            back = fails_back says_announce n0 n' net0 (view w) (view w') loss after' best (IsTreeCutOff g g' best) cuts
-                start now;
-            tops = tops';
-          }
-
-          settles' : SplitSettles p g split start (view w')
-          settles' = inl (
-            omega (arith, now),
-            (λ t cut.
-                failing_settles says_announce n0 n' net0 (view w) (view w') loss after' t.top best t.next t.base t.depth
-                (cuts.each t cut) start (settles_by n' start) (λ f. omega arith)),
-          )
-
-        started : (start : ℕ) → MayStart gone w.time start w' → w'.time ≤ start
-        started start (inl soon) = let time = time_now in omega (arith, soon, later, time)
-        started start (inr (since, now)) = let time = time_now in omega (arith, since, time)
-
-        pub split_begins : IsSplitAlways p g By w.time gone silent w'
-        split_begins = record {
-          standing = standing';
-          asked = asked';
-          good = good_fails p number w draws done w' is is' acts lives next past ready quiet silent_before;
-          split = split;
-          at = refl;
-          same = refl;
-          by = by;
-          is_gone = is_gone;
-          begun = let time = time_now in omega (arith, time);
-          late = late';
-          links = links';
-          seen = λ quiet' off start may.
-              let now = started start may in
-              (back' quiet' off start now, settles' quiet' off start now);
-        }
