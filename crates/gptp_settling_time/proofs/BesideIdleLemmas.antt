@@ -257,7 +257,7 @@ module _ (n : NetworkState) (network : IsNetwork n) (off : NothingLapses n.param
   repeats_same made [] each = subst (StandSame n made) (sym (append-nil made)) (same_itself n made)
   repeats_same made (event ∷ others) (one, each) =
       subst (StandSame n made) (append_assoc made (event ∷ []) others)
-      (same_on n made (made ++ event ∷ []) ((made ++ event ∷ []) ++ others) (idle_same n network made event one.0)
+      (same_on n made (made ++ event ∷ []) ((made ++ event ∷ []) ++ others) (idle_same n network made event one)
       (repeats_same (made ++ event ∷ []) others each))
 
   last_on : (made others : List Timed) → last_change made ≡ time → AllNow others → last_change (made ++ others) ≡ time

@@ -1,4 +1,11 @@
+pub mod BetweenCalmLemmas
+pub mod BetweenUnmovedLemmas
 pub mod NewsMeasuredLemmas
+pub mod OneCallLemmas
+pub mod TakenClaimedLemmas
+pub mod TakenDownLossLemmas
+pub mod TakenFailLossLemmas
+pub mod TakenSeenLemmas
 pub mod WillAskLemmas
 pub mod NewsSoonLemmas
 pub mod AskedInTimeLemmas

@@ -183,7 +183,7 @@ down_lives : (n : NetworkState) (network : IsNetwork n) (made : List Timed) (eve
 down_lives n network made event number (inl lowers) live =
     still_lives n made event lowers.clock lowers.port lowers.act number live
 down_lives n network made event number (inr repeats) live =
-    same_lives n made (made ++ event ∷ []) (idle_same n network made event repeats.0) number live
+    same_lives n made (made ++ event ∷ []) (idle_same n network made event repeats) number live
 
 module _ (n : NetworkState) (network : IsNetwork n) (off : NothingLapses n.params) (time : ℕ) where
   abbrev AllNow : List Timed → Type 0

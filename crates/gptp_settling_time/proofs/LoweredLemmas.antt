@@ -241,30 +241,19 @@ StayOrAreAlone w w' = (v : ℕ) → In v (clocks (snapshot_of w'))
     → IsUnmoved (snapshot_of w) (snapshot_of w') v
     ⊎ (IsCutOff (snapshot_of w') v × UnlinkedAreOff (snapshot_of w) (view w))
 
-module _ (p : SettlingParams) (w : WorldState) (is : IsWorld p w) (place : ℕ) (channel : Channel)
-    (here : slice_get w.net.channels place ≡ Some channel) (draws : List Draw) (w' : WorldState) (is' : IsWorld p w')
+-- what is left was there
+module _ (w : WorldState) (place : ℕ) (channel : Channel) (here : slice_get w.net.channels place ≡ Some channel)
+    (draws : List Draw) (w' : WorldState)
     (k : TellsEnds PortDown channel (record w { net = taken_down place channel w.net; last_change = w.time }) draws w')
-    (seen : IsSettledSeen p w) (near : AllAreNear (snapshot_of w)) where
-  abbrev pub taken : WorldState
-  taken = record w { net = taken_down place channel w.net; last_change = w.time }
+    where
+  abbrev gone_down : WorldState
+  gone_down = record w { net = taken_down place channel w.net; last_change = w.time }
 
-  abbrev g : Snapshot
-  g = snapshot_of w
-
-  abbrev g' : Snapshot
-  g' = snapshot_of w'
-
-  well : IsWellFormed g
-  well = stands_well w is.sound is.between is.encodable
-
-  well' : IsWellFormed g'
-  well' = stands_well w' is'.sound is'.between is'.encodable
-
-  keeps : KeepsNetwork taken w'
-  keeps = told_keeps channel taken draws w' k
+  kept : KeepsNetwork gone_down w'
+  kept = told_keeps channel gone_down draws w' k
 
   -- no link is there that wasn't
-  were_there : (link : ℕ) (other : Channel) → slice_get taken.net.channels link ≡ Some other
+  were_there : (link : ℕ) (other : Channel) → slice_get gone_down.net.channels link ≡ Some other
       → IsThereToo w.net.channels link other
   were_there link other there = elim (same_place link place) [
     | inl same ↦
@@ -288,14 +277,39 @@ module _ (p : SettlingParams) (w : WorldState) (is : IsWorld p w) (place : ℕ) 
     }
   ]
 
+  pub down_less : IsLess (snapshot_of w) (snapshot_of w')
+  down_less = record {
+    systems = λ s member. subst (In s) kept.systems member;
+    links = λ a b joins.
+        links_more gone_down w (same_systems (live_stations w.stations)) were_there a b
+        (subst (λ h. Joins h a b) (same_snapshot gone_down w' kept) joins);
+  }
+
+module _ (p : SettlingParams) (w : WorldState) (is : IsWorld p w) (place : ℕ) (channel : Channel)
+    (here : slice_get w.net.channels place ≡ Some channel) (draws : List Draw) (w' : WorldState) (is' : IsWorld p w')
+    (k : TellsEnds PortDown channel (record w { net = taken_down place channel w.net; last_change = w.time }) draws w')
+    (seen : IsSettledSeen p w) (near : AllAreNear (snapshot_of w)) where
+  abbrev pub taken : WorldState
+  taken = record w { net = taken_down place channel w.net; last_change = w.time }
+
+  abbrev g : Snapshot
+  g = snapshot_of w
+
+  abbrev g' : Snapshot
+  g' = snapshot_of w'
+
+  well : IsWellFormed g
+  well = stands_well w is.sound is.between is.encodable
+
+  well' : IsWellFormed g'
+  well' = stands_well w' is'.sound is'.between is'.encodable
+
+  keeps : KeepsNetwork taken w'
+  keeps = told_keeps channel taken draws w' k
+
   -- what is left was there
   pub less_then : IsLess g g'
-  less_then = record {
-    systems = λ s member. subst (In s) keeps.systems member;
-    links = λ a b joins.
-        links_more taken w (same_systems (live_stations w.stations)) were_there a b
-        (subst (λ h. Joins h a b) (same_snapshot taken w' keeps) joins);
-  }
+  less_then = down_less w place channel here draws w' k
 
   -- no link is at its ends any more
   unlinked : (way : Direction) → IsLinked g' (port_identity_number (sender way channel)) → ⊥

@@ -125,7 +125,7 @@ module _ (d : DocumentState) (playable : IsPlayable d) (made : List Timed) (even
       ∙ (λ i. record then { last_change = moment i })
 
   alike : StandSame n made more
-  alike = idle_same n playable.network made event now.0.0
+  alike = idle_same n playable.network made event now.0
 
   -- ---- what is claimed of it
 
