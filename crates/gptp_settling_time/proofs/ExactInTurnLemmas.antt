@@ -35,7 +35,7 @@ use Rattle.gptp_settling_time.specs.Arrivals.{arrived_by}
 use Rattle.gptp_settling_time.specs.ExactInTurn.{ActsAreExactInTurn}
 use Rattle.gptp_settling_time.specs.Exactly.{AreExactFrom}
 use Rattle.gptp_settling_time.specs.Gains.{HasDelaysWithin}
-use Rattle.gptp_settling_time.specs.InTurn.{Aging, AnyPast, ChoosesAfter, ChoosesByEvents, Cleared, Fallen, Gained, Heard, Left, Lost, Past, Split, Starting, Turned, TurnedTree}
+use Rattle.gptp_settling_time.specs.InTurn.{Aging, AnyPast, ChoosesAfter, ChoosesByEvents, Cleared, Fallen, Gained, Heard, Left, Fewer, Lost, Past, Split, Starting, Turned, TurnedTree}
 use Rattle.gptp_settling_time.proofs.AgingClaimedLemmas.{aging_measured}
 use Rattle.gptp_settling_time.proofs.SplitSettlesLemmas.{split_measured}
 use Rattle.gptp_settling_time.proofs.SplitToLemmas.{GoesOver}
@@ -119,6 +119,9 @@ module _ (d : DocumentState) (playable : IsPlayable d) (all : List Timed) (calm 
   have_measured (Lost ago since most silent) w so settles links on =
       let change = (after_keeps d all (Lost ago since most silent) w so).stands.last in
       lost_measured p since most silent w so.is (omega (arith, behind, on, change))
+  have_measured (Fewer ago since most silent) w so settles links on =
+      let change = (after_keeps d all (Fewer ago since most silent) w so).stands.last in
+      lost_measured p since most silent w so.lost.is (omega (arith, behind, on, change))
 
   -- what was in flight before has arrived
   arrive : (w : WorldState) → IsAfter d all last w → ArriveBy whole w

@@ -19,7 +19,7 @@ use Rattle.gptp_invariants.specs.ChoiceView.{says_announce, view}
 use Rattle.gptp_invariants.specs.WorldStanding.{live_stations, snapshot_of}
 use Rattle.gptp_theorem.specs.PlayedLaws.{IsMade, IsPlayable}
 use Rattle.gptp_theorem.proofs.CalmLemmas.{quiet_stands}
-use Rattle.gptp_settling_time.specs.InTurn.{AgesSooner, Aging, AnyPast, AreUsedSince, Cleared, ClearsBy, EventLeads, FailsNow, Fallen, Gained, Heard, IsDownNow, LeavesStanding, Left, LosesNow, Lost, LowersToo, LowersUnusedCalm, Past, Split, Starting, Turned, TurnedTree, TurnsNow}
+use Rattle.gptp_settling_time.specs.InTurn.{AgesSooner, Aging, AnyPast, AreUsedSince, Cleared, ClearsBy, EventLeads, FailsNow, Fallen, Fewer, Gained, Heard, IsDownNow, LeavesStanding, Left, LosesNow, Lost, LowersToo, LowersUnusedCalm, Past, Split, Starting, TakesNow, Turned, TurnedTree, TurnsNow}
 use Rattle.gptp_settling_time.proofs.AgingDownLemmas.{down_ages}
 use Rattle.gptp_settling_time.proofs.AgesByLemmas.{by_map}
 use Rattle.gptp_settling_time.proofs.AgesByWorldLemmas.{WorldAgesBy, aging_by}
@@ -49,8 +49,10 @@ use Rattle.gptp_settling_time.proofs.ClearedLemmas.{IsCleared}
 use Rattle.gptp_settling_time.proofs.ClearedToLemmas.{IsClearedTo}
 use Rattle.gptp_settling_time.proofs.ClearsLemmas.{cleared_reduced}
 use Rattle.gptp_settling_time.proofs.LeftClaimedLemmas.{IsLeftAlways}
-use Rattle.gptp_settling_time.proofs.RepeatedLemmas.{aging_repeated, cleared_repeated, left_repeated, lost_repeated, turned_repeated}
+use Rattle.gptp_settling_time.proofs.RepeatedLemmas.{aging_repeated, cleared_repeated, left_repeated, lost_repeated, taken_repeated, turned_repeated}
 use Rattle.gptp_settling_time.proofs.RestedSoLemmas.{rested_any, rested_gained, rested_heard}
+use Rattle.gptp_settling_time.proofs.TakenMadeLemmas.{taken_first, taken_more}
+use Rattle.gptp_settling_time.proofs.TakenToLemmas.{IsTakenTo}
 use Rattle.gptp_settling_time.proofs.WereSilentLemmas.{WereSilent, were_down}
 
 module _ (d : DocumentState) (playable : IsPlayable d) (made : List Timed) (event : Timed) (then : WorldState)
@@ -211,6 +213,7 @@ module _ (d : DocumentState) (playable : IsPlayable d) (made : List Timed) (even
   leads_to_left (Aging old aged silent) ago next none so = absurd none
   leads_to_left (Split old gone silent) ago next none so = absurd none
   leads_to_left (Lost old since most silent) ago next none so = absurd none
+  leads_to_left (Fewer old since most silent) ago next none so = absurd none
 
   pub leads_to_turned : (past : Past) (silent now : ℕ) → EventLeads n made past event (Turned silent now)
       → IsAfter d made past then → IsTurnedTo d more silent now w'
@@ -233,6 +236,7 @@ module _ (d : DocumentState) (playable : IsPlayable d) (made : List Timed) (even
   leads_to_turned (Aging ago aged start) silent now none so = absurd none
   leads_to_turned (Split ago gone start) silent now none so = absurd none
   leads_to_turned (Lost ago since most start) silent now none so = absurd none
+  leads_to_turned (Fewer ago since most start) silent now none so = absurd none
 
   clears : (ago : List Timed) (start since silent right old : ℕ) → HasRestedSo p start event.at then → ago ≡ made
       → ClearsBy n made event start since silent right old → IsClearedTo d ago more since silent right old w'
@@ -346,6 +350,7 @@ module _ (d : DocumentState) (playable : IsPlayable d) (made : List Timed) (even
       (ages_still was aged dark falls so) anew))
   leads_to_cleared (Split was gone dark) ago since silent right old none so = absurd none
   leads_to_cleared (Lost was begun most start) ago since silent right old none so = absurd none
+  leads_to_cleared (Fewer was begun most start) ago since silent right old none so = absurd none
 
   ages : (ago : List Timed) (start aged silent : ℕ) → HasRestedSo p start event.at then → ago ≡ made
       → FailsNow n made event aged silent → IsAgingTo d ago more aged silent w'
@@ -379,6 +384,7 @@ module _ (d : DocumentState) (playable : IsPlayable d) (made : List Timed) (even
       ]))
   leads_to_aging (Split old gone start) ago aged silent none so = absurd none
   leads_to_aging (Lost old since most start) ago aged silent none so = absurd none
+  leads_to_aging (Fewer old since most start) ago aged silent none so = absurd none
 
   -- ---- anything is taken away
 
@@ -421,4 +427,48 @@ module _ (d : DocumentState) (playable : IsPlayable d) (made : List Timed) (even
               most silent lost.is lost.less lost.were more_now
           | inr repeats ↦ lost_repeated d playable made event then draws done w' acts at_time keeps after repeats old
               since most silent lost
+        ])
+    leads_to_lost (Fewer old begun delay start) ago since most silent none so = absurd none
+
+    taken_now : (ago : List Timed) (start since most silent : ℕ) → HasRestedSo p start event.at then
+        → TakesNow n made event ago since most silent → IsTakenTo d ago more since most silent w'
+    taken_now ago start since most silent rest (same, now, any, later) =
+        subst (λ es. IsTakenTo d es more since most silent w') (sym same)
+        (taken_first d playable made event then draws done w' is acts octet at_time time last keeps after start since
+        most silent rest now any later)
+
+    pub leads_to_fewer : (past : Past) (ago : List Timed) (since most silent : ℕ)
+        → EventLeads n made past event (Fewer ago since most silent)
+        → IsAfter d made past then → IsTakenTo d ago more since most silent w'
+    leads_to_fewer AnyPast ago since most silent (settled, now) so =
+        taken_now ago (last_change made + capability_span p) since most silent
+        (rested_any d playable made event then at_time keeps settled) now
+    leads_to_fewer Starting ago since most silent none so = absurd none
+    leads_to_fewer (Gained start) ago since most silent (settled, now) so =
+        taken_now ago start since most silent
+        (rested_gained d playable made event then at_time keeps start settled so.news) now
+    leads_to_fewer (Heard start) ago since most silent (settled, now) so =
+        taken_now ago start since most silent
+        (rested_heard d playable made event then at_time keeps start settled so.since) now
+    leads_to_fewer (Left old start) ago since most silent none so = absurd none
+    leads_to_fewer (Turned start was) ago since most silent none so = absurd none
+    leads_to_fewer (Fallen start was) ago since most silent none so = absurd none
+    leads_to_fewer (TurnedTree start was) ago since most silent none so = absurd none
+    leads_to_fewer (Cleared was begun start right old) ago since most silent none so = absurd none
+    leads_to_fewer (Aging old aged start) ago since most silent none so = absurd none
+    leads_to_fewer (Split old gone start) ago since most silent none so = absurd none
+    leads_to_fewer (Lost old begun delay start) ago since most silent none so = absurd none
+    leads_to_fewer (Fewer old begun delay start) ago since most silent
+        (which, same_ago, same_since, same_most, same_silent) so =
+        let taken : IsTakenTo d old made since most silent then =
+        subst (λ t. IsTakenTo d old made t most silent then) (sym same_since)
+        (subst (λ m. IsTakenTo d old made begun m silent then) (sym same_most)
+        (subst (λ t. IsTakenTo d old made begun delay t then) (sym same_silent) so)) in
+        subst (λ es. IsTakenTo d es more since most silent w') (sym same_ago)
+        (elim which [
+          | inl (now, one) ↦
+              taken_more d playable made event then draws done w' is acts octet at_time time last keeps after old since
+              most silent now one taken
+          | inr repeats ↦ taken_repeated d playable made event then draws done w' acts at_time keeps after repeats old
+              since most silent taken
         ])

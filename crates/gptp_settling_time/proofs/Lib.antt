@@ -5,7 +5,10 @@ pub mod OneCallLemmas
 pub mod TakenClaimedLemmas
 pub mod TakenDownLossLemmas
 pub mod TakenFailLossLemmas
+pub mod TakenLeadLemmas
+pub mod TakenMadeLemmas
 pub mod TakenSeenLemmas
+pub mod TakenToLemmas
 pub mod WillAskLemmas
 pub mod NewsSoonLemmas
 pub mod AskedInTimeLemmas

@@ -14,7 +14,7 @@ use Rattle.gptp_network.specs.Events.{AreInOrder}
 use Rattle.gptp_network.specs.Snapshot.{events_by}
 use Rattle.gptp_settling_time.specs.Arrivals.{HasArrivedBy}
 use Rattle.gptp_settling_time.specs.HowSoon.{BeforeRepeats, HasArrivedNext, IsDownToo, BoundsAging, BoundsAnyLoss, BoundsLoss, BoundsSplit, EachEvent, FailsTreesFirst, IsChoiceAloneBound, IsChoiceBound, IsChoiceBoundAfter, IsLossBoundAfter, LowersLinks, NoneBetween, OneEvent, events_at}
-use Rattle.gptp_settling_time.specs.InTurn.{Aging, AnyPast, BeginsBy, ChoosesAfter, ChoosesByEvents, ComesByEvents, Fallen, LeadOn, Left, Lost, Past, SettlesAfter, SettlesByEvents, Split, Starting, Turned, TurnedTree}
+use Rattle.gptp_settling_time.specs.InTurn.{Aging, AnyPast, BeginsBy, ChoosesAfter, ChoosesByEvents, ComesByEvents, Fallen, Fewer, LeadOn, Left, Lost, Past, SettlesAfter, SettlesByEvents, Split, Starting, Turned, TurnedTree}
 use Rattle.gptp_settling_time.specs.Losses.{AgesWithin, FailsHeard, LowersLink, NoneSilent, TurnsLink}
 use Rattle.gptp_settling_time.specs.TreeLosses.{LowersTree, TurnsTreeLink}
 use Rattle.gptp_settling_time.proofs.BesideIdleLemmas.{LeadsTo, chooses_same, repeats_to, settles_same, split_now}
@@ -28,6 +28,7 @@ use Rattle.gptp_settling_time.proofs.LossLeadLemmas.{IsLeftBy, dead_lead, fails_
 use Rattle.gptp_settling_time.proofs.LossRestLemmas.{last_at}
 use Rattle.gptp_settling_time.proofs.MomentLemmas.{all_at, last_by, parted}
 use Rattle.gptp_settling_time.proofs.SamePathsLemmas.{StandSame}
+use Rattle.gptp_settling_time.proofs.TakenLeadLemmas.{silent_from, taken_lead}
 use Rattle.gptp_settling_time.proofs.SilentSpanLemmas.{none_silent}
 
 -- ---- what a loss leads to
@@ -54,7 +55,8 @@ none_lost n made choice roles (inl (lowers, is_roles, is_choice)) = lowers
 none_lost n made choice roles (inr (inl (fails, is_choice, after))) = fails
 none_lost n made choice roles (inr (inr (inl (turns, is_choice, same)))) = turns
 none_lost n made choice roles (inr (inr (inr (inl (fails, bounds))))) = fails
-none_lost n made choice roles (inr (inr (inr (inr (any, is_choice, after))))) = any
+none_lost n made choice roles (inr (inr (inr (inr (inl (any, is_choice, after)))))) = any
+none_lost n made choice roles (inr (inr (inr (inr (inr (takes, leaves, none)))))) = takes
 
 module _ (n : NetworkState) (network : IsNetwork n) (off : NothingLapses n.params) (time choice roles : ℕ) where
   abbrev IsLostTo : List Timed → List Timed → Past → Type 0
@@ -189,7 +191,12 @@ module _ (n : NetworkState) (network : IsNetwork n) (off : NothingLapses n.param
       by (inr (inr (inr (inl ((fails, others), (held, quiet, bounds, inr (is_later, roles_later))))))) =
           let more = le-max_right choice quiet in
           heard held quiet (omega (arith, is_later)) (omega (arith, roles_later, more)) fails others bounds
-      by (inr (inr (inr (inr any)))) = any_lost any
+      by (inr (inr (inr (inr (inl any))))) = any_lost any
+      by (inr (inr (inr (inr (inr (takes, leaves, none, are_0)))))) = record {
+        last = Fewer earlier time (sync_paths n earlier).delay (silent_from n time);
+        lead = taken_lead n time earlier event now seen at then calm_then off takes;
+        so = (λ settled late. (off, leaves, none), λ settled late. (off, leaves, none));
+      }
 
   -- by one that cuts trees off, once what was sent before the choice stood has arrived
   split_leads : (made now : List Timed) (past : Past) (stood arrived : ℕ)

@@ -10,7 +10,7 @@ use Rattle.gptp_scenario.specs.SyncWait.{sync_paths}
 use Rattle.gptp_scenario.specs.declared.change.Timed.{Timed}
 use Rattle.gptp_settling_time.specs.Arrivals.{HasArrivedBy}
 use Rattle.gptp_settling_time.specs.HowSoon.{EachEvent, IsDownToo, TurnsUnused}
-use Rattle.gptp_settling_time.specs.InTurn.{AgesSooner, Aging, AnyPast, AreUsedSince, ChoosesAfter, Cleared, EventLeads, FailsCalm, FailsNow, Fallen, Gained, Heard, IsDownNow, IsGoneBy, LeadOn, LeadsByTree, Left, LosesNow, Lost, LowersCalm, Past, SettlesAfter, Split, SplitsNow, Starting, Turned, TurnedTree, TurnsCalm}
+use Rattle.gptp_settling_time.specs.InTurn.{AgesSooner, Aging, AnyPast, AreUsedSince, ChoosesAfter, Cleared, EventLeads, FailsCalm, FailsNow, Fallen, Gained, Heard, IsDownNow, IsGoneBy, LeadOn, LeadsByTree, Left, LosesNow, Fewer, Lost, LowersCalm, Past, SettlesAfter, Split, SplitsNow, Starting, Turned, TurnedTree, TurnsCalm}
 use Rattle.gptp_settling_time.specs.Losses.{AgesWithin, FailsHeard, LowersLink, LowersUnused}
 use Rattle.gptp_settling_time.specs.TreeLosses.{FailsTrees}
 use Rattle.gptp_settling_time.proofs.CalmLessLemmas.{down_calm as act_calm, failure_calm, lowers_calm, still_lives}
@@ -51,6 +51,7 @@ module _ (n : NetworkState) (made : List Timed) (event : Timed) where
   lowers_leads (Aging ago aged silent) settled lowers = absurd settled
   lowers_leads (Split ago gone silent) settled lowers = absurd settled
   lowers_leads (Lost ago since most silent) settled lowers = absurd settled
+  lowers_leads (Fewer ago since most silent) settled lowers = absurd settled
 
   -- a far end fails
   pub fails_leads : (past : Past) → HasSettled n made past event.at → FailsCalm n made event
@@ -72,6 +73,7 @@ module _ (n : NetworkState) (made : List Timed) (event : Timed) where
       by (Aging ago aged silent) settled = absurd settled
       by (Split ago gone silent) settled = absurd settled
       by (Lost ago since most silent) settled = absurd settled
+      by (Fewer ago since most silent) settled = absurd settled
 
 -- after one by which a tree is so moved it is, where what was sent before the choice stood has arrived
 module _ (n : NetworkState) (made : List Timed) (event : Timed) (stood : ℕ) (later : last_change made < stood)
@@ -91,6 +93,7 @@ module _ (n : NetworkState) (made : List Timed) (event : Timed) (stood : ℕ) (l
   tree_leads (Aging ago aged silent) settled moves = absurd settled
   tree_leads (Split ago gone silent) settled moves = absurd settled
   tree_leads (Lost ago since most silent) settled moves = absurd settled
+  tree_leads (Fewer ago since most silent) settled moves = absurd settled
 
 -- after one by which trees are cut off, as a system fails, they do too
 module _ (n : NetworkState) (made : List Timed) (event : Timed) (stood : ℕ) where
@@ -108,6 +111,7 @@ module _ (n : NetworkState) (made : List Timed) (event : Timed) (stood : ℕ) wh
   split_leads (Aging ago aged start) gone silent settled now = absurd settled
   split_leads (Split ago was start) gone silent settled now = absurd settled
   split_leads (Lost ago since most start) gone silent settled now = absurd settled
+  split_leads (Fewer ago since most start) gone silent settled now = absurd settled
 
 -- after one by which a system turns it has turned
 module _ (n : NetworkState) (made : List Timed) (event : Timed) where
@@ -125,6 +129,7 @@ module _ (n : NetworkState) (made : List Timed) (event : Timed) where
   turn_leads (Aging ago aged silent) settled turns = absurd settled
   turn_leads (Split ago gone silent) settled turns = absurd settled
   turn_leads (Lost ago since most silent) settled turns = absurd settled
+  turn_leads (Fewer ago since most silent) settled turns = absurd settled
 
   -- after one of a system that others hear what they hold of it ages
   pub ages_leads : (past : Past) (aged silent : ℕ) → HasSettled n made past event.at → FailsNow n made event aged silent
@@ -141,6 +146,7 @@ module _ (n : NetworkState) (made : List Timed) (event : Timed) where
   ages_leads (Aging ago gone start) aged silent settled now = absurd settled
   ages_leads (Split ago gone start) aged silent settled now = absurd settled
   ages_leads (Lost ago since most start) aged silent settled now = absurd settled
+  ages_leads (Fewer ago since most start) aged silent settled now = absurd settled
 
   -- after any other it has lost
   pub loses_leads : (past : Past) (ago : List Timed) (since most silent : ℕ) → HasSettled n made past event.at
@@ -158,6 +164,7 @@ module _ (n : NetworkState) (made : List Timed) (event : Timed) where
   loses_leads (Aging old aged start) ago since most silent settled used now = absurd settled
   loses_leads (Split old gone start) ago since most silent settled used now = absurd settled
   loses_leads (Lost old begun delay start) ago since most silent settled used now = absurd settled
+  loses_leads (Fewer old begun delay start) ago since most silent settled used now = absurd settled
 
 -- what settles has its choice
 pub settles_chooses : (n : NetworkState) (events : List Timed) (past : Past) (settled : ℕ)
@@ -174,6 +181,7 @@ settles_chooses n events (Cleared ago begun silent right old) settled (off, late
 settles_chooses n events (Aging ago aged silent) settled (off, late) = (off, inr late)
 settles_chooses n events (Split ago gone silent) settled (off, passed, late) = (off, passed)
 settles_chooses n events (Lost ago since most silent) settled (off, passed, late) = (off, passed)
+settles_chooses n events (Fewer ago since most silent) settled so = so
 
 -- ---- behind a failure links go down of which an end has failed, or all stays as it stands
 
