@@ -202,9 +202,9 @@ module _ (p : SettlingParams) (g : Snapshot) (since most silent : ℕ) (w : Worl
   -- it has settled
   pub taken_settles : Settled w × IsBoundedWorld w
   taken_settles =
+      let now : w.time ≤ w.time = omega arith in
       let settled : Settled w =
-      seen_settles p left_n w world refl net calm left_seen.invariant settled_by_now (omega arith) (omega arith)
-      (omega arith) in (
+      seen_settles p left_n w world refl net calm left_seen.invariant settled_by_now (omega arith) (omega arith) now in (
         settled,
         bounded_by p w world settled (λ place station here live best is_best.
             systems_bounded says_announce left_n (view w) place (station_view station) best net calm
