@@ -21,7 +21,7 @@ use Rattle.gptp_settling_time.proofs.NewsSoonLemmas.{IsNewsFrom}
 use Rattle.gptp_settling_time.proofs.StartEventLemmas.{IsStartingTo, starting_made, starts_news}
 use Rattle.gptp_settling_time.proofs.AfterLemmas.{IsAfter, after_later}
 use Rattle.gptp_settling_time.proofs.LeadsToHeardLemmas.{leads_to_heard, left_news, starting_now}
-use Rattle.gptp_settling_time.proofs.LeadsToLossLemmas.{leads_to_aging, leads_to_cleared, leads_to_left, leads_to_lost, leads_to_turned}
+use Rattle.gptp_settling_time.proofs.LeadsToLossLemmas.{leads_to_aging, leads_to_cleared, leads_to_fewer, leads_to_left, leads_to_lost, leads_to_turned}
 use Rattle.gptp_settling_time.proofs.LeadsToTreesLemmas.{leads_to_fallen, leads_to_split, leads_to_turned_tree}
 
 module _ {F : Type 0} (answers : Bounds → ℕ → F → Option ℕ → F → Type 0) (d : DocumentState)
