@@ -201,13 +201,14 @@ module _ (d : DocumentState) (playable : IsPlayable d) (made : List Timed) (even
       loses_first d playable made event then draws done w' is acts octet at_time time last keeps after made start since
       most silent rest (λ place v there used. used) now in
       let seen = rest.settled losing.quiet losing.off in
+      let way_then : pred (path_bound (snapshot_of then)) * delay_in then ≤ since = omega (arith, over, here) in
       let paths : sync_paths_of then ≡ sync_paths n_of made =
       sym (paths_stand n_of made then playable.network keeps.stands world_then.sound) in
       record {
         lost = lost;
         before = snapshot_of then;
         alike = alike_so d playable made then keeps;
-        way = subst (λ (x : SyncPaths). pred x.systems * x.delay ≤ since) paths (omega (arith, over, here));
+        way = subst (λ (x : SyncPaths). pred x.systems * x.delay ≤ since) paths way_then;
         later = later;
         is = taken_by (snapshot_of then) since most silent losing
             (takes d playable made event then draws done w' is acts octet at_time time last keeps after since most silent
