@@ -16,12 +16,12 @@ use Rattle.gptp_theorem.proofs.EventLemmas.{last_behind}
 use Rattle.gptp_settling_time.specs.Exactly.{SettlesBy}
 use Rattle.gptp_settling_time.specs.Gains.{Repeats, RepeatsNow}
 use Rattle.gptp_settling_time.specs.HowSoon.{AfterIdleEvents, BeforeRepeats, BesideIdle, EachEvent, IsDownToo}
-use Rattle.gptp_settling_time.specs.InTurn.{Aging, AnyPast, ChoosesAfter, Cleared, EventLeads, Fallen, FlightIsGone, Gained, HasToldAnew, Heard, LeadOn, Left, Lost, Past, RestsFrom, SettlesAfter, Split, Starting, Turned, TurnedTree}
-use Rattle.gptp_settling_time.specs.Losses.{LowersUnused, NoneSilent, UpIsUsed}
+use Rattle.gptp_settling_time.specs.InTurn.{Aging, AnyPast, ChoosesAfter, Cleared, EventLeads, Fallen, FlightIsGone, Gained, HasToldAnew, Heard, LeadOn, Left, Fewer, Lost, Past, RestsFrom, SettlesAfter, Split, Starting, Turned, TurnedTree}
+use Rattle.gptp_settling_time.specs.Losses.{LowersUnused, MovesNoneInAll, NoneSilent, UpIsUsed}
 use Rattle.gptp_settling_time.proofs.CalmStillLemmas.{alike_calm, idle_calm}
 use Rattle.gptp_settling_time.proofs.LeadOnLemmas.{HasRested, HasSettled, idle_leads, idle_settled, leads_on, settled_later, since, widens_leads}
 use Rattle.gptp_settling_time.proofs.LossRestLemmas.{last_at}
-use Rattle.gptp_settling_time.proofs.SamePathsLemmas.{StandSame, idle_same, paths_same, same_alike, same_back, same_itself, same_lives, same_on}
+use Rattle.gptp_settling_time.proofs.SamePathsLemmas.{StandSame, idle_same, paths_same, same_alike, same_back, same_itself, same_lives, same_on, stands_before}
 
 -- ---- no such event is there
 
@@ -77,6 +77,13 @@ module _ (n : NetworkState) (off : NothingLapses n.params) (events more : List T
   still_dark ago silent settled (inl late) = inl late
   still_dark ago silent settled (inr none) = inr (still_none ago none)
 
+  still_leaves : (ago : List Timed) → MovesNoneInAll n ago events → MovesNoneInAll n ago more
+  still_leaves ago leaves = record {
+    moves = λ g g' v stands stands'. leaves.moves g g' v stands (stands_before n events more same g' stands');
+    delay = subst (λ (x : SyncPaths). x.delay ≤ (sync_paths n ago).delay) (sym paths) leaves.delay;
+    paths = subst (λ (x : SyncPaths). x.systems ≤ (sync_paths n ago).systems) (sym paths) leaves.paths;
+  }
+
   still_gone : (gone : ℕ) → FlightIsGone n events gone → FlightIsGone n more gone
   still_gone gone (inl (used, is)) = inl (still_used used, is ∙ ap (λ (x : SyncPaths). x.delay) (sym paths))
   still_gone gone (inr is) = inr is
@@ -113,6 +120,8 @@ module _ (n : NetworkState) (off : NothingLapses n.params) (events more : List T
     subst (λ x. suc (lost_at + loss_span (pace_of n) x most) ≤ settled) (sym paths) late,
     still_dark ago silent settled dark,
   )
+  settles_same (Fewer ago lost_at most silent) settled (off, leaves, none) =
+      (off, still_leaves ago leaves, still_none ago none)
 
   pub chooses_same : (past : Past) (settled : ℕ) → ChoosesAfter n events past settled → ChoosesAfter n more past settled
   chooses_same AnyPast settled is = settles_same AnyPast settled is
@@ -130,6 +139,7 @@ module _ (n : NetworkState) (off : NothingLapses n.params) (events more : List T
       (off, subst (λ x. gone + 2 * way_span x ≤ settled) (sym paths) late)
   chooses_same (Lost ago lost_at most silent) settled (off, late) =
       (off, subst (λ x. suc (lost_at + loss_span (pace_of n) x most) ≤ settled) (sym paths) late)
+  chooses_same (Fewer ago lost_at most silent) settled is = settles_same (Fewer ago lost_at most silent) settled is
 
   -- ---- rest
 
@@ -204,6 +214,7 @@ module _ (n : NetworkState) (off : NothingLapses n.params) (events more : List T
     unlinked = still_dark ago silent time is.unlinked;
     over = still_over start time is.over;
   }
+  rests_same (Fewer ago lost_at most silent) time start none = absurd none
 
   settled_same : (past : Past) (time : ℕ) → HasSettled n events past time → HasSettled n more past time
   settled_same AnyPast time is = record {
@@ -223,6 +234,7 @@ module _ (n : NetworkState) (off : NothingLapses n.params) (events more : List T
   settled_same (Aging ago aged silent) time none = absurd none
   settled_same (Split ago gone silent) time none = absurd none
   settled_same (Lost ago lost_at most silent) time none = absurd none
+  settled_same (Fewer ago lost_at most silent) time none = absurd none
 
   pub rested_same : (past : Past) (time : ℕ) → HasRested n events past time → HasRested n more past time
   rested_same past time (seen, inl one, is) = (seen, inl one, settled_same seen time is)
@@ -238,7 +250,7 @@ repeat_leads n made event now AnyPast begun = tt
 repeat_leads n made event now Starting begun = absurd (begun refl)
 repeat_leads n made event now (Gained start) begun = inr (inl (inl now.0.0, refl))
 repeat_leads n made event now (Heard start) begun = inr (inr (inl now.0.0, refl))
-repeat_leads n made event now (Left ago silent) begun = (inr now, refl, refl)
+repeat_leads n made event now (Left ago silent) begun = (inl (inr now), refl, refl)
 repeat_leads n made event now (Turned silent time) begun = (now, refl, refl)
 repeat_leads n made event now (Fallen silent time) begun = inr (now, refl)
 repeat_leads n made event now (TurnedTree silent time) begun = inr (now, refl)
@@ -246,6 +258,7 @@ repeat_leads n made event now (Cleared ago first silent right old) begun = (inr 
 repeat_leads n made event now (Aging ago aged silent) begun = (inr now, refl, refl, inl refl)
 repeat_leads n made event now (Split ago gone silent) begun = (inr now, refl, refl, inl refl)
 repeat_leads n made event now (Lost ago lost_at most silent) begun = (inr now, refl, refl, refl, refl)
+repeat_leads n made event now (Fewer ago lost_at most silent) begun = (inr now, refl, refl, refl, refl)
 
 module _ (n : NetworkState) (network : IsNetwork n) (off : NothingLapses n.params) (time : ℕ) where
   abbrev AllNow : List Timed → Type 0
@@ -266,7 +279,7 @@ module _ (n : NetworkState) (network : IsNetwork n) (off : NothingLapses n.param
   repeats_same made [] each = subst (StandSame n made) (sym (append-nil made)) (same_itself n made)
   repeats_same made (event ∷ others) (one, each) =
       subst (StandSame n made) (append_assoc made (event ∷ []) others)
-      (same_on n made (made ++ event ∷ []) ((made ++ event ∷ []) ++ others) (idle_same n network made event one.0)
+      (same_on n made (made ++ event ∷ []) ((made ++ event ∷ []) ++ others) (idle_same n network made event one)
       (repeats_same (made ++ event ∷ []) others each))
 
   last_on : (made others : List Timed) → last_change made ≡ time → AllNow others → last_change (made ++ others) ≡ time

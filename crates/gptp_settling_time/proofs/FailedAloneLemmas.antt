@@ -452,17 +452,27 @@ module _ (p : SettlingParams) (number : ℕ) (w : WorldState) (draws : List Draw
             ap (λ xs. clock_place xs v) stations_now
             ∙ places_kept w.stations k.place k.station dead k.is.here refl v
 
+    -- a network of the world then has the wiring of one of before
+    pub wired_on : (n : Network) → n ≡ wired_as n (start_network p 0 0 w') → SameWiring (start_network p 0 0 w) n
+    wired_on n wired = record {
+      place = λ v.
+          ap (λ (x : Network). x.place v) wired ∙ ap (λ xs. clock_place xs v) stations_now
+          ∙ places_kept w.stations k.place k.station dead k.is.here refl v;
+      lane = λ q. ap (λ (x : Network). x.lane q) wired ∙ ap (λ cs. lane_of cs q) channels_now;
+      log = λ q. ap (λ (x : Network). x.log_of q) wired ∙ log_kept q;
+      interval = λ q. ap (λ (x : Network). x.interval_of q) wired ∙ ap interval_of (log_kept q);
+    }
+
     module _ (seen : IsSettledSeen p w) where
       pub wires : (n : Network) → n ≡ wired_as n (start_network p 0 0 w') → SameWiring seen.n n
-      wires n wired = record {
-        place = λ v.
-            ap (λ (x : Network). x.place v) wired ∙ ap (λ xs. clock_place xs v) stations_now
-            ∙ places_kept w.stations k.place k.station dead k.is.here refl v ∙ seen.same.place v;
-        lane = λ q. ap (λ (x : Network). x.lane q) wired ∙ ap (λ cs. lane_of cs q) channels_now ∙ seen.same.lane q;
-        log = λ q. ap (λ (x : Network). x.log_of q) wired ∙ log_kept q ∙ seen.same.log q;
-        interval = λ q.
-            ap (λ (x : Network). x.interval_of q) wired ∙ ap interval_of (log_kept q) ∙ seen.same.interval q;
-      }
+      wires n wired =
+          let same = wired_on n wired in
+          record {
+            place = λ v. same.place v ∙ seen.same.place v;
+            lane = λ q. same.lane q ∙ seen.same.lane q;
+            log = λ q. same.log q ∙ seen.same.log q;
+            interval = λ q. same.interval q ∙ seen.same.interval q;
+          }
 
     module _ (next silent : ℕ) (pace : KeepPace p) (measured : LinkIsMeasured w) (measured' : LinkIsMeasured w')
         (past : next ≤ w.time) (ready : AreReadyBy p next w) (quiet : HaveQuietLinks p.params w)

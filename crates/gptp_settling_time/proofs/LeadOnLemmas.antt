@@ -14,7 +14,7 @@ use Rattle.gptp_scenario.specs.declared.change.Change.TheVariants.{LinkDown, Lin
 use Rattle.gptp_scenario.specs.declared.change.Timed.{Timed}
 use Rattle.gptp_scenario.specs.declared.sync_wait.SyncPaths.{SyncPaths}
 use Rattle.gptp_settling_time.specs.HowSoon.{AfterIdleEvents, AreGainEvents, AreHeardEvents, AreWiderEvents, EachEvent, IsGainEvent, IsGainToo, IsHeardEvent, IsHeardToo, IsIdleEvent, IsStillEvent, TurnsUnused}
-use Rattle.gptp_settling_time.specs.InTurn.{Aging, AnyPast, Cleared, EventLeads, Fallen, Gained, HasSettledAnyhow, HasSettledHeard, HasSettledSince, HasToldAnew, Heard, IsTakenAs, LeadOn, LeavesSettled, Left, Lost, MakesNothing, Past, RestsFrom, SettlesAfter, Split, Starting, Turned, TurnedTree, TurnsInVain, WidensLink}
+use Rattle.gptp_settling_time.specs.InTurn.{Aging, AnyPast, Cleared, EventLeads, Fallen, Gained, HasSettledAnyhow, HasSettledHeard, HasSettledSince, HasToldAnew, Heard, IsTakenAs, LeadOn, LeavesSettled, Left, Fewer, Lost, MakesNothing, Past, RestsFrom, SettlesAfter, Split, Starting, Turned, TurnedTree, TurnsInVain, WidensLink}
 use Rattle.gptp_settling_time.specs.Losses.{LeavesChoice}
 use Rattle.gptp_settling_time.proofs.MadeLemmas.{adds_later}
 use Rattle.gptp_settling_time.proofs.SamePathsLemmas.{idle_paths, priority_paths, turned_paths}
@@ -56,6 +56,7 @@ HasSettled n events (Cleared ago begun silent right old) time = ⊥
 HasSettled n events (Aging ago aged silent) time = ⊥
 HasSettled n events (Split ago gone silent) time = ⊥
 HasSettled n events (Lost ago since most silent) time = ⊥
+HasSettled n events (Fewer ago since most silent) time = ⊥
 
 pub settled_later : (n : NetworkState) (events : List Timed) (past : Past) (time later : ℕ) → time ≤ later
     → HasSettled n events past time → HasSettled n events past later
@@ -72,6 +73,7 @@ settled_later n events (Cleared ago begun silent right old) time later less is =
 settled_later n events (Aging ago aged silent) time later less is = absurd is
 settled_later n events (Split ago gone silent) time later less is = absurd is
 settled_later n events (Lost ago since most silent) time later less is = absurd is
+settled_later n events (Fewer ago since most silent) time later less is = absurd is
 
 -- or it has so as it may be taken
 abbrev pub HasRested : NetworkState → List Timed → Past → ℕ → Type 0
@@ -161,6 +163,7 @@ taken_later n events past seen time later less (inr (start, same, rests)) = inr 
           unlinked = elim is.unlinked [ inl past ↦ inl (omega (arith, past, less)) | inr used ↦ inr used ];
           over = omega (arith, over, less);
         }
+    by (Fewer ago begun most silent) none = absurd none
 
 -- what is taken so is taken as nothing else
 taken_on : (n : NetworkState) (events : List Timed) (past seen other : Past) (time : ℕ)
@@ -184,6 +187,7 @@ settled_so n events (Cleared ago begun silent right old) time off is = absurd is
 settled_so n events (Aging ago aged silent) time off is = absurd is
 settled_so n events (Split ago gone silent) time off is = absurd is
 settled_so n events (Lost ago since most silent) time off is = absurd is
+settled_so n events (Fewer ago since most silent) time off is = absurd is
 
 -- what has come to rest has settled
 pub rested_so : (n : NetworkState) (events : List Timed) (past : Past) (time : ℕ) → NothingLapses n.params
@@ -211,6 +215,7 @@ rested_so n events past time off (seen, inr (start, same, rests), is) = by past 
         let later = rest.later in
         let over = rest.over in
         (off, omega (arith, later, over), rest.unlinked)
+    by (Fewer ago begun most silent) none = absurd none
 
 -- ---- an event leads from a network that has settled
 
@@ -270,6 +275,7 @@ module _ (n : NetworkState) (made : List Timed) (event : Timed) where
   gain_leads (Aging ago aged silent) next settled less gain = absurd settled
   gain_leads (Split ago gone silent) next settled less gain = absurd settled
   gain_leads (Lost ago since most silent) next settled less gain = absurd settled
+  gain_leads (Fewer ago since most silent) next settled less gain = absurd settled
 
   heard_leads : (past : Past) (next : ℕ) → HasSettled n made past event.at → IsHeardEvent n next made event
       → EventLeads n made past event (Heard next)
@@ -289,6 +295,7 @@ module _ (n : NetworkState) (made : List Timed) (event : Timed) where
   heard_leads (Aging ago aged silent) next settled heard = absurd settled
   heard_leads (Split ago gone silent) next settled heard = absurd settled
   heard_leads (Lost ago since most silent) next settled heard = absurd settled
+  heard_leads (Fewer ago since most silent) next settled heard = absurd settled
 
   -- what makes nothing of what stands leads from a network that has settled to one that has settled by then, as if its
   -- ports had been capable from a time on
@@ -315,6 +322,7 @@ module _ (n : NetworkState) (made : List Timed) (event : Timed) where
     way_over (Aging ago aged silent) settled = absurd settled
     way_over (Split ago gone silent) settled = absurd settled
     way_over (Lost ago begun most silent) settled = absurd settled
+    way_over (Fewer ago begun most silent) settled = absurd settled
 
     pub same_paths : IsStillEvent n made event → sync_paths n more ≡ sync_paths n made
     same_paths (inl (inl nothing)) = idle_paths n network made event nothing
@@ -342,6 +350,7 @@ module _ (n : NetworkState) (made : List Timed) (event : Timed) where
       idle_leads (Aging ago aged silent) settled = absurd settled
       idle_leads (Split ago gone silent) settled = absurd settled
       idle_leads (Lost ago begun most silent) settled = absurd settled
+      idle_leads (Fewer ago begun most silent) settled = absurd settled
 
       pub idle_settled : (past : Past) → HasSettled n made past event.at → HasSettled n more (Heard since) event.at
       idle_settled past settled =
@@ -513,6 +522,7 @@ module _ (n : NetworkState) (network : IsNetwork n) where
     widens_leads made event (Aging ago aged silent) settled by here calm is late widens soon = absurd is
     widens_leads made event (Split ago gone silent) settled by here calm is late widens soon = absurd is
     widens_leads made event (Lost ago begun most silent) settled by here calm is late widens soon = absurd is
+    widens_leads made event (Fewer ago begun most silent) settled by here calm is late widens soon = absurd is
 
     pub wider_led : (made now : List Timed) (past : Past) (settled : ℕ) → AllNow now → IsCalm n made
         → HasSettled n made past (suc settled) → settled < time → AreWiderEvents n settled time made now

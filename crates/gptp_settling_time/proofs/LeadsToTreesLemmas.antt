@@ -13,7 +13,7 @@ use Rattle.gptp_model.specs.World.{WorldState}
 use Rattle.gptp_network.specs.Document.{DocumentState}
 use Rattle.gptp_theorem.specs.PlayedLaws.{IsPlayable}
 use Rattle.gptp_settling_time.specs.Arrivals.{HasArrivedBy}
-use Rattle.gptp_settling_time.specs.InTurn.{Aging, AnyPast, Cleared, EventLeads, Fallen, FallsCalm, Gained, Heard, IsDownNow, LeadsByTree, Left, Lost, Past, Split, SplitsNow, Starting, TreeNow, Turned, TurnedTree, TurnsTreeCalm}
+use Rattle.gptp_settling_time.specs.InTurn.{Aging, AnyPast, Cleared, EventLeads, Fallen, FallsCalm, Gained, Heard, IsDownNow, LeadsByTree, Left, Fewer, Lost, Past, Split, SplitsNow, Starting, TreeNow, Turned, TurnedTree, TurnsTreeCalm}
 use Rattle.gptp_settling_time.proofs.FallMadeLemmas.{fallen_to}
 use Rattle.gptp_settling_time.proofs.FallenToLemmas.{IsFallenTo}
 use Rattle.gptp_settling_time.proofs.TurnedTreeMadeLemmas.{turned_tree_to}
@@ -84,6 +84,7 @@ module _ (d : DocumentState) (playable : IsPlayable d) (made : List Timed) (even
     leads_by_tree (Aging ago aged start) silent now none named so = absurd none
     leads_by_tree (Split ago gone start) silent now none named so = absurd none
     leads_by_tree (Lost ago since most start) silent now none named so = absurd none
+    leads_by_tree (Fewer ago since most start) silent now none named so = absurd none
 
   pub leads_to_fallen : (past : Past) (silent now : ℕ) → EventLeads n made past event (Fallen silent now)
       → NamesAfter d made past then → IsAfter d made past then → IsFallenTo d more silent now w'
@@ -161,3 +162,4 @@ module _ (d : DocumentState) (playable : IsPlayable d) (made : List Timed) (even
             (splits_still old was start falls so) gone now is_gone
       ]))
   leads_to_split (Lost old since most start) ago gone silent none named so = absurd none
+  leads_to_split (Fewer old since most start) ago gone silent none named so = absurd none

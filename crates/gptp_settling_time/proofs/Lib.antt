@@ -1,4 +1,14 @@
+pub mod BetweenCalmLemmas
+pub mod BetweenUnmovedLemmas
 pub mod NewsMeasuredLemmas
+pub mod OneCallLemmas
+pub mod TakenClaimedLemmas
+pub mod TakenDownLossLemmas
+pub mod TakenFailLossLemmas
+pub mod TakenLeadLemmas
+pub mod TakenMadeLemmas
+pub mod TakenSeenLemmas
+pub mod TakenToLemmas
 pub mod WillAskLemmas
 pub mod NewsSoonLemmas
 pub mod AskedInTimeLemmas
@@ -94,6 +104,7 @@ pub mod LeftClaimedLemmas
 pub mod GoesDownLemmas
 pub mod ReducedLemmas
 pub mod BegunLeftLemmas
+pub mod LoweredAgainLemmas
 pub mod LoweredLemmas
 pub mod DeadDownLemmas
 pub mod CalmLessLemmas

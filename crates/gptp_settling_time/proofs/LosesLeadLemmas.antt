@@ -32,7 +32,7 @@ module _ (n : NetworkState) (made : List Timed) (time : ℕ) where
   p = pace_of n
 
   -- once too many requests are lost, whatever it is
-  long_silent : (act : Act) → AreSilentAfter p time (suc (time + silence_span p)) act
+  pub long_silent : (act : Act) → AreSilentAfter p time (suc (time + silence_span p)) act
   long_silent (Changing (Fail number)) = omega arith
   long_silent (Changing (LinkDown number port)) = omega arith
   long_silent (Changing (LinkUp number port)) = omega arith

@@ -12,7 +12,7 @@ use Rattle.gptp_scenario.specs.declared.change.Timed.{Timed}
 use Rattle.gptp_scenario.specs.declared.sync_wait.SyncPaths.{SyncPaths}
 use Rattle.gptp_theorem.proofs.EventLemmas.{last_behind}
 use Rattle.gptp_settling_time.specs.HowSoon.{CutsOneEnd, EachEvent, FailsEndFirst, FailsHeardFirst, IsDownToo, LowersOneLink, RestsAfterOneLoss, RestsOnceTold, TurnsOneLink}
-use Rattle.gptp_settling_time.specs.InTurn.{Aging, AnyPast, Cleared, CutsCalm, EventLeads, FailsCalm, FailsNow, Fallen, FlightIsGone, Gained, Heard, LeadOn, Left, Lost, LowersCalm, Past, Split, Starting, Turned, TurnedTree, nearer_echo_span, turned_echo_span}
+use Rattle.gptp_settling_time.specs.InTurn.{Aging, AnyPast, Cleared, CutsCalm, EventLeads, FailsCalm, FailsNow, Fallen, FlightIsGone, Gained, Heard, LeadOn, Left, Fewer, Lost, LowersCalm, Past, Split, Starting, Turned, TurnedTree, nearer_echo_span, turned_echo_span}
 use Rattle.gptp_settling_time.specs.Losses.{AgesWithin, CutsFarEnd, FailsFarEnd, FailsHeard, LowersLink, NoneSilent, TurnsLink, UpIsUsed}
 use Rattle.gptp_settling_time.proofs.CalmLessLemmas.{failure_calm, fails_calm}
 use Rattle.gptp_settling_time.proofs.LeftToLemmas.{less_way}
@@ -66,6 +66,7 @@ module _ (n : NetworkState) (made : List Timed) (event : Timed) (gone : ℕ) whe
   cut_leads flight (Aging ago aged silent) settled cuts = absurd settled
   cut_leads flight (Split ago aged silent) settled cuts = absurd settled
   cut_leads flight (Lost ago since most silent) settled cuts = absurd settled
+  cut_leads flight (Fewer ago since most silent) settled cuts = absurd settled
 
   -- or as it fails, once the ports beside it have been unanswered for long enough
   fail_leads : FlightIsGone n made gone → (past : Past) → HasSettled n made past event.at → FailsCalm n made event
@@ -104,6 +105,7 @@ module _ (n : NetworkState) (made : List Timed) (event : Timed) (gone : ℕ) whe
   fail_leads flight (Aging ago aged silent) settled fails = absurd settled
   fail_leads flight (Split ago aged silent) settled fails = absurd settled
   fail_leads flight (Lost ago since most silent) settled fails = absurd settled
+  fail_leads flight (Fewer ago since most silent) settled fails = absurd settled
 
 -- after another such link goes down it is, once right traces are told
 module _ (n : NetworkState) (made : List Timed) (event : Timed) (gone : ℕ)
@@ -145,6 +147,7 @@ module _ (n : NetworkState) (made : List Timed) (event : Timed) (gone : ℕ)
   right_leads (Aging ago aged silent) settled lowers = absurd settled
   right_leads (Split ago aged silent) settled lowers = absurd settled
   right_leads (Lost ago since most silent) settled lowers = absurd settled
+  right_leads (Fewer ago since most silent) settled lowers = absurd settled
 
 -- as a system fails that others hear it is, where each link that is up then is in use
 module _ (n : NetworkState) (made : List Timed) (event : Timed) (aged silent : ℕ)
@@ -167,6 +170,7 @@ module _ (n : NetworkState) (made : List Timed) (event : Timed) (aged silent : �
   power_leads (Aging ago gone start) settled = absurd settled
   power_leads (Split ago gone start) settled = absurd settled
   power_leads (Lost ago since most start) settled = absurd settled
+  power_leads (Fewer ago since most start) settled = absurd settled
 
 -- Else it goes on to age until the last link goes down of which an end has failed, at this time.
 power_lead : (n : NetworkState) → IsNetwork n → (ago made now : List Timed) (other : Timed) (time aged silent : ℕ)

@@ -40,6 +40,8 @@ use Rattle.gptp_settling_time.proofs.SamePathsLemmas.{StandSame, idle_same, same
 use Rattle.gptp_settling_time.proofs.SilentLinksLemmas.{AgesOver}
 use Rattle.gptp_settling_time.proofs.SplitRestLemmas.{IsSplitAnew}
 use Rattle.gptp_settling_time.proofs.SplitToLemmas.{GoesOver, IsSplitTo, anew_by, over_gone}
+use Rattle.gptp_settling_time.proofs.TakenClaimedLemmas.{IsTakenAlways}
+use Rattle.gptp_settling_time.proofs.TakenToLemmas.{IsTakenTo}
 use Rattle.gptp_settling_time.proofs.TurnedAlwaysLemmas.{IsTurnedAlways}
 use Rattle.gptp_settling_time.proofs.TurnedToLemmas.{IsTurnedTo}
 use Rattle.gptp_settling_time.proofs.TurnedTreeRestLemmas.{IsTurnedTreeAnew}
@@ -123,7 +125,7 @@ module _ (d : DocumentState) (playable : IsPlayable d) (made : List Timed) (even
       ∙ (λ i. record then { last_change = moment i })
 
   alike : StandSame n made more
-  alike = idle_same n playable.network made event now.0.0
+  alike = idle_same n playable.network made event now.0
 
   -- ---- what is claimed of it
 
@@ -174,6 +176,17 @@ module _ (d : DocumentState) (playable : IsPlayable d) (made : List Timed) (even
     were = subst (WereSilent n ago) (sym same) so.were;
     less = λ place v there used.
         so.less place v there (idle_since n playable.network made event (inl now.0.0) place v there used);
+  }
+
+  pub taken_repeated : (ago : List Timed) (since most silent : ℕ) → IsTakenTo d ago made since most silent then
+      → IsTakenTo d ago more since most silent w'
+  taken_repeated ago since most silent so = record {
+    lost = lost_repeated ago since most silent so.lost;
+    before = so.before;
+    alike = so.alike;
+    way = so.way;
+    later = so.later;
+    is = subst (IsTakenAlways p so.before silent) (sym same) so.is;
   }
 
   pub aging_repeated : (ago : List Timed) (aged silent : ℕ) → IsAgingTo d ago made aged silent then

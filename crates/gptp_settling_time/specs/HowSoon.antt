@@ -55,8 +55,8 @@ use Rattle.gptp_network.specs.Document.{DocumentState}
 use Rattle.gptp_network.specs.Snapshot.{events_by}
 use Rattle.gptp_settling_time.specs.Arrivals.{HasArrivedBy}
 use Rattle.gptp_settling_time.specs.Gains.{ChangesNothing, EndHasFailed, LeavesCapable, Repeats, TakesNothing}
-use Rattle.gptp_settling_time.specs.InTurn.{AddsHeard, BettersClock, FlightIsGone, MakesNothing, NoneUsed, TellsNothing, UsedVaryLittle, WidensLink, turned_echo_span}
-use Rattle.gptp_settling_time.specs.Losses.{AgesWithin, CutsFarEnd, FailsFarEnd, FailsHeard, LeavesChoice, LosesAny, LowersLink, LowersUnused, NoneSilent, TurnsLink, UpIsUsed}
+use Rattle.gptp_settling_time.specs.InTurn.{AddsHeard, BettersClock, FlightIsGone, MakesNothing, NoneUsed, TakesAny, TellsNothing, UsedVaryLittle, WidensLink, turned_echo_span}
+use Rattle.gptp_settling_time.specs.Losses.{AgesWithin, CutsFarEnd, FailsFarEnd, FailsHeard, LeavesChoice, LosesAny, LowersLink, LowersUnused, MovesNoneInAll, NoneSilent, TurnsLink, UpIsUsed}
 use Rattle.gptp_settling_time.specs.TreeLosses.{FailsTrees, LowersTree, TurnsTreeLink}
 
 -- ---- times
@@ -239,7 +239,15 @@ OneEvent Is made (event ∷ other ∷ events) = ⊥
 abbrev pub LowersOneLink : NetworkState → List Timed → List Timed → Type 0
 LowersOneLink n = OneEvent (LowersLink n)
 
--- and it so cuts off a far end
+-- By the first of them a link goes down, and no system is moved but such as are cut off. So it is of the others, or of
+-- their links an end has failed, or nothing is done.
+abbrev pub LowersLinks : NetworkState → List Timed → List Timed → Type 0
+LowersLinks n made [] = ⊥
+LowersLinks n made (event ∷ events) =
+    LowersLink n made event
+    × EachEvent (λ made event. IsDownToo n made event ⊎ LowersLink n made event) (made ++ event ∷ []) events
+
+-- and one so cuts off a far end
 abbrev pub CutsOneEnd : NetworkState → List Timed → List Timed → Type 0
 CutsOneEnd n = OneEvent (CutsFarEnd n)
 
@@ -294,6 +302,16 @@ AreLossEvents n made (event ∷ events) =
 abbrev pub LosesEvents : NetworkState → List Timed → List Timed → Type 0
 LosesEvents n = AfterIdleEvents n (AreLossEvents n)
 
+-- behind an event that takes a system or a link away: another, or a link goes down of which an end has failed, or
+-- nothing is done
+abbrev pub IsTakenToo : NetworkState → List Timed → Timed → Type 0
+IsTakenToo n made event = TakesAny n made event ⊎ IsDownToo n made event
+
+-- the first of them takes a system or a link away, and the others are such
+abbrev pub TakesEvents : NetworkState → List Timed → List Timed → Type 0
+TakesEvents n made [] = ⊥
+TakesEvents n made (event ∷ events) = TakesAny n made event × EachEvent (IsTakenToo n) (made ++ event ∷ []) events
+
 -- the greatest delay of a link in use, before them or after them
 abbrev pub delay_between : NetworkState → List Timed → List Timed → ℕ
 delay_between n made now = max (sync_paths n made).delay (sync_paths n (made ++ now)).delay
@@ -313,11 +331,11 @@ FailsTreesFirst n made (event ∷ events) =
 
 -- ---- what a loss asks for
 
--- After a link goes down by which no system is moved but such as are cut off, choice and roles stand at once; where it
+-- After links go down by which no system is moved but such as are cut off, choice and roles stand at once; where one
 -- cuts off its far end, as soon as where it moves one system.
 abbrev pub BoundsLowered : NetworkState → List Timed → List Timed → ℕ → ℕ → Type 0
 BoundsLowered n made now choice roles =
-    LowersOneLink n made now × (roles ≡ choice)
+    LowersLinks n made now × (roles ≡ choice)
     × ((choice ≡ 0) ⊎ (CutsOneEnd n made now × (choice ≡ 2 * way_span (sync_paths n (made ++ now)))))
 
 -- After a far end fails the choice stands at once. So do roles where no lost link is silent, as where it loses its
@@ -347,13 +365,21 @@ BoundsAnyLoss n made now choice roles =
     × (choice ≡ loss_span (pace_of n) (sync_paths n (made ++ now)) (delay_between n made now))
     × RolesAfterLoss n made now choice roles
 
+-- Where systems and links alone are taken away, no system is moved in all but such as are cut off, and no lost link is
+-- silent, choice and roles stand at once, whoever is moved between.
+abbrev pub BoundsTaken : NetworkState → List Timed → List Timed → ℕ → ℕ → Type 0
+BoundsTaken n made now choice roles =
+    TakesEvents n made now × MovesNoneInAll n made (made ++ now) × NoneSilent n made (made ++ now)
+    × (choice ≡ 0) × (roles ≡ 0)
+
 -- What the events of a time take away asks for so much: of the choice, and of the roles.
 abbrev pub BoundsLoss : NetworkState → List Timed → List Timed → ℕ → ℕ → Type 0
 BoundsLoss n made now choice roles =
     BoundsLowered n made now choice roles
     ⊎ (BoundsFailed n made now choice roles
     ⊎ (BoundsTurned n made now choice roles
-    ⊎ (BoundsHeard n made now choice roles ⊎ BoundsAnyLoss n made now choice roles)))
+    ⊎ (BoundsHeard n made now choice roles
+    ⊎ (BoundsAnyLoss n made now choice roles ⊎ BoundsTaken n made now choice roles))))
 
 -- The events of a time take something away, and ask for what `Asks` says. Nothing lapses for want of Sync. The network
 -- is calm, and the events come once the time before has come to rest, by one of its bounds.

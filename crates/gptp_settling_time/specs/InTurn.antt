@@ -50,7 +50,7 @@ use Rattle.gptp_lists.specs.Members.{In}
 use Rattle.gptp_vector.specs.declared.port.PortId.{PortId}
 use Rattle.gptp_links.specs.declared.bounds.Bounds.{Bounds}
 use Rattle.gptp_setup.specs.SettlingParams.{largest_interval}
-use Rattle.gptp_scenario.specs.Calm.{IsCalm, IsUsed, NothingLapses, last_change}
+use Rattle.gptp_scenario.specs.Calm.{IsCalm, IsLive, IsUsed, NothingLapses, last_change}
 use Rattle.gptp_scenario.specs.Change.{link_after}
 use Rattle.gptp_scenario.specs.Network.{IsEnd, NetworkState, pace_of}
 use Rattle.gptp_scenario.specs.SettlingAtOnce.{settling_span_at_once}
@@ -71,7 +71,7 @@ use Rattle.gptp_settling_time.specs.ChoiceAlone.{ChoiceStandsAs}
 use Rattle.gptp_settling_time.specs.Documents.{IsSettledAs}
 use Rattle.gptp_settling_time.specs.Exactly.{SettlesBy}
 use Rattle.gptp_settling_time.specs.Gains.{AreCapableAnyway, AreCapableNext, AreCapableStill, ChangesNothing, EndHasFailed, HasRested, IsDownAfter, IsNoWorse, JoinsLive, LeavesCapable, RepeatsNow, TakesNothing, UsesNoLink, exchanged_from}
-use Rattle.gptp_settling_time.specs.Losses.{AgesWithin, AreSilentAfter, CutsFarEnd, FailsFarEnd, FailsHeard, LeavesChoice, LosesAny, LowersLink, LowersUnused, NoneSilent, TurnsLink, UpIsUsed}
+use Rattle.gptp_settling_time.specs.Losses.{AgesWithin, AreSilentAfter, CutsFarEnd, FailsFarEnd, FailsHeard, LeavesChoice, LosesAny, LowersLink, LowersUnused, MovesNoneInAll, NoneSilent, TurnsLink, UpIsUsed}
 use Rattle.gptp_settling_time.specs.TreeLosses.{FailsTrees, LowersTree, TurnsTreeLink}
 
 -- What a network came from. The numbers are times, but for the second of a loss.
@@ -97,6 +97,8 @@ pub data Past : Type 0 where
   -- At the first time something was taken away from what had settled after the first events; what was in flight is gone
   -- so much later as the second says; from the third on ports without a link aren't capable.
   Lost : List Timed → ℕ → ℕ → ℕ → Past
+  -- So it is here, where systems and links alone are taken away.
+  Fewer : List Timed → ℕ → ℕ → ℕ → Past
 
 -- ---- events at time 0
 
@@ -262,6 +264,13 @@ pub record LowersUnusedCalm (n : NetworkState) (before : List Timed) (event : Ti
 abbrev pub IsDownNow : NetworkState → List Timed → Timed → Type 0
 IsDownNow n before event = LowersUnusedCalm n before event ⊎ RepeatsNow n before event
 
+-- So it does where another link goes down by which no system is moved but such as are cut off. All that lived before the
+-- loss do, and ports without a link aren't capable any more.
+pub record LowersToo (n : NetworkState) (ago before : List Timed) (event : Timed) (silent : ℕ) : Type 0 where
+  pub lowers : LowersCalm n before event
+  pub lives : (number : ℕ) → IsLive n.systems ago number → IsLive n.systems before number
+  pub past : silent ≤ event.at
+
 -- A link goes down, or a far end fails, and the choice stands. Ports without a link aren't capable from the next time
 -- on. After a link that is the time before. After a system that fails it is when too many of their requests are lost.
 abbrev pub LeavesStanding : NetworkState → List Timed → Timed → ℕ → ℕ → Type 0
@@ -368,6 +377,7 @@ LeadsToGain n before (Cleared ago since silent right old) event next = ⊥
 LeadsToGain n before (Aging ago aged silent) event next = ⊥
 LeadsToGain n before (Split ago gone silent) event next = ⊥
 LeadsToGain n before (Lost ago since most silent) event next = ⊥
+LeadsToGain n before (Fewer ago since most silent) event next = ⊥
 
 abbrev pub LeadsToHeard : NetworkState → List Timed → Past → Timed → ℕ → Type 0
 LeadsToHeard n before AnyPast event next =
@@ -395,6 +405,7 @@ LeadsToHeard n before (Cleared ago since silent right old) event next = ⊥
 LeadsToHeard n before (Aging ago aged silent) event next = ⊥
 LeadsToHeard n before (Split ago gone silent) event next = ⊥
 LeadsToHeard n before (Lost ago since most silent) event next = ⊥
+LeadsToHeard n before (Fewer ago since most silent) event next = ⊥
 
 -- a network that had settled is left so
 abbrev pub LeadsToLeft : NetworkState → List Timed → Past → Timed → List Timed → ℕ → Type 0
@@ -407,7 +418,7 @@ LeadsToLeft n before (Gained start) event ago next =
 LeadsToLeft n before (Heard start) event ago next =
     HasSettledHeard n before start event.at × (ago ≡ before) × LeavesStanding n before event start next
 LeadsToLeft n before (Left old silent) event ago next =
-    IsDownNow n before event × (ago ≡ old) × (next ≡ silent)
+    (IsDownNow n before event ⊎ LowersToo n old before event silent) × (ago ≡ old) × (next ≡ silent)
 LeadsToLeft n before (Turned silent time) event ago next = ⊥
 LeadsToLeft n before (Fallen silent time) event ago next = ⊥
 LeadsToLeft n before (TurnedTree silent time) event ago next = ⊥
@@ -415,6 +426,7 @@ LeadsToLeft n before (Cleared made since silent right old) event ago next = ⊥
 LeadsToLeft n before (Aging old aged silent) event ago next = ⊥
 LeadsToLeft n before (Split old gone silent) event ago next = ⊥
 LeadsToLeft n before (Lost old since most silent) event ago next = ⊥
+LeadsToLeft n before (Fewer old since most silent) event ago next = ⊥
 
 -- in a network that had settled a system turns by it now
 abbrev pub TurnsNow : NetworkState → List Timed → Timed → ℕ → ℕ → ℕ → Type 0
@@ -438,6 +450,7 @@ LeadsToTurned n before (Cleared ago since start right old) event silent time = �
 LeadsToTurned n before (Aging ago aged start) event silent time = ⊥
 LeadsToTurned n before (Split ago gone start) event silent time = ⊥
 LeadsToTurned n before (Lost ago since most start) event silent time = ⊥
+LeadsToTurned n before (Fewer ago since most start) event silent time = ⊥
 
 -- In a network whose choice stands a tree is so moved by it now. What was sent before the choice stood has arrived.
 abbrev pub TreeNow : NetworkState → List Timed → Timed → Type 0 → ℕ → ℕ → ℕ → ℕ → Type 0
@@ -479,6 +492,7 @@ LeadsToCleared n before (Aging made aged dark) event ago since silent right old 
     × TellsAnew n (before ++ event ∷ []) event.at since right old
 LeadsToCleared n before (Split made gone dark) event ago since silent right old = ⊥
 LeadsToCleared n before (Lost made start most dark) event ago since silent right old = ⊥
+LeadsToCleared n before (Fewer made start most dark) event ago since silent right old = ⊥
 
 -- Where a silent link goes down too what came over it is gone. So all has aged sooner by these events, if others were
 -- faster. Ports beside the system are off by a time that says when it failed.
@@ -507,6 +521,7 @@ LeadsToAging n before (Aging old gone start) event ago aged silent =
     × ((aged ≡ gone) ⊎ AgesSooner n old (before ++ event ∷ []) aged start)
 LeadsToAging n before (Split old gone start) event ago aged silent = ⊥
 LeadsToAging n before (Lost old since most start) event ago aged silent = ⊥
+LeadsToAging n before (Fewer old since most start) event ago aged silent = ⊥
 
 -- a link in use after these events was in use after those
 abbrev pub AreUsedSince : NetworkState → List Timed → List Timed → Type 0
@@ -545,8 +560,45 @@ LeadsToLost n before (Cleared made begun start right old) event ago since most s
 LeadsToLost n before (Aging old aged start) event ago since most silent = ⊥
 LeadsToLost n before (Split old gone start) event ago since most silent = ⊥
 LeadsToLost n before (Lost old begun delay start) event ago since most silent =
-    (LosesMore n before event since silent ⊎ RepeatsNow n before event)
-    × (ago ≡ old) × (since ≡ begun) × (most ≡ delay) × (silent ≡ start)
+    (LosesMore n before event since silent ⊎ RepeatsNow n before event) × (ago ≡ old) × (since ≡ begun)
+    × (most ≡ delay) × (silent ≡ start)
+LeadsToLost n before (Fewer old begun delay start) event ago since most silent = ⊥
+
+-- a system or a link is taken away
+abbrev pub TakesAny : NetworkState → List Timed → Timed → Type 0
+TakesAny n before event =
+    LosesAny n before event.act × ((number value : ℕ) → event.act ≡ Changing (Priority1 number value) → ⊥)
+
+-- in a network that had settled a system or a link is taken away now
+abbrev pub TakesNow : NetworkState → List Timed → Timed → List Timed → ℕ → ℕ → ℕ → Type 0
+TakesNow n before event ago since most silent =
+    (ago ≡ before) × LosesNow n before event since most silent × TakesAny n before event × (since < silent)
+
+-- At that time more may be, a link may go down of which an end has failed, and events come that change nothing.
+abbrev pub TakesMore : NetworkState → List Timed → Timed → ℕ → ℕ → Type 0
+TakesMore n before event since silent =
+    ((event.at ≡ since)
+    × ((TakesAny n before event × AreSilentAfter (pace_of n) event.at silent event.act) ⊎ LowersUnused n before event))
+    ⊎ RepeatsNow n before event
+
+abbrev pub LeadsToFewer : NetworkState → List Timed → Past → Timed → List Timed → ℕ → ℕ → ℕ → Type 0
+LeadsToFewer n before AnyPast event ago since most silent =
+    HasSettledAnyhow n before event.at × TakesNow n before event ago since most silent
+LeadsToFewer n before Starting event ago since most silent = ⊥
+LeadsToFewer n before (Gained start) event ago since most silent =
+    HasSettledSince n before start event.at × TakesNow n before event ago since most silent
+LeadsToFewer n before (Heard start) event ago since most silent =
+    HasSettledHeard n before start event.at × TakesNow n before event ago since most silent
+LeadsToFewer n before (Left old start) event ago since most silent = ⊥
+LeadsToFewer n before (Turned start now) event ago since most silent = ⊥
+LeadsToFewer n before (Fallen start now) event ago since most silent = ⊥
+LeadsToFewer n before (TurnedTree start now) event ago since most silent = ⊥
+LeadsToFewer n before (Cleared made begun start right old) event ago since most silent = ⊥
+LeadsToFewer n before (Aging old aged start) event ago since most silent = ⊥
+LeadsToFewer n before (Split old gone start) event ago since most silent = ⊥
+LeadsToFewer n before (Lost old begun delay start) event ago since most silent = ⊥
+LeadsToFewer n before (Fewer old begun delay start) event ago since most silent =
+    TakesMore n before event since silent × (ago ≡ old) × (since ≡ begun) × (most ≡ delay) × (silent ≡ start)
 
 -- What others hold of a system that failed at this time is gone by another: it has aged within a span, or the ports
 -- beside the system aren't capable from then on.
@@ -588,6 +640,7 @@ LeadsToSplit n before (Split old was start) event ago gone silent =
     ⊎ ((start ≡ suc (event.at + silence_span (pace_of n)))
     × IsGoneBy n old (before ++ event ∷ []) event.at gone))
 LeadsToSplit n before (Lost old since most start) event ago gone silent = ⊥
+LeadsToSplit n before (Fewer old since most start) event ago gone silent = ⊥
 
 -- from a gain, and from what is heard, the start stays
 abbrev pub StaysFrom : Past → ℕ → Type 0
@@ -603,6 +656,7 @@ StaysFrom (Cleared ago since silent right old) next = ⊥
 StaysFrom (Aging ago aged silent) next = ⊥
 StaysFrom (Split ago gone silent) next = ⊥
 StaysFrom (Lost ago since most silent) next = ⊥
+StaysFrom (Fewer ago since most silent) next = ⊥
 
 -- nothing is told as the network starts, and this is the last event then
 abbrev pub StartsFrom : NetworkState → List Timed → Past → Timed → ℕ → Type 0
@@ -618,6 +672,7 @@ StartsFrom n before (Cleared ago since silent right old) event next = ⊥
 StartsFrom n before (Aging ago aged silent) event next = ⊥
 StartsFrom n before (Split ago gone silent) event next = ⊥
 StartsFrom n before (Lost ago since most silent) event next = ⊥
+StartsFrom n before (Fewer ago since most silent) event next = ⊥
 
 -- nothing is told as the network starts, nor after this event
 abbrev pub StartsStill : Past → Timed → Type 0
@@ -633,6 +688,7 @@ StartsStill (Cleared ago since silent right old) event = ⊥
 StartsStill (Aging ago aged silent) event = ⊥
 StartsStill (Split ago gone silent) event = ⊥
 StartsStill (Lost ago since most silent) event = ⊥
+StartsStill (Fewer ago since most silent) event = ⊥
 
 abbrev pub EventLeads : NetworkState → List Timed → Past → Timed → Past → Type 0
 EventLeads n before past event AnyPast = ⊤
@@ -655,6 +711,8 @@ EventLeads n before past event (Aging ago aged silent) = LeadsToAging n before p
 EventLeads n before past event (Split ago gone silent) = LeadsToSplit n before past event ago gone silent
 EventLeads n before past event (Lost ago since most silent) =
     LeadsToLost n before past event ago since most silent
+EventLeads n before past event (Fewer ago since most silent) =
+    LeadsToFewer n before past event ago since most silent
 
 -- ---- rest
 
@@ -781,6 +839,7 @@ BeginsBy n (Cleared ago since silent right old) = ⊥
 BeginsBy n (Aging ago aged silent) = ⊥
 BeginsBy n (Split ago gone silent) = ⊥
 BeginsBy n (Lost ago since most silent) = ⊥
+BeginsBy n (Fewer ago since most silent) = ⊥
 
 -- By this time a calm network has settled after these events. From any past the span has to pass, the sharper one where
 -- nothing lapses. Else ports become capable; then an announce interval passes where something may not be heard; and
@@ -820,6 +879,8 @@ SettlesAfter n events (Lost ago since most silent) settled =
     NothingLapses n.params
     × (suc (since + loss_span (pace_of n) (sync_paths n events) most) ≤ settled)
     × ((silent ≤ settled) ⊎ NoneSilent n ago events)
+SettlesAfter n events (Fewer ago since most silent) settled =
+    NothingLapses n.params × MovesNoneInAll n ago events × NoneSilent n ago events
 
 -- By this time the choice stands after these events: as soon as it has settled, and at once in a network that is left.
 -- Where something ages it does once that is gone.
@@ -839,6 +900,8 @@ ChoosesAfter n events (Split ago gone silent) settled =
     NothingLapses n.params × (gone + 2 * way_span (sync_paths n events) ≤ settled)
 ChoosesAfter n events (Lost ago since most silent) settled =
     NothingLapses n.params × (suc (since + loss_span (pace_of n) (sync_paths n events) most) ≤ settled)
+ChoosesAfter n events (Fewer ago since most silent) settled =
+    NothingLapses n.params × MovesNoneInAll n ago events × NoneSilent n ago events
 
 -- By a time a document has settled, or its choice stands, as `So` says of what it came from: each of its events up to
 -- another time leads from one past to the next.
