@@ -3,18 +3,17 @@ use Rattle.std.proofs.Common.{◌≡◌, ◌⊎◌, inl, inr, ◌<◌, ◌≤◌
 use Rattle.std.specs.List.{AllByRecursion}
 use Rattle.std.proofs.Math.Nat.{le-max_left, le-max_right}
 use native.Mathlib.Decide.{dec_le}
-use Rattle.gptp_setup.specs.SettlingParams.{largest_interval}
 use Rattle.gptp_scenario.specs.Calm.{IsCalm, NothingLapses, last_change}
 use Rattle.gptp_scenario.specs.Network.{IsNetwork, NetworkState, pace_of}
-use Rattle.gptp_scenario.specs.SettlingTime.{settling_span_with, silence_span, way_span}
+use Rattle.gptp_scenario.specs.SettlingTime.{silence_span, way_span}
 use Rattle.gptp_scenario.specs.SyncWait.{sync_paths}
 use Rattle.gptp_scenario.specs.declared.change.Timed.{Timed}
 use Rattle.gptp_network.specs.Document.{DocumentState}
 use Rattle.gptp_network.specs.Events.{AreInOrder}
 use Rattle.gptp_network.specs.Snapshot.{events_by}
 use Rattle.gptp_settling_time.specs.Arrivals.{HasArrivedBy}
-use Rattle.gptp_settling_time.specs.HowSoon.{BeforeRepeats, HasArrivedNext, IsDownToo, BoundsAging, BoundsAnyLoss, BoundsLoss, BoundsSplit, EachEvent, FailsTreesFirst, IsChoiceAloneBound, IsChoiceBound, IsChoiceBoundAfter, IsLossBoundAfter, NoneBetween, OneEvent, events_at}
-use Rattle.gptp_settling_time.specs.InTurn.{Aging, AnyPast, BeginsBy, ChoosesAfter, ChoosesByEvents, ComesByEvents, Fallen, LeadOn, Left, Lost, Past, SettlesAfter, SettlesByEvents, Split, Starting, Turned, TurnedTree}
+use Rattle.gptp_settling_time.specs.HowSoon.{BeforeRepeats, HasArrivedNext, IsDownToo, BoundsAging, BoundsAnyLoss, BoundsLoss, BoundsSplit, EachEvent, FailsTreesFirst, IsLossBoundAfter, NoneBetween, OneEvent, events_at}
+use Rattle.gptp_settling_time.specs.InTurn.{Aging, BeginsBy, ChoosesAfter, Fallen, LeadOn, Left, Lost, Past, SettlesAfter, Split, Starting, Turned, TurnedTree}
 use Rattle.gptp_settling_time.specs.Losses.{AgesWithin, FailsHeard, LowersLink, NoneSilent, TurnsLink}
 use Rattle.gptp_settling_time.specs.TreeLosses.{LowersTree, TurnsTreeLink}
 use Rattle.gptp_settling_time.proofs.BesideIdleLemmas.{LeadsTo, chooses_same, repeats_to, settles_same, split_now}
@@ -22,9 +21,9 @@ use Rattle.gptp_theorem.proofs.EventLemmas.{last_behind}
 use Rattle.gptp_settling_time.proofs.CalmLessLemmas.{fails_calm}
 use Rattle.gptp_settling_time.proofs.NamedLemmas.{arrives_later}
 use Rattle.gptp_settling_time.proofs.FollowedLemmas.{IsFollowedTo, besided, bound_calm, falls_on, followed, turns_on}
-use Rattle.gptp_settling_time.proofs.LeadOnLemmas.{HasRested, HasSettled, any_leads, lead_as, leads_on, rested_so, settled_later, taken_later}
+use Rattle.gptp_settling_time.proofs.LeadOnLemmas.{HasSettled, lead_as, leads_on, taken_later}
 use Rattle.gptp_settling_time.proofs.LosesLeadLemmas.{LosesBy, loses_by}
-use Rattle.gptp_settling_time.proofs.LossLeadLemmas.{IsLeftBy, dead_lead, heard_lead, loss_leads, settles_chooses, splits_lead, turn_leads}
+use Rattle.gptp_settling_time.proofs.LossLeadLemmas.{IsLeftBy, dead_lead, heard_lead, loss_leads, splits_lead, turn_leads}
 use Rattle.gptp_settling_time.proofs.LossRestLemmas.{last_at}
 use Rattle.gptp_settling_time.proofs.MomentLemmas.{all_at, last_by, parted}
 use Rattle.gptp_settling_time.proofs.SamePathsLemmas.{StandSame}

@@ -11,7 +11,7 @@ use Rattle.gptp_scenario.specs.declared.change.Timed.{Timed}
 use Rattle.gptp_settling_time.specs.Arrivals.{HasArrivedBy}
 use Rattle.gptp_settling_time.specs.HowSoon.{EachEvent, IsDownToo, TurnsUnused}
 use Rattle.gptp_settling_time.specs.InTurn.{AgesSooner, Aging, AnyPast, AreUsedSince, ChoosesAfter, Cleared, EventLeads, FailsCalm, FailsNow, Fallen, Gained, Heard, IsDownNow, IsGoneBy, LeadOn, LeadsByTree, Left, LosesNow, Lost, LowersCalm, Past, SettlesAfter, Split, SplitsNow, Starting, Turned, TurnedTree, TurnsCalm}
-use Rattle.gptp_settling_time.specs.Losses.{AgesWithin, FailsHeard, LowersUnused}
+use Rattle.gptp_settling_time.specs.Losses.{AgesWithin, FailsHeard}
 use Rattle.gptp_settling_time.specs.TreeLosses.{FailsTrees}
 use Rattle.gptp_settling_time.proofs.CalmLessLemmas.{failure_calm, lowers_calm}
 use Rattle.gptp_theorem.proofs.EventLemmas.{last_behind}

@@ -13,8 +13,8 @@ use Rattle.gptp_scenario.specs.declared.sync_wait.SyncPaths.{SyncPaths}
 use Rattle.gptp_theorem.proofs.EventLemmas.{last_behind}
 use Rattle.gptp_settling_time.specs.HowSoon.{CutsOneEnd, EachEvent, FailsEndFirst, FailsHeardFirst, IsDownToo, LowersOneLink, RestsAfterOneLoss, RestsOnceTold, TurnsOneLink}
 use Rattle.gptp_settling_time.specs.InTurn.{Aging, AnyPast, Cleared, CutsCalm, EventLeads, FailsCalm, FailsNow, Fallen, FlightIsGone, Gained, Heard, LeadOn, Left, Lost, LowersCalm, Past, Split, Starting, Turned, TurnedTree, nearer_echo_span, turned_echo_span}
-use Rattle.gptp_settling_time.specs.Losses.{AgesWithin, CutsFarEnd, FailsFarEnd, FailsHeard, LowersLink, LowersUnused, NoneSilent, TurnsLink, UpIsUsed}
-use Rattle.gptp_settling_time.proofs.CalmLessLemmas.{failure_calm, fails_calm, lowers_calm}
+use Rattle.gptp_settling_time.specs.Losses.{AgesWithin, CutsFarEnd, FailsFarEnd, FailsHeard, LowersLink, NoneSilent, TurnsLink, UpIsUsed}
+use Rattle.gptp_settling_time.proofs.CalmLessLemmas.{failure_calm, fails_calm}
 use Rattle.gptp_settling_time.proofs.LeftToLemmas.{less_way}
 use Rattle.gptp_settling_time.proofs.LeadOnLemmas.{HasSettled, IsLed}
 use Rattle.gptp_settling_time.proofs.SilentSpanLemmas.{failure_within, up_none_silent}

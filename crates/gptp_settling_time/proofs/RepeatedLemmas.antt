@@ -1,6 +1,6 @@
 -- An event repeats what stands, at the time of the event before: the world stays the very same, and with it all that is
 -- claimed of a loss.
-use Rattle.std.proofs.Common.{◌≡◌, ◌≤◌, ◌+◌, ◌⊎◌, ℕ, suc, true, refl, List, [], ◌∷◌, ◌++◌, sym, ap, subst, ◌∙◌, inl, arith}
+use Rattle.std.proofs.Common.{◌≡◌, ◌≤◌, ◌+◌, ℕ, suc, true, refl, List, [], ◌∷◌, ◌++◌, sym, ap, subst, ◌∙◌, inl, arith}
 use Rattle.gptp_lists.proofs.SystemSpecLemmas.{In-slice_get}
 use Rattle.gptp_graph.specs.Snapshot.{PortIdentity, Snapshot}
 use Rattle.gptp_links.specs.Fate.{Draw}
