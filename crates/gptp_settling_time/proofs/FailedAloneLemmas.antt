@@ -350,15 +350,17 @@ module _ (p : SettlingParams) (number : ℕ) (w : WorldState) (draws : List Draw
             (subst (λ (c : Channel). IsFailedAmong at.answering (receiver at.direction c).clock w'.stations)
             (same_there w.net.channels at.link s.channel x.link.channel here_before x.link.here) s.answering)
 
-    silent_then : (next silent : ℕ) → next ≤ w.time → AreReadyBy p next w → HaveQuietLinks p.params w
-        → AreSilentBy p next w → w.time + silence_span p < silent → AreSilentBy p silent w'
-    silent_then next silent past ready quiet before long at s = elim (same_place at.answering k.place) [
+    -- ports beside it aren't capable once too many requests are lost; others beside failed systems stay as they are
+    pub silent_then : (next earlier silent : ℕ) → next ≤ w.time → earlier ≤ silent → AreReadyBy p next w
+        → HaveQuietLinks p.params w → AreSilentBy p earlier w → w.time + silence_span p < silent
+        → AreSilentBy p silent w'
+    silent_then next earlier silent past sooner ready quiet before long at s = elim (same_place at.answering k.place) [
       | inl own ↦
           let (first, by) = ready_first p next w is past at (ready at (stood_good at s own quiet)) in
           let asked_by = by.0.facts.asked in
           inr ((pair at w by.0.link).asker.asked, last_still at s own quiet first by.0, omega (arith, asked_by, long))
       | inr other ↦
-          silent_still at s other next silent (omega (arith, past, long)) (before at (stood_beside at s other))
+          silent_still at s other earlier silent sooner (before at (stood_beside at s other))
     ]
 
     -- what is left is all but the system and its links
@@ -485,7 +487,7 @@ module _ (p : SettlingParams) (number : ℕ) (w : WorldState) (draws : List Draw
         pace = pace;
         world = is';
         measured = measured';
-        silent = silent_then next silent past ready quiet silent_before long;
+        silent = silent_then next next silent past (omega (arith, past, long)) ready quiet silent_before long;
       }
 
       -- ports at links that are left are ready as they were
