@@ -16,13 +16,20 @@ use Rattle.gptp_bmca_machine.specs.Vectors.{message, path_vector, master, system
 use Rattle.gptp_bmca_machine.specs.Clean.{CameOverLink, CameFits}
 use Rattle.gptp_bmca_machine.specs.Facts.{station_system}
 use Rattle.gptp_bmca_machine.specs.AtRest.{ChoosesItself, ChoosesPort, StationIsAtRest}
-use Rattle.gptp_bmca_machine.specs.LossLaws.{WasSystem}
+use Rattle.gptp_bmca_machine.specs.LossLaws.{IsWhatIsLeft, WasSystem}
+use Rattle.gptp_bmca_machine.specs.Network.{Network}
 use Rattle.gptp_bmca_machine.proofs.PlaceLemmas.{same_place}
 
 -- a system that a snapshot has is one of it whose identity was the same
 pub was_itself : (g : Snapshot) (s : System) → In s g.systems → WasSystem g s
 was_itself g s known =
     record { old = s; known = known; clock = refl; identity = omega arith }
+
+-- a network of which each system is one of the snapshot, and each link, is what is left of it
+pub left_of : (g : Snapshot) (n : Network) → IsWellFormed g → ((s : System) → In s n.graph.systems → In s g.systems)
+    → ((p q : PortIdentity) → Joins n.graph p q → Joins g p q) → IsWhatIsLeft g n
+left_of g n well systems links =
+    record { graph = well; systems = λ s known. was_itself g s (systems s known); links = links }
 
 -- its clock is one of the snapshot
 pub was_there : (g : Snapshot) (s : System) → WasSystem g s → In s.clock (clocks g)

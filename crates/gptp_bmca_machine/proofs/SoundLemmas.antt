@@ -27,7 +27,7 @@ use Rattle.gptp_bmca_machine.proofs.NearestLemmas.{came_fits}
 use Rattle.gptp_bmca_machine.proofs.PlaceLemmas.{same_there}
 use Rattle.gptp_bmca_machine.proofs.TraceLemmas.{whole_own, whole_on}
 use Rattle.gptp_bmca_machine.proofs.ReactsLemmas.{JustHeard, held_from}
-use Rattle.gptp_bmca_machine.proofs.RestLemmas.{was_itself, was_there}
+use Rattle.gptp_bmca_machine.proofs.RestLemmas.{left_of, was_there}
 
 -- a port that received something after a touch wasn't disabled before
 on_before : (c n now : ℕ) (touch : StationTouch) (held mid : Held) (r : Reception) → HeldInTouch c n touch now held mid
@@ -59,8 +59,7 @@ was_on says s s' touch now sends reacts i r (q', at, holds) =
 
 -- all of a network is left of its own snapshot
 pub nothing_lost : (n : Network) → IsWellFormed n.graph → IsWhatIsLeft n.graph n
-nothing_lost n well =
-    record { graph = well; systems = λ s known. was_itself n.graph s known; links = λ p q joins. joins }
+nothing_lost n well = left_of n.graph n well (λ s known. known) (λ p q joins. joins)
 
 -- what is left of a snapshot: there it stays sound by the snapshot
 module _ (says : Spelling) (g : Snapshot) (n : Network) (left : IsWhatIsLeft g n) where

@@ -31,6 +31,7 @@ use Rattle.gptp_bmca_machine.specs.SoundLaws.{AllAreNear, UnlinkedAreOff}
 use Rattle.gptp_bmca_machine.specs.Station.{Station as SeenStation}
 use Rattle.gptp_bmca_machine.proofs.FallEndLemmas.{FallsOff}
 use Rattle.gptp_bmca_machine.proofs.LinkStepLemmas.{lives_at}
+use Rattle.gptp_bmca_machine.proofs.RestLemmas.{left_of}
 use Rattle.gptp_invariants.specs.ChoiceCalm.{HaveQuietLinks, delay_in}
 use Rattle.gptp_invariants.specs.ChoiceSettlesAsMachine.{IsWorld}
 use Rattle.gptp_invariants.specs.ChoiceView.{says_announce, view}
@@ -240,7 +241,8 @@ module _ (p : SettlingParams) (silent owner port : ℕ) (w : WorldState) (draws 
         let less = less_then p w is acts.1.place channel here draws w' is' told seen near in
         record {
           well = well';
-          left = record { graph = well; systems = less.systems; links = less.links };
+          left = left_of (snapshot_of w) (left_network p silent w') well less.systems less.links;
+          stand = λ s member. inl (less.systems s member);
           others = λ v known out.
               let unmoved = so.others v known out in
               record { live = known; best = unmoved.best; far = unmoved.far };

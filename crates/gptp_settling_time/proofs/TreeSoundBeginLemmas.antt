@@ -17,6 +17,7 @@ use Rattle.gptp_bmca_machine.specs.RestLaws.{SameWiring}
 use Rattle.gptp_bmca_machine.specs.SoundEverywhere.{IsSoundEverywhere, IsSoundSent, StationIsSound}
 use Rattle.gptp_bmca_machine.specs.SoundLaws.{UnlinkedAreOff}
 use Rattle.gptp_bmca_machine.specs.Station.{Disabled, MachineState, Received, Station}
+use Rattle.gptp_bmca_machine.specs.Touch.{StationTouch}
 use Rattle.gptp_bmca_machine.proofs.CutTreeLemmas.{beside, cuts_off, tree_dec}
 use Rattle.gptp_bmca_machine.proofs.FallEndLemmas.{FallsOff}
 use Rattle.gptp_bmca_machine.proofs.FallLemmas.{falls_by}
@@ -29,8 +30,8 @@ module _ (says : Spelling) (n0 n : Network) (top other : ℕ) (best next : Syste
     (in_top : IsBest n.graph top next) (outside : IsBest n.graph other next → ⊥)
     (moved_top : Unmoved n0.graph n top → ⊥) (net0 : IsSettlingNetwork n0) (w : MachineState) (calm0 : Calm n0 w)
     (invariant0 : Invariant says n0 w) (late0 : settled_from n0 ≤ w.time)
-    (sound0 : IsSoundEverywhere says n0.graph w) (same : SameWiring n0 n) (w' : MachineState) (lost place : ℕ)
-    (a : EndAnswers says n top lost place w w') (start : ℕ)
+    (sound0 : IsSoundEverywhere says n0.graph w) (same : SameWiring n0 n) (w' : MachineState) (touch : StationTouch)
+    (place : ℕ) (a : EndAnswers says n top touch place w w') (start : ℕ)
     (b' : FallsOff says n0.graph n top best next base depth t start w') (apart' : LanesBeginApart w')
     (dark' : UnlinkedAreOff n.graph w') (old : ℕ)
     (deep : (v : ℕ) → IsBest n.graph v next → falls_by n start (depth v) + n.most ≤ old)
@@ -49,10 +50,10 @@ module _ (says : Spelling) (n0 n : Network) (top other : ℕ) (best next : Syste
       came (linked_at says g n top best next base depth t start w' b' i s at live dark' k q at_q
       (λ off. let both : Received r ≡ Disabled = sym holds ∙ off in absurd cc))
     where
-      o : HeldBefore says n0 n top t.well t.left moved_top net0 w calm0 invariant0 late0 sound0 same w' lost place a
+      o : HeldBefore says n0 n top t.well t.left moved_top net0 w calm0 invariant0 late0 sound0 same w' touch place a
           b'.after.kept s.clock k r
       o =
-          held_before says n0 n top t.well t.left moved_top net0 w calm0 invariant0 late0 sound0 same w' lost place a
+          held_before says n0 n top t.well t.left moved_top net0 w calm0 invariant0 late0 sound0 same w' touch place a
           b'.after.kept i s k r at live (q, at_q, holds)
 
       came : IsLinked n.graph (port_of s.clock (suc k)) → CameSound n.graph s.clock (suc k) r
@@ -81,7 +82,7 @@ module _ (says : Spelling) (n0 n : Network) (top other : ℕ) (best next : Syste
       → In f l.frames → says f.octets c
       → IsSoundSent n.graph l.from c ⊎ IsOldInTree n.graph next old l.from l.to f.due
   flies_outside j l f c at among said =
-      elim (flew says n0 n top t.well t.left moved_top net0 w calm0 invariant0 late0 sound0 same w' lost place a
+      elim (flew says n0 n top t.well t.left moved_top net0 w calm0 invariant0 late0 sound0 same w' touch place a
       b'.after.kept j l f c at among said) [
         | inr sent ↦
             let (port, own, master, from) = sent.own in
