@@ -124,6 +124,7 @@ pub mod TreeSoundLemmas
 pub mod TreeSoundBeginLemmas
 pub mod FallenClaimedLemmas
 pub mod FallenToLemmas
+pub mod TreeBeginsLemmas
 pub mod TreeMadeLemmas
 pub mod FallMadeLemmas
 pub mod NamedAfterLemmas

@@ -1,5 +1,4 @@
--- A link goes down that cuts a tree off. What others hold is sound at once, and so is what is in flight, but for what
--- is due soon.
+-- A tree begins to fall back. What others hold is sound at once, and so is what is in flight, but for what is due soon.
 use Rattle.std.proofs.Common.{◌≡◌, ◌⊎◌, ◌≤◌, ◌+◌, ℕ, suc, true, Some, slice_get, sym, subst, ◌∙◌, inl, inr}
 use Rattle.gptp_lists.specs.Members.{In}
 use Rattle.gptp_graph.specs.Best.{IsBest}
@@ -23,11 +22,11 @@ use Rattle.gptp_bmca_machine.proofs.FallEndLemmas.{FallsOff}
 use Rattle.gptp_bmca_machine.proofs.FallLemmas.{falls_by}
 use Rattle.gptp_settling_time.proofs.EndAnswersLemmas.{EndAnswers, HeldBefore, flew, held_before}
 use Rattle.gptp_settling_time.proofs.TreeSoundLemmas.{IsOldInTree, IsSoundOutside, LanesBeginApart, linked_at, tells_outside}
-use Rattle.gptp_settling_time.proofs.TreeTracesLemmas.{HasAllButLink, sound_outside}
 
-module _ (says : Spelling) (n0 n : Network) (top other : ℕ) (best next : System) (base : ℕ) (depth : ℕ → ℕ)
-    (t : CutsTree n0.graph n top best next base depth) (has : HasAllButLink n0.graph n.graph top other)
-    (in_top : IsBest n.graph top next) (outside : IsBest n.graph other next → ⊥)
+module _ (says : Spelling) (n0 n : Network) (top : ℕ) (best next : System) (base : ℕ) (depth : ℕ → ℕ)
+    (t : CutsTree n0.graph n top best next base depth)
+    (stays : (v : ℕ) (c : Announce) → (IsBest n.graph v next → ⊥) → In v (clocks n0.graph)
+    → IsWorse n0.graph v c ⊎ Whole n0.graph v c → IsWorse n.graph v c ⊎ Whole n.graph v c)
     (moved_top : Unmoved n0.graph n top → ⊥) (net0 : IsSettlingNetwork n0) (w : MachineState) (calm0 : Calm n0 w)
     (invariant0 : Invariant says n0 w) (late0 : settled_from n0 ≤ w.time)
     (sound0 : IsSoundEverywhere says n0.graph w) (same : SameWiring n0 n) (w' : MachineState) (touch : StationTouch)
@@ -39,10 +38,6 @@ module _ (says : Spelling) (n0 n : Network) (top other : ℕ) (best next : Syste
     → says f.octets c → f.due ≤ old) where
   abbrev g : Snapshot
   g = n0.graph
-
-  stays : (v : ℕ) (c : Announce) → (IsBest n.graph v next → ⊥) → In v (clocks g) → IsWorse g v c ⊎ Whole g v c
-      → IsWorse n.graph v c ⊎ Whole n.graph v c
-  stays = sound_outside g n top best next base depth t other has in_top outside
 
   held_outside : (i : ℕ) (s : Station) → slice_get w'.stations i ≡ Some s → s.live ≡ true
       → (IsBest n.graph s.clock next → ⊥) → StationIsSound n.graph s
