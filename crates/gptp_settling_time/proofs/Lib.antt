@@ -127,6 +127,9 @@ pub mod FallenToLemmas
 pub mod TreeBeginsLemmas
 pub mod TreeMadeLemmas
 pub mod FallMadeLemmas
+pub mod WorsenedActLemmas
+pub mod WorsenedMadeLemmas
+pub mod WorsenedTracesLemmas
 pub mod NamedAfterLemmas
 pub mod TurnsDownLemmas
 pub mod TurnedToLemmas
