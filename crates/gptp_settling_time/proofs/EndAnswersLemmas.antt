@@ -1,5 +1,5 @@
--- A link of a network at rest goes down, or an identity gets worse: a system answers, one other may lose a port, and all
--- else stands as it did. So what is held fits as it did, and links from unmoved systems stay.
+-- A link of a network at rest goes down, or an identity gets worse: a system answers, another may lose a port, and
+-- all else stands as it did. So what is held fits as it did, and links from unmoved systems stay.
 use Rattle.std.proofs.Common.{◌≡◌, ◌≢◌, ◌⊎◌, ◌<◌, ◌≤◌, ◌++◌, ℕ, zero, suc, true, false, List, [], ◌∷◌, Some, slice_get, refl, sym, ap, subst, ◌∙◌, inl, inr, arith, append-nil}
 use native.Mathlib.Decide.{dec_lt, ℕ_discrete}
 use Rattle.gptp_lists.specs.Members.{In}
@@ -34,8 +34,8 @@ use Rattle.gptp_bmca_machine.proofs.FallLeaveLemmas.{OnlyDisables}
 use Rattle.gptp_settling_time.proofs.FitsLemmas.{everything_fits}
 use Rattle.gptp_settling_time.proofs.ReducedLemmas.{IsReducedStation}
 
--- A system answers as its port at a link is disabled, or as its identity gets worse. Ports of one other are as they were
--- or disabled, and all others stand as they did. Each lane takes up what the system sends, or is down and empty.
+-- A system answers as its port at a link is disabled, or as its identity gets worse. Ports of one other are as they
+-- were or disabled, and all others stand as they did. Each lane takes up what the system sends, or is down and empty.
 pub record EndAnswers (says : Spelling) (n : Network) (x : ℕ) (touch : StationTouch) (other : ℕ) (w w' : MachineState)
     : Type 0 where
   pub only : OnlyDisables touch

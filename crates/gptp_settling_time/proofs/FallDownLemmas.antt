@@ -123,7 +123,8 @@ module _ (says : Spelling) (n0 n : Network) (top : ℕ) (best next : System) (ba
     (sound0 : IsSoundEverywhere says n0.graph w) (named0 : FlightNames says n0.graph w) (same : SameWiring n0 n)
     (w' : MachineState) (touch : StationTouch) (other : ℕ) (a : EndAnswers says n top touch other w w')
     (outside : (c : ℕ) (m : Station) → IsBest n.graph c next → c ≢ top
-    → slice_get w'.stations (n.place c) ≡ Some m → n.place c ≢ other) (kept' : IsAfterLoss n w') (dark' : UnlinkedAreOff n.graph w') where
+    → slice_get w'.stations (n.place c) ≡ Some m → n.place c ≢ other) (kept' : IsAfterLoss n w')
+    (dark' : UnlinkedAreOff n.graph w') where
   abbrev g : Snapshot
   g = n0.graph
 

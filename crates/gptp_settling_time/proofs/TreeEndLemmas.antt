@@ -89,7 +89,8 @@ module _ (p : SettlingParams) (silent : ℕ) (w : WorldState) (is : IsWorld p w)
     pub end : (m : SeenStation) → slice_get (view w').stations at ≡ Some m → m.live ≡ true
         → (top ≡ other) ⊎ (m.clock ≡ other)
 
-  at_end : (touch : StationTouch) (at : ℕ) (station : Station) → slice_get w.stations at ≡ Some station → clock station.system ≡ other
+  at_end : (touch : StationTouch) (at : ℕ) (station : Station) → slice_get w.stations at ≡ Some station
+      → clock station.system ≡ other
       → EndAnswers says_announce n top touch at (view w) (view w') → (m : SeenStation)
       → slice_get (view w').stations at ≡ Some m → m.live ≡ true → (top ≡ other) ⊎ (m.clock ≡ other)
   at_end touch at station stands is_other a m there lives = elim (ℕ_discrete at (n.place top)) [

@@ -82,8 +82,8 @@ module _ (says : Spelling) (n0 n : Network) (tree : List ℕ) (top other last ou
 
   lanes_so : (p q : PortIdentity) (l' : Lane) → Joins n.graph p q → slice_get w'.lanes (n.lane p) ≡ Some l'
       → (l : Lane) × (slice_get w.lanes (n.lane p) ≡ Some l) × LaneStep a.s.clock a.sends l l'
-  lanes_so = lanes_then says n (Around (IsOf tree) (LeadsOut last out)) top touch place w w' a kept' (t.lives top in_top)
-      beside_so
+  lanes_so = lanes_then says n (Around (IsOf tree) (LeadsOut last out)) top touch place w w' a kept'
+      (t.lives top in_top) beside_so
 
   after : IsAftermath says g n w'
   after = record {

@@ -1,11 +1,11 @@
 -- The act by which the best of a tree gets a worse identity: from then on the tree falls back.
-use Rattle.std.proofs.Common.{◌≡◌, ◌≢◌, ◌<◌, ◌≤◌, ℕ, true, List, Some, slice_get, refl, sym, ap, subst, ◌∙◌, inl, inr, arith}
+use Rattle.std.proofs.Common.{◌≡◌, ◌≢◌, ◌<◌, ◌≤◌, ◌+◌, ℕ, true, List, Some, slice_get, refl, sym, ap, subst, ◌∙◌, inl, inr, arith}
 use Rattle.gptp_lists.specs.Members.{In}
 use Rattle.gptp_graph.specs.Best.{IsBest}
 use Rattle.gptp_graph.specs.Distance.{IsDistance}
 use Rattle.gptp_graph.specs.PathBound.{path_bound}
 use Rattle.gptp_graph.specs.Path.{Reaches}
-use Rattle.gptp_graph.specs.Snapshot.{Adjacent, IsWellFormed, System, clocks, port_of}
+use Rattle.gptp_graph.specs.Snapshot.{Adjacent, IsWellFormed, System, port_of}
 use Rattle.gptp_graph.proofs.DistanceLemmas.{IsDistance-clock, IsDistance-unique, best_at_zero}
 use Rattle.gptp_graph.proofs.PathLemmas.{Reaches-self}
 use Rattle.gptp_links.specs.Fate.{Draw}
@@ -106,6 +106,11 @@ module _ (p : SettlingParams) (silent owner value : ℕ) (w : WorldState) (draws
     }
   ]
 
+  was_far : (v : ℕ) → IsBest (snapshot_of w') v next → IsDistance (snapshot_of w) v (0 + depth v)
+  was_far v in_v =
+      let same : depth v ≡ 0 + depth v = omega arith in
+      subst (IsDistance (snapshot_of w) v) same (so.was v in_v)
+
   tree : CutsTree (snapshot_of w) n owner best next 0 depth
   tree = record {
     well = well';
@@ -116,14 +121,14 @@ module _ (p : SettlingParams) (silent owner value : ℕ) (w : WorldState) (draws
         record { live = known; best = unmoved.best; far = unmoved.far };
     worse = so.worse;
     was_best = so.was_best;
-    was = so.was;
+    was = was_far;
     near = λ v in_v.
         let was : IsDistance (snapshot_of w) v (depth v) = so.was v in_v in
         let (far, there, close) = near v (IsDistance-clock (snapshot_of w) v (depth v) well was) in
         let one = IsDistance-unique (snapshot_of w) v (depth v) far well was there in
         omega (arith, one, close);
     deep = λ v in_v.
-        deep_by (snapshot_of w) (snapshot_of w') well well' owner next 0 depth so.first so.was
+        deep_by (snapshot_of w) (snapshot_of w') well well' owner next 0 depth so.first was_far
         (λ x u in_x joined. inl (adjacent_after x u joined)) n.reach (paths_bound p w' is') v in_v;
     first = so.first;
     lost = λ v u in_v joined. inl (adjacent_after v u joined);

@@ -7,8 +7,6 @@ use Rattle.gptp_graph.specs.Path.{IsPath, Route}
 use Rattle.gptp_graph.specs.Snapshot.{Adjacent, IsWellFormed, Snapshot, System, clocks}
 use Rattle.gptp_graph.proofs.BestLemmas.{IsBest-reached, IsBest-unique}
 use Rattle.gptp_graph.proofs.ExistenceLemmas.{best_exists}
-use Rattle.gptp_bmca_machine.specs.Clean.{IsWorse, Whole}
-use Rattle.gptp_bmca_machine.specs.Frame.{Announce}
 use Rattle.gptp_settling_time.specs.Losses.{IsUnmoved}
 use Rattle.gptp_settling_time.proofs.TreeBeginsLemmas.{StaysOutside}
 
