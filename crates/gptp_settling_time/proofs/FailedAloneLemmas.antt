@@ -400,6 +400,7 @@ module _ (p : SettlingParams) (number : ℕ) (w : WorldState) (draws : List Draw
     pub loses_it : (n : Network) → n.graph ≡ g' → LosesSystem g n number
     loses_it n graph = record {
       dead = λ known. not_left (subst (λ h. In number (clocks h)) graph known);
+      systems = λ s member. systems_before s (subst (λ (h : Snapshot). In s h.systems) graph member);
       others = λ v known. elim (lives_still v known) [
         | inl is_it ↦ inr is_it
         | inr still ↦ inl (subst (λ h. In v (clocks h)) (sym graph) still)

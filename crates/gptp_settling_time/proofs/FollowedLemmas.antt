@@ -14,7 +14,7 @@ use Rattle.gptp_network.specs.Snapshot.{events_by}
 use Rattle.gptp_settling_time.specs.Gains.{Repeats}
 use Rattle.gptp_settling_time.specs.HowSoon.{AreGainEvents, AreHeardEvents, AreReadyAtStart, AreStartEvents, BeforeRepeats, BesideIdle, BoundsEvents, BoundsStart, EachEvent, events_at, FailsTreesFirst, HasArrivedNext, IsRestBoundAfter, NoneBetween, OneEvent, RestsAfterLoss, RestsSplit}
 use Rattle.gptp_settling_time.specs.InTurn.{AnyPast, AreCapableSoon, BeginsBy, EventLeads, Fallen, FallsCalm, FlightIsGone, Gained, Heard, LeadOn, LeadsByTree, Past, RestsFrom, Starting, StartsWith, TellsNothing, TurnedTree, TurnsTreeCalm, UsedVaryLittle, turned_echo_span}
-use Rattle.gptp_settling_time.specs.TreeLosses.{LowersTree, TurnsTreeLink}
+use Rattle.gptp_settling_time.specs.TreeLosses.{FallsTree, TurnsTreeLink}
 use Rattle.gptp_theorem.proofs.EventLemmas.{last_behind}
 use Rattle.gptp_settling_time.proofs.BesideIdleLemmas.{LeadsTo, beside_idle, repeats_lead, repeats_same, repeats_to, rested_same, split_now}
 use Rattle.gptp_settling_time.proofs.CalmStillLemmas.{alike_calm}
@@ -316,11 +316,11 @@ module _ (n : NetworkState) (network : IsNetwork n) (off : NothingLapses n.param
 
     -- it is cut off and falls back
     pub falls_on : (then : ℕ) → IsCalm n before_now → (before : IsFollowedTo n before_now last then)
-        → HasArrivedNext n all last then time → BeforeRepeats n (OneEvent (LowersTree n)) before_now at_now
+        → HasArrivedNext n all last then time → BeforeRepeats n (OneEvent (FallsTree n)) before_now at_now
         → (silent : ℕ) × LeadOn n [] before.first (events_by time all) (Fallen silent time)
     falls_on then calm before arrives (first, others, parts, each, lowers) =
-        moves_on (LowersTree n) (FallsCalm n before_now) then before arrives
-        (λ event moves. record { lowers = moves; calm = calm; off = off }) Fallen
+        moves_on (FallsTree n) (FallsCalm n before_now) then before arrives
+        (λ event moves. record { falls = moves; calm = calm; off = off }) Fallen
         (λ past event silent now leads. inl leads) (λ silent now same. cc) first others parts each lowers
 
     -- or it turns to its one way out
@@ -335,7 +335,7 @@ module _ (n : NetworkState) (network : IsNetwork n) (off : NothingLapses n.param
     -- it has come to rest once the tree has settled and what was in flight is gone
     fall_followed : (then rest gone : ℕ) → IsCalm n before_now → IsCalm n (events_by time all)
         → IsFollowedTo n before_now last then → HasArrivedNext n all last then time
-        → BeforeRepeats n (OneEvent (LowersTree n)) before_now at_now → FlightIsGone n (events_by time all) gone
+        → BeforeRepeats n (OneEvent (FallsTree n)) before_now at_now → FlightIsGone n (events_by time all) gone
         → rest ≡ max (2 * way_span (sync_paths n (events_by time all))) gone
         → IsFollowedTo n (events_by time all) time rest
     fall_followed then rest gone calm_then calm before arrives lowers flight is =

@@ -14,7 +14,7 @@ use Rattle.gptp_network.specs.Document.{DocumentState}
 use Rattle.gptp_theorem.specs.PlayedLaws.{IsPlayable}
 use Rattle.gptp_settling_time.specs.Arrivals.{HasArrivedBy}
 use Rattle.gptp_settling_time.specs.InTurn.{Aging, AnyPast, Cleared, EventLeads, Fallen, FallsCalm, Gained, Heard, IsDownNow, LeadsByTree, Left, Fewer, Lost, Past, Split, SplitsNow, Starting, TreeNow, Turned, TurnedTree, TurnsTreeCalm}
-use Rattle.gptp_settling_time.proofs.FallMadeLemmas.{fallen_to}
+use Rattle.gptp_settling_time.proofs.FallMadeLemmas.{fallen_to, falls_few}
 use Rattle.gptp_settling_time.proofs.FallenToLemmas.{IsFallenTo}
 use Rattle.gptp_settling_time.proofs.TurnedTreeMadeLemmas.{turned_tree_to}
 use Rattle.gptp_settling_time.proofs.TurnedTreeToLemmas.{IsTurnedTreeTo}
@@ -89,8 +89,9 @@ module _ (d : DocumentState) (playable : IsPlayable d) (made : List Timed) (even
   pub leads_to_fallen : (past : Past) (silent now : ℕ) → EventLeads n made past event (Fallen silent now)
       → NamesAfter d made past then → IsAfter d made past then → IsFallenTo d more silent now w'
   leads_to_fallen past silent now (inl leads) named so =
-      leads_by_tree (FallsCalm n made event) (λ x. x.calm) (λ x. x.off) (λ x. x.lowers.few)
-      (λ silent now. IsFallenTo d more silent now w') (λ start stood arrived rest named arrives quiet falls.
+      leads_by_tree (FallsCalm n made event) (λ x. x.calm) (λ x. x.off)
+      (λ x. falls_few d.network made event x.falls) (λ silent now. IsFallenTo d more silent now w')
+      (λ start stood arrived rest named arrives quiet falls.
       fallen_to d playable made event then draws done w' acts at_time time keeps after start rest stood arrived named
       arrives quiet falls) past silent now leads named so
   leads_to_fallen past silent now (inr (repeats, same)) named so =

@@ -135,8 +135,12 @@ pub mod TreeSoundLemmas
 pub mod TreeSoundBeginLemmas
 pub mod FallenClaimedLemmas
 pub mod FallenToLemmas
+pub mod TreeBeginsLemmas
 pub mod TreeMadeLemmas
 pub mod FallMadeLemmas
+pub mod WorsenedActLemmas
+pub mod WorsenedMadeLemmas
+pub mod WorsenedTracesLemmas
 pub mod NamedAfterLemmas
 pub mod TurnsDownLemmas
 pub mod TurnedToLemmas

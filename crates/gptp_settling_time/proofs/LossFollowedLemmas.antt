@@ -15,7 +15,7 @@ use Rattle.gptp_settling_time.specs.Arrivals.{HasArrivedBy}
 use Rattle.gptp_settling_time.specs.HowSoon.{BeforeRepeats, HasArrivedNext, IsDownToo, BoundsAging, BoundsAnyLoss, BoundsLoss, BoundsSplit, EachEvent, FailsTreesFirst, IsLossBoundAfter, LowersLinks, NoneBetween, OneEvent, events_at}
 use Rattle.gptp_settling_time.specs.InTurn.{Aging, BeginsBy, ChoosesAfter, Fallen, Fewer, LeadOn, Left, Lost, Past, SettlesAfter, Split, Starting, Turned, TurnedTree}
 use Rattle.gptp_settling_time.specs.Losses.{AgesWithin, FailsHeard, NoneSilent, TurnsLink}
-use Rattle.gptp_settling_time.specs.TreeLosses.{LowersTree, TurnsTreeLink}
+use Rattle.gptp_settling_time.specs.TreeLosses.{FallsTree, TurnsTreeLink}
 use Rattle.gptp_settling_time.proofs.BesideIdleLemmas.{LeadsTo, chooses_same, repeats_to, settles_same, split_now}
 use Rattle.gptp_theorem.proofs.EventLemmas.{last_behind}
 use Rattle.gptp_settling_time.proofs.CalmLessLemmas.{down_calm, fails_calm, still_lives}
@@ -270,7 +270,7 @@ module _ (d : DocumentState) (network : IsNetwork d.network) (order : AreInOrder
         → NothingLapses d.network.params → IsCalm d.network (events_by last d.events)
         → IsCalm d.network (events_by time d.events) → IsFollowedTo d.network (events_by last d.events) last choice_then
         → HasArrivedNext d.network d.events last choice_then time
-        → BeforeRepeats d.network (OneEvent (LowersTree d.network)) (events_by last d.events)
+        → BeforeRepeats d.network (OneEvent (FallsTree d.network)) (events_by last d.events)
         (events_at time d.events)
         ⊎ BeforeRepeats d.network (OneEvent (TurnsTreeLink d.network)) (events_by last d.events)
         (events_at time d.events)

@@ -33,6 +33,7 @@ use Rattle.gptp_bmca_machine.proofs.FallLemmas.{IsAftermath}
 use Rattle.gptp_bmca_machine.proofs.LossLemmas.{loss_fits}
 use Rattle.gptp_bmca_machine.proofs.LostBeginLemmas.{top_begins}
 use Rattle.gptp_bmca_machine.proofs.SettledLemmas.{network_whole}
+use Rattle.gptp_bmca_machine.proofs.RestLemmas.{left_of}
 use Rattle.gptp_invariants.specs.ChoiceCalm.{HaveQuietLinks, delay_in, log_of}
 use Rattle.gptp_invariants.specs.ChoiceSettlesAsMachine.{IsWorld}
 use Rattle.gptp_invariants.specs.ChoiceView.{says_announce, view}
@@ -169,11 +170,9 @@ module _ (p : SettlingParams) (number : ℕ) (w : WorldState) (draws : List Draw
     n' = split_network p silent w'
 
     left' : IsWhatIsLeft g n'
-    left' = record {
-      graph = well;
-      systems = alone.systems_before p number w draws done w' is is' acts lives;
-      links = alone.links_before p number w draws done w' is is' acts lives;
-    }
+    left' =
+        left_of g n' well (alone.systems_before p number w draws done w' is is' acts lives)
+        (alone.links_before p number w draws done w' is is' acts lives)
 
     same : SameWiring n0 n'
     unfolding seen0
@@ -230,6 +229,7 @@ module _ (p : SettlingParams) (number : ℕ) (w : WorldState) (draws : List Draw
         each = λ t cut. record {
           well = well';
           left = left';
+          stand = λ s member. inl (loses.systems s member);
           worse = cut.worse;
           was_best = cut.was_best;
           was = cut.was;

@@ -57,7 +57,7 @@ use Rattle.gptp_settling_time.specs.Arrivals.{HasArrivedBy}
 use Rattle.gptp_settling_time.specs.Gains.{ChangesNothing, EndHasFailed, LeavesCapable, Repeats, TakesNothing}
 use Rattle.gptp_settling_time.specs.InTurn.{AddsHeard, BettersClock, FlightIsGone, MakesNothing, NoneUsed, TakesAny, TellsNothing, UsedVaryLittle, WidensLink, turned_echo_span}
 use Rattle.gptp_settling_time.specs.Losses.{AgesWithin, CutsFarEnd, FailsFarEnd, FailsHeard, LeavesChoice, LosesAny, LowersLink, LowersUnused, MovesNoneInAll, NoneSilent, TurnsLink, UpIsUsed}
-use Rattle.gptp_settling_time.specs.TreeLosses.{FailsTrees, LowersTree, TurnsTreeLink}
+use Rattle.gptp_settling_time.specs.TreeLosses.{FailsTrees, FallsTree, TurnsTreeLink}
 
 -- ---- times
 
@@ -414,9 +414,9 @@ TreeNext n Moves events Then last time Asks =
     × BeforeRepeats n (OneEvent Moves) (events_by last events) (events_at time events)
     × Asks (events_by time events)
 
--- a tree is cut off
+-- a tree falls back
 abbrev pub FallsNext : NetworkState → List Timed → (ℕ → Type 0) → ℕ → ℕ → (List Timed → Type 0) → Type 0
-FallsNext n = TreeNext n (LowersTree n)
+FallsNext n = TreeNext n (FallsTree n)
 
 -- a tree turns to its one way out
 abbrev pub TurnsNext : NetworkState → List Timed → (ℕ → Type 0) → ℕ → ℕ → (List Timed → Type 0) → Type 0

@@ -72,7 +72,7 @@ use Rattle.gptp_settling_time.specs.Documents.{IsSettledAs}
 use Rattle.gptp_settling_time.specs.Exactly.{SettlesBy}
 use Rattle.gptp_settling_time.specs.Gains.{AreCapableAnyway, AreCapableNext, AreCapableStill, ChangesNothing, EndHasFailed, HasRested, IsDownAfter, IsNoWorse, JoinsLive, LeavesCapable, RepeatsNow, TakesNothing, UsesNoLink, exchanged_from}
 use Rattle.gptp_settling_time.specs.Losses.{AgesWithin, AreSilentAfter, CutsFarEnd, FailsFarEnd, FailsHeard, LeavesChoice, LosesAny, LowersLink, LowersUnused, MovesNoneInAll, NoneSilent, TurnsLink, UpIsUsed}
-use Rattle.gptp_settling_time.specs.TreeLosses.{FailsTrees, LowersTree, TurnsTreeLink}
+use Rattle.gptp_settling_time.specs.TreeLosses.{FailsTrees, FallsTree, TurnsTreeLink}
 
 -- What a network came from. The numbers are times, but for the second of a loss.
 pub data Past : Type 0 where
@@ -236,9 +236,9 @@ pub record TurnsCalm (n : NetworkState) (before : List Timed) (event : Timed) : 
   pub calm : IsCalm n before
   pub off : NothingLapses n.params
 
--- a link goes down that so cuts a tree off, in such a network
+-- a tree so falls back, in such a network
 pub record FallsCalm (n : NetworkState) (before : List Timed) (event : Timed) : Type 0 where
-  pub lowers : LowersTree n before event
+  pub falls : FallsTree n before event
   pub calm : IsCalm n before
   pub off : NothingLapses n.params
 
