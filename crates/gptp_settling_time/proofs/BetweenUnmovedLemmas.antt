@@ -7,7 +7,7 @@ use Rattle.gptp_graph.specs.Path.{IsPath, Reaches, Route}
 use Rattle.gptp_graph.specs.Snapshot.{Adjacent, IsWellFormed, Joins, PortIdentity, Snapshot, System, clocks, port_of}
 use Rattle.gptp_graph.proofs.BestLemmas.{IsBest-unique}
 use Rattle.gptp_graph.proofs.SystemLemmas.{In-clocks, system_of}
-use Rattle.gptp_bmca_machine.specs.LossLaws.{IsWhatIsLeft, Unmoved}
+use Rattle.gptp_bmca_machine.specs.LossLaws.{Unmoved}
 use Rattle.gptp_bmca_machine.specs.Network.{Network}
 
 -- what is left of a snapshot has no other paths
@@ -35,7 +35,9 @@ module _ (g h : Snapshot) (systems : (s : System) → In s g.systems → In s h.
   pub reaches_on : (v w : ℕ) → Reaches g v w → Reaches h v w
   reaches_on v w (us, path) = (us, path_on v w us path)
 
-module _ (before : Snapshot) (n n' : Network) (well' : IsWellFormed n'.graph) (first : IsWhatIsLeft before n)
+module _ (before : Snapshot) (n n' : Network) (well' : IsWellFormed n'.graph)
+    (first_systems : (s : System) → In s n.graph.systems → In s before.systems)
+    (first_links : (p q : PortIdentity) → Joins n.graph p q → Joins before p q)
     (systems : (s : System) → In s n'.graph.systems → In s n.graph.systems)
     (links : (p q : PortIdentity) → Joins n'.graph p q → Joins n.graph p q) where
   abbrev g : Snapshot
@@ -52,7 +54,7 @@ module _ (before : Snapshot) (n n' : Network) (well' : IsWellFormed n'.graph) (f
           live = systems b x.live;
           reached = reaches_on g' g systems links v b.clock x.reached;
           least = λ s member reached.
-              was.least s (first.systems s member) (reaches_on g before first.systems first.links v s.clock reached);
+              was.least s (first_systems s member) (reaches_on g before first_systems first_links v s.clock reached);
         }
 
     far_between : (d : ℕ) → IsDistance before v d → IsDistance g v d
@@ -71,7 +73,7 @@ module _ (before : Snapshot) (n n' : Network) (well' : IsWellFormed n'.graph) (f
               long,
             );
             least = λ vs longer.
-                was.from_best.least vs (path_on g before first.systems first.links was.best.clock v vs longer);
+                was.from_best.least vs (path_on g before first_systems first_links was.best.clock v vs longer);
           };
         }
 

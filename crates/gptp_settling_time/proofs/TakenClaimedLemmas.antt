@@ -1,6 +1,6 @@
 -- A world since links or systems were taken away at a time, whoever was moved. It goes on as one since news does. Where
 -- no system is moved in all but such as are cut off, and no port is unanswered, it has settled at once.
-use Rattle.std.proofs.Common.{◌≡◌, ◌≤◌, ◌+◌, ◌*◌, ℕ, pred, List, None, Some, refl, sym, ap, subst, ◌∙◌, inl, inr, arith}
+use Rattle.std.proofs.Common.{◌≡◌, ◌≤◌, ◌*◌, ℕ, pred, List, None, Some, refl, sym, ap, subst, ◌∙◌, inl, inr, arith}
 use Rattle.gptp_lists.specs.Members.{In}
 use Rattle.gptp_graph.specs.PathBound.{path_bound}
 use Rattle.gptp_graph.specs.Snapshot.{IsWellFormed, Joins, PortIdentity, Snapshot, System}
@@ -18,6 +18,7 @@ use Rattle.gptp_bmca_machine.specs.LossLaws.{IsAfterLoss, IsWhatIsLeft}
 use Rattle.gptp_bmca_machine.specs.Network.{IsSettlingNetwork, Network, settled_from}
 use Rattle.gptp_bmca_machine.specs.Station.{Disabled, Received, Station as SeenStation}
 use Rattle.gptp_bmca_machine.proofs.SettledLemmas.{systems_bounded}
+use Rattle.gptp_bmca_machine.proofs.RestLemmas.{left_of}
 use Rattle.gptp_invariants.specs.ChoiceCalm.{HaveQuietLinks, delay_in}
 use Rattle.gptp_invariants.specs.ChoiceSeenLaws.{IsNoChange}
 use Rattle.gptp_invariants.specs.ChoiceSettled.{ChoiceStands, Settled}
@@ -87,7 +88,7 @@ pub record IsTakenAlways (p : SettlingParams) (g : Snapshot) (silent : ℕ) (w :
 
 pub taken_left : (p : SettlingParams) (g : Snapshot) (silent : ℕ) (w : WorldState) → IsTakenAlways p g silent w
     → IsWhatIsLeft g (aging_network p silent w)
-taken_left p g silent w is = record { graph = is.well; systems = is.systems; links = is.links }
+taken_left p g silent w is = left_of g (aging_network p silent w) is.well is.systems is.links
 
 module _ (p : SettlingParams) (g : Snapshot) (since most silent : ℕ) (w w' : WorldState)
     (lost : IsLostAlways p since most silent w) (lost' : IsLostAlways p since most silent w')

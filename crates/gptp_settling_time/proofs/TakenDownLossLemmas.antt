@@ -1,6 +1,6 @@
 -- A link goes down, whoever is moved by it: its lanes are emptied, and then each end that lives answers. What is claimed
 -- of a world from which links or systems are taken away is claimed then too.
-use Rattle.std.proofs.Common.{◌≡◌, ◌≢◌, ◌⊎◌, ◌<◌, ◌≤◌, ℕ, true, List, [], Some, slice_get, refl, sym, ap, subst, ◌∙◌, inl, inr, arith}
+use Rattle.std.proofs.Common.{◌≡◌, ◌≢◌, ◌<◌, ◌≤◌, ℕ, true, List, [], Some, slice_get, refl, sym, ap, subst, ◌∙◌, inl, inr, arith}
 use Rattle.std.proofs.lemmas.Option.{same_Some}
 use Rattle.gptp_lists.specs.Members.{In}
 use Rattle.gptp_lists.proofs.MappedLemmas.{same_there}
@@ -52,9 +52,10 @@ use Rattle.gptp_settling_time.proofs.LinkUpLemmas.{lane_set}
 use Rattle.gptp_settling_time.proofs.LoweredLemmas.{down_less}
 use Rattle.gptp_settling_time.proofs.OneCallLemmas.{call_steps, emptier_itself, emptier_on, lane_back, lane_on, station_back, station_on, still_answering}
 use Rattle.gptp_settling_time.proofs.ReducedLemmas.{IsLess}
-use Rattle.gptp_settling_time.proofs.TakenClaimedLemmas.{IsTakenAlways, taken_after, taken_left}
+use Rattle.gptp_settling_time.proofs.TakenClaimedLemmas.{IsTakenAlways, taken_after}
 use Rattle.gptp_settling_time.proofs.TakenDownLemmas.{told_keeps}
 use Rattle.gptp_settling_time.proofs.TakenSeenLemmas.{IsTakenSeen, taken_emptied, taken_kept}
+use Rattle.gptp_bmca_machine.proofs.RestLemmas.{left_of}
 
 module _ (p : SettlingParams) (g : Snapshot) (silent owner port : ℕ) (w : WorldState) (draws : List Draw) (done : Done)
     (w' : WorldState) (is : IsWorld p w) (is' : IsWorld p w')
@@ -129,11 +130,9 @@ module _ (p : SettlingParams) (g : Snapshot) (silent owner port : ℕ) (w : Worl
   after' = taken_after p silent w' standing' heard' quiet' off late'
 
   left' : IsWhatIsLeft g n'
-  left' = record {
-    graph = taken.well;
-    systems = λ s member. taken.systems s (less.systems s member);
-    links = λ a b joins. taken.links a b (less.links a b joins);
-  }
+  left' =
+      left_of g n' taken.well (λ s member. taken.systems s (less.systems s member))
+      (λ a b joins. taken.links a b (less.links a b joins))
 
   -- ---- its lanes
 
@@ -232,7 +231,7 @@ module _ (p : SettlingParams) (g : Snapshot) (silent owner port : ℕ) (w : Worl
 
     seen_cut : IsTakenSeen says_announce g n' (view cut)
     seen_cut =
-        taken_emptied says_announce g n n' well' wiring (taken_left p g silent w taken) less.systems less.links
+        taken_emptied says_announce g n n' well' wiring taken.well taken.systems taken.links less.systems less.links
         (view w) (view cut) emptied taken.late after_cut taken.seen
 
     by_step : MachineSteps says_announce (view cut) (view w') → IsTakenSeen says_announce g n' (view w')

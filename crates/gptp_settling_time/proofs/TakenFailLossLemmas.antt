@@ -20,7 +20,7 @@ use Rattle.gptp_settling_time.proofs.AgingClaimedLemmas.{aging_network}
 use Rattle.gptp_settling_time.proofs.AgingStillLemmas.{IsEmptied}
 use Rattle.gptp_settling_time.proofs.AlwaysClaimedLemmas.{AreHeard, IsStanding}
 use Rattle.gptp_settling_time.proofs.FailedAloneLemmas as alone
-use Rattle.gptp_settling_time.proofs.TakenClaimedLemmas.{IsTakenAlways, taken_after, taken_left}
+use Rattle.gptp_settling_time.proofs.TakenClaimedLemmas.{IsTakenAlways, taken_after}
 use Rattle.gptp_settling_time.proofs.TakenSeenLemmas.{taken_emptied}
 
 module _ (p : SettlingParams) (g : Snapshot) (silent number : ℕ) (w : WorldState) (draws : List Draw) (done : Done)
@@ -63,7 +63,7 @@ module _ (p : SettlingParams) (g : Snapshot) (silent number : ℕ) (w : WorldSta
         taken.systems s (alone.systems_before p number w draws done w' is is' acts lives s member);
     links = λ a b joins. taken.links a b (alone.links_before p number w draws done w' is is' acts lives a b joins);
     late = late';
-    seen = taken_emptied says_announce g n n' well' wiring (taken_left p g silent w taken)
+    seen = taken_emptied says_announce g n n' well' wiring taken.well taken.systems taken.links
         (alone.systems_before p number w draws done w' is is' acts lives)
         (alone.links_before p number w draws done w' is is' acts lives) (view w) (view w') emptied taken.late
         (taken_after p silent w' standing' heard' quiet' off late') taken.seen;

@@ -1,5 +1,5 @@
 -- Links and systems are taken away at one time from a world of a document that has settled, whoever is moved between.
-use Rattle.std.proofs.Common.{◌≡◌, ◌⊎◌, ◌<◌, ◌≤◌, ◌+◌, ◌*◌, ℕ, pred, true, List, [], ◌∷◌, ◌++◌, refl, sym, ap, subst, ◌∙◌, inl, inr, arith}
+use Rattle.std.proofs.Common.{◌≡◌, ◌⊎◌, ◌<◌, ◌≤◌, ◌*◌, ℕ, pred, true, List, [], ◌∷◌, ◌++◌, refl, sym, ap, subst, ◌∙◌, inl, inr, arith}
 use Rattle.gptp_lists.specs.Members.{In}
 use Rattle.gptp_graph.specs.Best.{IsBest}
 use Rattle.gptp_graph.specs.Distance.{IsDistance}
@@ -21,6 +21,7 @@ use Rattle.gptp_network.specs.Document.{DocumentState}
 use Rattle.gptp_bmca_machine.specs.LossLaws.{EverythingFits, Unmoved}
 use Rattle.gptp_bmca_machine.specs.Network.{Network}
 use Rattle.gptp_bmca_machine.proofs.StillLemmas.{StillSettles}
+use Rattle.gptp_bmca_machine.proofs.RestLemmas.{left_of}
 use Rattle.gptp_invariants.specs.ChoiceCalm.{delay_in, sync_paths_of}
 use Rattle.gptp_invariants.specs.ChoiceSettlesAsMachine.{IsWorld}
 use Rattle.gptp_invariants.specs.ChoiceView.{says_announce, view}
@@ -110,7 +111,7 @@ module _ (p : SettlingParams) (since most silent : ℕ) (w : WorldState) (losing
             interval = seen.same.interval;
           })
           (λ a b joins. subst (λ h. Joins h a b) (sym seen.graph) joins) back
-          (record { graph = well; systems = λ s member. member; links = λ a b joins. joins }) (view w) (view w) itself
+          (left_of g n well (λ s member. member) (λ a b joins. joins)) (view w) (view w) itself
           (let most = seen.most in omega (arith, most, late))
           (taken_after p silent w losing.standing (λ start. asked_are_heard p since start w losing.asked) losing.quiet
           losing.off late) fits tells;

@@ -1,8 +1,8 @@
 -- What is known of each state since links or systems were taken away, whoever is moved: all that is held and in flight
 -- fits the snapshot of before, and each system that is unmoved keeps its root and steps and tells them.
-use Rattle.std.proofs.Common.{◌≡◌, ◌≤◌, ℕ, suc, subst, inl, inr, arith}
+use Rattle.std.proofs.Common.{◌≤◌, ℕ, suc, subst, inl, inr, arith}
 use Rattle.gptp_lists.specs.Members.{In}
-use Rattle.gptp_graph.specs.Snapshot.{IsWellFormed, Joins, PortIdentity, Snapshot, System, clocks}
+use Rattle.gptp_graph.specs.Snapshot.{IsWellFormed, Joins, PortIdentity, Snapshot, System}
 use Rattle.gptp_bmca_machine.specs.Acts.{MachineSteps}
 use Rattle.gptp_bmca_machine.specs.Frame.{Spelling}
 use Rattle.gptp_bmca_machine.specs.LossLaws.{EverythingFits, IsAfterLoss, IsWhatIsLeft}
@@ -11,6 +11,7 @@ use Rattle.gptp_bmca_machine.specs.RestLaws.{SameWiring}
 use Rattle.gptp_bmca_machine.specs.Station.{MachineState}
 use Rattle.gptp_bmca_machine.proofs.LossLemmas.{fits_kept}
 use Rattle.gptp_bmca_machine.proofs.StillLemmas.{StillSettles, levels_below}
+use Rattle.gptp_bmca_machine.proofs.RestLemmas.{left_of}
 use Rattle.gptp_settling_time.proofs.AgingStillLemmas.{IsEmptied, still_emptied}
 use Rattle.gptp_settling_time.proofs.BetweenUnmovedLemmas.{known_on, unmoved_between}
 
@@ -34,10 +35,15 @@ taken_kept says g n w w' well' less was after step seen = record {
 
 -- So it is kept where systems or links are taken away, and nothing else happens but that lanes are emptied.
 module _ (says : Spelling) (g : Snapshot) (n n' : Network) (well' : IsWellFormed n'.graph) (same : SameWiring n n')
-    (less : IsWhatIsLeft g n) (systems : (s : System) → In s n'.graph.systems → In s n.graph.systems)
+    (well : IsWellFormed g) (first_systems : (s : System) → In s n.graph.systems → In s g.systems)
+    (first_links : (p q : PortIdentity) → Joins n.graph p q → Joins g p q)
+    (systems : (s : System) → In s n'.graph.systems → In s n.graph.systems)
     (links : (p q : PortIdentity) → Joins n'.graph p q → Joins n.graph p q) (w w' : MachineState)
     (emptied : IsEmptied w w') (late : n.most ≤ w.time) (after' : IsAfterLoss n' w') (seen : IsTakenSeen says g n w)
     where
+  less : IsWhatIsLeft g n
+  less = left_of g n well first_systems first_links
+
   less_left : IsWhatIsLeft g n'
   less_left = record {
     graph = less.graph;
@@ -59,6 +65,6 @@ module _ (says : Spelling) (g : Snapshot) (n n' : Network) (well' : IsWellFormed
   pub taken_emptied : IsTakenSeen says g n' w'
   taken_emptied = record {
     fits = fits';
-    still = still_emptied says g n n' well' same links (λ v is. unmoved_between g n n' well' less systems links v is)
+    still = still_emptied says g n n' well' same links (λ v is. unmoved_between g n n' well' first_systems first_links systems links v is)
         less_left w w' emptied late after' fits' seen.still;
   }
