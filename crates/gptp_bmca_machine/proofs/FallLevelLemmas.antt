@@ -136,7 +136,7 @@ module _ (says : Spelling) (g : Snapshot) (n : Network) (Tree : ℕ → Type 0) 
           not_led : HasLeft n w u best (base + depth u) → LinkSettles says (telling n (before f) f next v p u q) w'
           not_led not = elim after [ inl root ↦ not_ready w' root | inr not' ↦ kept_by (inr not) (inr not') ]
 
-          by : DownStage says n best (base + depth u) (falls_by n start (suc (depth u))) u q v p w
+          by : DownStage says t.ways n best (base + depth u) (falls_by n start (suc (depth u))) u q v p w
               → LinkSettles says (telling n (before f) f next v p u q) w'
           by (inl led) = not_ready w' (elim (led_next says g n Tree Out top best next base depth t start w w' m m' step
               drops falling u

@@ -82,8 +82,8 @@ module _ (says : Spelling) (g : Snapshot) (n : Network) (Tree : ℕ → Type 0) 
   }
     where
       by : (v p u q : ℕ) → Joins n.graph (port_of v (suc p)) (port_of u (suc q))
-          → DownStage says n best (base + depth v) (falls_by n start (suc (depth v))) v p u q w
-          → DownStage says n best (base + depth v) (falls_by n start' (suc (depth v))) v p u q w
+          → DownStage says t.ways n best (base + depth v) (falls_by n start (suc (depth v))) v p u q w
+          → DownStage says t.ways n best (base + depth v) (falls_by n start' (suc (depth v))) v p u q w
       by v p u q joins (inl led) = inl led
       by v p u q joins (inr (inr free)) = inr (inr free)
       by v p u q joins (inr (inl (not, told))) = inr (inl (
@@ -95,7 +95,7 @@ module _ (says : Spelling) (g : Snapshot) (n : Network) (Tree : ℕ → Type 0) 
               holds = old.holds;
               final = old.final;
               young = old.young;
-              told = told_sooner says (still n (base + depth v) best v p u q) (IsNewTold n.graph (port_of v (suc p)) u)
+              told = told_sooner says (still n (base + depth v) best v p u q) (IsNewTold t.ways (port_of v (suc p)) u)
                   (falls_by n start (suc (depth v))) (falls_by n start' (suc (depth v))) l.frames
                   (λ f among. let soon = comes_by v p u q joins l f lane among in omega (arith, soon, now)) old.told;
             }),
