@@ -58,7 +58,7 @@ module _ (says : Spelling) (g : Snapshot) (n : Network) (best : System) (IsCut :
         is s pu l (stood u known_u s at) there (stood_lane (port_of v (suc p)) (port_of u (suc q)) joins l lane)
 
   down_emptied : (far last v p u q : ℕ) → Joins n.graph (port_of v (suc p)) (port_of u (suc q))
-      → DownStage says t.ways n best far last v p u q w → DownStage says t.ways n best far last v p u q w'
+      → DownStage says n.graph n best far last v p u q w → DownStage says n.graph n best far last v p u q w'
   down_emptied far last v p u q joins (inl (old, stays)) = inl (
     (λ s at. old s (stood v (known_v v p u q joins) s at)),
     (λ pv pu l stand. stays pv pu l (record {

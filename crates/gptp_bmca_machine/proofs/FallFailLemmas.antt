@@ -75,7 +75,7 @@ module _ (says : Spelling) (n0 n : Network) (net0 : IsSettlingNetwork n0) (w w' 
       )
 
       up_free : (v p u q : ℕ) → IsBest n.graph v next → Joins n.graph (port_of v (suc p)) (port_of u (suc q))
-          → depth v ≡ suc (depth u) → IsFreeAt says n v p u q w'
+          → depth v ≡ suc (depth u) → IsFreeAt says n.graph n v p u q w'
       up_free v p u q in_v joins higher s pu l at there lane = record {
         hears = λ r holds.
             absurd (held_before says n0 n (IsCutOff n next) LeadsNowhere top best next base depth moved net0 w

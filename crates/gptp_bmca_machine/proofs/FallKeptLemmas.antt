@@ -11,7 +11,6 @@ use Rattle.gptp_bmca_machine.specs.Clean.{Whole}
 use Rattle.gptp_bmca_machine.specs.Frame.{Announce, Lane, Spelling}
 use Rattle.gptp_bmca_machine.specs.Link.{LinkSettles, TellerIsReady}
 use Rattle.gptp_bmca_machine.specs.LinkStage.{Wiring}
-use Rattle.gptp_bmca_machine.specs.LossLaws.{Unmoved}
 use Rattle.gptp_bmca_machine.specs.Network.{Network}
 use Rattle.gptp_bmca_machine.specs.Reacts.{IsMasterAt, IsOwn}
 use Rattle.gptp_bmca_machine.specs.Station.{MachineState, Mine, Port, Received, Station}
@@ -142,7 +141,7 @@ module _ (says : Spelling) (g : Snapshot) (n : Network) (Tree : ℕ → Type 0) 
         → a.source.clock ≡ u → Whole t.ways u a → Replaces v (suc p) a (Mine best.identity (base + depth v)) → ⊥
     not_replaces v u p a in_v joined leads source whole replaces = elim leads.beyond [
       | inl (in_u, deeper) ↦ below (own_new says g n Tree Out top best next base depth t start u a in_u whole) deeper
-      | inr out ↦ outside (t.unmoved v u out) (t.worse v in_v)
+      | inr out ↦ outside (λ far is. t.far_now u far (inr (v, out)) ((t.unmoved v u out).far far is)) (t.worse v in_v)
     ]
       where
         below : (best.identity < a.root) ⊎ ((a.root ≡ best.identity) × (base + depth u < a.steps))
@@ -157,28 +156,28 @@ module _ (says : Spelling) (g : Snapshot) (n : Network) (Tree : ℕ → Type 0) 
           | inr (same, inr (as_many, rest)) ↦ omega (arith, as_many, more, deeper)
         ]
 
-        is_next : IsBest n.graph u next
+        is_next : IsBest t.ways u next
         is_next = best_beside g n Tree Out top best next base depth t v u in_v joined
 
         least : next.identity ≤ a.root
-        least = root_not_better n.graph t.well u a whole next is_next
+        least = root_not_better t.ways t.ways_well u a whole next is_next
 
-        outside : Unmoved g n u → (best.identity < next.identity)
-            ⊎ ((best ≡ next) × ((far : ℕ) → IsDistance n.graph v far → base + depth v < far)) → ⊥
-        outside still_there (inl less) = by_root replaces
+        outside : ((far : ℕ) → IsDistance g u far → IsDistance t.ways u far) → (best.identity < next.identity)
+            ⊎ ((best ≡ next) × ((far : ℕ) → IsDistance t.ways v far → base + depth v < far)) → ⊥
+        outside as_far (inl less) = by_root replaces
           where
             by_root : Replaces v (suc p) a (Mine best.identity (base + depth v)) → ⊥
             by_root (inl lower) = omega (arith, lower, less, least)
             by_root (inr (same, rest)) = omega (arith, same, less, least)
-        outside still_there (inr (one, more)) = by replaces
+        outside as_far (inr (one, more)) = by replaces
           where
             identity : best.identity ≡ next.identity
             identity = ap (λ (b : System). b.identity) one
 
             many : a.root ≡ best.identity → leads.far ≤ a.steps
             many root =
-                steps_not_fewer n.graph t.well u a whole next is_next u leads.far (inl refl) is_next
-                (still_there.far leads.far leads.there) (root ∙ identity)
+                steps_not_fewer t.ways t.ways_well u a whole next is_next u leads.far (inl refl) is_next
+                (as_far leads.far leads.there) (root ∙ identity)
 
             by : Replaces v (suc p) a (Mine best.identity (base + depth v)) → ⊥
             by (inl lower) = omega (arith, lower, identity, least)

@@ -5,7 +5,7 @@ use Rattle.gptp_lists.specs.Members.{In}
 use Rattle.gptp_lists.proofs.SystemSpecLemmas.{In-parts}
 use Rattle.gptp_graph.specs.Best.{IsBest}
 use Rattle.gptp_graph.specs.Order.{IsLower}
-use Rattle.gptp_graph.specs.Path.{Reaches}
+use Rattle.gptp_graph.specs.Path.{IsPath, Reaches}
 use Rattle.gptp_graph.specs.Distance.{IsDistance}
 use Rattle.gptp_graph.specs.Snapshot.{Adjacent, IsLinked, Joins, PortIdentity, Snapshot, System, clocks, port_of}
 use Rattle.gptp_graph.proofs.BestLemmas.{IsBest-unique}
@@ -15,7 +15,7 @@ use Rattle.gptp_graph.proofs.LinkLemmas.{Adjacent-clock, Adjacent-sym, Joins-sym
 use Rattle.gptp_graph.proofs.PathLemmas.{Reaches-self}
 use Rattle.gptp_graph.proofs.SystemLemmas.{same_identity}
 use Rattle.gptp_bmca_machine.specs.AtRest.{StationIsAtRest}
-use Rattle.gptp_bmca_machine.specs.Clean.{CameFits, Whole}
+use Rattle.gptp_bmca_machine.specs.Clean.{CameFits, CameOverLink, Whole}
 use Rattle.gptp_bmca_machine.specs.Facts.{FollowsItself, FollowsPort, station_system}
 use Rattle.gptp_bmca_machine.specs.Frame.{Announce, AnnounceFrame, Spelling}
 use Rattle.gptp_bmca_machine.specs.LossLaws.{EverythingFits, IsAfterLoss, Unmoved}
@@ -26,11 +26,11 @@ use Rattle.gptp_bmca_machine.specs.SoundLaws.{UnlinkedAreOff}
 use Rattle.gptp_bmca_machine.specs.Station.{Disabled, Held, HoldsAt, MachineState, Mine, Port, Received, Reception, Station}
 use Rattle.gptp_bmca_machine.specs.Touch.{IsUsable}
 use Rattle.gptp_bmca_machine.specs.Vectors.{path_vector}
-use Rattle.gptp_bmca_machine.proofs.MovedTreeLemmas.{to_ways, ways_lives, IsBeyond, LeadsDown, MovesTree, best_beside, names_beyond, one_port}
+use Rattle.gptp_bmca_machine.proofs.MovedTreeLemmas.{Around, IsBeyond, LeadsDown, MovesTree, best_beside, named, names_beyond, one_port, to_ways, ways_lives}
 use Rattle.gptp_bmca_machine.proofs.LinkStepLemmas.{AtLink, lives_at}
 use Rattle.gptp_bmca_machine.proofs.NearestLemmas.{came_fits, path_length, root_not_better, steps_not_fewer}
 use Rattle.gptp_bmca_machine.proofs.PlaceLemmas.{same_there}
-use Rattle.gptp_bmca_machine.proofs.RestLemmas.{IsClear, bounded, root_above, steps_above}
+use Rattle.gptp_bmca_machine.proofs.RestLemmas.{CameBounded, IsClear, bounded, root_above, steps_above}
 use Rattle.gptp_bmca_machine.proofs.StillLemmas.{clear_at, still}
 use Rattle.gptp_bmca_machine.proofs.ToldLemmas.{AllSay, HoldsTold}
 use Rattle.gptp_bmca_machine.proofs.TraceLemmas.{whole_on, whole_own}
@@ -402,6 +402,60 @@ module _ (says : Spelling) (g : Snapshot) (n : Network) (Tree : ℕ → Type 0) 
           held = λ i r holds. bounded t.ways s.clock (suc i) r (free_fits not i r holds);
         }
 
+        -- and by what is left it is clear
+        pub clear_left : (HasChoice s best (base + depth x) → ⊥) → IsClear n.graph s
+        clear_left not = record { rest = rest; known = known; held = bounded_left }
+          where
+            is_best : (b : System) → IsBest n.graph s.clock b → IsBest t.ways s.clock b
+            is_best b is =
+                let one = IsBest-unique n.graph x next b t.well (t.best_now x in_x)
+                (subst (λ c. IsBest n.graph c b) is_x.1 is) in
+                subst (λ c. IsBest t.ways c b) (sym is_x.1) (subst (IsBest t.ways x) one (t.is_best x in_x))
+
+            far_now : (v far : ℕ) → Around Tree Out v → IsDistance n.graph v far → IsDistance t.ways v far
+            far_now = t.far_now
+
+            bounded_left : (i : ℕ) (r : Reception) → HoldsAt s i r → CameBounded n.graph s.clock (suc i) r
+            bounded_left i r holds = record {
+              over = λ linked. over_link linked.0 linked.1;
+              root = λ b is. fits.fits.root b (is_best b is);
+              here = λ b far is root there. fits.fits.here b far (is_best b is) root
+                  (subst (λ c. IsDistance t.ways c far) (sym is_x.1)
+                  (far_now x far (inl in_x) (subst (λ c. IsDistance n.graph c far) is_x.1 there)));
+            }
+              where
+                fits : CameFits t.ways s.clock (suc i) r
+                fits = free_fits not i r holds
+
+                over_link : (u : PortIdentity) → Joins n.graph (port_of s.clock (suc i)) u
+                    → CameOverLink n.graph s.clock (suc i) r.said
+                over_link u joined = record {
+                  from = u;
+                  joins = Joins-sym n.graph (port_of s.clock (suc i)) u joined;
+                  source = came.source ∙ same;
+                  sender = λ b far is root there. came.sender b far (is_best b is) root
+                      (subst (λ (k : PortIdentity). IsDistance t.ways k.clock far) (sym same)
+                      (far_now u.clock far beside there));
+                }
+                  where
+                    joins_ways : Joins t.ways (port_of s.clock (suc i)) u
+                    joins_ways = t.ways_left.links (port_of s.clock (suc i)) u joined
+
+                    came : CameOverLink t.ways s.clock (suc i) r.said
+                    came = fits.over (u, joins_ways)
+
+                    same : came.from ≡ u
+                    same =
+                        t.ways_well.one_link (port_of s.clock (suc i)) came.from u
+                        (Joins-sym t.ways came.from (port_of s.clock (suc i)) came.joins) joins_ways
+
+                    beside : Around Tree Out u.clock
+                    beside = elim (t.beside x u.clock in_x
+                        (suc i, u.port, subst (λ c. Joins n.graph (port_of c (suc i)) u) is_x.1 joined)) [
+                          | inl in_u ↦ inl in_u
+                          | inr out ↦ inr (x, out)
+                        ]
+
         -- ---- who has its old choice
 
         -- it follows what was told before
@@ -541,10 +595,29 @@ module _ (says : Spelling) (g : Snapshot) (n : Network) (Tree : ℕ → Type 0) 
                     | inr (inr none) ↦ none
                   ]
 
+              -- its way goes on to whoever is beyond it
+              way_on : (whole : Whole t.ways x a) → IsPath t.ways u whole.first.clock (x ∷ whole.others)
+              way_on whole = record {
+                begins = Adjacent-clock t.ways x u t.ways_well
+                    (to_ways g n Tree Out top best next base depth t x u (suc p, suc q, joins));
+                route = (
+                  to_ways g n Tree Out top best next base depth t u x (
+                    suc q,
+                    suc p,
+                    Joins-sym n.graph (port_of x (suc p)) (port_of u (suc q)) joins,
+                  ),
+                  whole.way.route,
+                );
+                different = (
+                  (λ among. names_not follows (named t.ways x a whole u among)),
+                  whole.way.different,
+                );
+              }
+
               pub says_usable : IsUsable u a
               says_usable =
                   let whole = says_whole in
-                  let short = t.paths x whole.first.clock whole.others whole.way in
+                  let short = t.paths u whole.first.clock (x ∷ whole.others) (way_on whole) in
                   let steps_are = whole.steps in
                   let long = path_length t.ways t.ways_well x a whole next (t.is_best x in_x) in
                   let few = t.few in

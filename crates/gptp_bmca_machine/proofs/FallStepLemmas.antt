@@ -91,9 +91,9 @@ module _ (says : Spelling) (g : Snapshot) (n : Network) (Tree : ℕ → Type 0) 
         enters = λ held fs news new is. is;
         misses = λ held f fs silent is. record { hears = is.hears; flight = λ h a among. is.flight h a (inr among) };
         answers = λ touch now root steps pu pu' sends fs end end' time left answer deaf aged is.
-            (free_answers says n.graph v u q touch now root steps pu pu' sends answer fs deaf is).hears;
+            (free_answers says t.ways v u q touch now root steps pu pu' sends answer fs deaf is).hears;
         hears = λ now root steps pu pu' sends l f fs a end end' time at frames said answer is.
-            (free_hears says n.graph v u q now root steps pu pu' sends f fs a said answer is).hears;
+            (free_hears says t.ways v u q now root steps pu pu' sends f fs a said answer is).hears;
       }) step free
 
   -- and so does the link, where what is said is so
@@ -111,9 +111,9 @@ module _ (says : Spelling) (g : Snapshot) (n : Network) (Tree : ℕ → Type 0) 
         };
         misses = λ held f fs silent is. record { hears = is.hears; flight = λ h a among. is.flight h a (inr among) };
         answers = λ touch now root steps pu pu' sends fs end end' time left answer deaf aged is.
-            free_answers says n.graph v u q touch now root steps pu pu' sends answer fs deaf is;
+            free_answers says t.ways v u q touch now root steps pu pu' sends answer fs deaf is;
         hears = λ now root steps pu pu' sends l f fs a end end' time at frames said answer is.
-            free_hears says n.graph v u q now root steps pu pu' sends f fs a said answer is;
+            free_hears says t.ways v u q now root steps pu pu' sends f fs a said answer is;
       }) step free
 
   -- ---- what was told before is held until what is told since comes

@@ -64,7 +64,7 @@ pub record MovesTree (g : Snapshot) (n : Network) (Tree : ℕ → Type 0) (Out :
       → p ≡ q
   pub reach : ℕ
   pub paths : BoundsPaths ways reach
-  pub few : reach ≤ 255
+  pub few : reach ≤ 256
 
 -- one of the tree stands so many links below the other
 abbrev pub IsBelowBy : (ℕ → Type 0) → Snapshot → (ℕ → ℕ) → ℕ → ℕ → ℕ → Type 0

@@ -24,7 +24,7 @@ use Rattle.gptp_bmca_machine.specs.Settled.{FollowsBest, HasBest, HasSettledRole
 use Rattle.gptp_bmca_machine.specs.Station.{HoldsAt, MachineState, Mine, Port, Received, Reception, Station}
 use Rattle.gptp_bmca_machine.specs.TurnTree.{TurnsTree}
 use Rattle.gptp_bmca_machine.proofs.FallHeldLemmas.{holds_in_tree}
-use Rattle.gptp_bmca_machine.proofs.FallLemmas.{free_clear}
+use Rattle.gptp_bmca_machine.proofs.FallLemmas.{clear_left}
 use Rattle.gptp_bmca_machine.proofs.LevelLemmas.{places_of}
 use Rattle.gptp_bmca_machine.proofs.LinkEndsLemmas.{hearer_on}
 use Rattle.gptp_bmca_machine.proofs.MovedTreeLemmas.{MovesTree}
@@ -147,7 +147,7 @@ module _ (says : Spelling) (g : Snapshot) (n : Network) (tree : List ℕ) (top o
       tree_clear zero same =
           let more = t.farther s.clock d in_s here in absurd (omega (arith, more, same))
       tree_clear (suc e) same =
-          free_clear says g n (IsOf tree) (LeadsOut last out) top best best base depth m start w is.back.after s.clock
+          clear_left says g n (IsOf tree) (LeadsOut last out) top best best base depth m start w is.back.after s.clock
           in_s s there
           (holds_in_tree says g n (IsOf tree) (LeadsOut last out) top best best base depth m start w is.back.after
           is.back.falling s.clock in_s)

@@ -17,7 +17,7 @@ use Rattle.gptp_bmca_machine.specs.Network.{Network}
 use Rattle.gptp_bmca_machine.specs.Station.{HoldsAt, MachineState, Reception, Station}
 use Rattle.gptp_bmca_machine.specs.TurnTree.{TurnsTree}
 use Rattle.gptp_bmca_machine.proofs.FallHeldLemmas.{holds_in_tree, old_in_time}
-use Rattle.gptp_bmca_machine.proofs.FallLemmas.{HasLeft, falls_by, free_clear, off_drop}
+use Rattle.gptp_bmca_machine.proofs.FallLemmas.{HasLeft, UnlinkedDrop, clear_left, falls_by}
 use Rattle.gptp_bmca_machine.proofs.FallLevelLemmas.{HasTime, level_kept, show}
 use Rattle.gptp_bmca_machine.proofs.LevelLemmas.{places_of}
 use Rattle.gptp_bmca_machine.proofs.LinkEndsLemmas.{ends_by, teller_on, telling}
@@ -249,7 +249,7 @@ module _ (says : Spelling) (g : Snapshot) (n : Network) (tree : List ℕ) (top o
                       → Chooses s best (suc e)
                   chosen_by q r holds root steps =
                       suc_settles n.graph t.well s
-                      (free_clear says g n (IsOf tree) (LeadsOut last out) top best best base depth m start w
+                      (clear_left says g n (IsOf tree) (LeadsOut last out) top best best base depth m start w
                       is.back.after v in_v s at
                       (holds_in_tree says g n (IsOf tree) (LeadsOut last out) top best best base depth m start w
                       is.back.after is.back.falling v in_v) (has_left v e in_v late s at)) best
@@ -331,7 +331,7 @@ module _ (says : Spelling) (g : Snapshot) (n : Network) (tree : List ℕ) (top o
 
     module _ (w w' : MachineState) (is : TurnsBack says g n tree top other last out best base depth t start w)
         (is' : TurnsBack says g n tree top other last out best base depth t start w') (step : MachineSteps says w w')
-        (settles : TurnSettles w) where
+        (drops : UnlinkedDrop g n w w') (settles : TurnSettles w) where
       way_on : WaySettles w'
       way_on p k joins leads =
           out_kept says g n tree top other last out best base depth t start p k joins leads (before o.d) (delay o.d)
@@ -341,7 +341,7 @@ module _ (says : Spelling) (g : Snapshot) (n : Network) (tree : List ℕ) (top o
       level_on : (f : ℕ) → ((e : ℕ) → e < f → LevelSettles e w') → LevelSettles f w'
       level_on f below v p u q close in_v in_u leads =
           level_kept says g n (IsOf tree) (LeadsOut last out) top best best base depth m start before f v p u q close
-          in_v in_u leads (delay f) w w' is.back.after is'.back.after step (off_drop g n w w' is'.dark) is.back.falling
+          in_v in_u leads (delay f) w w' is.back.after is'.back.after step drops is.back.falling
           is'.back.falling
           (has_time w is settles.way f (λ e less. settles.levels e) v p u q close in_v in_u leads)
           (has_time w' is' way_on f below v p u q close in_v in_u leads)
