@@ -50,7 +50,7 @@ module _ (says : Spelling) (g : Snapshot) (n : Network) (lost : ℕ) (best : Sys
     abbrev pub HoldsAtTop : (t : Tree) → IsCut t → MachineState → Type 0
     HoldsAtTop t cut =
         TopHolds says g n (IsCutOff n t.next) LeadsNowhere lost t.top best t.next t.base t.depth loses
-        (moves_off g n t.top best t.next t.base t.depth (cuts.each t cut)) (cuts.tops t cut) stay since
+                (moves_off g n t.top best t.next t.base t.depth (cuts.each t cut)) (cuts.tops t cut) stay since
         delay shorter (long t cut)
 
     pub record FailsBack (w : MachineState) : Type 0 where
@@ -69,7 +69,7 @@ module _ (says : Spelling) (g : Snapshot) (n : Network) (lost : ℕ) (best : Sys
     abbrev AtTop : (t : Tree) → IsCut t → MachineState → Type 0
     AtTop t cut =
         IsTopState says g n (IsCutOff n t.next) LeadsNowhere lost t.top best t.next t.base t.depth loses
-        (moves_off g n t.top best t.next t.base t.depth (cuts.each t cut)) (cuts.tops t cut) stay since
+                (moves_off g n t.top best t.next t.base t.depth (cuts.each t cut)) (cuts.tops t cut) stay since
         delay shorter (long t cut)
 
     top_state : (t : Tree) → (cut : IsCut t) → (w : MachineState) → IsAfterLoss n w → EverythingFits says g n w
@@ -93,7 +93,7 @@ module _ (says : Spelling) (g : Snapshot) (n : Network) (lost : ℕ) (best : Sys
         by : ((t : Tree) × IsCut t × IsBest n.graph s.clock t.next) → IsOldTold g n s.clock r.said
         by (t, cut, in_t) =
             held_last says g n (IsCutOff n t.next) LeadsNowhere lost t.top best t.next t.base t.depth loses
-        (moves_off g n t.top best t.next t.base t.depth (cuts.each t cut)) (cuts.tops t cut) stay
+                (moves_off g n t.top best t.next t.base t.depth (cuts.each t cut)) (cuts.tops t cut) stay
             since delay shorter (long t cut) w (top_state t cut w kept fits state) (tops t cut) s.clock in_t s
             (subst (λ j. slice_get w.stations j ≡ Some s) (kept.calm.placed i s at) at) place r holds none
 
@@ -111,7 +111,7 @@ module _ (says : Spelling) (g : Snapshot) (n : Network) (lost : ℕ) (best : Sys
       tops' : (t : Tree) → (cut : IsCut t) → HoldsAtTop t cut w'
       tops' t cut =
           top_holds_on says g n (IsCutOff n t.next) LeadsNowhere lost t.top best t.next t.base t.depth loses
-        (moves_off g n t.top best t.next t.base t.depth (cuts.each t cut)) (cuts.tops t cut) stay
+                (moves_off g n t.top best t.next t.base t.depth (cuts.each t cut)) (cuts.tops t cut) stay
           since delay shorter (long t cut) w w' (at_top t cut) (at_top' t cut) step (off t cut) (is.tops t cut)
 
       pub drops : UnlinkedDrop g n w w'
@@ -125,7 +125,7 @@ module _ (says : Spelling) (g : Snapshot) (n : Network) (lost : ℕ) (best : Sys
           by : ((t : Tree) × IsCut t × IsBest n.graph v t.next) → (r : Reception) × HoldsAt s place r
           by (t, cut, in_t) =
               top_drops says g n (IsCutOff n t.next) LeadsNowhere lost t.top best t.next t.base t.depth loses
-        (moves_off g n t.top best t.next t.base t.depth (cuts.each t cut)) (cuts.tops t cut) stay
+                (moves_off g n t.top best t.next t.base t.depth (cuts.each t cut)) (cuts.tops t cut) stay
               since delay shorter (long t cut) w w' (at_top t cut) (at_top' t cut) step (off t cut) (is.tops t cut) v
               in_t s s' place r' at at' none holds
 
