@@ -55,9 +55,8 @@ pub mod FallFailLemmas
 pub mod TurnLemmas
 pub mod TurnOutLemmas
 pub mod TurnLevelLemmas
+pub mod StillEndLemmas
 pub mod TurnEndLemmas
-pub mod TurnBeginLemmas
-pub mod TurnedLemmas
 pub mod RunLemmas
 pub mod MatchingLemmas
 pub mod SyncStepLemmas

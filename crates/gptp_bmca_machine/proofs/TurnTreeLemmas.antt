@@ -35,7 +35,7 @@ module _ (g : Snapshot) (n : Network) (tree : List ℕ) (top other last out : �
   out_lives = Adjacent-clock n.graph last out t.well t.joined
 
   pub out_unmoved : Unmoved g n out
-  out_unmoved = t.others out out_lives t.outside
+  out_unmoved = t.unmoved
 
   -- how far one of the tree is now
   pub near_now : (v : ℕ) → In v tree → base + depth v < 255

@@ -20,16 +20,15 @@ pub record HasWays (g : Snapshot) (n : Network) (tree : List ℕ) (ways : Snapsh
   pub paths : BoundsPaths ways reach
   pub few : reach ≤ 256
 
--- Of what is left of a snapshot these systems are moved, and all others are unmoved. Their best is the same, and each
--- is farther from it. Before, each was as far as the depth says, from `base` on. The one at the top lost its link to a
--- system that was nearer; none of them lost another. Within the tree a link leads one deeper or less deep by one, and each
--- system has one link to one that is less deep. One link leads out of it, from `last` to `out`.
+-- Of what is left of a snapshot these systems are moved. Their best is the same, and each is farther from it. Before,
+-- each was as far as the depth says, from `base` on. The one at the top lost its link to a system that was nearer; none
+-- of them lost another. Within the tree a link leads one deeper or less deep by one, and each system has one link to one
+-- that is less deep. One link leads out of it, from `last` to `out`, which is unmoved.
 pub record TurnsTree (g : Snapshot) (n : Network) (tree : List ℕ) (top other last out : ℕ) (best : System) (base : ℕ)
     (depth : ℕ → ℕ) : Type 0 where
   pub well : IsWellFormed n.graph
   pub left : IsWhatIsLeft g n
   pub lives : (v : ℕ) → In v tree → In v (clocks n.graph)
-  pub others : (v : ℕ) → In v (clocks n.graph) → (In v tree → ⊥) → Unmoved g n v
   pub was_best : (v : ℕ) → In v tree → IsBest g v best
   pub is_best : (v : ℕ) → In v tree → IsBest n.graph v best
   pub was : (v : ℕ) → In v tree → IsDistance g v (base + depth v)
@@ -49,6 +48,7 @@ pub record TurnsTree (g : Snapshot) (n : Network) (tree : List ℕ) (top other l
   pub leaves : (v u : ℕ) → In v tree → Adjacent n.graph v u → In u tree ⊎ ((v ≡ last) × (u ≡ out))
   pub in_last : In last tree
   pub outside : In out tree → ⊥
+  pub unmoved : Unmoved g n out
   pub joined : Adjacent n.graph last out
   pub one_way : (p q k m : ℕ) → Joins n.graph (port_of last p) (port_of out k)
       → Joins n.graph (port_of last q) (port_of out m)
