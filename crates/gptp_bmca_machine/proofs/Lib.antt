@@ -54,6 +54,7 @@ pub mod FallBeginLemmas
 pub mod FallFailLemmas
 pub mod TurnLemmas
 pub mod TurnOutLemmas
+pub mod MovedLevelLemmas
 pub mod TurnLevelLemmas
 pub mod StillEndLemmas
 pub mod TurnEndLemmas
