@@ -57,6 +57,7 @@ pub mod TurnOutLemmas
 pub mod MovedLevelLemmas
 pub mod TurnLevelLemmas
 pub mod StillEndLemmas
+pub mod MovedEndLemmas
 pub mod TurnEndLemmas
 pub mod RunLemmas
 pub mod MatchingLemmas

@@ -27,14 +27,15 @@ use Rattle.gptp_bmca_machine.proofs.FallHeldLemmas.{holds_in_tree}
 use Rattle.gptp_bmca_machine.proofs.FallLemmas.{clear_left}
 use Rattle.gptp_bmca_machine.proofs.LevelLemmas.{places_of}
 use Rattle.gptp_bmca_machine.proofs.LinkEndsLemmas.{hearer_on}
+use Rattle.gptp_bmca_machine.proofs.MovedEndLemmas.{tree_clear, tree_has_settled}
 use Rattle.gptp_bmca_machine.proofs.MovedTreeLemmas.{MovesTree}
 use Rattle.gptp_bmca_machine.proofs.NearestLemmas.{equal_within}
 use Rattle.gptp_bmca_machine.proofs.PortsSettledLemmas as by
 use Rattle.gptp_bmca_machine.proofs.RestLemmas.{CameBounded, Chooses, IsClear, is_master}
-use Rattle.gptp_bmca_machine.proofs.StillEndLemmas.{Hears as StillHears, Settles as StillSettlesSo, has_settled, still_clear, still_has_settled}
+use Rattle.gptp_bmca_machine.proofs.StillEndLemmas.{Settles, still_clear, still_has_settled}
 use Rattle.gptp_bmca_machine.proofs.StillLemmas.{clear_at}
 use Rattle.gptp_bmca_machine.proofs.TurnLemmas.{OutIsAt, TurnsBack, out_chooses, out_is, out_is_at}
-use Rattle.gptp_bmca_machine.proofs.TurnLevelLemmas.{Times, TreeChooses, TurnSettles, choose_by, has_left, told_in, told_level, way_leads}
+use Rattle.gptp_bmca_machine.proofs.TurnLevelLemmas.{Times, TurnSettles, tree_times, way_in, way_leads}
 use Rattle.gptp_bmca_machine.proofs.TurnOutLemmas.{mine, turned}
 use Rattle.gptp_bmca_machine.proofs.TurnTreeLemmas.{IsOf, LeadsOut, beyond_out, out_was_best, turns_moves}
 
@@ -49,23 +50,6 @@ module _ (says : Spelling) (g : Snapshot) (n : Network) (tree : List ℕ) (top o
 
   abbrev o : OutIsAt says g n tree top other last out best base depth t
   o = out_is_at says g n tree top other last out best base depth t
-
-  -- a system that tells another is as near as that leaves room for
-  in_time : (e v p u q : ℕ) (b : System) → LeadsFarther n.graph e b v p u q → before e ≤ w.time
-  in_time e v p u q b leads = late e (elim leads.farther [
-    | inl less ↦
-        let within = IsDistance-within n.graph n.reach u leads.far t.paths leads.there in omega (arith, less, within)
-    | inr (same, lower) ↦
-        equal_within n.graph n.reach v u e t.well t.paths (suc p, suc q, leads.joins)
-        (t.well.apart (port_of v (suc p)) (port_of u (suc q)) leads.joins) leads.here
-        (subst (IsDistance n.graph u) (sym same) leads.there)
-  ])
-
-  choose : (e : ℕ) → suc (suc e) ≤ n.reach
-      → TreeChooses says g n tree top other last out best base depth t start over before times w is e
-  choose e few =
-      choose_by says g n tree top other last out best base depth t start over before times w is settles.way e
-      (λ f most. settles.levels f) (late e few)
 
   -- ---- the end of the way out
 
@@ -97,106 +81,34 @@ module _ (says : Spelling) (g : Snapshot) (n : Network) (tree : List ℕ) (top o
 
   -- ---- one of its systems
 
+  past : over < w.time
+  past =
+      let (far, here) = distance_exists n.graph last t.well (t.lives last t.in_last) in
+      let more = beyond_out g n tree top other last out best base depth t far last o.d t.in_last here o.now in
+      let within = IsDistance-within n.graph n.reach last far t.paths here in
+      let room = times.room o.d in
+      let now = late o.d (omega (arith, more, within)) in
+      omega (arith, room, now)
+
   module _ (i : ℕ) (s : Station) (at : slice_get w.stations i ≡ Some s) (live : s.live ≡ true) (d : ℕ)
       (here : IsDistance n.graph s.clock d) (near : d < 255) where
-    there : slice_get w.stations (n.place s.clock) ≡ Some s
-    there = subst (λ j. slice_get w.stations j ≡ Some s) (is.back.after.kept.calm.placed i s at) at
-
-    abbrev Hears : Type 0
-    Hears = StillHears n t.well w is.back.after.kept i s at live d here near
-
-    abbrev pub Settles : Type 0
-    Settles = StillSettlesSo n t.well w is.back.after.kept i s at live d here near
-
-    -- ---- a system of the tree
+    abbrev pub Settled : Type 0
+    Settled = Settles n t.well w is.back.after.kept i s at live d here near
 
     module _ (in_s : In s.clock tree) where
-      one : best ≡ here.best
-      one = IsBest-unique n.graph s.clock best here.best t.well (t.is_best s.clock in_s) here.is_best
+      pub turned_clear : IsClear n.graph s
+      turned_clear =
+          tree_clear says g n (IsOf tree) (LeadsOut last out) top best best base depth m t.paths t.few start over before
+          (tree_times says g n tree top other last out best base depth t start over before times) w is.back.after is.back.falling
+          (way_in says g n tree top other last out best base depth t start over before times w is settles.way)
+          settles.levels late past i s at live d here near in_s
 
-      few : d < n.reach
-      few = IsDistance-within n.graph n.reach s.clock d t.paths here
-
-      tree_chooses : (d' : ℕ) → d ≡ d' → Chooses s here.best d
-      tree_chooses zero same =
-          let more = t.farther s.clock d in_s here in absurd (omega (arith, more, same))
-      tree_chooses (suc e) same =
-          subst (λ b. Chooses s b d) one
-          (subst (Chooses s best) (sym same)
-          (choose e (omega (arith, few, same)) s.clock s there in_s (subst (IsDistance n.graph s.clock) same here)))
-
-      clear_by : (d' : ℕ) → d ≡ d' → IsClear n.graph s
-      clear_by zero same =
-          let more = t.farther s.clock d in_s here in absurd (omega (arith, more, same))
-      clear_by (suc e) same =
-          clear_left says g n (IsOf tree) (LeadsOut last out) top best best base depth m start w is.back.after s.clock
-          in_s s there
-          (holds_in_tree says g n (IsOf tree) (LeadsOut last out) top best best base depth m start w is.back.after
-          is.back.falling s.clock in_s)
-          (has_left says g n tree top other last out best base depth t start over before times w is s.clock e in_s
-          (late e (omega (arith, few, same))) s there)
-
-      tree_hears : Hears
-      tree_hears e p q u close leads told_e =
-          by_end (t.leaves s.clock u in_s (
-            suc p,
-            suc q,
-            Joins-sym n.graph (port_of u (suc q)) (port_of s.clock (suc p))
-                leads.joins,
-          ))
-        where
-          now : before e ≤ w.time
-          now = in_time e u q s.clock p here.best leads
-
-          of_best : LeadsFarther n.graph e best u q s.clock p
-          of_best = subst (λ b. LeadsFarther n.graph e b u q s.clock p) (sym one) leads
-
-          name : ((r : Reception) × HoldsAt s p r × (r.said.root ≡ best.identity) × (r.said.steps ≡ e)
-              × (r.said.source ≡ port_of u (suc q)))
-              → (r : Reception) × HoldsAt s p r × (r.said.root ≡ here.best.identity) × (r.said.steps ≡ e)
-              × (r.said.source ≡ port_of u (suc q))
-          name (r, holds, root, steps, source) =
-              (r, holds, root ∙ ap (λ (b : System). b.identity) one, steps, source)
-
-          by_end : In u tree ⊎ ((s.clock ≡ last) × (u ≡ out))
-              → (r : Reception) × HoldsAt s p r × (r.said.root ≡ here.best.identity) × (r.said.steps ≡ e)
-              × (r.said.source ≡ port_of u (suc q))
-          by_end (inl in_u) = name (from e refl of_best)
-            where
-              from : (e' : ℕ) → e ≡ e' → LeadsFarther n.graph e' best u q s.clock p
-                  → (r : Reception) × HoldsAt s p r × (r.said.root ≡ best.identity) × (r.said.steps ≡ e)
-                  × (r.said.source ≡ port_of u (suc q))
-              from zero same leads' = let more = t.farther u 0 in_u leads'.here in absurd (omega (arith, more))
-              from (suc e') same leads' =
-                  let by_then = subst (λ k. before k ≤ w.time) same now in
-                  let far = IsDistance-within n.graph n.reach u (suc e') t.paths leads'.here in
-                  let (r, holds, root, steps, source) = told_level says g n tree top other last out best base depth t
-                  start over before times w is e' (choose e' far) by_then u q s.clock p (omega (arith, close, same))
-                  in_u
-                  in_s leads' (settles.levels (suc e') u q s.clock p (omega (arith, close, same)) in_u in_s leads') s
-                  there in
-                  (r, holds, root, steps ∙ sym same, source)
-          by_end (inr (is_last, is_out)) =
-              let same : e ≡ o.d = IsDistance-unique n.graph out e o.d t.well
-              (subst (λ c. IsDistance n.graph c e) is_out of_best.here) o.now in
-              let joins = subst (λ c. Joins n.graph (port_of last (suc p)) (port_of c (suc q))) is_out
-              (subst (λ c. Joins n.graph (port_of c (suc p)) (port_of u (suc q))) is_last
-              (Joins-sym n.graph (port_of u (suc q)) (port_of s.clock (suc p)) leads.joins)) in
-              let (r, holds, root, steps, source) = told_in says g n tree top other last out best base depth t start
-              over
-              before times w is settles.way p q joins (subst (λ k. before k ≤ w.time) same now) s
-              (subst (λ c. slice_get w.stations (n.place c) ≡ Some s) is_last there) in
-              name (r, holds, root, steps ∙ sym same, source ∙ ap (λ c. port_of c (suc q)) (sym is_out))
-
-      -- it is clear
-      pub tree_clear : IsClear n.graph s
-      tree_clear = clear_by d refl
-
-      -- so it has settled
-      pub tree_has_settled : n.bare ≤ n.off → Settles
-      tree_has_settled bare =
-          has_settled n t.well w is.back.after.kept i s at live d here near bare tree_clear (tree_chooses d refl)
-          tree_hears
+      pub turned_has_settled : n.bare ≤ n.off → Settled
+      turned_has_settled =
+          tree_has_settled says g n (IsOf tree) (LeadsOut last out) top best best base depth m t.paths t.few start over before
+          (tree_times says g n tree top other last out best base depth t start over before times) w is.back.after is.back.falling
+          (way_in says g n tree top other last out best base depth t start over before times w is settles.way)
+          settles.levels late past i s at live d here near in_s
 
   -- ---- beside it
 
@@ -256,16 +168,16 @@ module _ (says : Spelling) (g : Snapshot) (n : Network) (tree : List ℕ) (top o
       -- it is clear
       pub system_is_clear : IsClear n.graph s
       system_is_clear = elim (each s.clock known) [
-        | inr in_s ↦ tree_clear i s at live d here near in_s
+        | inr in_s ↦ turned_clear i s at live d here near in_s
         | inl u_s ↦ still_clear says g n t.well t.left w is.back.after.kept is.back.after.fits is.back.still (IsOf tree)
             each (λ v c a k in_v u. beyond_tree v c a k in_v (unmoved_out c u))
             (λ v a c place in_v u. holds_none_of v a c place in_v (unmoved_out c u)) i s at live d here near u_s
       ]
 
       -- so it has settled
-      pub system_has_settled : n.bare ≤ n.off → Settles i s at live d here near
+      pub system_has_settled : n.bare ≤ n.off → Settled i s at live d here near
       system_has_settled bare = elim (each s.clock known) [
-        | inr in_s ↦ tree_has_settled i s at live d here near in_s bare
+        | inr in_s ↦ turned_has_settled i s at live d here near in_s bare
         | inl u_s ↦ still_has_settled says g n t.well t.left w is.back.after.kept is.back.after.fits is.back.still
             (IsOf tree) each (λ v c a k in_v u. beyond_tree v c a k in_v (unmoved_out c u))
             (λ v a c place in_v u. holds_none_of v a c place in_v (unmoved_out c u)) i s at live d here near u_s bare
