@@ -59,6 +59,10 @@ pub mod TurnLevelLemmas
 pub mod StillEndLemmas
 pub mod MovedEndLemmas
 pub mod TurnEndLemmas
+pub mod FailureTreesLemmas
+pub mod FailureBeginLemmas
+pub mod FailureEndLemmas
+pub mod FailureWaysLemmas
 pub mod RunLemmas
 pub mod MatchingLemmas
 pub mod SyncStepLemmas
