@@ -62,6 +62,7 @@ pub mod TurnEndLemmas
 pub mod FailureTreesLemmas
 pub mod FailureBeginLemmas
 pub mod FailureEndLemmas
+pub mod FailureEmptiedLemmas
 pub mod FailureWaysLemmas
 pub mod RunLemmas
 pub mod MatchingLemmas

@@ -38,7 +38,7 @@ module _ (says : Spelling) (g : Snapshot) (n : Network) (Tree : ℕ → Type 0) 
         (subst (IsDistance n.graph u) (sym same) leads.there)
   ])
 
-  choose : (e : ℕ) → e < n.reach
+  pub choose : (e : ℕ) → e < n.reach
       → TreeChooses says g n Tree Out top best next base depth t paths few start over before times w is falling e
   choose zero close =
       choose_zero says g n Tree Out top best next base depth t paths few start over before times w is falling past

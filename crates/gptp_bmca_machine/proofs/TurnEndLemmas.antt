@@ -24,10 +24,11 @@ use Rattle.gptp_bmca_machine.specs.Settled.{FollowsBest, HasBest, HasSettledRole
 use Rattle.gptp_bmca_machine.specs.Station.{HoldsAt, MachineState, Mine, Port, Received, Reception, Station}
 use Rattle.gptp_bmca_machine.specs.TurnTree.{TurnsTree}
 use Rattle.gptp_bmca_machine.proofs.FallHeldLemmas.{holds_in_tree}
-use Rattle.gptp_bmca_machine.proofs.FallLemmas.{clear_left}
+use Rattle.gptp_bmca_machine.proofs.FallLemmas.{HasLeft}
 use Rattle.gptp_bmca_machine.proofs.LevelLemmas.{places_of}
 use Rattle.gptp_bmca_machine.proofs.LinkEndsLemmas.{hearer_on}
-use Rattle.gptp_bmca_machine.proofs.MovedEndLemmas.{tree_clear, tree_has_settled}
+use Rattle.gptp_bmca_machine.proofs.MovedEndLemmas.{choose, tree_clear, tree_has_settled}
+use Rattle.gptp_bmca_machine.proofs.MovedLevelLemmas.{has_left}
 use Rattle.gptp_bmca_machine.proofs.MovedTreeLemmas.{MovesTree}
 use Rattle.gptp_bmca_machine.proofs.NearestLemmas.{equal_within}
 use Rattle.gptp_bmca_machine.proofs.PortsSettledLemmas as by
@@ -81,7 +82,7 @@ module _ (says : Spelling) (g : Snapshot) (n : Network) (tree : List ℕ) (top o
 
   -- ---- one of its systems
 
-  past : over < w.time
+  pub past : over < w.time
   past =
       let (far, here) = distance_exists n.graph last t.well (t.lives last t.in_last) in
       let more = beyond_out g n tree top other last out best base depth t far last o.d t.in_last here o.now in
@@ -89,6 +90,21 @@ module _ (says : Spelling) (g : Snapshot) (n : Network) (tree : List ℕ) (top o
       let room = times.room o.d in
       let now = late o.d (omega (arith, more, within)) in
       omega (arith, room, now)
+
+  -- they have left their old choices, and choose by their distances
+  pub turned_left : (v : ℕ) → In v tree → HasLeft n w v best (base + depth v)
+  turned_left v in_v =
+      has_left says g n (IsOf tree) (LeadsOut last out) top best best base depth m t.paths t.few start over before
+      (tree_times says g n tree top other last out best base depth t start over before times) w is.back.after
+      is.back.falling v in_v past
+
+  pub turned_chooses : (d v : ℕ) (s : Station) → slice_get w.stations (n.place v) ≡ Some s → In v tree
+      → IsDistance n.graph v d → Chooses s best d
+  turned_chooses d v s at in_v here =
+      choose says g n (IsOf tree) (LeadsOut last out) top best best base depth m t.paths t.few start over before
+      (tree_times says g n tree top other last out best base depth t start over before times) w is.back.after
+      is.back.falling (way_in says g n tree top other last out best base depth t start over before times w is
+      settles.way) settles.levels late past d (IsDistance-within n.graph n.reach v d t.paths here) v s at in_v here
 
   module _ (i : ℕ) (s : Station) (at : slice_get w.stations i ≡ Some s) (live : s.live ≡ true) (d : ℕ)
       (here : IsDistance n.graph s.clock d) (near : d < 255) where

@@ -21,8 +21,8 @@ pub record HasWays (g : Snapshot) (n : Network) (tree : List ℕ) (ways : Snapsh
   pub few : reach ≤ 256
 
 -- Of what is left of a snapshot these systems are moved. Their best is the same, and each is farther from it. Before,
--- each was as far as the depth says, from `base` on. The one at the top lost its link to a system that was nearer; none
--- of them lost another. Within the tree a link leads one deeper or less deep by one, and each system has one link to one
+-- each was as far as the depth says, from `base` on. The one at the top lost its links to another; none of them lost
+-- another link. Within the tree a link leads one deeper or less deep by one, and each system has one link to one
 -- that is less deep. One link leads out of it, from `last` to `out`, which is unmoved.
 pub record TurnsTree (g : Snapshot) (n : Network) (tree : List ℕ) (top other last out : ℕ) (best : System) (base : ℕ)
     (depth : ℕ → ℕ) : Type 0 where
@@ -34,7 +34,6 @@ pub record TurnsTree (g : Snapshot) (n : Network) (tree : List ℕ) (top other l
   pub was : (v : ℕ) → In v tree → IsDistance g v (base + depth v)
   pub farther : (v far : ℕ) → In v tree → IsDistance n.graph v far → base + depth v < far
   pub first : depth top ≡ 0
-  pub nearer : (far : ℕ) → IsDistance g other far → far < base
   pub lost : (v u : ℕ) → In v tree → Adjacent g v u → Adjacent n.graph v u ⊎ ((v ≡ top) × (u ≡ other))
   pub ways : Snapshot
   pub told : HasWays g n tree ways
