@@ -42,7 +42,7 @@ use Rattle.gptp_settling_time.proofs.LeftClaimedLemmas.{HaveAskedLong}
 use Rattle.gptp_settling_time.proofs.LinkBetweenLemmas.{IsLinkBetween, SameSenders, between_down, between_kept, senders_kept}
 use Rattle.gptp_settling_time.proofs.LinkUpLemmas.{lane_set}
 use Rattle.gptp_settling_time.proofs.OffForGoodLemmas.{GoOnOff, all_down}
-use Rattle.gptp_settling_time.proofs.SplitAlwaysLemmas.{IsSplitAlways, MayStart, may_before, over_gone, seen_then, split_after, split_network, split_then, timed_calm}
+use Rattle.gptp_settling_time.proofs.SplitAlwaysLemmas.{IsSplitAlways, MayStart, may_before, over_gone, seen_then, split_after, split_network, split_then, timed_now}
 use Rattle.gptp_settling_time.proofs.SplitLemmas.{IsCut, IsSplit, SplitSettles, SplitState, SplitsBack, timed_split}
 use Rattle.gptp_settling_time.proofs.UnusedDownLemmas.{asked', delay_taken, either, emptied, keeps, late_then, snapshot_taken, standing', tells, time}
 
@@ -102,7 +102,7 @@ module _ (p : SettlingParams) (g : Snapshot) (By : PortIdentity → ℕ → Type
 
   same' : split_network p silent w' ≡ n
   same' =
-      ap (λ (z : Network). record z { gone = 0 }) (same_aging p silent silent taken w' keeps') ∙ same_taken
+      ap (λ (z : Network). record z { gone = 0 }) (same_aging p silent taken w' keeps') ∙ same_taken
       ∙ split.same
 
   graph' : snapshot_of w' ≡ n.graph
@@ -232,8 +232,7 @@ module _ (p : SettlingParams) (g : Snapshot) (By : PortIdentity → ℕ → Type
     kept : IsAfterLoss n (view w)
     kept =
         subst (λ z. IsAfterLoss z (view w)) split.same
-        (split_after p By gone silent w split.standing split.asked quiet split.by split.is_gone split.less
-        off split.late)
+        (split_after p silent w split.standing split.asked quiet off split.late)
 
     kept_taken : IsAfterLoss n (view taken)
     kept_taken = emptied_after n n (itself n) (view w) (view taken).lanes lanes_then kept
@@ -256,8 +255,8 @@ module _ (p : SettlingParams) (g : Snapshot) (By : PortIdentity → ℕ → Type
         facts' : StationFacts (network_setting n) (view w')
         facts' =
             subst (λ (z : Network). StationFacts (network_setting z) (view w')) same'
-            (older_facts (aging_network p silent silent w') 0 (view w')
-            (aging_facts p silent silent w' standing_then asked_then quiet'))
+            (older_facts (aging_network p silent w') 0 (view w')
+            (aging_facts p silent w' standing_then asked_then quiet'))
 
     module _ (start : ℕ) (may : MayStart gone s.since start w') where
       may_then : MayStart gone s.since start w
@@ -327,7 +326,7 @@ module _ (p : SettlingParams) (g : Snapshot) (By : PortIdentity → ℕ → Type
       calm_taken over =
           emptied_calm timed_n timed_n (itself timed_n) (view w) (view taken).lanes lanes_then
           (subst (λ (z : Network). Calm (record z { bare = 0; slack = suc (fallen_by z start) }) (view w)) split.same
-          (timed_calm p By gone silent w split.standing split.asked quiet split.by split.is_gone split.less start
+          (timed_now p g By failed gone silent w split quiet start was.0
           (over_gone p g By failed gone silent w w' split standing_then asked_then goes sends same' links' by' late'
           on start w may_then over)))
 

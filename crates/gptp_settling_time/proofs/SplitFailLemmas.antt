@@ -6,7 +6,7 @@ use Rattle.gptp_graph.specs.Snapshot.{IsWellFormed, Joins, PortIdentity, Snapsho
 use Rattle.gptp_graph.proofs.DistanceLemmas.{IsDistance-clock, IsDistance-unique}
 use Rattle.gptp_graph.proofs.ExistenceLemmas.{best_exists}
 use Rattle.gptp_graph.proofs.LinkLemmas.{Joins-clock}
-use Rattle.gptp_graph.proofs.SystemLemmas.{In-clocks, system_of}
+use Rattle.gptp_graph.proofs.SystemLemmas.{In-clocks}
 use Rattle.gptp_links.specs.Fate.{Draw}
 use Rattle.gptp_scenario.specs.Calm.{NothingLapses}
 use Rattle.gptp_scenario.specs.Params.{KeepPace}
@@ -14,7 +14,6 @@ use Rattle.gptp_scenario.specs.SettlingTime.{silence_span}
 use Rattle.gptp_scenario.specs.declared.change.Act.TheVariants.{Change as Changing}
 use Rattle.gptp_scenario.specs.declared.change.Change.TheVariants.{Fail}
 use Rattle.gptp_setup.specs.SettlingParams.{SettlingParams}
-use Rattle.gptp_system.specs.State.{clock}
 use Rattle.gptp_model.specs.Acts.{Acts}
 use Rattle.gptp_model.specs.World.{WorldState}
 use Rattle.gptp_model.specs.declared.done.Done.{Done}
@@ -45,7 +44,6 @@ use Rattle.gptp_invariants.proofs.ChoiceSettlesAsMachineLemmas.{paths_bound}
 use Rattle.gptp_invariants.proofs.WorldGreatestDelayLemmas.{receipts_stay}
 use Rattle.gptp_invariants.proofs.WorldLogLemmas.{linked_log}
 use Rattle.gptp_invariants.proofs.WorldStandsLemmas.{stands_well}
-use Rattle.gptp_invariants.proofs.WorldSystemLemmas.{live_from}
 use Rattle.gptp_invariants.proofs.WorldWayLemmas.{way_of}
 use Rattle.gptp_settling_time.specs.TreeLosses.{IsTreeCutOff, IsUnmovedOrInTree}
 use Rattle.gptp_settling_time.proofs.AgesByWorldLemmas.{WorldAgesBy}
@@ -60,7 +58,7 @@ use Rattle.gptp_settling_time.proofs.LeftClaimedLemmas.{HaveAskedLong}
 use Rattle.gptp_settling_time.proofs.LinkBetweenLemmas.{IsLinkBetween, between_alike, lane_between, way_between}
 use Rattle.gptp_settling_time.proofs.OffForGoodLemmas.{good_fails}
 use Rattle.gptp_settling_time.proofs.SettledSeenLemmas.{IsSettledSeen, always_seen, sound_fits}
-use Rattle.gptp_settling_time.proofs.SplitAlwaysLemmas.{IsSplitAlways, MayStart, split_after, split_network}
+use Rattle.gptp_settling_time.proofs.SplitAlwaysLemmas.{GoesUntil, IsSplitAlways, MayStart, split_after, split_network}
 use Rattle.gptp_settling_time.proofs.SplitLemmas.{IsSplit, SplitSettles, SplitState, SplitsBack}
 
 module _ (p : SettlingParams) (number : ℕ) (w : WorldState) (draws : List Draw) (done : Done) (w' : WorldState)
@@ -155,17 +153,6 @@ module _ (p : SettlingParams) (number : ℕ) (w : WorldState) (draws : List Draw
 
   -- ---- what fails
 
-  -- the system is gone, and each link to it
-  dead : In number (clocks g') → ⊥
-  dead known =
-      let (s, member, is_s) = system_of g' number known in
-      let at = live_from w'.stations s member in
-      let old = alone.stood p number w draws done w' is is' acts lives at.place at.station at.here at.live in
-      let clock_is : clock at.station.system ≡ number =
-      ap (λ (x : System). x.clock) (sym at.is) ∙ is_s in
-      old.apart (is.sound.wired.clocks at.place acts.1.place at.station acts.1.station old.here acts.1.is.here
-      (clock_is ∙ sym acts.1.is.named))
-
   lane_still : (j : ℕ) (l : Lane) → slice_get (view w').lanes j ≡ Some l → slice_get (view w).lanes j ≡ Some l
   lane_still j l at =
       ap (λ ls. slice_get ls j) (sym (alone.lanes_now p number w draws done w' is is' acts lives)) ∙ at
@@ -191,14 +178,7 @@ module _ (p : SettlingParams) (number : ℕ) (w : WorldState) (draws : List Draw
     same = alone.wires p number w draws done w' is is' acts lives seen0 n' refl
 
     loses : LosesSystem g n' number
-    loses = record {
-      dead = dead;
-      others = λ v known. elim (alone.lives_still p number w draws done w' is is' acts lives v known) [
-        | inl is_it ↦ inr is_it
-        | inr still ↦ inl still
-      ];
-      links = alone.links_still p number w draws done w' is is' acts lives;
-    }
+    loses = alone.loses_it p number w draws done w' is is' acts lives n' refl
 
     loss : IsLoss says_announce n0 n' (view w) (view w')
     loss = record {
@@ -265,6 +245,7 @@ module _ (p : SettlingParams) (number : ℕ) (w : WorldState) (draws : List Draw
         best = best;
         cuts = cuts;
         loses = loses;
+        near = near;
         since = w.time;
         delay = n0.most;
         shorter = shorter;
@@ -275,8 +256,7 @@ module _ (p : SettlingParams) (number : ℕ) (w : WorldState) (draws : List Draw
 
       module _ (By : PortIdentity → ℕ → Type 0) (gone : ℕ) (measured' : LinkIsMeasured w')
           (long : w.time + silence_span p < silent) (by : WorldAgesBy p By w')
-          (is_gone : ((port : PortIdentity) (until : ℕ) → By port until → until ≤ gone) ⊎ (silent ≤ gone))
-          (less : gone ≤ silent) (later : w.time < gone) (late' : delay_in w' ≤ w'.time) where
+          (is_gone : GoesUntil g By gone ⊎ (silent ≤ gone)) (later : w.time < gone) (late' : delay_in w' ≤ w'.time) where
         standing' : IsStanding p silent w'
         standing' =
             alone.standing_then p number w draws done w' is is' acts lives next silent pace measured measured' past
@@ -290,7 +270,7 @@ module _ (p : SettlingParams) (number : ℕ) (w : WorldState) (draws : List Draw
         module _ (quiet' : HaveQuietLinks p.params w') (off : NothingLapses p.params) (start : ℕ)
             (now : w'.time ≤ start) where
           kept' : IsAfterLoss n' (view w')
-          kept' = split_after p By gone silent w' standing' asked' quiet' by is_gone less off late'
+          kept' = split_after p silent w' standing' asked' quiet' off late'
 
           state' : SplitState p g split start (view w')
           state' = record {
@@ -351,7 +331,6 @@ module _ (p : SettlingParams) (number : ℕ) (w : WorldState) (draws : List Draw
           split = split;
           at = refl;
           same = refl;
-          less = less;
           by = by;
           is_gone = is_gone;
           begun = let time = time_now in omega (arith, time);

@@ -12,6 +12,7 @@ use Rattle.gptp_bmca_machine.specs.EarlyPorts.{ClaimsWhenReady}
 use Rattle.gptp_bmca_machine.specs.Levels.{Invariant}
 use Rattle.gptp_bmca_machine.specs.LossLaws.{IsAfterLoss}
 use Rattle.gptp_bmca_machine.specs.Network.{IsSettlingNetwork, Network, since}
+use Rattle.gptp_bmca_machine.specs.SoundLaws.{AllAreNear}
 use Rattle.gptp_bmca_machine.specs.Station.{MachineState}
 use Rattle.gptp_bmca_machine.proofs.CutTreeLemmas.{IsCutOff, LeadsNowhere, moves_off}
 use Rattle.gptp_bmca_machine.proofs.FailsBackLemmas.{FailsBack, IsFailedState, LostStayOff, StayLong, all_settle_on, fails_on}
@@ -27,13 +28,14 @@ use Rattle.gptp_settling_time.proofs.FallAlwaysLemmas.{fallen_by, falls_within, 
 -- ---- the failure
 
 -- Such a failure: the network that is left, the failed system, the best of before, when it failed, and the greatest
--- delay of before. What it told is held for longer than an interval and that delay.
+-- delay of before. What it told is held for longer than an interval and that delay. All systems were near.
 pub record IsSplit (p : SettlingParams) (g : Snapshot) : Type 0 where
   pub n : Network
   pub lost : ℕ
   pub best : System
   pub cuts : CutsTrees g n best (IsTreeCutOff g n.graph best)
   pub loses : LosesSystem g n lost
+  pub near : AllAreNear g
   pub since : ℕ
   pub delay : ℕ
   pub shorter : n.most ≤ delay

@@ -27,7 +27,8 @@ use Rattle.gptp_settling_time.proofs.FallAlwaysLemmas.{fallen_by}
 use Rattle.gptp_settling_time.proofs.LeftClaimedLemmas.{asked_ready, left_calm, left_network}
 use Rattle.gptp_settling_time.proofs.NewsMeasuredLemmas.{ready_measures}
 use Rattle.gptp_settling_time.proofs.SeenSettledLemmas.{seen_chooses, seen_settles}
-use Rattle.gptp_settling_time.proofs.SplitAlwaysLemmas.{IsSplitAlways, none_held, timed_calm, timed_net, timed_world}
+use Rattle.gptp_settling_time.proofs.SplitAlwaysLemmas.{IsSplitAlways, none_now, timed_net, timed_now, timed_world}
+use Rattle.gptp_settling_time.proofs.SplitLemmas.{SplitSettles, SplitsBack}
 
 module _ (p : SettlingParams) (g : Snapshot) (By : PortIdentity → ℕ → Type 0) (failed gone silent : ℕ) (w : WorldState)
     (is : IsSplitAlways p g By failed gone silent w) (quiet : HaveQuietLinks p.params w) (off : NothingLapses p.params)
@@ -37,16 +38,19 @@ module _ (p : SettlingParams) (g : Snapshot) (By : PortIdentity → ℕ → Type
   world = is.standing.world
 
   abbrev timed : Network
-  timed = timed_world p By gone silent w is.standing is.asked quiet is.by is.is_gone is.less start
+  timed = timed_world p silent w is.standing is.asked quiet start
 
   net : IsSettlingNetwork timed
-  net = timed_net p By gone silent w is.standing is.asked quiet is.by is.is_gone is.less start
+  net = timed_net p silent w is.standing is.asked quiet start
 
   gone_now : gone ≤ w.time
   gone_now = omega (arith, may, late)
 
+  abbrev seen : SplitsBack p g is.split start (view w) × SplitSettles p g is.split start (view w)
+  seen = is.seen quiet off start (inl may)
+
   calm : Calm timed (view w)
-  calm = timed_calm p By gone silent w is.standing is.asked quiet is.by is.is_gone is.less start gone_now
+  calm = timed_now p g By failed gone silent w is quiet start seen.0 gone_now
 
   -- the time in which the trees fall back is over
   over : fallen_by is.split.n start < w.time
@@ -56,7 +60,7 @@ module _ (p : SettlingParams) (g : Snapshot) (By : PortIdentity → ℕ → Type
   invariant =
       subst (λ (z : Network). Invariant says_announce (record z { bare = 0; slack = suc (fallen_by z start) }) (view w))
       (sym is.same)
-      (elim (is.seen quiet off start (inl may)).1 [
+      (elim seen.1 [
         | inl (early, settles) ↦ absurd (let past = over in omega (arith, early, past))
         | inr (later, kept) ↦ kept
       ])
@@ -87,7 +91,7 @@ module _ (p : SettlingParams) (g : Snapshot) (By : PortIdentity → ℕ → Type
         let c : Calm n (view w) =
         older_calm (left_network p from w) 0 (view w)
         (left_calm p from w standing_now is.asked quiet
-        (none_held p By gone silent w is.standing is.asked quiet is.by is.is_gone is.less gone_now)) in
+        (none_now p g By failed gone silent w is quiet start seen.0 gone_now)) in
         calm_timed n n.start n.sound (suc (fallen_by n start)) n.claimed n.until (view w) c.facts c
 
     dark_net : IsSettlingNetwork dark
