@@ -14,18 +14,18 @@ use Rattle.gptp_bmca_machine.specs.CutTree.{Tree}
 use Rattle.gptp_bmca_machine.specs.Facts.{station_system}
 use Rattle.gptp_bmca_machine.specs.FailureTrees.{FailureMoves, Turning}
 use Rattle.gptp_bmca_machine.specs.Frame.{Spelling}
-use Rattle.gptp_bmca_machine.specs.LossLaws.{Unmoved}
+use Rattle.gptp_bmca_machine.specs.LossLaws.{IsAfterLoss, Unmoved}
 use Rattle.gptp_bmca_machine.specs.Network.{Network}
 use Rattle.gptp_bmca_machine.specs.Run.{NearHaveSettled}
 use Rattle.gptp_bmca_machine.specs.Station.{HoldsAt, MachineState, Reception, Station}
 use Rattle.gptp_bmca_machine.proofs.CutTreeLemmas.{IsCutOff, LeadsNowhere, moves_off}
 use Rattle.gptp_bmca_machine.proofs.FailureTreesLemmas.{FallBack, turns_back}
 use Rattle.gptp_bmca_machine.proofs.FallLemmas.{UnlinkedDrop, is_moved}
-use Rattle.gptp_bmca_machine.proofs.MovedEndLemmas.{tree_clear, tree_has_settled}
+use Rattle.gptp_bmca_machine.proofs.MovedEndLemmas.{tree_follows}
 use Rattle.gptp_bmca_machine.proofs.MovedLevelLemmas.{LevelSettles, Times as MovedTimes, ToldIn, levels_on}
 use Rattle.gptp_bmca_machine.proofs.RestLemmas.{IsClear}
-use Rattle.gptp_bmca_machine.proofs.StillEndLemmas.{Settles, still_clear, still_has_settled}
-use Rattle.gptp_bmca_machine.proofs.TurnEndLemmas.{beyond_tree, holds_none_of, turned_clear, turned_has_settled}
+use Rattle.gptp_bmca_machine.proofs.StillEndLemmas.{Follows, has_settled, still_follows}
+use Rattle.gptp_bmca_machine.proofs.TurnEndLemmas.{beyond_tree, holds_none_of, turned_follows}
 use Rattle.gptp_bmca_machine.proofs.TurnLevelLemmas.{Times, TurnSettles, settles_on}
 use Rattle.gptp_bmca_machine.proofs.TurnTreeLemmas.{IsOf, LeadsOut, turns_moves}
 
@@ -109,39 +109,27 @@ module _ (says : Spelling) (g : Snapshot) (n : Network) (lost : ℕ) (best : Sys
       known : In s.clock (clocks n.graph)
       known = In-clocks n.graph (station_system s) (back.after.kept.calm.facts.stations i s at live).known
 
-      pub system_is_clear : IsClear n.graph s
-      system_is_clear = elim (moves.all s.clock known) [
-        | inl u ↦ still_clear says g n moves.well moves.left w back.after.kept back.after.fits back.still Moved
+      pub system_follows : Follows n.graph s d here
+      system_follows = elim (moves.all s.clock known) [
+        | inl u ↦ still_follows says g n moves.well moves.left w back.after.kept back.after.fits back.still Moved
             moves.all beyond holds_none i s at live d here near u
         | inr (inl (t, is, in_s)) ↦
-            tree_clear says g n (IsCutOff n t.next) LeadsNowhere t.top best t.next t.base t.depth
+            tree_follows says g n (IsCutOff n t.next) LeadsNowhere t.top best t.next t.base t.depth
             (moves_off g n t.top best t.next t.base t.depth (moves.cut t is)) moves.paths moves.few start over before (cut_times t is) w back.after (back.cut t is)
             (told_none w t is) (settles.cut t is) late past i s at live d here near in_s
         | inr (inr (t, is, in_s)) ↦
-            turned_clear says g n t.tree t.top lost t.last t.out best t.base t.depth (moves.turned t is)
+            turned_follows says g n t.tree t.top lost t.last t.out best t.base t.depth (moves.turned t is)
             start over before (turned_times t is) w
             (turns_back says g n lost best IsCut IsTurned moves start w back t is) (settles.turned t is) late i s at
             live d here near in_s
       ]
 
-      system_has_settled : n.bare ≤ n.off → Settles n moves.well w back.after.kept i s at live d here near
-      system_has_settled bare = elim (moves.all s.clock known) [
-        | inl u ↦ still_has_settled says g n moves.well moves.left w back.after.kept back.after.fits back.still Moved
-            moves.all beyond holds_none i s at live d here near u bare
-        | inr (inl (t, is, in_s)) ↦
-            tree_has_settled says g n (IsCutOff n t.next) LeadsNowhere t.top best t.next t.base t.depth
-            (moves_off g n t.top best t.next t.base t.depth (moves.cut t is)) moves.paths moves.few start over before (cut_times t is) w back.after (back.cut t is)
-            (told_none w t is) (settles.cut t is) late past i s at live d here near in_s bare
-        | inr (inr (t, is, in_s)) ↦
-            turned_has_settled says g n t.tree t.top lost t.last t.out best t.base t.depth (moves.turned t is)
-            start over before (turned_times t is) w
-            (turns_back says g n lost best IsCut IsTurned moves start w back t is) (settles.turned t is) late i s at
-            live d here near in_s bare
-      ]
-
-    -- each near system has settled
-    pub near_have_settled : n.bare ≤ n.off → NearHaveSettled n w
-    near_have_settled bare i s at live (d, here, near) = system_has_settled i s at live d here near bare
+    -- each near system has settled, whenever ports without a link hold nothing, or are off
+    pub near_have_settled : (bare off : ℕ) → IsAfterLoss (record n { bare = bare; off = off }) w → bare ≤ off
+        → NearHaveSettled (record n { bare = bare; off = off }) w
+    near_have_settled bare off kept less i s at live (d, here, near) =
+        has_settled (record n { bare = bare; off = off }) moves.well w kept i s at live d here near less
+        (system_follows i s at live d here near)
 
     -- and what any holds respects what is left; all are near
     pub system_clear : (i : ℕ) (s : Station) → slice_get w.stations i ≡ Some s → s.live ≡ true → IsClear n.graph s
@@ -150,4 +138,4 @@ module _ (says : Spelling) (g : Snapshot) (n : Network) (lost : ℕ) (best : Sys
         (back.after.kept.calm.facts.stations i s at live).known) in
         let within = IsDistance-within n.graph n.reach s.clock d moves.paths here in
         let few = moves.few in
-        system_is_clear i s at live d here (omega (arith, within, few))
+        (system_follows i s at live d here (omega (arith, within, few))).clear

@@ -17,7 +17,7 @@ use Rattle.gptp_bmca_machine.proofs.MovedLevelLemmas.{LevelSettles, Times, ToldI
 use Rattle.gptp_bmca_machine.proofs.MovedTreeLemmas.{MovesTree}
 use Rattle.gptp_bmca_machine.proofs.NearestLemmas.{equal_within}
 use Rattle.gptp_bmca_machine.proofs.RestLemmas.{Chooses, IsClear}
-use Rattle.gptp_bmca_machine.proofs.StillEndLemmas.{Hears, Settles, has_settled, there}
+use Rattle.gptp_bmca_machine.proofs.StillEndLemmas.{Follows, Hears, there}
 
 module _ (says : Spelling) (g : Snapshot) (n : Network) (Tree : ℕ → Type 0) (Out : ℕ → ℕ → Type 0) (top : ℕ)
     (best next : System) (base : ℕ) (depth : ℕ → ℕ) (t : MovesTree g n Tree Out top best next base depth)
@@ -55,17 +55,17 @@ module _ (says : Spelling) (g : Snapshot) (n : Network) (Tree : ℕ → Type 0) 
     one = IsBest-unique n.graph s.clock next here.best t.well (t.best_now s.clock in_s) here.is_best
 
     -- it is clear
-    pub tree_clear : IsClear n.graph s
+    tree_clear : IsClear n.graph s
     tree_clear =
         clear_then says g n Tree Out top best next base depth t paths few start over before times w is falling s.clock
         in_s past s at_place
 
-    pub tree_chooses : Chooses s here.best d
+    tree_chooses : Chooses s here.best d
     tree_chooses =
         subst (λ b. Chooses s b d) one
         (choose d (IsDistance-within n.graph n.reach s.clock d paths here) s.clock s at_place in_s here)
 
-    tree_hears : Hears n t.well w is.kept i s at live d here near
+    tree_hears : Hears n.graph s d here
     tree_hears e p q u close leads told_e =
         by_end (t.beside s.clock u in_s (
           suc p,
@@ -95,7 +95,5 @@ module _ (says : Spelling) (g : Snapshot) (n : Network) (Tree : ℕ → Type 0) 
             name (way s.clock u p q e in_s out
             (Joins-sym n.graph (port_of u (suc q)) (port_of s.clock (suc p)) leads.joins) leads.here now s at_place)
 
-    -- so it has settled
-    pub tree_has_settled : n.bare ≤ n.off → Settles n t.well w is.kept i s at live d here near
-    tree_has_settled bare =
-        has_settled n t.well w is.kept i s at live d here near bare tree_clear tree_chooses tree_hears
+    pub tree_follows : Follows n.graph s d here
+    tree_follows = record { clear = tree_clear; chosen = tree_chooses; hears = tree_hears }

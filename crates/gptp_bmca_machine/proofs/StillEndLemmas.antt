@@ -8,10 +8,8 @@ use Rattle.gptp_graph.specs.Distance.{IsDistance}
 use Rattle.gptp_graph.specs.Snapshot.{IsLinked, IsWellFormed, Joins, PortIdentity, Snapshot, System, clocks, port_of}
 use Rattle.gptp_graph.proofs.DistanceLemmas.{IsDistance-unique}
 use Rattle.gptp_graph.proofs.LinkLemmas.{Joins-clock, Joins-sym}
-use Rattle.gptp_graph.proofs.SystemLemmas.{In-clocks}
 use Rattle.gptp_bmca_machine.specs.Calm.{IsCalmPort}
 use Rattle.gptp_bmca_machine.specs.Clean.{CameFits, CameOverLink}
-use Rattle.gptp_bmca_machine.specs.Facts.{station_system}
 use Rattle.gptp_bmca_machine.specs.Frame.{Spelling}
 use Rattle.gptp_bmca_machine.specs.Levels.{LeadsFarther}
 use Rattle.gptp_bmca_machine.specs.LossLaws.{EverythingFits, IsAfterLoss, IsWhatIsLeft, Unmoved}
@@ -22,35 +20,41 @@ use Rattle.gptp_bmca_machine.proofs.PortsSettledLemmas as by
 use Rattle.gptp_bmca_machine.proofs.RestLemmas.{CameBounded, Chooses, IsClear}
 use Rattle.gptp_bmca_machine.proofs.StillLemmas.{LeadsOn, StillSettles, best_was, chooses_still, far_was, told}
 
+-- what a port of a system at this distance holds of one that tells it
+abbrev pub Hears : (g : Snapshot) (s : Station) (d : ℕ) → IsDistance g s.clock d → Type 0
+Hears g s d here = (e p q : ℕ) (u : ℕ) → e < 255 → LeadsFarther g e here.best u q s.clock p → ⊤
+    → (r : Reception) × HoldsAt s p r × (r.said.root ≡ here.best.identity) × (r.said.steps ≡ e)
+    × (r.said.source ≡ port_of u (suc q))
+
+-- it is clear, chooses its best by its distance, and holds what those tell that tell it
+pub record Follows (g : Snapshot) (s : Station) (d : ℕ) (here : IsDistance g s.clock d) : Type 0 where
+  pub clear : IsClear g s
+  pub chosen : Chooses s here.best d
+  pub hears : Hears g s d here
+
 module _ (n : Network) (well : IsWellFormed n.graph) (w : MachineState) (kept : IsAfterLoss n w) where
   module _ (i : ℕ) (s : Station) (at : slice_get w.stations i ≡ Some s) (live : s.live ≡ true) (d : ℕ)
       (here : IsDistance n.graph s.clock d) (near : d < 255) where
     pub there : slice_get w.stations (n.place s.clock) ≡ Some s
     there = subst (λ j. slice_get w.stations j ≡ Some s) (kept.calm.placed i s at) at
 
-    pub known : In s.clock (clocks n.graph)
-    known = In-clocks n.graph (station_system s) (kept.calm.facts.stations i s at live).known
-
     calm_port : (p : ℕ) (q : Port) → slice_get s.ports p ≡ Some q
         → IsCalmPort n w.time (port_of s.clock (suc p)) q
     calm_port p q at_p = (kept.calm.stations i s at live).ports p q at_p
-
-    -- what a port holds of one that tells it
-    abbrev pub Hears : Type 0
-    Hears = (e p q : ℕ) (u : ℕ) → e < 255 → LeadsFarther n.graph e here.best u q s.clock p → ⊤
-        → (r : Reception) × HoldsAt s p r × (r.said.root ≡ here.best.identity) × (r.said.steps ≡ e)
-        × (r.said.source ≡ port_of u (suc q))
 
     abbrev pub Settles : Type 0
     Settles = HasBest n.graph s × (n.bare ≤ w.time → FollowsBest n.graph s) × (n.off ≤ w.time → HasSettledRoles n.graph
         s)
 
-    pub has_settled : n.bare ≤ n.off → IsClear n.graph s → Chooses s here.best d → Hears → Settles
-    has_settled bare clear chosen hears = (
-      by.has_best n well w.time s d here near clear chosen calm_port (λ e. ⊤) hears (λ e less. tt),
-      by.follows_best n well w.time s d here near clear chosen calm_port (λ e. ⊤) hears (λ e less. tt),
-      by.settled_roles n well w.time s d here near clear chosen calm_port (λ e. ⊤) hears (λ e less. tt)
-          (λ u joined same lower. tt) (λ p linked. kept.capable p linked) bare,
+    -- so it has settled
+    pub has_settled : n.bare ≤ n.off → Follows n.graph s d here → Settles
+    has_settled bare follows = (
+      by.has_best n well w.time s d here near follows.clear follows.chosen calm_port (λ e. ⊤) follows.hears
+          (λ e less. tt),
+      by.follows_best n well w.time s d here near follows.clear follows.chosen calm_port (λ e. ⊤) follows.hears
+          (λ e less. tt),
+      by.settled_roles n well w.time s d here near follows.clear follows.chosen calm_port (λ e. ⊤) follows.hears
+          (λ e less. tt) (λ u joined same lower. tt) (λ p linked. kept.capable p linked) bare,
     )
 
 module _ (says : Spelling) (g : Snapshot) (n : Network) (well : IsWellFormed n.graph) (left : IsWhatIsLeft g n)
@@ -74,7 +78,7 @@ module _ (says : Spelling) (g : Snapshot) (n : Network) (well : IsWellFormed n.g
           chooses_still says g n well left w kept fits.stations d (λ e less. still e) near s.clock here.best s
           (there n well w kept i s at live d here near) u_s was_best was
 
-      still_hears : Hears n well w kept i s at live d here near
+      still_hears : Hears n.graph s d here
       still_hears e p q u close leads told_e = elim (each u
           (Joins-clock n.graph (port_of u (suc q)) (port_of s.clock (suc p)) well leads.joins)) [
             | inr moved ↦
@@ -101,7 +105,7 @@ module _ (says : Spelling) (g : Snapshot) (n : Network) (well : IsWellFormed n.g
                 (r, holds, final.root, final.steps, final.source)
           ]
 
-      pub still_clear : IsClear n.graph s
+      still_clear : IsClear n.graph s
       still_clear = record {
         rest = (kept.calm.stations i s at live).at_rest;
         known = (kept.calm.facts.stations i s at live).known;
@@ -151,6 +155,5 @@ module _ (says : Spelling) (g : Snapshot) (n : Network) (well : IsWellFormed n.g
                         (far_was g n well left u.clock far u_u far_is))
                   ]
 
-      pub still_has_settled : n.bare ≤ n.off → Settles n well w kept i s at live d here near
-      still_has_settled bare =
-          has_settled n well w kept i s at live d here near bare still_clear still_chooses still_hears
+      pub still_follows : Follows n.graph s d here
+      still_follows = record { clear = still_clear; chosen = still_chooses; hears = still_hears }

@@ -27,13 +27,13 @@ use Rattle.gptp_bmca_machine.proofs.FallHeldLemmas.{holds_in_tree}
 use Rattle.gptp_bmca_machine.proofs.FallLemmas.{HasLeft}
 use Rattle.gptp_bmca_machine.proofs.LevelLemmas.{places_of}
 use Rattle.gptp_bmca_machine.proofs.LinkEndsLemmas.{hearer_on}
-use Rattle.gptp_bmca_machine.proofs.MovedEndLemmas.{choose, tree_clear, tree_has_settled}
+use Rattle.gptp_bmca_machine.proofs.MovedEndLemmas.{choose, tree_follows}
 use Rattle.gptp_bmca_machine.proofs.MovedLevelLemmas.{has_left}
 use Rattle.gptp_bmca_machine.proofs.MovedTreeLemmas.{MovesTree}
 use Rattle.gptp_bmca_machine.proofs.NearestLemmas.{equal_within}
 use Rattle.gptp_bmca_machine.proofs.PortsSettledLemmas as by
 use Rattle.gptp_bmca_machine.proofs.RestLemmas.{CameBounded, Chooses, IsClear, is_master}
-use Rattle.gptp_bmca_machine.proofs.StillEndLemmas.{Settles, still_clear, still_has_settled}
+use Rattle.gptp_bmca_machine.proofs.StillEndLemmas.{Follows, has_settled, still_follows}
 use Rattle.gptp_bmca_machine.proofs.StillLemmas.{clear_at}
 use Rattle.gptp_bmca_machine.proofs.TurnLemmas.{OutIsAt, TurnsBack, out_chooses, out_is, out_is_at}
 use Rattle.gptp_bmca_machine.proofs.TurnLevelLemmas.{Times, TurnSettles, tree_times, way_in, way_leads}
@@ -108,23 +108,13 @@ module _ (says : Spelling) (g : Snapshot) (n : Network) (tree : List ℕ) (top o
 
   module _ (i : ℕ) (s : Station) (at : slice_get w.stations i ≡ Some s) (live : s.live ≡ true) (d : ℕ)
       (here : IsDistance n.graph s.clock d) (near : d < 255) where
-    abbrev pub Settled : Type 0
-    Settled = Settles n t.well w is.back.after.kept i s at live d here near
-
-    module _ (in_s : In s.clock tree) where
-      pub turned_clear : IsClear n.graph s
-      turned_clear =
-          tree_clear says g n (IsOf tree) (LeadsOut last out) top best best base depth m t.paths t.few start over before
-          (tree_times says g n tree top other last out best base depth t start over before times) w is.back.after is.back.falling
-          (way_in says g n tree top other last out best base depth t start over before times w is settles.way)
-          settles.levels late past i s at live d here near in_s
-
-      pub turned_has_settled : n.bare ≤ n.off → Settled
-      turned_has_settled =
-          tree_has_settled says g n (IsOf tree) (LeadsOut last out) top best best base depth m t.paths t.few start over before
-          (tree_times says g n tree top other last out best base depth t start over before times) w is.back.after is.back.falling
-          (way_in says g n tree top other last out best base depth t start over before times w is settles.way)
-          settles.levels late past i s at live d here near in_s
+    pub turned_follows : In s.clock tree → Follows n.graph s d here
+    turned_follows =
+        tree_follows says g n (IsOf tree) (LeadsOut last out) top best best base depth m t.paths t.few start over before
+        (tree_times says g n tree top other last out best base depth t start over before times) w is.back.after
+        is.back.falling
+        (way_in says g n tree top other last out best base depth t start over before times w is settles.way)
+        settles.levels late past i s at live d here near
 
   -- ---- beside it
 
@@ -181,27 +171,23 @@ module _ (says : Spelling) (g : Snapshot) (n : Network) (tree : List ℕ) (top o
       known : In s.clock (clocks n.graph)
       known = In-clocks n.graph (station_system s) (is.back.after.kept.calm.facts.stations i s at live).known
 
-      -- it is clear
-      pub system_is_clear : IsClear n.graph s
-      system_is_clear = elim (each s.clock known) [
-        | inr in_s ↦ turned_clear i s at live d here near in_s
-        | inl u_s ↦ still_clear says g n t.well t.left w is.back.after.kept is.back.after.fits is.back.still (IsOf tree)
-            each (λ v c a k in_v u. beyond_tree v c a k in_v (unmoved_out c u))
+      pub system_follows : Follows n.graph s d here
+      system_follows = elim (each s.clock known) [
+        | inr in_s ↦ turned_follows i s at live d here near in_s
+        | inl u_s ↦ still_follows says g n t.well t.left w is.back.after.kept is.back.after.fits is.back.still
+            (IsOf tree) each (λ v c a k in_v u. beyond_tree v c a k in_v (unmoved_out c u))
             (λ v a c place in_v u. holds_none_of v a c place in_v (unmoved_out c u)) i s at live d here near u_s
       ]
 
-      -- so it has settled
-      pub system_has_settled : n.bare ≤ n.off → Settled i s at live d here near
-      system_has_settled bare = elim (each s.clock known) [
-        | inr in_s ↦ turned_has_settled i s at live d here near in_s bare
-        | inl u_s ↦ still_has_settled says g n t.well t.left w is.back.after.kept is.back.after.fits is.back.still
-            (IsOf tree) each (λ v c a k in_v u. beyond_tree v c a k in_v (unmoved_out c u))
-            (λ v a c place in_v u. holds_none_of v a c place in_v (unmoved_out c u)) i s at live d here near u_s bare
-      ]
+      -- it is clear
+      pub system_is_clear : IsClear n.graph s
+      system_is_clear = system_follows.clear
 
     -- each near system has
     pub near_have_settled : n.bare ≤ n.off → NearHaveSettled n w
-    near_have_settled bare i s at live (d, here, near) = system_has_settled i s at live d here near bare
+    near_have_settled bare i s at live (d, here, near) =
+        has_settled n t.well w is.back.after.kept i s at live d here near bare
+        (system_follows i s at live d here near)
 
     -- and what any holds respects what is left; all are near
     pub system_clear : (i : ℕ) (s : Station) → slice_get w.stations i ≡ Some s → s.live ≡ true → IsClear n.graph s
