@@ -5,20 +5,18 @@ use Rattle.gptp_lists.specs.Members.{In}
 use Rattle.gptp_graph.proofs.LinkLemmas.{Adjacent-clock, Joins-sym}
 use Rattle.gptp_graph.specs.Snapshot.{Joins, PortIdentity, Snapshot, System, clocks, port_of}
 use Rattle.gptp_bmca_machine.specs.Clean.{Whole}
-use Rattle.gptp_bmca_machine.specs.CutTree.{CutsOff, CutsTrees, Tree}
+use Rattle.gptp_bmca_machine.specs.CutTree.{CutsOff}
 use Rattle.gptp_bmca_machine.specs.Frame.{Announce, AnnounceFrame, Lane, Spelling}
 use Rattle.gptp_bmca_machine.specs.LossLaws.{IsLoss}
 use Rattle.gptp_bmca_machine.specs.Network.{IsSettlingNetwork, Network}
 use Rattle.gptp_bmca_machine.specs.Station.{MachineState, Station}
 use Rattle.gptp_bmca_machine.proofs.CutTreeLemmas.{IsCutOff, LeadsNowhere, moves_off, off_whole}
 use Rattle.gptp_bmca_machine.proofs.MovedTreeLemmas.{LeadsDown, MovesTree}
-use Rattle.gptp_bmca_machine.proofs.TreesFallLemmas.{TreesFallBack}
 use Rattle.gptp_bmca_machine.proofs.FallLemmas.{IsAftermath, IsFalling, IsFreeAt, IsLed, IsOld}
 use Rattle.gptp_bmca_machine.proofs.FallLevelLemmas.{TreeSettles, not_ready}
 use Rattle.gptp_bmca_machine.proofs.FallRestLemmas.{chosen, held_before, stays0}
 use Rattle.gptp_bmca_machine.proofs.LinkStepLemmas.{lives_at}
 use Rattle.gptp_bmca_machine.proofs.PlaceLemmas.{same_there}
-use Rattle.gptp_bmca_machine.proofs.StillLemmas.{levels_found}
 
 module _ (says : Spelling) (n0 n : Network) (net0 : IsSettlingNetwork n0) (w w' : MachineState)
     (loss : IsLoss says n0 n w w') (m' : IsAftermath says n0.graph n w') where
@@ -132,13 +130,3 @@ module _ (says : Spelling) (n0 n : Network) (net0 : IsSettlingNetwork n0) (w w' 
       pub failing_settles : (start : ℕ) (before : ℕ → ℕ) → ((f : ℕ) → n.most ≤ before f)
           → TreeSettles says g n (IsCutOff n next) LeadsNowhere top best next base depth moved start before w'
       failing_settles = moving_settles (IsCutOff n next) LeadsNowhere top best next base depth moved
-
-  -- so all trees fall back
-  pub fails_back : (best : System) (IsCut : Tree → Type 0) (cuts : CutsTrees g n best IsCut) (start : ℕ)
-      → w'.time ≤ start → TreesFallBack says g n best IsCut cuts start w'
-  fails_back best IsCut cuts start now = record {
-    after = m';
-    still = levels_found says n0 n net0 cuts.well w w' loss m'.kept;
-    falling = λ t cut.
-        failing_begins t.top best t.next t.base t.depth (cuts.each t cut) start now;
-  }

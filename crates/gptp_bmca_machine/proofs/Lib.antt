@@ -42,13 +42,9 @@ pub mod FallLeaveLemmas
 pub mod FallKeptLemmas
 pub mod FallLevelLemmas
 pub mod FallEndLemmas
-pub mod TreesFallLemmas
-pub mod FallSoonerLemmas
 pub mod LostPortLemmas
 pub mod LostTopLemmas
 pub mod LostBeginLemmas
-pub mod FailsBackLemmas
-pub mod FallEmptiedLemmas
 pub mod FallRestLemmas
 pub mod FallBeginLemmas
 pub mod FallFailLemmas
