@@ -1,5 +1,5 @@
 -- A system of a network at rest fails, which moves trees: they begin to fall back, and nobody of them has settled yet.
-use Rattle.std.proofs.Common.{◌≡◌, ◌⊎◌, ◌<◌, ◌≤◌, ◌+◌, ◌∙◌, ℕ, suc, true, List, Some, slice_get, ap, subst, sym, inl, inr, arith}
+use Rattle.std.proofs.Common.{◌≡◌, ◌⊎◌, ◌<◌, ◌≤◌, ◌+◌, ◌∙◌, ℕ, suc, true, List, Some, slice_get, ap, subst, sym, inl, inr}
 use Rattle.gptp_lists.specs.Members.{In}
 use Rattle.gptp_graph.specs.Best.{IsBest}
 use Rattle.gptp_graph.specs.Snapshot.{Joins, PortIdentity, Snapshot, System, clocks, port_of}
@@ -21,7 +21,7 @@ use Rattle.gptp_bmca_machine.proofs.FallLemmas.{IsAftermath, IsFalling, IsFreeAt
 use Rattle.gptp_bmca_machine.proofs.FallRestLemmas.{masters}
 use Rattle.gptp_bmca_machine.proofs.LevelLemmas as level
 use Rattle.gptp_bmca_machine.proofs.LinkStepLemmas.{lives_at}
-use Rattle.gptp_bmca_machine.proofs.MovedTreeLemmas.{LeadsDown, MovesTree}
+use Rattle.gptp_bmca_machine.proofs.MovedTreeLemmas.{MovesTree}
 use Rattle.gptp_bmca_machine.proofs.PlaceLemmas.{received_injective, same_there}
 use Rattle.gptp_bmca_machine.proofs.RestingLemmas.{links_stay}
 use Rattle.gptp_bmca_machine.proofs.StillLemmas.{levels_found, live_before, station_of}

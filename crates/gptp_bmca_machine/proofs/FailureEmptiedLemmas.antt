@@ -11,7 +11,7 @@ use Rattle.gptp_bmca_machine.specs.LinkStage.{Wiring}
 use Rattle.gptp_bmca_machine.specs.LossLaws.{EverythingFits, IsAfterLoss, IsWhatIsLeft}
 use Rattle.gptp_bmca_machine.specs.Network.{Network}
 use Rattle.gptp_bmca_machine.specs.SoundLaws.{IsSoundOnLinks}
-use Rattle.gptp_bmca_machine.specs.Station.{Held, HoldsAt, MachineState, Port, Reception, Station}
+use Rattle.gptp_bmca_machine.specs.Station.{Held, MachineState, Port, Station}
 use Rattle.gptp_bmca_machine.proofs.CutTreeLemmas.{IsCutOff, LeadsNowhere, moves_off}
 use Rattle.gptp_bmca_machine.proofs.FailureEndLemmas.{FailureSettles}
 use Rattle.gptp_bmca_machine.proofs.FailureTreesLemmas.{FailsBack, FallBack, IsFailedState}

@@ -1,9 +1,9 @@
 -- The ways of what is told since a system failed: those of before, but for links between the failed system and the top of a
 -- tree.
-use Rattle.std.proofs.Common.{◌≡◌, ◌⊎◌, ◌≤◌, ℕ, List, [], ◌∷◌, refl, sym, ap, subst, ◌∙◌, inl, inr}
+use Rattle.std.proofs.Common.{◌≡◌, ◌⊎◌, ◌≤◌, ℕ, List, [], ◌∷◌, sym, subst, inl, inr}
 use native.Mathlib.Decide.{ℕ_discrete}
 use Rattle.gptp_lists.specs.Members.{In}
-use Rattle.gptp_graph.specs.Path.{IsPath, Route}
+use Rattle.gptp_graph.specs.Path.{Route}
 use Rattle.gptp_graph.specs.PathBound.{BoundsPaths}
 use Rattle.gptp_graph.specs.Snapshot.{Adjacent, IsWellFormed, Joins, Link, PortIdentity, Snapshot, clocks, port_of}
 use Rattle.gptp_graph.proofs.LinkLemmas.{Joins-clock, Joins-sym}

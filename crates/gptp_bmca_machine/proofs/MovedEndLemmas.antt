@@ -1,7 +1,5 @@
 -- Once a tree that a loss moved has settled from its best on, or from the way out, each of its systems has.
-use Rattle.std.proofs.Common.{◌≡◌, ◌⊎◌, ◌<◌, ◌≤◌, ◌+◌, ℕ, zero, suc, true, Some, slice_get, refl, sym, ap, subst, ◌∙◌, inl, inr, arith}
-use Rattle.std.specs.Bool.{⊤}
-use Rattle.gptp_graph.specs.Best.{IsBest}
+use Rattle.std.proofs.Common.{◌≡◌, ◌⊎◌, ◌<◌, ◌≤◌, ℕ, zero, suc, true, Some, slice_get, sym, ap, subst, ◌∙◌, inl, inr, arith}
 use Rattle.gptp_graph.specs.Distance.{IsDistance}
 use Rattle.gptp_graph.specs.PathBound.{BoundsPaths}
 use Rattle.gptp_graph.specs.Snapshot.{Snapshot, System, port_of}

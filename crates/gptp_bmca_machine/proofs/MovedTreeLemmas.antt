@@ -11,7 +11,7 @@ use Rattle.gptp_graph.specs.PathBound.{BoundsPaths}
 use Rattle.gptp_graph.specs.Snapshot.{System, PortIdentity, Snapshot, clocks, port_of, Joins, Adjacent, IsWellFormed}
 use Rattle.gptp_graph.proofs.BestLemmas.{IsBest-neighbour}
 use Rattle.gptp_graph.proofs.DecisionLemmas.{in_dec}
-use Rattle.gptp_graph.proofs.LinkLemmas.{Adjacent-clock, Adjacent-sym, Joins-sym}
+use Rattle.gptp_graph.proofs.LinkLemmas.{Adjacent-sym, Joins-sym}
 use Rattle.gptp_graph.proofs.PathLemmas.{Route-end}
 use Rattle.gptp_graph.proofs.SystemLemmas.{same_clock, system_of}
 use Rattle.gptp_bmca_machine.specs.Clean.{Whole}

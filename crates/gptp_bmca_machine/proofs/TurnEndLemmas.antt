@@ -1,38 +1,29 @@
 -- Once a tree has turned by its one way out, each near system has settled.
-use Rattle.std.proofs.Common.{◌≡◌, ◌⊎◌, ◌<◌, ◌≤◌, ◌+◌, ℕ, zero, suc, true, List, Some, slice_get, refl, sym, ap, subst, ◌∙◌, inl, inr, arith}
-use Rattle.std.specs.Bool.{⊤}
+use Rattle.std.proofs.Common.{◌≡◌, ◌⊎◌, ◌<◌, ◌≤◌, ◌+◌, ℕ, suc, true, List, Some, slice_get, sym, subst, ◌∙◌, inl, inr, arith}
 use Rattle.gptp_lists.specs.Members.{In}
 use Rattle.gptp_graph.specs.Best.{IsBest}
 use Rattle.gptp_graph.specs.Distance.{IsDistance}
-use Rattle.gptp_graph.specs.Snapshot.{IsLinked, Joins, PortIdentity, Snapshot, System, clocks, port_of}
-use Rattle.gptp_graph.proofs.BestLemmas.{IsBest-unique}
+use Rattle.gptp_graph.specs.Snapshot.{Joins, Snapshot, System, clocks, port_of}
 use Rattle.gptp_graph.proofs.DecisionLemmas.{in_dec}
 use Rattle.gptp_graph.proofs.DistanceLemmas.{IsDistance-unique}
 use Rattle.gptp_graph.proofs.ExistenceLemmas.{distance_exists}
-use Rattle.gptp_graph.proofs.LinkLemmas.{Joins-clock, Joins-sym}
+use Rattle.gptp_graph.proofs.LinkLemmas.{Joins-sym}
 use Rattle.gptp_graph.proofs.PathBoundLemmas.{IsDistance-within}
 use Rattle.gptp_graph.proofs.SystemLemmas.{In-clocks}
-use Rattle.gptp_bmca_machine.specs.Calm.{IsCalmPort}
-use Rattle.gptp_bmca_machine.specs.Clean.{CameFits, CameOverLink}
 use Rattle.gptp_bmca_machine.specs.Facts.{station_system}
 use Rattle.gptp_bmca_machine.specs.Frame.{Spelling}
-use Rattle.gptp_bmca_machine.specs.Levels.{LeadsFarther}
 use Rattle.gptp_bmca_machine.specs.LossLaws.{Unmoved}
 use Rattle.gptp_bmca_machine.specs.Network.{Network}
 use Rattle.gptp_bmca_machine.specs.Run.{NearHaveSettled}
-use Rattle.gptp_bmca_machine.specs.Settled.{FollowsBest, HasBest, HasSettledRoles}
 use Rattle.gptp_bmca_machine.specs.Station.{HoldsAt, MachineState, Mine, Port, Received, Reception, Station}
 use Rattle.gptp_bmca_machine.specs.TurnTree.{TurnsTree}
-use Rattle.gptp_bmca_machine.proofs.FallHeldLemmas.{holds_in_tree}
 use Rattle.gptp_bmca_machine.proofs.FallLemmas.{HasLeft}
 use Rattle.gptp_bmca_machine.proofs.LevelLemmas.{places_of}
 use Rattle.gptp_bmca_machine.proofs.LinkEndsLemmas.{hearer_on}
 use Rattle.gptp_bmca_machine.proofs.MovedEndLemmas.{choose, tree_follows}
 use Rattle.gptp_bmca_machine.proofs.MovedLevelLemmas.{has_left}
 use Rattle.gptp_bmca_machine.proofs.MovedTreeLemmas.{MovesTree}
-use Rattle.gptp_bmca_machine.proofs.NearestLemmas.{equal_within}
-use Rattle.gptp_bmca_machine.proofs.PortsSettledLemmas as by
-use Rattle.gptp_bmca_machine.proofs.RestLemmas.{CameBounded, Chooses, IsClear, is_master}
+use Rattle.gptp_bmca_machine.proofs.RestLemmas.{Chooses, IsClear, is_master}
 use Rattle.gptp_bmca_machine.proofs.StillEndLemmas.{Follows, has_settled, still_follows}
 use Rattle.gptp_bmca_machine.proofs.StillLemmas.{clear_at}
 use Rattle.gptp_bmca_machine.proofs.TurnLemmas.{OutIsAt, TurnsBack, out_chooses, out_is, out_is_at}

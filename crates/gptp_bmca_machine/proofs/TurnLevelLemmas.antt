@@ -1,29 +1,22 @@
 -- A tree turns by its one way out: its systems choose the best by their new distances, from the way out on.
-use Rattle.std.proofs.Common.{◌≡◌, ◌≢◌, ◌⊎◌, ◌<◌, ◌≤◌, ◌+◌, ℕ, zero, suc, true, List, Some, slice_get, refl, sym, ap, subst, ◌∙◌, inl, inr, arith}
-use native.Mathlib.Decide.{dec_le, dec_lt}
+use Rattle.std.proofs.Common.{◌≡◌, ◌≢◌, ◌⊎◌, ◌<◌, ◌≤◌, ◌+◌, ℕ, suc, List, Some, slice_get, refl, sym, ap, subst, ◌∙◌, inl, inr, arith}
+use native.Mathlib.Decide.{dec_lt}
 use Rattle.gptp_lists.specs.Members.{In}
-use Rattle.gptp_graph.specs.Best.{IsBest}
 use Rattle.gptp_graph.specs.Distance.{IsDistance}
 use Rattle.gptp_graph.specs.Snapshot.{Adjacent, Joins, Snapshot, System, port_of}
-use Rattle.gptp_graph.proofs.DistanceLemmas.{IsDistance-neighbour, IsDistance-unique, nearer_neighbour}
+use Rattle.gptp_graph.proofs.DistanceLemmas.{IsDistance-neighbour, IsDistance-unique}
 use Rattle.gptp_graph.proofs.ExistenceLemmas.{distance_exists}
 use Rattle.gptp_graph.proofs.LinkLemmas.{Adjacent-sym, Joins-sym}
-use Rattle.gptp_graph.proofs.PathBoundLemmas.{IsDistance-within}
 use Rattle.gptp_bmca_machine.specs.Acts.{MachineSteps}
 use Rattle.gptp_bmca_machine.specs.Frame.{Spelling}
-use Rattle.gptp_bmca_machine.specs.Levels.{LeadsFarther}
-use Rattle.gptp_bmca_machine.specs.Link.{LinkSettles}
 use Rattle.gptp_bmca_machine.specs.Network.{Network}
 use Rattle.gptp_bmca_machine.specs.Station.{HoldsAt, MachineState, Reception, Station}
 use Rattle.gptp_bmca_machine.specs.TurnTree.{TurnsTree}
 use Rattle.gptp_bmca_machine.proofs.FallLemmas.{UnlinkedDrop, falls_by}
 use Rattle.gptp_bmca_machine.proofs.LinkEndsLemmas.{ends_by, teller_on, telling}
 use Rattle.gptp_bmca_machine.proofs.LinkLemmas.{link_settled}
-use Rattle.gptp_bmca_machine.proofs.LinkStepLemmas.{lives_at}
 use Rattle.gptp_bmca_machine.proofs.MovedLevelLemmas.{LevelSettles, Times as MovedTimes, ToldIn, levels_on}
 use Rattle.gptp_bmca_machine.proofs.MovedTreeLemmas.{LeadsDown, MovesTree}
-use Rattle.gptp_bmca_machine.proofs.PlaceLemmas.{same_there}
-use Rattle.gptp_bmca_machine.proofs.RestLemmas.{Chooses}
 use Rattle.gptp_bmca_machine.proofs.StillLemmas.{LeadsOn, chooses_still, port_there, station_of, told}
 use Rattle.gptp_bmca_machine.proofs.TurnLemmas.{OutIsAt, TurnsBack, out_chooses, out_is_at}
 use Rattle.gptp_bmca_machine.proofs.TurnOutLemmas.{HasTurned, OutSettles, back, out_kept, show_out, turned}

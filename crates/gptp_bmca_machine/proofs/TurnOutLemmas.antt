@@ -4,11 +4,10 @@ use Rattle.std.proofs.Common.{◌≡◌, ◌≢◌, ◌⊎◌, ◌<◌, ◌≤�
 use Rattle.gptp_lists.specs.Members.{In}
 use Rattle.gptp_lists.proofs.SystemSpecLemmas.{In-parts, In-right}
 use Rattle.gptp_graph.specs.Best.{IsBest}
-use Rattle.gptp_graph.specs.Snapshot.{Adjacent, IsLinked, Joins, PortIdentity, Snapshot, System, clocks, port_of}
+use Rattle.gptp_graph.specs.Snapshot.{Adjacent, Joins, PortIdentity, Snapshot, System, clocks, port_of}
 use Rattle.gptp_graph.proofs.BestLemmas.{IsBest-neighbour}
 use Rattle.gptp_graph.proofs.DistanceLemmas.{IsDistance-neighbour, IsDistance-unique}
 use Rattle.gptp_graph.proofs.ExistenceLemmas.{distance_exists}
-use Rattle.gptp_graph.proofs.LinkDecisions.{IsLinked-dec}
 use Rattle.gptp_graph.proofs.LinkLemmas.{Joins-sym}
 use Rattle.gptp_bmca_machine.specs.Acts.{LaneStep, MachineSteps}
 use Rattle.gptp_bmca_machine.specs.AtRest.{ChoosesItself, ChoosesPort, StationIsAtRest}
