@@ -61,7 +61,7 @@ module _ (p : SettlingParams) (g : Snapshot) (silent start : ℕ) (w : WorldStat
         IsBest-unique is.n.graph v is.best best is.turns.well (is.turns.is_best v in_v) is_best in
         subst (IsBest g v) one (is.turns.was_best v in_v)
     | no out ↦
-        best_was g is.n is.turns.well is.turns.left v best (is.turns.others v is_best.reached.1.begins out) is_best
+        best_was g is.n is.turns.well is.turns.left v best (is.others v is_best.reached.1.begins out) is_best
   ]
 
   itself : HaveQuietLinks p.params w → NothingLapses p.params → AllNameItself says_announce is.n g (view w)
