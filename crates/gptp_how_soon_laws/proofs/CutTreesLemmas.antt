@@ -34,7 +34,7 @@ use Rattle.gptp_how_soon.specs.declared.chosen.Ends.{Ends}
 use Rattle.gptp_how_soon.proofs.ChosenLemmas.{IsAt, at_port, chosen_there}
 use Rattle.gptp_settling_time.specs.HowSoon.{FailsTreesFirst}
 use Rattle.gptp_settling_time.specs.Losses.{IsUnmoved}
-use Rattle.gptp_settling_time.specs.TreeLosses.{CutsTreesFrom, IsTreeCutOff, IsUnmovedOrInTree}
+use Rattle.gptp_settling_time.specs.TreeLosses.{IsTreeCutOff, IsUnmovedOrInTree, MovesTreesFrom}
 use Rattle.gptp_how_soon_laws.proofs.FailedLemmas.{Fails, clock_before, each_is, fails, first_delay, first_paths, others, parts, stands_on}
 use Rattle.gptp_how_soon_laws.proofs.ToldLemmas.{loss_fails}
 use Rattle.gptp_how_soon_laws.proofs.TreeBelowLemmas.{IsTop, below_same, best, best_so, cut_off, tree}
@@ -363,25 +363,25 @@ module _ (n : NetworkState) (network : IsNetwork n) (made events : List Timed) w
             | inr behind ↦ none u behind j there
           ])
 
-      pub split_so : (b : System) × ((v : ℕ) → In v (clocks h) → IsUnmovedOrInTree g h b v)
-      split_so = by (first_top (clocks h) (λ v member. member))
+      pub split_so : (gone : ℕ) → (b : System) × ((v : ℕ) → In v (clocks h) → IsUnmovedOrInTree g h gone b v)
+      split_so gone = by (first_top (clocks h) (λ v member. member))
         where
           unmoved : (v : ℕ) (known : In v (clocks h)) (i : ℕ) → IsAt n i v → is_moved_there i ≡ false → IsUnmoved g h v
           unmoved v known i at none =
               unmoved_at n network made events g h stands stands' well well' v (lived v known) known i at none
 
           by : TopOf ⊎ ((v : ℕ) → In v (clocks h) → (i : ℕ) → IsAt n i v → is_moved_there i ≡ false)
-              → (b : System) × ((v : ℕ) → In v (clocks h) → IsUnmovedOrInTree g h b v)
+              → (b : System) × ((v : ℕ) → In v (clocks h) → IsUnmovedOrInTree g h gone b v)
           by (inl t) = (best_of t, each)
             where
-              each : (v : ℕ) → In v (clocks h) → IsUnmovedOrInTree g h (best_of t) v
+              each : (v : ℕ) → In v (clocks h) → IsUnmovedOrInTree g h gone (best_of t) v
               each v known =
                   let (i, s) = on_of n network made events g h stands stands' well well' lived v known in
                   is i s.at (is_moved_there i) refl
                 where
                   is : (i : ℕ) (at : IsAt n i v) (moved : Bool) → is_moved_there i ≡ moved
-                      → IsUnmovedOrInTree g h (best_of t) v
-                  is i at true moved = inr (in_tree i v at known moved t)
+                      → IsUnmovedOrInTree g h gone (best_of t) v
+                  is i at true moved = inr (inl (in_tree i v at known moved t))
                   is i at false none = inl (unmoved v known i at none)
           by (inr none) = (
             record { clock = 0; identity = 0; ports = 0 },
@@ -407,7 +407,7 @@ fails_trees_first n network made (event ∷ events) well splits delay paths few 
         clock = x.clock;
         act = x.act;
         live = loss_fails n network made x.clock x.loss;
-        cuts = cuts;
+        moves = moves_from x.clock;
         delay = first_delay n network made event events delay paths few is;
         paths = first_paths n network made event events delay paths few is;
         few = few;
@@ -415,12 +415,12 @@ fails_trees_first n network made (event ∷ events) well splits delay paths few 
       others n network made event events delay paths few is,
     )
   where
-    cuts : CutsTreesFrom n made event
-    cuts g h stands stands' =
+    moves_from : (gone : ℕ) → MovesTreesFrom n made event gone
+    moves_from gone g h stands stands' =
         let failing = (parts n network made event events delay paths few is).0 in
         let x : Fails n network made event = fails n network made event failing in
         let last = stands_on n network made event events delay paths few is h stands' in
         split_so n network made (made ++ event ∷ events) splits g h stands last
         (well made (event ∷ events) refl g stands)
         (well (made ++ event ∷ events) [] (append-nil (made ++ event ∷ events)) h last)
-        (clock_before n network made event x g h stands stands')
+        (clock_before n network made event x g h stands stands') gone
