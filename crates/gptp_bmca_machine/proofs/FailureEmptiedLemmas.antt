@@ -214,8 +214,7 @@ module _ (says : Spelling) (g : Snapshot) (n : Network) (lost : ℕ) (best : Sys
               (settles.turned t is).levels f v p u q close in_v in_u leads (omega arith) pv pu l
               (stand_back v p u q leads.joins before f best pv pu l stand) ready;
           way = λ p k joins leads turned from pv pu l stand ready.
-              (settles.turned t is).way p k joins leads
-              (
+              (settles.turned t is).way p k joins leads (
                 (λ s at.
                     turned.0 s (stands_still says g n moves.well moves.left w w' emptied kept' back.after.fits t.last
                     ((moves.turned t is).lives t.last (moves.turned t is).in_last) s at)),

@@ -154,8 +154,12 @@ module _ (g : Snapshot) (n : Network) (well : IsWellFormed n.graph) (left : IsWh
           (Joins-clock g q (port_of v i) left.graph (Joins-sym g (port_of v i) q joins))) [
             | inl live ↦ loses.links (port_of v i) q joins (lives v in_v) live
             | inr is_lost ↦
-                let is_top = beside v in_v (i, q.port, subst (λ c. Joins g (port_of v i) (port_of c q.port)) is_lost
-                joins) in
+                let is_top = beside v in_v (
+                  i,
+                  q.port,
+                  subst (λ c. Joins g (port_of v i) (port_of c q.port)) is_lost
+                      joins,
+                ) in
                 absurd (not (inl (is_top, is_lost)))
           ]
 
