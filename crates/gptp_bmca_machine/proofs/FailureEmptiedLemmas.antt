@@ -186,7 +186,8 @@ module _ (says : Spelling) (g : Snapshot) (n : Network) (lost : ℕ) (best : Sys
       sound = sound_emptied says g n moves.well moves.left w w' emptied kept' back.after.fits back.sound;
       cut = λ t is.
           falls_emptied says g n moves.well moves.left w w' emptied kept' back.after.fits (IsCutOff n t.next)
-          LeadsNowhere t.top best t.next t.base t.depth (moves_off g n t.top best t.next t.base t.depth (moves.cut t is))
+          LeadsNowhere t.top best t.next t.base t.depth
+          (moves_off g n t.top best t.next t.base t.depth (moves.cut t is))
           start (back.cut t is);
       turned = λ t is.
           falls_emptied says g n moves.well moves.left w w' emptied kept' back.after.fits (IsOf t.tree)
@@ -197,9 +198,11 @@ module _ (says : Spelling) (g : Snapshot) (n : Network) (lost : ℕ) (best : Sys
 
     -- and so does what then settles
     module _ (over : ℕ) (before : ℕ → ℕ)
-        (cut_times : (t : Tree) → (is : IsCut t) → MovedTimes says g n (IsCutOff n t.next) LeadsNowhere t.top best t.next t.base t.depth
+        (cut_times : (t : Tree) → (is : IsCut t) → MovedTimes says g n (IsCutOff n t.next) LeadsNowhere t.top best
+        t.next t.base t.depth
         (moves_off g n t.top best t.next t.base t.depth (moves.cut t is)) moves.paths moves.few start over before)
-        (turned_times : (t : Turning) → (is : IsTurned t) → Times says g n t.tree t.top lost t.last t.out best t.base t.depth (moves.turned t is)
+        (turned_times : (t : Turning) → (is : IsTurned t) → Times says g n t.tree t.top lost t.last t.out best t.base
+        t.depth (moves.turned t is)
         start over before) where
       pub settles_emptied : FailureSettles says g n lost best IsCut IsTurned moves start over before cut_times
           turned_times w → FailureSettles says g n lost best IsCut IsTurned moves start over before cut_times

@@ -1,5 +1,5 @@
--- Trees that the failure of a system moved settle, each from its best on, or from its way out; then each near system has
--- settled.
+-- Trees that the failure of a system moved settle, each from its best on, or from its way out; then each near system
+-- has settled.
 use Rattle.std.proofs.Common.{◌≡◌, ◌⊎◌, ◌<◌, ◌≤◌, ℕ, suc, true, Some, slice_get, inl, inr, arith}
 use Rattle.gptp_lists.specs.Members.{In}
 use Rattle.gptp_graph.specs.Best.{IsBest}
@@ -31,15 +31,20 @@ use Rattle.gptp_bmca_machine.proofs.TurnTreeLemmas.{IsOf, LeadsOut, turns_moves}
 
 module _ (says : Spelling) (g : Snapshot) (n : Network) (lost : ℕ) (best : System) (IsCut : Tree → Type 0)
     (IsTurned : Turning → Type 0) (moves : FailureMoves g n lost best IsCut IsTurned) (start over : ℕ) (before : ℕ → ℕ)
-    (cut_times : (t : Tree) → (is : IsCut t) → MovedTimes says g n (IsCutOff n t.next) LeadsNowhere t.top best t.next t.base t.depth
+    (cut_times : (t : Tree) → (is : IsCut t) → MovedTimes says g n (IsCutOff n t.next) LeadsNowhere t.top best t.next
+    t.base t.depth
     (moves_off g n t.top best t.next t.base t.depth (moves.cut t is)) moves.paths moves.few start over before)
-    (turned_times : (t : Turning) → (is : IsTurned t) → Times says g n t.tree t.top lost t.last t.out best t.base t.depth (moves.turned t is)
+    (turned_times : (t : Turning) → (is : IsTurned t) → Times says g n t.tree t.top lost t.last t.out best t.base
+    t.depth (moves.turned t is)
     start over before) where
   -- what is known of the links of each tree
   pub record FailureSettles (w : MachineState) : Type 0 where
-    pub cut : (t : Tree) → (is : IsCut t) → (f : ℕ) → LevelSettles says g n (IsCutOff n t.next) LeadsNowhere t.top best t.next t.base t.depth
-        (moves_off g n t.top best t.next t.base t.depth (moves.cut t is)) moves.paths moves.few start over before (cut_times t is) f w
-    pub turned : (t : Turning) → (is : IsTurned t) → TurnSettles says g n t.tree t.top lost t.last t.out best t.base t.depth (moves.turned t is)
+    pub cut : (t : Tree) → (is : IsCut t) → (f : ℕ) → LevelSettles says g n (IsCutOff n t.next) LeadsNowhere t.top
+        best t.next t.base t.depth
+        (moves_off g n t.top best t.next t.base t.depth (moves.cut t is)) moves.paths moves.few start over before
+        (cut_times t is) f w
+    pub turned : (t : Turning) → (is : IsTurned t) → TurnSettles says g n t.tree t.top lost t.last t.out best t.base
+        t.depth (moves.turned t is)
         start over before (turned_times t is) w
 
   abbrev Back : MachineState → Type 0
@@ -48,7 +53,8 @@ module _ (says : Spelling) (g : Snapshot) (n : Network) (lost : ℕ) (best : Sys
   -- no way leads into a tree that is cut off
   told_none : (w : MachineState) (t : Tree) → (is : IsCut t)
       → ToldIn says g n (IsCutOff n t.next) LeadsNowhere t.top best t.next t.base t.depth
-      (moves_off g n t.top best t.next t.base t.depth (moves.cut t is)) moves.paths moves.few start over before (cut_times t is) w
+      (moves_off g n t.top best t.next t.base t.depth (moves.cut t is)) moves.paths moves.few start over before
+      (cut_times t is) w
   told_none w t is v x q p e in_v none = absurd none
 
   -- every step keeps it
@@ -57,7 +63,8 @@ module _ (says : Spelling) (g : Snapshot) (n : Network) (lost : ℕ) (best : Sys
   settle_on w w' back back' step drops settles = record {
     cut = λ t is.
         levels_on says g n (IsCutOff n t.next) LeadsNowhere t.top best t.next t.base t.depth
-        (moves_off g n t.top best t.next t.base t.depth (moves.cut t is)) moves.paths moves.few start over before (cut_times t is) w w' back.after back'.after (back.cut t is)
+        (moves_off g n t.top best t.next t.base t.depth (moves.cut t is)) moves.paths moves.few start over before
+        (cut_times t is) w w' back.after back'.after (back.cut t is)
         (back'.cut t is) step drops (told_none w t is) (told_none w' t is) (settles.cut t is);
     turned = λ t is.
         settles_on says g n t.tree t.top lost t.last t.out best t.base t.depth (moves.turned t is)
@@ -115,7 +122,8 @@ module _ (says : Spelling) (g : Snapshot) (n : Network) (lost : ℕ) (best : Sys
             moves.all beyond holds_none i s at live d here near u
         | inr (inl (t, is, in_s)) ↦
             tree_follows says g n (IsCutOff n t.next) LeadsNowhere t.top best t.next t.base t.depth
-            (moves_off g n t.top best t.next t.base t.depth (moves.cut t is)) moves.paths moves.few start over before (cut_times t is) w back.after (back.cut t is)
+            (moves_off g n t.top best t.next t.base t.depth (moves.cut t is)) moves.paths moves.few start over before
+            (cut_times t is) w back.after (back.cut t is)
             (told_none w t is) (settles.cut t is) late past i s at live d here near in_s
         | inr (inr (t, is, in_s)) ↦
             turned_follows says g n t.tree t.top lost t.last t.out best t.base t.depth (moves.turned t is)

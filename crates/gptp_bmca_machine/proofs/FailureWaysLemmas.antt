@@ -1,5 +1,5 @@
--- The ways of what is told since a system failed: those of before, but for links between the failed system and the top of a
--- tree.
+-- The ways of what is told since a system failed: those of before, but for links between the failed system and the top
+-- of a tree.
 use Rattle.std.proofs.Common.{◌≡◌, ◌⊎◌, ◌≤◌, ℕ, List, [], ◌∷◌, sym, subst, inl, inr}
 use native.Mathlib.Decide.{ℕ_discrete}
 use Rattle.gptp_lists.specs.Members.{In}

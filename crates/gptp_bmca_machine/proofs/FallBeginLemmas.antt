@@ -278,7 +278,8 @@ module _ (says : Spelling) (n0 n : Network) (Tree : ℕ → Type 0) (Out : ℕ �
   begins_down v p u q in_v joins down = elim (ℕ_discrete v top) [
     | no apart ↦ inl (old_led v p u q in_v joins down apart, stays_led v p u q in_v joins down apart)
     | yes is ↦
-        subst (λ c. DownStage says t.ways n best (base + depth c) (falls_by n w.time (suc (depth c))) c p u q w') (sym is)
+        subst (λ c. DownStage says t.ways n best (base + depth c) (falls_by n w.time (suc (depth c))) c p u q w')
+        (sym is)
         (top_left p u q (subst (λ c. Joins n.graph (port_of c (suc p)) (port_of u (suc q))) is joins)
         (subst (λ c. LeadsDown g Tree Out base depth c u) is down))
   ]

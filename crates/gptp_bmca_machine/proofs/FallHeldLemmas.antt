@@ -90,7 +90,8 @@ module _ (says : Spelling) (g : Snapshot) (n : Network) (Tree : ℕ → Type 0) 
                   from_beyond beyond = up to.clock p i joins beyond s q lane.0 at there lane.1 r holds
 
                   by_stage : Tree to.clock → depth x ≡ suc (depth to.clock)
-                      → DownStage says t.ways n best (base + depth to.clock) (falls_by n start (suc (depth to.clock))) to.clock
+                      → DownStage says t.ways n best (base + depth to.clock) (falls_by n start (suc (depth to.clock)))
+                      to.clock
                       p
                       x i w
                       → Whole t.ways to.clock r.said
@@ -185,7 +186,8 @@ module _ (says : Spelling) (g : Snapshot) (n : Network) (Tree : ℕ → Type 0) 
                     lane : (l : Lane) × (slice_get w.lanes (n.lane (port_of a.v (suc a.p))) ≡ Some l)
                     lane = lane_there a.v a.p x old.i a.joins
 
-                    by : DownStage says t.ways n best (base + depth a.v) (falls_by n start (suc (depth a.v))) a.v a.p x old.i w
+                    by : DownStage says t.ways n best (base + depth a.v) (falls_by n start (suc (depth a.v))) a.v a.p
+                        x old.i w
                         → w.time ≤ falls_by n start (suc d)
                     by (inl (root_v, stays)) =
                         let before : w.time ≤ falls_by n start d = sooner a.v up a.in_v root_v in

@@ -254,7 +254,8 @@ module _ (says : Spelling) (g : Snapshot) (n : Network) (Tree : ℕ → Type 0) 
             let (far, here) = distance_exists t.ways x t.ways_well (lives_then x (t.lives x in_x)) in
             let (near, there) = distance_exists t.ways v t.ways_well (Adjacent-clock t.ways x v t.ways_well over) in
             let by = IsDistance-neighbour t.ways v x near far t.ways_well (Adjacent-sym t.ways x v over) there here in
-            let few = steps_not_fewer t.ways t.ways_well v a whole next is_next v near (inl (λ i. v)) is_next there root in
+            let few = steps_not_fewer t.ways t.ways_well v a whole next is_next v near (inl (λ i. v)) is_next there
+            root in
             let farther = more far here in
             inr (root ∙ sym one, omega (arith, by, few, farther))
       ]
@@ -280,7 +281,8 @@ module _ (says : Spelling) (g : Snapshot) (n : Network) (Tree : ℕ → Type 0) 
             let root : a.root ≡ next.identity = omega (arith, below, least) in
             let one = ap (λ (b : System). b.identity) same in
             let (far, here) = distance_exists t.ways v t.ways_well (lives_then v (t.lives v in_v)) in
-            let few = steps_not_fewer t.ways t.ways_well v a whole next is_next v far (inl (λ i. v)) is_next here root in
+            let few = steps_not_fewer t.ways t.ways_well v a whole next is_next v far (inl (λ i. v)) is_next here
+            root in
             let farther = more far here in
             inr (root ∙ sym one, omega (arith, few, farther))
       ]
@@ -534,11 +536,13 @@ module _ (says : Spelling) (g : Snapshot) (n : Network) (Tree : ℕ → Type 0) 
                 by : FollowsItself s ⊎ FollowsPort s → Whole t.ways x a
                 by (inl itself) =
                     subst (λ c. Whole t.ways c a) is_x.1
-                    (whole_own t.ways (station_system s) a known_then (own.root ∙ itself.root) (own.steps ∙ itself.steps)
+                    (whole_own t.ways (station_system s) a known_then (own.root ∙ itself.root)
+                    (own.steps ∙ itself.steps)
                     (own.path ∙ itself.trace))
                 by (inr port) =
                     let h = free_holds not port.place port.r port.holds in
-                    whole_on t.ways x h.v port.r.said a h.whole (lives_then x (t.lives x in_x)) (to_ways g n Tree Out top best next
+                    whole_on t.ways x h.v port.r.said a h.whole (lives_then x (t.lives x in_x)) (to_ways g n Tree Out
+                    top best next
                     base depth t x h.v (
                       suc port.place,
                       suc h.p,

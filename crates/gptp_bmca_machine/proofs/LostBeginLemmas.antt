@@ -233,7 +233,8 @@ module _ (says : Spelling) (n0 n : Network) (net0 : IsSettlingNetwork n0) (w w' 
   module _ (shorter : n.most ≤ n0.most)
       (long : (p i : ℕ) → Joins g (port_of lost (suc p)) (port_of top (suc i))
       → n.interval_of (port_of lost (suc p)) + n0.most < stay (n.log_of (port_of lost (suc p)))) where
-    pub top_begins : TopHolds says g n Tree Out lost top best next base depth loses t in_top stay w.time n0.most shorter long w'
+    pub top_begins : TopHolds says g n Tree Out lost top best next base depth loses t in_top stay w.time n0.most
+        shorter long w'
     top_begins = record {
       last = λ p i joins bare s pu l at there lane. inl (last_begins p i joins s pu l at there lane);
       bare = bare_begins;

@@ -27,8 +27,9 @@ Around Tree Out u = Tree u ⊎ ((v : ℕ) × Out v u)
 
 -- Of what is left of a snapshot these systems are moved, a tree. Each was as far from its best as its depth says, from
 -- `base` on; now its best is worse, or the same and farther. The one at the top lost links, and each other has one link
--- to one that is less deep by one. One link at most leads out of the tree. What is told since has its ways in a snapshot
--- that has all that is left, and of links of the tree no others; in it best and distances of the tree are the same.
+-- to one that is less deep by one. One link at most leads out of the tree. What is told since has its ways in a
+-- snapshot that has all that is left, and of links of the tree no others; in it best and distances of the tree are the
+-- same.
 pub record MovesTree (g : Snapshot) (n : Network) (Tree : ℕ → Type 0) (Out : ℕ → ℕ → Type 0) (top : ℕ)
     (best next : System) (base : ℕ) (depth : ℕ → ℕ) : Type 0 where
   pub well : IsWellFormed n.graph
@@ -297,10 +298,11 @@ module _ (g : Snapshot) (n : Network) (Tree : ℕ → Type 0) (Out : ℕ → ℕ
   stays_in x u v end y [] leads in_v route past (inl same) = subst Tree (sym same) in_v
   stays_in x u v end y [] leads in_v route past (inr none) = absurd none
   stays_in x u v end y (a ∷ us) leads in_v (next_to, route) past (inl same) = subst Tree (sym same) in_v
-  stays_in x u v end y (a ∷ us) leads in_v (next_to, route) past (inr among) = elim (t.beside v a in_v (from_ways v a in_v next_to)) [
-    | inl in_a ↦ stays_in x u a end y us leads in_a route (λ h. past (inr h)) among
-    | inr out ↦ absurd (past (inl (t.one_out x u v a leads out)))
-  ]
+  stays_in x u v end y (a ∷ us) leads in_v (next_to, route) past (inr among) = elim (t.beside v a in_v
+      (from_ways v a in_v next_to)) [
+        | inl in_a ↦ stays_in x u a end y us leads in_a route (λ h. past (inr h)) among
+        | inr out ↦ absurd (past (inl (t.one_out x u v a leads out)))
+      ]
 
   module _ (x u : ℕ) (in_x : Tree x) (beyond : IsBeyond Tree Out depth x u) where
     -- one link leads there

@@ -1,5 +1,5 @@
--- Unmoved systems beside moved ones have settled, and what they hold respects what is left, where no moved system that is
--- nearer is beside them, and they hold nothing of one.
+-- Unmoved systems beside moved ones have settled, and what they hold respects what is left, where no moved system that
+-- is nearer is beside them, and they hold nothing of one.
 use Rattle.std.proofs.Common.{◌≡◌, ◌⊎◌, ◌<◌, ◌≤◌, ℕ, suc, true, Some, slice_get, sym, subst, ◌∙◌, inl, inr, arith}
 use Rattle.std.specs.Bool.{⊤}
 use Rattle.gptp_lists.specs.Members.{In}

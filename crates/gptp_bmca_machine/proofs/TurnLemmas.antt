@@ -114,7 +114,8 @@ module _ (says : Spelling) (g : Snapshot) (n : Network) (tree : List ℕ) (top o
 
         sound' : IsSoundOnLinks says g w'
         sound' =
-            fits_sound_kept says g n t.left w w' is.back.after.kept.calm after'.kept.calm is.back.after.fits step is.sound
+            fits_sound_kept says g n t.left w w' is.back.after.kept.calm after'.kept.calm is.back.after.fits step
+            is.sound
 
     -- so where ports without a link are off
     pub turns_on : (w w' : MachineState) → TurnsBack w → IsAfterLoss n w' → UnlinkedAreOff n.graph w'

@@ -74,7 +74,8 @@ module _ (says : Spelling) (g : Snapshot) (n : Network) (tree : List ℕ) (top o
     pub grows : (e : ℕ) → before e + n.most ≤ before (suc e)
 
   module _ (over : ℕ) (before : ℕ → ℕ) (times : Times over before) where
-    pub tree_times : MovedTimes says g n (IsOf tree) (LeadsOut last out) top best best base depth m t.paths t.few start over before
+    pub tree_times : MovedTimes says g n (IsOf tree) (LeadsOut last out) top best best base depth m t.paths t.few
+        start over before
     tree_times = record { reached = times.reached; room = times.room; grows = times.grows }
 
     pub delay : (e : ℕ) → n.most ≤ before e
@@ -89,7 +90,8 @@ module _ (says : Spelling) (g : Snapshot) (n : Network) (tree : List ℕ) (top o
 
     -- links from systems of the tree at one distance
     abbrev pub TreeLevelSettles : ℕ → MachineState → Type 0
-    TreeLevelSettles = LevelSettles says g n (IsOf tree) (LeadsOut last out) top best best base depth m t.paths t.few start over before tree_times
+    TreeLevelSettles = LevelSettles says g n (IsOf tree) (LeadsOut last out) top best best base depth m t.paths t.few
+        start over before tree_times
 
     module _ (w : MachineState) (is : TurnsBack says g n tree top other last out best base depth t start w) where
       -- by then the end of the way in holds what is told
@@ -164,7 +166,8 @@ module _ (says : Spelling) (g : Snapshot) (n : Network) (tree : List ℕ) (top o
                   (r, (pl, there_l, holds), final.root, final.steps, final.source)
 
       -- so the way in tells what it is to
-      pub way_in : WaySettles w → ToldIn says g n (IsOf tree) (LeadsOut last out) top best best base depth m t.paths t.few start over before tree_times w
+      pub way_in : WaySettles w → ToldIn says g n (IsOf tree) (LeadsOut last out) top best best base depth m t.paths
+          t.few start over before tree_times w
       way_in way v x q p e in_v (is_last, is_out) joins there late s at =
           let same : e ≡ o.d = IsDistance-unique n.graph out e o.d t.well
           (subst (λ c. IsDistance n.graph c e) is_out there) o.now in
@@ -194,7 +197,8 @@ module _ (says : Spelling) (g : Snapshot) (n : Network) (tree : List ℕ) (top o
       -- every step keeps that
       pub settles_on : TurnSettles w'
       settles_on = record {
-        levels = levels_on says g n (IsOf tree) (LeadsOut last out) top best best base depth m t.paths t.few start over before
+        levels = levels_on says g n (IsOf tree) (LeadsOut last out) top best best base depth m t.paths t.few start
+            over before
             tree_times w w' is.back.after is'.back.after is.back.falling is'.back.falling step drops
             (way_in w is settles.way) (way_in w' is' way_on) settles.levels;
         way = way_on;

@@ -111,19 +111,22 @@ module _ (g : Snapshot) (n : Network) (tree : List ℕ) (top other last out : �
 
   -- and so are distances of the end of the way out
   pub out_told : (far : ℕ) → IsDistance n.graph out far → IsDistance t.ways out far
-  out_told far here = go (distance_exists t.ways out t.told.well (live_before t.ways n t.well t.told.left out out_lives))
+  out_told far here = go (distance_exists t.ways out t.told.well
+      (live_before t.ways n t.well t.told.left out out_lives))
     where
       go : ((e : ℕ) × IsDistance t.ways out e) → IsDistance t.ways out far
       go (e, there) =
           let was = far_was g n t.well t.left out far out_unmoved here in
-          let least = nearer_before g n_told t.told.well t.told.were e out far best out_was_best out_best_told there was in
+          let least = nearer_before g n_told t.told.well t.told.were e out far best out_was_best out_best_told
+          there was in
           let most = nearer_before t.ways n t.well t.told.left far out e best out_best_told out_best here there in
           subst (IsDistance t.ways out) (let same : e ≡ far = omega (arith, least, most) in same) there
 
   -- and of the tree
   at_least : (e v far : ℕ) → In v tree → IsDistance t.ways v e → IsDistance n.graph v far → far ≤ e
   at_least zero v far in_v there here =
-      absurd (best_outside (subst (λ c. In c tree) (sym (best_at_zero t.ways v best t.told.well (best_told v in_v) there))
+      absurd (best_outside (subst (λ c. In c tree) (sym
+      (best_at_zero t.ways v best t.told.well (best_told v in_v) there))
       in_v))
   at_least (suc e) v far in_v there here =
       go (λ x far' in_x. at_least e x far' in_x) (nearer_neighbour t.ways v e t.told.well there)

@@ -238,7 +238,8 @@ module _ (p : SettlingParams) (g : Snapshot) (By : PortIdentity → ℕ → Type
 
         heard : HeardNearer g (port_of u.clock (suc place))
         heard from joins farther =
-            let is = near_ends_stay g n s.lost s.moves.well s.moves.left s.moves.loses from (port_of u.clock (suc place)) joins
+            let is = near_ends_stay g n s.lost s.moves.well s.moves.left s.moves.loses from (port_of u.clock (suc
+            place)) joins
             known bare_there farther in
             moved (subst (Unmoved g n) clock (record { live = known; best = is.best; far = is.far }))
 

@@ -317,111 +317,113 @@ module _ (p : SettlingParams) (number : ℕ) (w : WorldState) (draws : List Draw
 
       module _ (By : PortIdentity → ℕ → Type 0) (gone : ℕ) (measured' : LinkIsMeasured w')
           (long : w.time + silence_span p < silent) (by : WorldAgesBy p By w')
-          (is_gone : GoesUntil g By gone ⊎ (silent ≤ gone)) (later : w.time < gone) (late' : delay_in w' ≤ w'.time) where
-        standing' : IsStanding p silent w'
-        standing' =
-            alone.standing_then p number w draws done w' is is' acts lives next silent pace measured measured' past
-            ready quiet silent_before long
+          (is_gone : GoesUntil g By gone ⊎ (silent ≤ gone)) (later : w.time < gone) (late' : delay_in w' ≤ w'.time)
+        where
+          standing' : IsStanding p silent w'
+          standing' =
+              alone.standing_then p number w draws done w' is is' acts lives next silent pace measured measured' past
+              ready quiet silent_before long
 
-        asked' : HaveAskedLong w'
-        asked' =
-            alone.asked_then p number w draws done w' is is' acts lives next silent pace measured measured' past ready
-            quiet silent_before long
+          asked' : HaveAskedLong w'
+          asked' =
+              alone.asked_then p number w draws done w' is is' acts lives next silent pace measured measured' past ready
+              quiet silent_before long
 
-        module _ (quiet' : HaveQuietLinks p.params w') (off : NothingLapses p.params) (start : ℕ)
-            (now : w'.time ≤ start) where
-          kept' : IsAfterLoss n' (view w')
-          kept' = split_after p silent w' standing' asked' quiet' off late'
+          module _ (quiet' : HaveQuietLinks p.params w') (off : NothingLapses p.params) (start : ℕ)
+              (now : w'.time ≤ start) where
+            kept' : IsAfterLoss n' (view w')
+            kept' = split_after p silent w' standing' asked' quiet' off late'
 
-          state' : SplitState p g split start (view w')
-          state' = record {
-            lanes = λ c q i joins.
-                let x = lane_between p w' (port_of number (suc q)) (port_of c (suc i)) is'
-                (links' (port_of number (suc q)) (port_of c (suc i)) joins) in
-                record { lane = x.lane; there = x.there; from = x.from_is; to = x.to_is };
-            named = named_in p w' is';
-            later = let time = time_now in omega (arith, time);
+            state' : SplitState p g split start (view w')
+            state' = record {
+              lanes = λ c q i joins.
+                  let x = lane_between p w' (port_of number (suc q)) (port_of c (suc i)) is'
+                  (links' (port_of number (suc q)) (port_of c (suc i)) joins) in
+                  record { lane = x.lane; there = x.there; from = x.from_is; to = x.to_is };
+              named = named_in p w' is';
+              later = let time = time_now in omega (arith, time);
+            }
+
+            fits' : EverythingFits says_announce g n' (view w')
+            fits' = loss_fits says_announce n0 n' (view w) (view w') net0 loss
+
+            -- what is held and on its way was so before
+            sound' : IsSoundOnLinks says_announce g (view w')
+            sound' = record {
+              lanes = λ j l f a at among said joins.
+                  let is_sound = sound.lanes j l (lane_still j l at) f a among said in
+                  record { source = is_sound.source; sound = is_sound.sound };
+              stations = λ i s place r at live holds.
+                  sound.stations i s (alone.stood_seen p number w draws done w' is is' acts lives i s at live) live
+                  place r
+                  holds;
+            }
+
+            stood_lane : (c q i : ℕ) → Joins g (port_of number (suc q)) (port_of c (suc i)) → (l : Lane)
+                → slice_get (view w').lanes (n'.lane (port_of number (suc q))) ≡ Some l
+                → slice_get (view w).lanes (n'.lane (port_of number (suc q))) ≡ Some l
+            stood_lane c q i joins l at = lane_still (n'.lane (port_of number (suc q))) l at
+
+            tops' : TopsHold says_announce g n' number best (IsTreeCutOff g g' best) (IsTreeTurned g g' number best) moves
+                start (stay_of p) w.time n0.most shorter split.long (view w')
+            tops' = record {
+              cut = λ t cut.
+                  top_begins says_announce n0 n' net0 (view w) (view w') loss kept' (IsCutOff n' t.next) LeadsNowhere
+                  number t.top best t.next t.base t.depth loses
+                  (moves_off g n' t.top best t.next t.base t.depth (cut_so t cut)) cut.in_top (stood_lane t.top)
+                  (stay_of p) (named_in p w is) shorter (split.long t.top);
+              turned = λ t turned.
+                  top_begins says_announce n0 n' net0 (view w) (view w') loss kept' (IsOf t.tree) (LeadsOut t.last t.out)
+                  number t.top best best t.base t.depth loses
+                  (turns_moves g n' t.tree t.top number t.last t.out best t.base t.depth (turned_so t turned))
+                  turned.in_top (stood_lane t.top) (stay_of p) (named_in p w is) shorter (split.long t.top);
+            }
+
+            after' : IsAftermath says_announce g n' (view w')
+            after' = record {
+              kept = kept';
+              fits = fits';
+              dark = dark_by says_announce g n' number best (IsTreeCutOff g g' best) (IsTreeTurned g g' number best) moves
+                  start (stay_of p) w.time n0.most shorter split.long (view w') kept' fits' state' tops';
+            }
+
+            back' : SplitsBack p g split start (view w')
+            back' = record {
+              state = state';
+              back = failure_begins says_announce n0 n' net0 (view w) (view w') loss after' named number best
+                  (IsTreeCutOff g g' best) (IsTreeTurned g g' number best) moves sound' start now;
+              tops = tops';
+            }
+
+            settles' : SplitSettles p g split start (view w')
+            settles' = record {
+              cut = λ t cut.
+                  failing_settles says_announce n0 n' net0 (view w) (view w') loss after' t.top best t.next t.base t.depth
+                  (cut_so t cut) start (settles_by n' start) (λ f. omega arith);
+              turned = λ t turned.
+                  turning_settles says_announce n0 n' net0 (view w) (view w') loss after' named t.tree t.top number t.last
+                  t.out best t.base t.depth (turned_so t turned) start (fallen_by n' start) (settles_by n' start)
+                  (turned_times p g split start t turned);
+            }
+
+          started : (start : ℕ) → MayStart gone w.time start w' → w'.time ≤ start
+          started start (inl soon) = let time = time_now in omega (arith, soon, later, time)
+          started start (inr (since, now)) = let time = time_now in omega (arith, since, time)
+
+          pub split_begins : IsSplitAlways p g By w.time gone silent w'
+          split_begins = record {
+            standing = standing';
+            asked = asked';
+            good = good_fails p number w draws done w' is is' acts lives next past ready quiet silent_before;
+            split = split;
+            at = refl;
+            same = refl;
+            by = by;
+            is_gone = is_gone;
+            begun = let time = time_now in omega (arith, time);
+            late = late';
+            links = links';
+            seen = λ quiet' off start may.
+                let now = started start may in
+                (back' quiet' off start now, settles' quiet' off start now);
           }
-
-          fits' : EverythingFits says_announce g n' (view w')
-          fits' = loss_fits says_announce n0 n' (view w) (view w') net0 loss
-
-          -- what is held and on its way was so before
-          sound' : IsSoundOnLinks says_announce g (view w')
-          sound' = record {
-            lanes = λ j l f a at among said joins.
-                let is_sound = sound.lanes j l (lane_still j l at) f a among said in
-                record { source = is_sound.source; sound = is_sound.sound };
-            stations = λ i s place r at live holds.
-                sound.stations i s (alone.stood_seen p number w draws done w' is is' acts lives i s at live) live place r
-                holds;
-          }
-
-          stood_lane : (c q i : ℕ) → Joins g (port_of number (suc q)) (port_of c (suc i)) → (l : Lane)
-              → slice_get (view w').lanes (n'.lane (port_of number (suc q))) ≡ Some l
-              → slice_get (view w).lanes (n'.lane (port_of number (suc q))) ≡ Some l
-          stood_lane c q i joins l at = lane_still (n'.lane (port_of number (suc q))) l at
-
-          tops' : TopsHold says_announce g n' number best (IsTreeCutOff g g' best) (IsTreeTurned g g' number best) moves
-              start (stay_of p) w.time n0.most shorter split.long (view w')
-          tops' = record {
-            cut = λ t cut.
-                top_begins says_announce n0 n' net0 (view w) (view w') loss kept' (IsCutOff n' t.next) LeadsNowhere
-                number t.top best t.next t.base t.depth loses
-                (moves_off g n' t.top best t.next t.base t.depth (cut_so t cut)) cut.in_top (stood_lane t.top)
-                (stay_of p) (named_in p w is) shorter (split.long t.top);
-            turned = λ t turned.
-                top_begins says_announce n0 n' net0 (view w) (view w') loss kept' (IsOf t.tree) (LeadsOut t.last t.out)
-                number t.top best best t.base t.depth loses
-                (turns_moves g n' t.tree t.top number t.last t.out best t.base t.depth (turned_so t turned))
-                turned.in_top (stood_lane t.top) (stay_of p) (named_in p w is) shorter (split.long t.top);
-          }
-
-          after' : IsAftermath says_announce g n' (view w')
-          after' = record {
-            kept = kept';
-            fits = fits';
-            dark = dark_by says_announce g n' number best (IsTreeCutOff g g' best) (IsTreeTurned g g' number best) moves
-                start (stay_of p) w.time n0.most shorter split.long (view w') kept' fits' state' tops';
-          }
-
-          back' : SplitsBack p g split start (view w')
-          back' = record {
-            state = state';
-            back = failure_begins says_announce n0 n' net0 (view w) (view w') loss after' named number best
-                (IsTreeCutOff g g' best) (IsTreeTurned g g' number best) moves sound' start now;
-            tops = tops';
-          }
-
-          settles' : SplitSettles p g split start (view w')
-          settles' = record {
-            cut = λ t cut.
-                failing_settles says_announce n0 n' net0 (view w) (view w') loss after' t.top best t.next t.base t.depth
-                (cut_so t cut) start (settles_by n' start) (λ f. omega arith);
-            turned = λ t turned.
-                turning_settles says_announce n0 n' net0 (view w) (view w') loss after' named t.tree t.top number t.last
-                t.out best t.base t.depth (turned_so t turned) start (fallen_by n' start) (settles_by n' start)
-                (turned_times p g split start t turned);
-          }
-
-        started : (start : ℕ) → MayStart gone w.time start w' → w'.time ≤ start
-        started start (inl soon) = let time = time_now in omega (arith, soon, later, time)
-        started start (inr (since, now)) = let time = time_now in omega (arith, since, time)
-
-        pub split_begins : IsSplitAlways p g By w.time gone silent w'
-        split_begins = record {
-          standing = standing';
-          asked = asked';
-          good = good_fails p number w draws done w' is is' acts lives next past ready quiet silent_before;
-          split = split;
-          at = refl;
-          same = refl;
-          by = by;
-          is_gone = is_gone;
-          begun = let time = time_now in omega (arith, time);
-          late = late';
-          links = links';
-          seen = λ quiet' off start may.
-              let now = started start may in
-              (back' quiet' off start now, settles' quiet' off start now);
-        }

@@ -75,7 +75,8 @@ module _ (p : SettlingParams) (g : Snapshot) (s : IsSplit p g) (start : ℕ) whe
   pub turned_times : (t : Turning) → (is : IsTurned t)
       → Times says_announce g s.n t.tree t.top s.lost t.last t.out s.best t.base t.depth (s.moves.turned t is) start
       (fallen_by s.n start) (settles_by s.n start)
-  turned_times t is = turn_times g s.n t.tree t.top s.lost t.last t.out s.best t.base t.depth (s.moves.turned t is) start
+  turned_times t is = turn_times g s.n t.tree t.top s.lost t.last t.out s.best t.base t.depth (s.moves.turned t is)
+      start
 
   -- each link of a tree is at its stage as soon as the system that tells has settled
   abbrev pub SplitSettles : MachineState → Type 0

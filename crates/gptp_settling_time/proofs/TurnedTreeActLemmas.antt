@@ -142,7 +142,8 @@ module _ (p : SettlingParams) (silent owner port : ℕ) (w : WorldState) (draws 
           out_of (subst (λ c. In c tree) (is_x ∙ is_other) so.in_last)
 
       by : (direction : Direction) → last ≡ (sender direction channel).clock → out ≡ (receiver direction channel).clock
-          → ((channel.a.clock ≡ top) × (channel.b.clock ≡ other)) ⊎ ((channel.b.clock ≡ top) × (channel.a.clock ≡ other))
+          → ((channel.a.clock ≡ top) × (channel.b.clock ≡ other)) ⊎ ((channel.b.clock ≡ top) × (channel.a.clock ≡
+          other))
           → ⊥
       by FromA from to (inl (is_a, is_b)) = ends_so channel.a.clock channel.b.clock from to (inl (is_a, is_b))
       by FromA from to (inr (is_b, is_a)) = ends_so channel.a.clock channel.b.clock from to (inr (is_a, is_b))

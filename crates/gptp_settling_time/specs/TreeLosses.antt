@@ -181,8 +181,8 @@ MovesTreesFrom n before event gone = (g g' : Snapshot) → StandsAfter n before 
     → StandsAfter n (before ++ event ∷ []) g'
     → (best : System) × ((v : ℕ) → In v (clocks g') → IsUnmovedOrInTree g g' gone best v)
 
--- After these events this one lets a live system fail, and so moves trees: they are cut off, or turn to their way out. The greatest delay of a link in use gets
--- no greater, and no path longer. None had more than 255 systems.
+-- After these events this one lets a live system fail, and so moves trees: they are cut off, or turn to their way out.
+-- The greatest delay of a link in use gets no greater, and no path longer. None had more than 255 systems.
 pub record FailsTrees (n : NetworkState) (before : List Timed) (event : Timed) : Type 0 where
   pub clock : ℕ
   pub act : event.act ≡ Changing (Fail clock)
