@@ -220,10 +220,10 @@ module _ (n : NetworkState) (network : IsNetwork n) (made after : List Timed) (g
       ((λ k. is_nearer (e_there k) (c_there k) (has_lower_clock (there_other k) (there_one k)))
       ∙ nearer_so e c (clock_of at_other.system.identity) (clock_of at_one.system.identity) told)
     where
-      abbrev systems : List ours.System
+      systems : List ours.System
       systems = systems_after n after
 
-      abbrev cs : List Chosen
+      cs : List Chosen
       cs = chosen_after n made
 
       at_one : IsAt n (place one) one.clock
