@@ -33,14 +33,14 @@ use Rattle.gptp_setup.proofs.IntervalLemmas.{interval_most}
 use Rattle.gptp_topology.specs.After.{standings_after}
 use Rattle.gptp_topology.specs.Times.{times_from, times_of}
 use Rattle.gptp_topology.specs.declared.course.Cable.{Cable}
-use Rattle.gptp_how_soon.specs.Bounds.{aged_echo_span, any_loss_span, arrived_by, asked_again, choice_of_row, echo_of_row, exact_span, gone_by, is_again, needed_watch, ready, retold_by, roles_after_losses, roles_by, roles_of_row, set_span, settling_by, sound_by, sound_of_row, two_exchanges, watch}
+use Rattle.gptp_how_soon.specs.Bounds.{aged_by, aged_echo_span, any_loss_span, arrived_by, asked_again, choice_of_row, echo_of_row, exact_span, gone_by, is_again, needed_watch, quiet_by, ready, retold_by, roles_by, roles_of_row, set_span, settling_by, sound_by, sound_of_row, two_exchanges, watch}
 use Rattle.gptp_how_soon.specs.Kinds.{sets_bounds, sets_link}
 use Rattle.gptp_how_soon.specs.Links.{longest_delay}
 use Rattle.gptp_how_soon.specs.Silent.{is_heard_link, own_intervals}
 use Rattle.gptp_how_soon.specs.Times.{IsWatchedShortly, View, events_at, events_before, gained_at, heard_at, last_of, last_set, loss_at, row_at, settling_time, settling_times, settling_times_from, time_at, view_at}
 use Rattle.gptp_how_soon.specs.declared.bounds.Loss.{Loss}
 use Rattle.gptp_how_soon.specs.declared.bounds.Row.{Row}
-use Rattle.gptp_how_soon.specs.declared.bounds.Row.TheVariants.{AnyLosses, AnyPast, CutOff, FailedEnd, FailedHeard, FailureCutsOff, FailureCutsTrees, Gained, LostEnd, LostPower, Lowered, OneTurned, PowerCutsOff, PowerCutsTrees, TreeCutOff, TreeTurned, Unchanged}
+use Rattle.gptp_how_soon.specs.declared.bounds.Row.TheVariants.{AnyLosses, AnyPast, CutOff, FailedEnd, FailedHeard, FailureCutsOff, FailureCutsTrees, Gained, Lowered, OneTurned, TreeCutOff, TreeTurned, Unchanged}
 use Rattle.gptp_how_soon.specs.declared.bounds.SettlingTime.{SettlingTime}
 use Rattle.gptp_how_soon.specs.declared.kinds.Told.{Told}
 use Rattle.gptp_how_soon.proofs.SilentLemmas.{held_within}
@@ -131,31 +131,37 @@ module _ (n : NetworkState) (network : IsNetwork n) (paths : SyncPaths) (few : p
   -- what a loss leaves of before is bounded, and so is what gains ask for
   module _ (loss : Loss) (soon : loss.paths_before.delay ≤ 16000000000) (held : loss.held ≤ 4112000000000)
       (gained : ℕ) (early : gained ≤ 195000000000000) where
-    roles_lost : roles_after_losses n loss paths ≤ 195000000000000
-    roles_lost =
-        let l = losses loss soon in let most = silence_most in
-        either_most loss.silent (max (any_loss_span n loss paths) (silence_span (pace_of n)))
-        (any_loss_span n loss paths) 195000000000000 (omega (arith, l, most)) (omega (arith, l))
+    quiet : (choice : ℕ) → choice ≤ 195000000000000 → quiet_by n loss choice ≤ 195000000000000
+    quiet choice less =
+        let most = silence_most in
+        either_most loss.silent (max choice (silence_span (pace_of n))) choice 195000000000000
+        (omega (arith, less, most)) less
+
+    roles_lost : quiet_by n loss (any_loss_span n loss paths) ≤ 195000000000000
+    roles_lost = let l = losses loss soon in quiet (any_loss_span n loss paths) (omega (arith, l))
+
+    aged_most : aged_by loss ≤ 4112000000000
+    aged_most = either_most loss.silent loss.held 0 4112000000000 held (omega arith)
 
     roles_most : (row : Row) → roles_by n loss paths row gained ≤ 195000000000000
     roles_most row = either_most (not (n.params.sync_timeout == 0)) _ _ 195000000000000 span (by row)
       where
+        cut_most : quiet_by n loss (aged_by loss + 2 * way_span paths) ≤ 195000000000000
+        cut_most =
+            let w = way in let a = aged_most in quiet (aged_by loss + 2 * way_span paths) (omega (arith, w, a))
+
         by : (r : Row) → roles_of_row n loss paths r gained ≤ 195000000000000
         by AnyPast = at_once
         by Unchanged = omega arith
         by Lowered = omega arith
         by CutOff = let w = way in omega (arith, w)
-        by LostEnd = omega arith
-        by LostPower = omega arith
-        by FailedEnd = let most = silence_most in omega (arith, most)
-        by PowerCutsOff = let w = way in omega (arith, w)
-        by FailedHeard = let most = silence_most in omega (arith, most)
-        by FailureCutsOff = let w = way in let most = silence_most in omega (arith, w, most, held)
+        by FailedEnd = quiet 0 (omega arith)
+        by FailedHeard = let a = aged_most in quiet (aged_by loss) (omega (arith, a))
+        by FailureCutsOff = cut_most
         by OneTurned = let w = way in omega (arith, w)
         by TreeCutOff = let w = way in omega (arith, w)
         by TreeTurned = let w = way in omega (arith, w)
-        by PowerCutsTrees = let w = way in omega (arith, w)
-        by FailureCutsTrees = let w = way in let most = silence_most in omega (arith, w, most, held)
+        by FailureCutsTrees = cut_most
         by AnyLosses = roles_lost
         by Gained = early
 
@@ -166,24 +172,26 @@ module _ (n : NetworkState) (network : IsNetwork n) (paths : SyncPaths) (few : p
         gone x most = either_most loss.used_before x.delay (largest_interval (pace_of n)) 16000000000 most largest
 
         aged : aged_echo_span n loss paths ≤ 195000000000000
-        aged = let s = silence_most in let e = echo in let l = largest in omega (arith, s, e, l, held)
+        aged =
+            let s = silence_most in let e = echo in let l = largest in let a = aged_most in
+            either_most loss.used (max (echo_span (pace_of n) paths) paths.delay) _ 195000000000000
+            (omega (arith, e, short)) (omega (arith, s, e, l, a))
 
         by : (r : Row) → sound_of_row n loss paths r gained ≤ 195000000000000
         by AnyPast = at_once
         by Unchanged = omega arith
         by Lowered = let e = echo in let g = gone paths short in omega (arith, e, g)
         by CutOff = let w = way in let g = gone paths short in omega (arith, w, g)
-        by LostEnd = let g = gone loss.paths_before soon in omega (arith, g)
-        by FailedEnd = let s = silence_most in let g = gone loss.paths_before soon in omega (arith, s, g)
-        by LostPower = let e = echo in omega (arith, e, short)
-        by PowerCutsOff = let w = way in let e = echo in omega (arith, w, e, short)
+        by FailedEnd =
+            let s = silence_most in let g = gone loss.paths_before soon in
+            either_most loss.used (gone_by n loss.paths_before loss.used_before) _ 195000000000000 (omega (arith, g))
+            (omega (arith, s, g))
         by FailedHeard = aged
-        by FailureCutsOff = let w = way in let a = aged in omega (arith, w, held, a)
+        by FailureCutsOff = let w = way in let a = aged in let b = aged_most in omega (arith, w, a, b)
         by OneTurned = let w = way in let e = echo in omega (arith, w, e)
         by TreeCutOff = let w = way in let g = gone paths short in omega (arith, w, g)
         by TreeTurned = let w = way in let e = echo in omega (arith, w, e)
-        by PowerCutsTrees = at_once
-        by FailureCutsTrees = at_once
+        by FailureCutsTrees = roles_lost
         by AnyLosses = roles_lost
         by Gained = early
 
@@ -200,17 +208,13 @@ module _ (n : NetworkState) (network : IsNetwork n) (paths : SyncPaths) (few : p
         by true Unchanged = omega arith
         by true Lowered = let e = echo in omega (arith, e)
         by true CutOff = let w = way in omega (arith, w)
-        by true LostEnd = omega arith
-        by true LostPower = let e = echo in omega (arith, e)
         by true FailedEnd = omega arith
-        by true PowerCutsOff = let w = way in let e = echo in omega (arith, w, e)
-        by true FailedHeard = let e = echo in omega (arith, e, held)
-        by true FailureCutsOff = let w = way in let e = echo in omega (arith, w, e, held)
+        by true FailedHeard = let e = echo in let a = aged_most in omega (arith, e, a)
+        by true FailureCutsOff = let w = way in let e = echo in let a = aged_most in omega (arith, w, e, a)
         by true OneTurned = let w = way in let e = echo in omega (arith, w, e)
         by true TreeCutOff = let w = way in omega (arith, w)
         by true TreeTurned = let w = way in let e = echo in omega (arith, w, e)
-        by true PowerCutsTrees = let w = way in let e = echo in omega (arith, w, e)
-        by true FailureCutsTrees = let w = way in let e = echo in omega (arith, w, e, held)
+        by true FailureCutsTrees = let w = way in let e = echo in let a = aged_most in omega (arith, w, e, a)
         by true AnyLosses = let l = losses loss soon in omega (arith, l)
         by true Gained = omega (arith, early)
 

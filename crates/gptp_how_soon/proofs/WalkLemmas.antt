@@ -20,6 +20,7 @@ use Rattle.gptp_how_soon.specs.Far.{up_is_used}
 use Rattle.gptp_how_soon.specs.Kinds.{sets_bounds, told_by}
 use Rattle.gptp_how_soon.specs.Links.{delay_set, longest_delay, longest_set, lost_among, new_among}
 use Rattle.gptp_how_soon.specs.Times.{last_of, last_set, moves_at, told_at, told_of, view_at}
+use Rattle.gptp_how_soon.specs.Silent.{any_silent}
 use Rattle.gptp_how_soon.specs.Walk.{IsFirstWalk, WalkGoesOn, WalkPasses, moves_seen, view_seen}
 use Rattle.gptp_how_soon.specs.declared.bounds.SettlingTime.{SettlingTime}
 use Rattle.gptp_how_soon.specs.declared.chosen.Ends.{Ends}
@@ -34,6 +35,8 @@ pub record WalkStands (n : NetworkState) (made now : List Timed) (w : Walk) : Ty
   pub tables : Stand n (made ++ now) w.tables
   pub ends : w.ends.items ≡ map (ends_of n) n.links
   pub told : w.told.items ≡ told_of n made now
+  pub set_before : w.set_before ≡ last_set made
+  pub longest_before : w.longest_before ≡ longest_delay n made
   pub systems_before : w.systems_before.items ≡ systems_after n made
   pub used : w.used_before.items ≡ map cable_is_used (standings_after n made)
   pub paths : w.paths_before ≡ sync_paths n made
@@ -129,6 +132,9 @@ module _ (n : NetworkState) (network : IsNetwork n) where
       → moves_seen n w at ≡ moves_at n made now w.before at
   moves_are made now w at so =
       let used = so.used in
+      let paths = so.paths in
+      let set = so.set_before in
+      let longest = so.longest_before in
       let ends = so.ends in
       let told = so.told in
       let systems_before = so.systems_before in
@@ -136,6 +142,9 @@ module _ (n : NetworkState) (network : IsNetwork n) where
       let standings = so.tables.standings in
       rw (
         used,
+        paths,
+        set,
+        longest,
         ends,
         told,
         systems,
@@ -163,6 +172,7 @@ module _ (n : NetworkState) (network : IsNetwork n) where
         told = so.told i;
         moves = moves_are made now w at so i;
         used = up_is_used (so.tables.standings i);
+        silent = any_silent (so.used i) (so.tables.standings i);
         paths = crossed_is n network (made ++ now) w.tables so.tables i;
         calm = calm_is n network (made ++ now) w.tables so.tables i;
       }
@@ -179,6 +189,8 @@ module _ (n : NetworkState) (network : IsNetwork n) where
             ∙ maps_twice (ends_among (systems_after n [])) cable_of (ends_of n) n.links (λ w. refl);
         systems_before = systems;
         told = is.told;
+        set_before = is.set_before;
+        longest_before = is.longest_before ∙ omega arith;
         used = is.used ∙ ap (map cable_is_used) is.tables.standings;
         paths = is.paths ∙ crossed_is n network [] w.tables is.tables;
         all_used = is.all_used ∙ ap up_is_used is.tables.standings;
@@ -202,6 +214,8 @@ module _ (n : NetworkState) (network : IsNetwork n) where
             (ap₂ (told_by t.act) (link_is n network (made ++ now) t.act old.tables so.tables)
             (ap (find (has_clock (named t.act))) (systems_are n (made ++ now) old.tables so.tables)))
             ∙ sym (told_more n made now t);
+        set_before = passes.set_before ∙ so.set_before;
+        longest_before = passes.longest_before ∙ so.longest_before;
         ends = ap (λ (v : _). v.items) passes.ends ∙ so.ends;
         systems_before = ap (λ (v : _). v.items) passes.systems_before ∙ so.systems_before;
         used = ap (λ (v : _). v.items) passes.used ∙ so.used;
@@ -221,6 +235,8 @@ module _ (n : NetworkState) (network : IsNetwork n) where
         tables = subst (λ events. Stand n events new.tables) none
             (subst (Stand n (made ++ now)) (sym on.tables) so.tables);
         told = on.told;
+        set_before = on.set_before ∙ so.set;
+        longest_before = on.longest_before ∙ so.longest;
         ends = ap (λ (v : _). v.items) on.ends ∙ so.ends;
         systems_before = on.systems_before ∙ systems_are n (made ++ now) old.tables so.tables;
         used = on.used ∙ ap (map cable_is_used) so.tables.standings;

@@ -8,30 +8,29 @@ use Rattle.gptp_network.specs.Document.{DocumentState}
 use Rattle.gptp_scenario.specs.Network.{IsNetwork, NetworkState, pace_of}
 use Rattle.gptp_scenario.specs.SettlingTime.{settling_span_with, silence_span}
 use Rattle.gptp_scenario.specs.declared.sync_wait.SyncPaths.{SyncPaths}
-use Rattle.gptp_how_soon.specs.Bounds.{any_loss_span, arrived_by, choice_by, choice_of_row, roles_by, roles_of_row, settled, settling_by, watch}
+use Rattle.gptp_how_soon.specs.Bounds.{any_loss_span, arrived_by, choice_by, choice_of_row, quiet_by, roles_by, roles_of_row, settled, settling_by, watch}
 use Rattle.gptp_how_soon.specs.Kinds.{sets_link}
-use Rattle.gptp_how_soon.specs.Silent.{own_intervals}
 use Rattle.gptp_how_soon.specs.Times.{View, events_at, events_before, gained_at, loss_at, row_at, settling_times, settling_times_from, time_at, view_at}
 use Rattle.gptp_how_soon.specs.declared.bounds.Loss.{Loss}
 use Rattle.gptp_how_soon.specs.declared.bounds.Row.{Row}
-use Rattle.gptp_how_soon.specs.declared.bounds.Row.TheVariants.{AnyLosses, AnyPast, CutOff, FailedEnd, FailedHeard, FailureCutsOff, FailureCutsTrees, Gained, LostEnd, LostPower, Lowered, OneTurned, PowerCutsOff, PowerCutsTrees, TreeCutOff, TreeTurned, Unchanged}
+use Rattle.gptp_how_soon.specs.declared.bounds.Row.TheVariants.{AnyLosses, AnyPast, CutOff, FailedEnd, FailedHeard, FailureCutsOff, FailureCutsTrees, Gained, Lowered, OneTurned, TreeCutOff, TreeTurned, Unchanged}
 use Rattle.gptp_how_soon.specs.declared.bounds.Settling.{Settling}
 use Rattle.gptp_how_soon.specs.declared.bounds.SettlingTime.{SettlingTime}
-use Rattle.gptp_how_soon.proofs.SilentLemmas.{held_within}
 
 -- the roles stand no sooner than the choice
 roles_later : (n : NetworkState) (loss : Loss) (paths : SyncPaths) (row : Row) (gained : ℕ)
-    → loss.held ≤ silence_span (pace_of n)
     → choice_by n loss paths row gained ≤ roles_by n loss paths row gained
-roles_later n loss paths row gained held = by (n.params.sync_timeout == 0) row
+roles_later n loss paths row gained = by (n.params.sync_timeout == 0) row
   where
     span : ℕ
     span = settling_span_with (pace_of n) paths paths.systems
 
-    lost : (silent : Bool) → any_loss_span n loss paths
-        ≤ (if silent then max (any_loss_span n loss paths) (silence_span (pace_of n)) else any_loss_span n loss paths)
-    lost true = omega arith
-    lost false = omega arith
+    quiet : (choice : ℕ) → choice ≤ quiet_by n loss choice
+    quiet choice = either loss.silent
+      where
+        either : (silent : Bool) → choice ≤ (if silent then max choice (silence_span (pace_of n)) else choice)
+        either true = omega arith
+        either false = omega arith
 
     by : (off : Bool) (r : Row) → cond (not off) span (choice_of_row n loss paths r gained)
         ≤ cond (not off) span (roles_of_row n loss paths r gained)
@@ -40,27 +39,23 @@ roles_later n loss paths row gained held = by (n.params.sync_timeout == 0) row
     by true Unchanged = omega arith
     by true Lowered = omega arith
     by true CutOff = omega arith
-    by true LostEnd = omega arith
-    by true LostPower = omega arith
     by true FailedEnd = omega arith
-    by true PowerCutsOff = omega arith
-    by true FailedHeard = held
-    by true FailureCutsOff = omega arith
+    by true FailedHeard = quiet (choice_of_row n loss paths FailedHeard gained)
+    by true FailureCutsOff = quiet (choice_of_row n loss paths FailureCutsOff gained)
     by true OneTurned = omega arith
     by true TreeCutOff = omega arith
     by true TreeTurned = omega arith
-    by true PowerCutsTrees = omega arith
-    by true FailureCutsTrees = omega arith
-    by true AnyLosses = lost loss.silent
+    by true FailureCutsTrees = quiet (choice_of_row n loss paths FailureCutsTrees gained)
+    by true AnyLosses = quiet (any_loss_span n loss paths)
     by true Gained = omega arith
 
 watched_longer : (n : NetworkState) → IsNetwork n → (at arrived : ℕ) (loss : Loss) (paths : SyncPaths)
-    (calm sets : Bool) (row : Row) (gained : ℕ) (s : Settling) → loss.held ≤ silence_span (pace_of n)
+    (calm sets : Bool) (row : Row) (gained : ℕ) (s : Settling)
     → settling_by n at arrived loss paths calm sets row gained ≡ Some s
     → s.choice < watch n at paths (settling_by n at arrived loss paths calm sets row gained)
-watched_longer n network at arrived loss paths false sets row gained s held is = absurd cc
-watched_longer n network at arrived loss paths true sets row gained s held is =
-    let later = roles_later n loss paths row gained held in
+watched_longer n network at arrived loss paths false sets row gained s is = absurd cc
+watched_longer n network at arrived loss paths true sets row gained s is =
+    let later = roles_later n loss paths row gained in
     let some = interval_positive n.params.sync network.params.ranges.params.sync in
     let told : Settling = settled n at arrived loss paths sets row gained in
     let same : told ≡ s = same_Some told s is in
@@ -72,8 +67,7 @@ watched_longer_then d network before at s is =
     let n = d.network in
     let v : View = view_at n (events_before before d.events) (events_at at d.events) before at in
     watched_longer n network at (arrived_by v.longest v.last_set) (loss_at v) v.paths v.calm (sets_link v.told)
-    (row_at v) (gained_at n v) s
-    (held_within n (own_intervals n before at) _ _) is
+    (row_at v) (gained_at n v) s is
 
 watched_longer_from : (d : DocumentState) → IsNetwork d.network → (before : Option SettlingTime) (ats : List ℕ)
     (t : SettlingTime)

@@ -13,7 +13,7 @@ use Rattle.gptp_how_soon.specs.Kinds.{recovers}
 use Rattle.gptp_how_soon.specs.Links.{varies}
 use Rattle.gptp_how_soon.specs.declared.bounds.Loss.{Loss}
 use Rattle.gptp_how_soon.specs.declared.bounds.Row.{Row}
-use Rattle.gptp_how_soon.specs.declared.bounds.Row.TheVariants.{AnyLosses, AnyPast, CutOff, FailedEnd, FailedHeard, FailureCutsOff, FailureCutsTrees, Gained, LostEnd, LostPower, Lowered, OneTurned, PowerCutsOff, PowerCutsTrees, TreeCutOff, TreeTurned, Unchanged}
+use Rattle.gptp_how_soon.specs.declared.bounds.Row.TheVariants.{AnyLosses, AnyPast, CutOff, FailedEnd, FailedHeard, FailureCutsOff, FailureCutsTrees, Gained, Lowered, OneTurned, TreeCutOff, TreeTurned, Unchanged}
 use Rattle.gptp_how_soon.specs.declared.bounds.Settling.{Settling}
 use Rattle.gptp_how_soon.specs.declared.bounds.SettlingTime.{SettlingTime}
 use Rattle.gptp_how_soon.specs.declared.kinds.Told.{Told}
@@ -32,6 +32,15 @@ asked_again p paths = interval_of p.pdelay + two_exchanges p paths
 -- greatest delay of a link that is in use, or was just before.
 abbrev pub any_loss_span : NetworkState → Loss → SyncPaths → ℕ
 any_loss_span n loss paths = loss_span (pace_of n) paths (max loss.paths_before.delay paths.delay)
+
+-- What others hold of a system that fails counts for so long: for no time where no link is left silent.
+abbrev pub aged_by : Loss → ℕ
+aged_by loss = if loss.silent then loss.held else 0
+
+-- Roles stand with the choice; but where a link is left silent no sooner than the ports at its live ends aren't capable
+-- any more.
+abbrev pub quiet_by : NetworkState → Loss → ℕ → ℕ
+quiet_by n loss choice = if loss.silent then max choice (silence_span (pace_of n)) else choice
 
 -- ---- after gains
 
@@ -65,17 +74,13 @@ choice_of_row n loss paths AnyPast gained = settling_span_at_once (pace_of n) pa
 choice_of_row n loss paths Unchanged gained = 0
 choice_of_row n loss paths Lowered gained = 0
 choice_of_row n loss paths CutOff gained = 2 * way_span paths
-choice_of_row n loss paths LostEnd gained = 0
 choice_of_row n loss paths FailedEnd gained = 0
-choice_of_row n loss paths LostPower gained = 0
-choice_of_row n loss paths PowerCutsOff gained = 2 * way_span paths
-choice_of_row n loss paths FailedHeard gained = loss.held
-choice_of_row n loss paths FailureCutsOff gained = loss.held + 2 * way_span paths
+choice_of_row n loss paths FailedHeard gained = aged_by loss
+choice_of_row n loss paths FailureCutsOff gained = aged_by loss + 2 * way_span paths
 choice_of_row n loss paths OneTurned gained = 2 * way_span paths
 choice_of_row n loss paths TreeCutOff gained = 2 * way_span paths
 choice_of_row n loss paths TreeTurned gained = 2 * way_span paths
-choice_of_row n loss paths PowerCutsTrees gained = 2 * way_span paths
-choice_of_row n loss paths FailureCutsTrees gained = loss.held + 2 * way_span paths
+choice_of_row n loss paths FailureCutsTrees gained = aged_by loss + 2 * way_span paths
 choice_of_row n loss paths AnyLosses gained = any_loss_span n loss paths
 choice_of_row n loss paths Gained gained = gained
 
@@ -84,33 +89,21 @@ choice_by n loss paths row gained =
     if not (n.params.sync_timeout == 0) then settling_span_with (pace_of n) paths paths.systems
     else choice_of_row n loss paths row gained
 
--- After losses without a row of their own roles stand with the choice; but no sooner than the ports beside a system
--- that fails aren't capable any more, where a link may be left silent.
-abbrev pub roles_after_losses : NetworkState → Loss → SyncPaths → ℕ
-roles_after_losses n loss paths =
-    if loss.silent then max (any_loss_span n loss paths) (silence_span (pace_of n)) else any_loss_span n loss paths
-
--- Roles stand as soon as the choice does. But where a system fails they do once the ports beside it aren't capable any
--- more.
+-- Roles stand as soon as the choice does; after losses, as a link is left silent or not.
 abbrev pub roles_of_row : NetworkState → Loss → SyncPaths → Row → ℕ → ℕ
 roles_of_row n loss paths AnyPast gained = choice_of_row n loss paths AnyPast gained
 roles_of_row n loss paths Unchanged gained = 0
 roles_of_row n loss paths Lowered gained = 0
 roles_of_row n loss paths CutOff gained = 2 * way_span paths
-roles_of_row n loss paths LostEnd gained = 0
-roles_of_row n loss paths FailedEnd gained = silence_span (pace_of n)
-roles_of_row n loss paths LostPower gained = 0
-roles_of_row n loss paths PowerCutsOff gained = choice_of_row n loss paths PowerCutsOff gained
-roles_of_row n loss paths FailedHeard gained = silence_span (pace_of n)
-roles_of_row n loss paths FailureCutsOff gained =
-    max (choice_of_row n loss paths FailureCutsOff gained) (silence_span (pace_of n))
+roles_of_row n loss paths FailedEnd gained = quiet_by n loss 0
+roles_of_row n loss paths FailedHeard gained = quiet_by n loss (choice_of_row n loss paths FailedHeard gained)
+roles_of_row n loss paths FailureCutsOff gained = quiet_by n loss (choice_of_row n loss paths FailureCutsOff gained)
 roles_of_row n loss paths OneTurned gained = choice_of_row n loss paths OneTurned gained
 roles_of_row n loss paths TreeCutOff gained = choice_of_row n loss paths TreeCutOff gained
 roles_of_row n loss paths TreeTurned gained = choice_of_row n loss paths TreeTurned gained
-roles_of_row n loss paths PowerCutsTrees gained = choice_of_row n loss paths PowerCutsTrees gained
 roles_of_row n loss paths FailureCutsTrees gained =
-    max (choice_of_row n loss paths FailureCutsTrees gained) (silence_span (pace_of n))
-roles_of_row n loss paths AnyLosses gained = roles_after_losses n loss paths
+    quiet_by n loss (choice_of_row n loss paths FailureCutsTrees gained)
+roles_of_row n loss paths AnyLosses gained = quiet_by n loss (any_loss_span n loss paths)
 roles_of_row n loss paths Gained gained = gained
 
 abbrev pub roles_by : NetworkState → Loss → SyncPaths → Row → ℕ → ℕ
@@ -123,39 +116,40 @@ roles_by n loss paths row gained =
 abbrev pub gone_by : NetworkState → SyncPaths → Bool → ℕ
 gone_by n paths used_before = if used_before then paths.delay else largest_interval (pace_of n)
 
--- How much later than a system fails that others heard each tells a right trace, where a link may be left silent. They
--- do once nobody holds what names it, 1 ns later than the choice stands, and what was in flight is gone by then. Roles
--- have to stand too.
+-- Where each link that is up is in use so much later is sound what was in flight; else no sooner than ports at other
+-- links that are up aren't capable any more.
+abbrev pub silent_by : NetworkState → Loss → ℕ → ℕ
+silent_by n loss gone = if loss.used then gone else max (silence_span (pace_of n)) gone
+
+-- How much later than a system fails that others heard each tells a right trace, and what was in flight is gone. They
+-- do at once where each link that is up is in use. Else they do once nobody holds what names it, 1 ns later than the
+-- choice stands; and ports at other links that are up have to be off.
 abbrev pub aged_echo_span : NetworkState → Loss → SyncPaths → ℕ
 aged_echo_span n loss paths =
-    max (silence_span (pace_of n))
-    (loss.held + 1 + max (echo_span (pace_of n) paths) (largest_interval (pace_of n)))
+    if loss.used then max (echo_span (pace_of n) paths) paths.delay
+    else max (silence_span (pace_of n))
+    (aged_by loss + 1 + max (echo_span (pace_of n) paths) (largest_interval (pace_of n)))
 
 -- By when all that is held and in flight is sound: as soon as the choice stands, but after a loss it may name what is
 -- gone. After a far end or a tree is cut off, or a far end fails, only what was in flight does; of one that fails by
--- links of before too. Where ports beside it may still be capable roles have to stand too. After a link goes down by
--- which no system is moved, or a system that others heard loses its power, traces have to be told anew first. So they
--- do once the choice stands where one system or a tree turns, or one fails that others heard. After losses without a
--- row of their own all is sound once roles stand. After others it is as soon as the choice stands from any past.
+-- links of before too. After a link goes down by which no system is moved traces have to be told anew first. So they do
+-- once the choice stands where one system or a tree turns, or one fails that others heard. After losses without a row
+-- of their own all is sound once roles stand; and no later where trees are cut off. After others it is as soon as the
+-- choice stands from any past.
 abbrev pub sound_of_row : NetworkState → Loss → SyncPaths → Row → ℕ → ℕ
 sound_of_row n loss paths AnyPast gained = settling_span_at_once (pace_of n) paths
 sound_of_row n loss paths Unchanged gained = 0
 sound_of_row n loss paths Lowered gained = max (echo_span (pace_of n) paths) (gone_by n paths loss.used_before)
 sound_of_row n loss paths CutOff gained = max (2 * way_span paths) (gone_by n paths loss.used_before)
-sound_of_row n loss paths LostEnd gained = gone_by n loss.paths_before loss.used_before
-sound_of_row n loss paths FailedEnd gained =
-    max (silence_span (pace_of n)) (gone_by n loss.paths_before loss.used_before)
-sound_of_row n loss paths LostPower gained = max (echo_span (pace_of n) paths) paths.delay
-sound_of_row n loss paths PowerCutsOff gained =
-    max (2 * way_span paths) (max (echo_span (pace_of n) paths) paths.delay)
+sound_of_row n loss paths FailedEnd gained = silent_by n loss (gone_by n loss.paths_before loss.used_before)
 sound_of_row n loss paths FailedHeard gained = aged_echo_span n loss paths
-sound_of_row n loss paths FailureCutsOff gained = max (loss.held + 2 * way_span paths) (aged_echo_span n loss paths)
+sound_of_row n loss paths FailureCutsOff gained =
+    max (aged_by loss + 2 * way_span paths) (aged_echo_span n loss paths)
 sound_of_row n loss paths OneTurned gained = 2 * way_span paths + echo_span (pace_of n) paths
 sound_of_row n loss paths TreeCutOff gained = max (2 * way_span paths) (gone_by n paths loss.used_before)
 sound_of_row n loss paths TreeTurned gained = 2 * way_span paths + echo_span (pace_of n) paths
-sound_of_row n loss paths PowerCutsTrees gained = settling_span_at_once (pace_of n) paths
-sound_of_row n loss paths FailureCutsTrees gained = settling_span_at_once (pace_of n) paths
-sound_of_row n loss paths AnyLosses gained = roles_after_losses n loss paths
+sound_of_row n loss paths FailureCutsTrees gained = quiet_by n loss (any_loss_span n loss paths)
+sound_of_row n loss paths AnyLosses gained = quiet_by n loss (any_loss_span n loss paths)
 sound_of_row n loss paths Gained gained = gained
 
 abbrev pub sound_by : NetworkState → Loss → SyncPaths → Row → ℕ → ℕ
@@ -167,13 +161,10 @@ sound_by n loss paths row gained =
 -- systems that keep their choice.
 abbrev pub echo_of_row : NetworkState → SyncPaths → Row → ℕ
 echo_of_row n paths Lowered = echo_span (pace_of n) paths
-echo_of_row n paths LostPower = echo_span (pace_of n) paths
-echo_of_row n paths PowerCutsOff = echo_span (pace_of n) paths
 echo_of_row n paths FailedHeard = echo_span (pace_of n) paths
 echo_of_row n paths FailureCutsOff = echo_span (pace_of n) paths
 echo_of_row n paths OneTurned = echo_span (pace_of n) paths
 echo_of_row n paths TreeTurned = echo_span (pace_of n) paths
-echo_of_row n paths PowerCutsTrees = echo_span (pace_of n) paths
 echo_of_row n paths FailureCutsTrees = echo_span (pace_of n) paths
 echo_of_row n paths row = 0
 

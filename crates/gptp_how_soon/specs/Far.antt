@@ -11,7 +11,7 @@ use Rattle.gptp_topology.specs.Course.{cable_is_used}
 use Rattle.gptp_topology.specs.declared.course.Standing.{Standing}
 use Rattle.gptp_topology.specs.declared.nodes.System.{System}
 use Rattle.gptp_how_soon.specs.Chosen.{chosen_after, is_joined, lost_ends, place_of, used_ends}
-use Rattle.gptp_how_soon.specs.Kinds.{lowers_unused}
+use Rattle.gptp_how_soon.specs.Kinds.{makes_nothing}
 use Rattle.gptp_how_soon.specs.declared.chosen.Chosen.{Chosen}
 use Rattle.gptp_how_soon.specs.declared.chosen.Ends.{Ends}
 use Rattle.gptp_how_soon.specs.declared.kinds.Told.{Told}
@@ -43,9 +43,9 @@ is_far_over systems cs place e =
 abbrev pub is_far_end : List System → List Chosen → List Ends → ℕ → Bool
 is_far_end systems cs links place = list_all (is_far_over systems cs place) links
 
--- so is the system that an event names, if it isn't one by which a link goes down of which an end has failed
+-- so is the system that an event names, if it makes something of what stands
 abbrev pub is_far_named : List System → List Chosen → List Ends → Told → Bool
-is_far_named systems cs links e = lowers_unused e || is_far_end systems cs links (place_of systems e.clock)
+is_far_named systems cs links e = makes_nothing e || is_far_end systems cs links (place_of systems e.clock)
 
 abbrev pub are_far : List System → List Chosen → List Ends → List Told → Bool
 are_far systems cs links told = list_all (is_far_named systems cs links) told

@@ -6,9 +6,9 @@ use Rattle.std.specs.Prelude.{ℕ, ◌+◌, ◌*◌, ◌&&◌, ◌||◌, nat_le,
 use Rattle.std.specs.List.{list_all, list_any}
 use Rattle.gptp_scenario.specs.SettlingTime.{way_span}
 use Rattle.gptp_scenario.specs.declared.sync_wait.SyncPaths.{SyncPaths}
-use Rattle.gptp_how_soon.specs.Kinds.{are_heard, begins_wider, brings_nothing, fails_and_recovers, fails_first, first_wider_by, is_better, is_gain, is_failing, is_loss, is_other, is_recovery, is_wider, leaves_links, lowers_one, lowers_unused, makes_nothing, tells_nothing}
+use Rattle.gptp_how_soon.specs.Kinds.{are_heard, begins_wider, brings_nothing, fails_and_recovers, fails_one, first_wider_by, is_better, is_gain, is_loss, is_other, is_recovery, is_wider, leaves_links, lowers_one, lowers_unused, makes_nothing, tells_nothing}
 use Rattle.gptp_how_soon.specs.declared.bounds.Row.{Row}
-use Rattle.gptp_how_soon.specs.declared.bounds.Row.TheVariants.{AnyLosses, AnyPast, CutOff, FailedEnd, FailedHeard, FailureCutsOff, FailureCutsTrees, Gained, LostEnd, LostPower, Lowered, OneTurned, PowerCutsOff, PowerCutsTrees, TreeCutOff, TreeTurned, Unchanged}
+use Rattle.gptp_how_soon.specs.declared.bounds.Row.TheVariants.{AnyLosses, AnyPast, CutOff, FailedEnd, FailedHeard, FailureCutsOff, FailureCutsTrees, Gained, Lowered, OneTurned, TreeCutOff, TreeTurned, Unchanged}
 use Rattle.gptp_how_soon.specs.declared.bounds.Settling.{Settling}
 use Rattle.gptp_how_soon.specs.declared.bounds.SettlingTime.{SettlingTime}
 use Rattle.gptp_how_soon.specs.declared.kinds.Told.{Told}
@@ -24,14 +24,17 @@ rested_by b at (Some s) = nat_lt (b.at + s.rest) at
 abbrev pub rested : SettlingTime → ℕ → Bool
 rested b at = rested_by b at b.settling
 
--- and so much more has passed
-abbrev pub rested_for_by : ℕ → SettlingTime → ℕ → Option Settling → Bool
-rested_for_by span b at None = false
-rested_for_by span b at (Some s) = nat_lt (b.at + (s.rest + span)) at
+-- All that was in flight as the time before became sound has come by this one: after an announce interval; or after the
+-- greatest delay of a link in use, where by then all has come that was in flight as a link was last set.
+abbrev pub has_come_by : ℕ → ℕ → ℕ → SettlingTime → ℕ → Option Settling → Bool
+has_come_by interval delay arrived b at None = false
+has_come_by interval delay arrived b at (Some s) =
+    nat_lt (b.at + s.sound + interval) at
+    || (nat_lt (b.at + s.sound + delay) at && nat_le arrived (b.at + s.sound))
 
-abbrev pub has_rested_for : ℕ → Option SettlingTime → ℕ → Bool
-has_rested_for span None at = false
-has_rested_for span (Some b) at = rested_for_by span b at b.settling
+abbrev pub has_come : ℕ → ℕ → ℕ → Option SettlingTime → ℕ → Bool
+has_come interval delay arrived None at = false
+has_come interval delay arrived (Some b) at = has_come_by interval delay arrived b at b.settling
 
 -- Events are followed where what each does is, and no system both fails and recovers.
 abbrev pub are_events_followed : List Told → Bool
@@ -69,13 +72,12 @@ keeps_paths paths_before paths =
     nat_le paths_before.systems 255 && nat_le paths.delay paths_before.delay
     && nat_le paths.systems paths_before.systems
 
--- Then a link that goes down by the one event of a time is followed. So is a system that fails, alone or as it loses
--- its power.
+-- Then one link that goes down is followed. So is one system that fails, alone or as it loses its power.
 abbrev pub is_lowering_followed : SyncPaths → SyncPaths → List Told → Bool
 is_lowering_followed paths_before paths told = keeps_paths paths_before paths && lowers_one told
 
 abbrev pub is_failing_followed : SyncPaths → SyncPaths → List Told → Bool
-is_failing_followed paths_before paths told = keeps_paths paths_before paths && fails_first told
+is_failing_followed paths_before paths told = keeps_paths paths_before paths && fails_one told
 
 -- Time 0 is from rest where its events, if any, leave it so that nothing is told.
 abbrev pub is_from_rest : ℕ → ℕ → SyncPaths → SyncPaths → List Told → Option SettlingTime → Bool
@@ -89,27 +91,19 @@ is_from_rest longest at paths_before paths told (Some b) =
 
 -- ---- rows
 
--- A link may be left silent: a live system fails by one of the events, and a link is up then that isn't in use.
-abbrev pub leaves_silent : Bool → List Told → Bool
-leaves_silent used told = not used && list_any is_failing told
-
--- A system fails, and none is moved but such as are cut off: whether it was a far end, whether one is cut off so, and
--- whether each link that is up then is in use.
-abbrev pub failed_row : Bool → Bool → Bool → Row
-failed_row far any used =
-    if far then if used then LostEnd else FailedEnd
-    else if any then if used then PowerCutsOff else FailureCutsOff
-    else if used then LostPower else FailedHeard
+-- A system fails, and none is moved but such as are cut off: whether it was a far end, and whether one is cut off so.
+abbrev pub failed_row : Bool → Bool → Row
+failed_row far any = if far then FailedEnd else if any then FailureCutsOff else FailedHeard
 
 -- What is known of a time, by what was seen of it. Not from rest, or where it both gains and loses, the network may
 -- come from any past. The first time has no loss: nothing was there to be lost. Events that make nothing of what stands
 -- leave it as it was. So does a link that gets wider, and so do losses that are followed, where no system is moved.
 -- Where one link or one system is taken away such as are cut off don't count as moved. There it matters whether the
 -- link that goes down cuts off a far end, and whether the one system that it moves turns, or a tree falls off or turns.
--- Of a system that fails it matters whether it was a far end, so that no other heard it, whether it cuts off another,
--- or trees, and whether each link that is up then is in use. All other losses have one row.
-abbrev pub row_of : Bool → Bool → SyncPaths → SyncPaths → List Told → Moves → Bool → Row
-row_of from_rest first paths_before paths told moves used =
+-- Of a system that fails it matters whether it was a far end, so that no other heard it, and whether it cuts off
+-- another, or trees. All other losses have one row.
+abbrev pub row_of : Bool → Bool → SyncPaths → SyncPaths → List Told → Moves → Row
+row_of from_rest first paths_before paths told moves =
     if not from_rest then AnyPast
     else if first then Gained
     else if list_all makes_nothing told || begins_wider told then Unchanged
@@ -118,10 +112,8 @@ row_of from_rest first paths_before paths told moves used =
     else if is_lowering_followed paths_before paths told && moves.turned then OneTurned
     else if is_lowering_followed paths_before paths told && moves.falls then TreeCutOff
     else if is_lowering_followed paths_before paths told && moves.tree_turns then TreeTurned
-    else if is_failing_followed paths_before paths told && not moves.moved
-    then failed_row moves.far moves.any used
-    else if is_failing_followed paths_before paths told && moves.trees_fall
-    then if used then PowerCutsTrees else FailureCutsTrees
+    else if is_failing_followed paths_before paths told && not moves.moved then failed_row moves.far moves.any
+    else if is_failing_followed paths_before paths told && moves.trees_fall then FailureCutsTrees
     else if list_any is_loss told then if list_all brings_nothing told then AnyLosses else AnyPast
     else Gained
 

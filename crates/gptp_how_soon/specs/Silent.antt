@@ -1,5 +1,6 @@
 -- How long it counts what came over links of which an end fails at a time (profile).
-use Rattle.std.specs.Prelude.{ℕ, ℤ, ◌+◌, ◌-◌, ◌*◌, ◌==◌, ◌&&◌, ◌||◌, max, min, nat_lt, Bool, false, if◌then◌else◌, List, [], ◌∷◌, map, Option, Some, None, slice_get}
+use Rattle.std.specs.Prelude.{ℕ, ℤ, ◌+◌, ◌-◌, ◌*◌, ◌==◌, ◌&&◌, ◌||◌, max, min, nat_lt, Bool, false, if◌then◌else◌, not, List, [], ◌∷◌, length, map, Option, Some, None, slice_get}
+use Rattle.std.specs.List.{list_any, range_with_len}
 use Rattle.std.specs.Option.{option_or}
 use Rattle.gptp_roles.specs.Selection.{clock_of}
 use Rattle.gptp_setup.specs.Intervals.{interval_of}
@@ -94,8 +95,29 @@ is_heard_link n made events w =
 
 -- ---- silent links
 
--- A link is silent that was in use before the events of a time, and is up after them, but an end of it has failed. It
--- counts where the other end is the far end. No other has what it tells of the best from there.
+-- A link is silent that was in use before the events of a time, and is up after them, where one of its ends lives and
+-- the other has failed.
+abbrev pub is_silent : Bool → Standing → Bool
+is_silent used_before s = used_before && s.cable.up && ((s.a_lives && not s.b_lives) || (s.b_lives && not s.a_lives))
+
+abbrev pub is_silent_by : Option Bool → Option Standing → Bool
+is_silent_by None s = false
+is_silent_by (Some used_before) None = false
+is_silent_by (Some used_before) (Some s) = is_silent used_before s
+
+abbrev pub is_silent_at : List Bool → List Standing → ℕ → Bool
+is_silent_at used_before standings place = is_silent_by (slice_get used_before place) (slice_get standings place)
+
+-- one of these links is, by which of them were in use before
+abbrev pub any_silent : List Bool → List Standing → Bool
+any_silent used_before standings = list_any (is_silent_at used_before standings) (range_with_len 0 (length used_before))
+
+-- between these events and more of them
+abbrev pub silent_after : NetworkState → List Timed → List Timed → Bool
+silent_after n made events = any_silent (map cable_is_used (standings_after n made)) (standings_after n events)
+
+-- What came over such a link has to age where its live end is the far end. No other has what it tells of the best from
+-- there.
 abbrev pub held_one : NetworkState → Bool → Bool → Standing → ℕ
 held_one n own heard s = if heard && s.cable.up then held_over n own s else 0
 

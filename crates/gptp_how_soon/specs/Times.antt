@@ -28,8 +28,8 @@ use Rattle.gptp_how_soon.specs.CutTrees.{cuts_trees_after}
 use Rattle.gptp_how_soon.specs.Far.{are_far_after, cut_far_ends_after, up_is_used}
 use Rattle.gptp_how_soon.specs.Kinds.{sets_bounds, sets_link, takes_one, told_by}
 use Rattle.gptp_how_soon.specs.Links.{longest_delay, new_links}
-use Rattle.gptp_how_soon.specs.Rest.{has_rested_for, heard_at_once, is_from_rest, leaves_silent, row_of}
-use Rattle.gptp_how_soon.specs.Silent.{held_after, own_intervals}
+use Rattle.gptp_how_soon.specs.Rest.{has_come, heard_at_once, is_from_rest, row_of}
+use Rattle.gptp_how_soon.specs.Silent.{held_after, own_intervals, silent_after}
 use Rattle.gptp_how_soon.specs.Tree.{cuts_tree_after}
 use Rattle.gptp_how_soon.specs.Turned.{turns_one_after}
 use Rattle.gptp_how_soon.specs.TurnedTree.{turns_tree_after}
@@ -55,8 +55,10 @@ pub record View : Type 0 where
   -- whom they move, of whom such as are cut off don't count where one link or one system is taken away, and for how
   -- long it counts what others hold
   pub moves : Moves
-  -- whether each link that is up is in use, what Sync has to cross, and whether the network is calm
+  -- whether each link that is up is in use, whether one is left silent, what Sync has to cross, and whether the
+  -- network is calm
   pub used : Bool
+  pub silent : Bool
   pub paths : SyncPaths
   pub calm : Bool
 
@@ -79,14 +81,15 @@ gained_at n v = ready_at n v + heard_at n v + way_span v.paths
 abbrev pub row_at : View → Row
 row_at v =
     row_of (is_from_rest v.longest v.at v.paths_before v.paths v.told v.before) (is_first v) v.paths_before v.paths
-    v.told v.moves v.used
+    v.told v.moves
 
 -- what a loss at the time leaves of before
 abbrev pub loss_at : View → Loss
 loss_at v = record {
   paths_before = v.paths_before;
   used_before = v.used_before;
-  silent = leaves_silent v.used v.told;
+  used = v.used;
+  silent = v.silent;
   held = v.moves.held;
 }
 
@@ -118,6 +121,15 @@ last_of (t ∷ ts) = Some (last_change (t ∷ ts))
 abbrev pub last_set : List Timed → Option ℕ
 last_set events = last_of (filter (λ (t : Timed). sets_bounds t.act) events)
 
+-- by when what was in flight as one of these events last set a link has arrived
+abbrev pub arrived_after : NetworkState → List Timed → ℕ
+arrived_after n events = arrived_by (longest_delay n events) (last_set events)
+
+-- so has all that was in flight as the time of the last of these events became sound
+abbrev pub has_come_after : NetworkState → List Timed → Option SettlingTime → ℕ → Bool
+has_come_after n made before at =
+    has_come (largest_interval (pace_of n)) (sync_paths n made).delay (arrived_after n made) before at
+
 -- at a time, after the events made before and those of that time now
 abbrev pub moves_at : NetworkState → List Timed → List Timed → Option SettlingTime → ℕ → Moves
 moves_at n made now before at = record {
@@ -125,9 +137,9 @@ moves_at n made now before at = record {
   any = moves_some n made (made ++ now);
   cut = cut_far_ends_after n made (made ++ now);
   turned = turns_one_after n made (made ++ now);
-  falls = has_rested_for (largest_interval (pace_of n)) before at && cuts_tree_after n made (made ++ now);
-  tree_turns = has_rested_for (largest_interval (pace_of n)) before at && turns_tree_after n made (made ++ now);
-  trees_fall = has_rested_for (largest_interval (pace_of n)) before at && cuts_trees_after n made (made ++ now);
+  falls = has_come_after n made before at && cuts_tree_after n made (made ++ now);
+  tree_turns = has_come_after n made before at && turns_tree_after n made (made ++ now);
+  trees_fall = has_come_after n made before at && cuts_trees_after n made (made ++ now);
   far = are_far_after n made (told_of n made now);
   held = held_after n (own_intervals n before at) made (made ++ now);
 }
@@ -144,6 +156,7 @@ view_at n made now before at = record {
   told = told_of n made now;
   moves = moves_at n made now before at;
   used = up_is_used (standings_after n (made ++ now));
+  silent = silent_after n made (made ++ now);
   paths = sync_paths n (made ++ now);
   calm = is_calm n (made ++ now);
 }

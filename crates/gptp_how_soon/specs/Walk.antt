@@ -9,13 +9,14 @@ use Rattle.gptp_topology.specs.After.{Stand}
 use Rattle.gptp_topology.specs.Course.{cable_is_used, named}
 use Rattle.gptp_topology.specs.Tables.{TablesActed, are_calm, cables_of, has_clock, link_named, marked_paths, neighbours_at, systems_in}
 use Rattle.gptp_topology.specs.declared.nodes.System.{System}
+use Rattle.gptp_how_soon.specs.Bounds.{arrived_by}
 use Rattle.gptp_how_soon.specs.Chosen.{any_counted, any_moved, chosen_over, ends_among, ends_in_use}
 use Rattle.gptp_how_soon.specs.CutTrees.{cuts_trees}
 use Rattle.gptp_how_soon.specs.Far.{all_cut_far_ends, are_far, up_is_used}
 use Rattle.gptp_how_soon.specs.Kinds.{sets_bounds, takes_one, told_by}
 use Rattle.gptp_how_soon.specs.Links.{delay_set, longest_among, lost_among, new_among}
-use Rattle.gptp_how_soon.specs.Rest.{has_rested_for}
-use Rattle.gptp_how_soon.specs.Silent.{heard_links, held_among, own_intervals}
+use Rattle.gptp_how_soon.specs.Rest.{has_come}
+use Rattle.gptp_how_soon.specs.Silent.{any_silent, heard_links, held_among, own_intervals}
 use Rattle.gptp_how_soon.specs.Times.{View, settling_time}
 use Rattle.gptp_how_soon.specs.Tree.{cuts_tree}
 use Rattle.gptp_how_soon.specs.Turned.{turns_one}
@@ -34,6 +35,8 @@ pub record IsFirstWalk (n : NetworkState) (w : Walk) : Type 0 where
   pub ends : w.ends.items ≡ map (ends_among w.systems_before.items) (cables_of n)
   pub told : w.told.items ≡ []
   pub before : w.before ≡ None
+  pub set_before : w.set_before ≡ None
+  pub longest_before : w.longest_before ≡ longest_among (cables_of n)
   pub systems_before : w.systems_before.items ≡ systems_in w.tables.nodes.items
   pub used : w.used_before.items ≡ map cable_is_used w.tables.standings.items
   pub paths : w.paths_before ≡ marked_paths w.tables.marks.items w.tables.nodes.items
@@ -51,6 +54,8 @@ pub record WalkPasses (at : ℕ) (act : Act) (old new : Walk) : Type 0 where
       (find (has_clock (named act)) (systems_in old.tables.nodes.items))
       ∷ []
   pub before : new.before ≡ old.before
+  pub set_before : new.set_before ≡ old.set_before
+  pub longest_before : new.longest_before ≡ old.longest_before
   pub ends : new.ends ≡ old.ends
   pub systems_before : new.systems_before ≡ old.systems_before
   pub used : new.used_before ≡ old.used_before
@@ -64,6 +69,8 @@ pub record WalkGoesOn (time : SettlingTime) (old new : Walk) : Type 0 where
   pub tables : new.tables ≡ old.tables
   pub told : new.told.items ≡ []
   pub before : new.before ≡ Some time
+  pub set_before : new.set_before ≡ old.last_set
+  pub longest_before : new.longest_before ≡ old.longest
   pub ends : new.ends ≡ old.ends
   pub systems_before : new.systems_before.items ≡ systems_in old.tables.nodes.items
   pub used : new.used_before.items ≡ map cable_is_used old.tables.standings.items
@@ -90,6 +97,11 @@ lost_seen w = ends_in_use w.ends.items (lost_among w.used_before.items (used_now
 abbrev pub heard_seen : Walk → List Bool
 heard_seen w = heard_links (systems_in w.tables.nodes.items) (chosen_before w) w.used_before.items w.ends.items
 
+-- all that was in flight as the time before became sound has come by this one
+abbrev pub has_come_seen : NetworkState → Walk → ℕ → Bool
+has_come_seen n w at =
+    has_come (largest_interval (pace_of n)) w.paths_before.delay (arrived_by w.longest_before w.set_before) w.before at
+
 -- whom the events of this time move
 abbrev pub moves_seen : NetworkState → Walk → ℕ → Moves
 moves_seen n w at = record {
@@ -101,13 +113,13 @@ moves_seen n w at = record {
   turned = turns_one (systems_in w.tables.nodes.items) (lost_seen w)
       (ends_in_use w.ends.items w.used_before.items) (ends_in_use w.ends.items (used_now w)) (chosen_before w)
       (chosen_now w);
-  falls = has_rested_for (largest_interval (pace_of n)) w.before at
+  falls = has_come_seen n w at
       && cuts_tree (systems_in w.tables.nodes.items) (lost_seen w) (ends_in_use w.ends.items (used_now w))
       (chosen_before w) (chosen_now w);
-  tree_turns = has_rested_for (largest_interval (pace_of n)) w.before at
+  tree_turns = has_come_seen n w at
       && turns_tree (systems_in w.tables.nodes.items) (lost_seen w) (ends_in_use w.ends.items (used_now w))
       (chosen_before w) (chosen_now w);
-  trees_fall = has_rested_for (largest_interval (pace_of n)) w.before at
+  trees_fall = has_come_seen n w at
       && cuts_trees (systems_in w.tables.nodes.items) (lost_seen w) (ends_in_use w.ends.items (used_now w))
       (chosen_before w) (chosen_now w);
   far = are_far w.systems_before.items (chosen_before w) (ends_in_use w.ends.items w.used_before.items) w.told.items;
@@ -127,6 +139,7 @@ view_seen n w at = record {
   told = w.told.items;
   moves = moves_seen n w at;
   used = up_is_used w.tables.standings.items;
+  silent = any_silent w.used_before.items w.tables.standings.items;
   paths = marked_paths w.tables.marks.items w.tables.nodes.items;
   calm = are_calm n.params (marked_paths w.tables.marks.items w.tables.nodes.items) w.tables.marks.items;
 }

@@ -7,7 +7,7 @@ ghost use Rattle.gptp_setup.specs.SettlingParams.{largest_interval};
 ghost use Rattle.gptp_scenario.specs.Network.{pace_of};
 ghost use Rattle.gptp_scenario.specs.SettlingAtOnce.{settling_span_at_once};
 ghost use Rattle.gptp_scenario.specs.SettlingTime.{capability_span, echo_span, silence_span, way_span};
-ghost use Rattle.gptp_how_soon.specs.Bounds.{aged_echo_span, any_loss_span, arrived_by, asked_again, choice_by, exact_from, exact_span, gone_by, heard_by, is_again, is_hard_to_hear, ready, retold_by, roles_after_losses, roles_by, set_span, settled, sound_by, times_by, two_exchanges, watch};
+ghost use Rattle.gptp_how_soon.specs.Bounds.{aged_by, aged_echo_span, any_loss_span, arrived_by, asked_again, choice_by, exact_from, exact_span, gone_by, heard_by, is_again, is_hard_to_hear, quiet_by, ready, retold_by, roles_by, set_span, settled, silent_by, sound_by, times_by, two_exchanges, watch};
 
 use crate::kinds::{Told, recovers};
 use crate::links::varies;
@@ -46,9 +46,10 @@ pub struct SettlingTime {
 pub struct Loss {
     /// What Sync had to cross just before.
     pub paths_before: SyncPaths,
-    /// Whether each link that was up just before was in use.
+    /// Whether each link that was up just before was in use, and whether each that is up then is.
     pub used_before: bool,
-    /// Whether a link may be left silent: a live system fails, and a link is up that isn't in use.
+    pub used: bool,
+    /// Whether a link is left silent: it was in use, and is up, but one of its ends has failed.
     pub silent: bool,
     /// For how long it counts what others hold of a system that fails, in ns; 0 where no link is left silent whose far
     /// end lives, and by rows that don't ask.
@@ -62,34 +63,24 @@ pub enum Row {
     AnyPast,
     /// Its events leave what stands as it was.
     Unchanged,
-    /// By its one event a link goes down. No system is moved but such as are cut off, none of which was a far end.
+    /// By one event a link goes down, and the others change nothing. No system is moved but such as are cut off, none of
+    /// which was a far end.
     Lowered,
-    /// By its one event a link goes down that cuts off its far end. No other system is moved.
+    /// One link goes down so that cuts off its far end. No other system is moved.
     CutOff,
-    /// A system fails that was the far end of its links. Each link that is up then is in use, as where it loses its
-    /// power.
-    LostEnd,
-    /// A system fails that was the far end of its links. A link is up then that isn't in use.
+    /// A system fails that was the far end of its links.
     FailedEnd,
-    /// A system fails that others heard, and none is moved. Each link that is up then is in use, as where it loses its
-    /// power.
-    LostPower,
-    /// So it is, but systems are moved, all of which are cut off.
-    PowerCutsOff,
-    /// A system fails that others heard, and none is moved. A link is up then that isn't in use.
+    /// A system fails that others heard, and none is moved.
     FailedHeard,
     /// So it is, but systems are moved, all of which are cut off.
     FailureCutsOff,
-    /// By its one event a link goes down that moves one system alone. That keeps its root, and turns to others for it.
+    /// One link goes down so that moves one system alone. That keeps its root, and turns to others for it.
     OneTurned,
-    /// By its one event a link goes down that cuts off a tree, whose systems have a worse root then.
+    /// One link goes down so that cuts off a tree, whose systems have a worse root then.
     TreeCutOff,
-    /// By its one event a link goes down that moves a tree. Its systems keep their root, and get it by one other link.
+    /// One link goes down so that moves a tree. Its systems keep their root, and get it by one other link.
     TreeTurned,
-    /// A system fails, and all that are moved are trees that it cuts off. Each link that is up then is in use, as where
-    /// it loses its power.
-    PowerCutsTrees,
-    /// So it is, but a link is up then that isn't in use.
+    /// A system fails, and all that are moved are trees that it cuts off.
     FailureCutsTrees,
     /// Some of its events are losses, the others make nothing of what stands, and no other row of a loss is so.
     AnyLosses,
@@ -245,6 +236,28 @@ fn any_loss_span(network: &Network, loss: Loss, paths: SyncPaths) -> u64
     paths.systems as u64 * turn + interval + way_span(paths)
 }
 
+/// For how long it counts what others hold of a system that fails, in ns.
+fn aged_by(loss: Loss) -> u64
+    requires { loss.held ≤ 4112000000000 }
+    ensures is { result ≡ aged_by loss }
+    ensures bound { result ≤ 4112000000000 }
+{
+    if loss.silent { loss.held } else { 0 }
+}
+
+/// How long roles take after losses, in ns, where the choice takes so much.
+fn quiet_by(network: &Network, loss: Loss, choice: u64) -> u64
+    requires { choice ≤ 110000000000000 }
+    ensures is { result ≡ quiet_by network.now loss choice }
+    ensures bound { result ≤ 110000000000000 }
+{
+    if loss.silent {
+        choice.max(silence_span(network))
+    } else {
+        choice
+    }
+}
+
 /// The bound of the choice, in ns, where that from rest after gains is so much.
 fn choice_by(network: &Network, loss: Loss, paths: SyncPaths, row: Row, gained: u64) -> u64
     requires few { paths.systems ≤ 512 }
@@ -260,33 +273,12 @@ fn choice_by(network: &Network, loss: Loss, paths: SyncPaths, row: Row, gained: 
     }
     match row {
         Row::AnyPast => settling_span_at_once(network, paths),
-        Row::Unchanged | Row::Lowered | Row::LostEnd | Row::FailedEnd | Row::LostPower => 0,
-        Row::FailedHeard => loss.held,
-        Row::FailureCutsOff | Row::FailureCutsTrees => loss.held + 2 * way_span(paths),
-        Row::CutOff
-        | Row::PowerCutsOff
-        | Row::OneTurned
-        | Row::TreeCutOff
-        | Row::TreeTurned
-        | Row::PowerCutsTrees => 2 * way_span(paths),
+        Row::Unchanged | Row::Lowered | Row::FailedEnd => 0,
+        Row::FailedHeard => aged_by(loss),
+        Row::FailureCutsOff | Row::FailureCutsTrees => aged_by(loss) + 2 * way_span(paths),
+        Row::CutOff | Row::OneTurned | Row::TreeCutOff | Row::TreeTurned => 2 * way_span(paths),
         Row::AnyLosses => any_loss_span(network, loss, paths),
         Row::Gained => gained,
-    }
-}
-
-/// How long roles take after losses without a row of their own, in ns.
-fn roles_after_losses(network: &Network, loss: Loss, paths: SyncPaths) -> u64
-    requires few { paths.systems ≤ 512 }
-    requires short { paths.delay ≤ 16000000000 }
-    requires short_before { loss.paths_before.delay ≤ 16000000000 }
-    ensures is { result ≡ roles_after_losses network.now loss paths }
-    ensures bound { result ≤ 110000000000000 }
-{
-    let choice = any_loss_span(network, loss, paths);
-    if loss.silent {
-        choice.max(silence_span(network))
-    } else {
-        choice
     }
 }
 
@@ -305,18 +297,14 @@ fn roles_by(network: &Network, loss: Loss, paths: SyncPaths, row: Row, gained: u
     }
     match row {
         Row::AnyPast => settling_span_at_once(network, paths),
-        Row::Unchanged | Row::Lowered | Row::LostEnd | Row::LostPower => 0,
-        Row::FailedEnd | Row::FailedHeard => silence_span(network),
+        Row::Unchanged | Row::Lowered => 0,
+        Row::FailedEnd => quiet_by(network, loss, 0),
+        Row::FailedHeard => quiet_by(network, loss, aged_by(loss)),
         Row::FailureCutsOff | Row::FailureCutsTrees => {
-            (loss.held + 2 * way_span(paths)).max(silence_span(network))
+            quiet_by(network, loss, aged_by(loss) + 2 * way_span(paths))
         }
-        Row::CutOff
-        | Row::PowerCutsOff
-        | Row::OneTurned
-        | Row::TreeCutOff
-        | Row::TreeTurned
-        | Row::PowerCutsTrees => 2 * way_span(paths),
-        Row::AnyLosses => roles_after_losses(network, loss, paths),
+        Row::CutOff | Row::OneTurned | Row::TreeCutOff | Row::TreeTurned => 2 * way_span(paths),
+        Row::AnyLosses => quiet_by(network, loss, any_loss_span(network, loss, paths)),
         Row::Gained => gained,
     }
 }
@@ -346,8 +334,21 @@ fn gone_by(network: &Network, paths: SyncPaths, used_before: bool) -> u64
     }
 }
 
-/// By how much later than a system fails that others heard each tells a trace without it, in ns, where a link may be
-/// left silent.
+/// By how much later than a system fails what was in flight is sound, in ns, where that is gone by so much.
+fn silent_by(network: &Network, loss: Loss, gone: u64) -> u64
+    requires { gone ≤ 16000000000 }
+    ensures is { result ≡ silent_by network.now loss gone }
+    ensures bound { result ≤ 4112000000000 }
+{
+    if loss.used {
+        gone
+    } else {
+        silence_span(network).max(gone)
+    }
+}
+
+/// By how much later than a system fails that others heard each tells a trace without it, in ns, and what was in flight
+/// is gone.
 fn aged_echo_span(network: &Network, loss: Loss, paths: SyncPaths) -> u64
     requires few { paths.systems ≤ 512 }
     requires short { paths.delay ≤ 16000000000 }
@@ -355,9 +356,13 @@ fn aged_echo_span(network: &Network, loss: Loss, paths: SyncPaths) -> u64
     ensures is { result ≡ aged_echo_span network.now loss paths }
     ensures bound { result ≤ 21000000000000 }
 {
+    let echo = echo_span(network, paths);
+    if loss.used {
+        return echo.max(paths.delay);
+    }
     network.well_formed();
-    let echo = echo_span(network, paths).max(interval_of(network.largest()));
-    silence_span(network).max(loss.held + 1 + echo)
+    let gone = echo.max(interval_of(network.largest()));
+    silence_span(network).max(aged_by(loss) + 1 + gone)
 }
 
 /// The bound of what is held and in flight, in ns.
@@ -376,23 +381,20 @@ fn sound_by(network: &Network, loss: Loss, paths: SyncPaths, row: Row, gained: u
     let gone = gone_by(network, paths, loss.used_before);
     let gone_before = gone_by(network, loss.paths_before, loss.used_before);
     match row {
-        Row::AnyPast | Row::PowerCutsTrees | Row::FailureCutsTrees => {
-            settling_span_at_once(network, paths)
-        }
+        Row::AnyPast => settling_span_at_once(network, paths),
         Row::Unchanged => 0,
         Row::Lowered => echo_span(network, paths).max(gone),
         Row::CutOff | Row::TreeCutOff => (2 * way_span(paths)).max(gone),
-        Row::LostEnd => gone_before,
-        Row::FailedEnd => silence_span(network).max(gone_before),
-        Row::LostPower => echo_span(network, paths).max(paths.delay),
-        Row::PowerCutsOff => (2 * way_span(paths)).max(echo_span(network, paths).max(paths.delay)),
+        Row::FailedEnd => silent_by(network, loss, gone_before),
         Row::FailedHeard => aged_echo_span(network, loss, paths),
         Row::FailureCutsOff => {
-            let aged = loss.held + 2 * way_span(paths);
+            let aged = aged_by(loss) + 2 * way_span(paths);
             aged.max(aged_echo_span(network, loss, paths))
         }
         Row::OneTurned | Row::TreeTurned => 2 * way_span(paths) + echo_span(network, paths),
-        Row::AnyLosses => roles_after_losses(network, loss, paths),
+        Row::AnyLosses | Row::FailureCutsTrees => {
+            quiet_by(network, loss, any_loss_span(network, loss, paths))
+        }
         Row::Gained => gained,
     }
 }
@@ -412,15 +414,13 @@ fn retold_by(network: &Network, loss: Loss, paths: SyncPaths, row: Row, gained: 
     }
     match row {
         Row::AnyPast => settling_span_at_once(network, paths),
-        Row::Unchanged | Row::LostEnd | Row::FailedEnd => 0,
-        Row::Lowered | Row::LostPower => echo_span(network, paths),
-        Row::FailedHeard => loss.held + echo_span(network, paths),
+        Row::Unchanged | Row::FailedEnd => 0,
+        Row::Lowered => echo_span(network, paths),
+        Row::FailedHeard => aged_by(loss) + echo_span(network, paths),
         Row::FailureCutsOff | Row::FailureCutsTrees => {
-            loss.held + 2 * way_span(paths) + echo_span(network, paths)
+            aged_by(loss) + 2 * way_span(paths) + echo_span(network, paths)
         }
-        Row::PowerCutsOff | Row::OneTurned | Row::TreeTurned | Row::PowerCutsTrees => {
-            2 * way_span(paths) + echo_span(network, paths)
-        }
+        Row::OneTurned | Row::TreeTurned => echo_span(network, paths) + 2 * way_span(paths),
         Row::CutOff | Row::TreeCutOff => 2 * way_span(paths),
         Row::AnyLosses => any_loss_span(network, loss, paths),
         Row::Gained => gained,
@@ -459,6 +459,16 @@ pub(crate) fn arrived_by(at: u64, longest: u64, last_set: Option<u64>) -> u64
 {
     match last_set {
         Some(last) => last + longest,
+        None => 0,
+    }
+}
+
+/// The same where nothing is known of these times.
+pub(crate) fn arrived_before(longest: u64, last_set: Option<u64>) -> u128
+    ensures { result ≡ arrived_by longest last_set }
+{
+    match last_set {
+        Some(last) => u128::from(last) + u128::from(longest),
         None => 0,
     }
 }

@@ -67,7 +67,12 @@ fn what_is_held_ages_by_the_interval_of_its_port(rt: HostRuntime) -> Result<(), 
     for (case, announce, at, choice) in [
         ("its own interval", "[-1, -1]", 4_000_000_001, 1_500_000_410),
         ("too soon for it", "[-1, -1]", 4_000_000_000, 3_000_000_410),
-        ("that of another port", "[1, -1]", 8_000_000_001, 1_500_000_410),
+        (
+            "that of another port",
+            "[1, -1]",
+            8_000_000_001,
+            1_500_000_410,
+        ),
     ] {
         let mut text = String::new(rt.alloc());
         text.push_str("version = 2\n[network]\npdelay = -1\n")?;
@@ -206,6 +211,31 @@ fn a_far_end_that_loses_its_power_costs_nothing(rt: HostRuntime) -> Result<(), F
         soon(&before, 30_000_000_000),
         Some((10_000_002_050, 40_000_007_450))
     );
+    Ok(())
+}
+
+#[test]
+fn a_link_that_was_silent_before_costs_the_roles_nothing(rt: HostRuntime) -> Result<(), Fail> {
+    // c hangs, so that b's link to it stays up. Then d fails, the far end of its link to a.
+    const DOWN: &str =
+        "[[event]]\nat = 60000000000\nkind = \"link_down\"\nclock = \"000000000000000d\"\nport = ";
+    for (case, power, roles) in [
+        ("it hangs", false, 11_000_000_000),
+        ("it loses its power", true, 0),
+    ] {
+        let mut events = String::new(rt.alloc());
+        events.push_str(
+            "[[event]]\nat = 30000000000\nkind = \"fail\"\nclock = \"000000000000000c\"\n",
+        )?;
+        events.push_str(
+            "[[event]]\nat = 60000000000\nkind = \"fail\"\nclock = \"000000000000000d\"\n",
+        )?;
+        if power {
+            writeln!(events, "{DOWN}1\n{DOWN}2")?;
+        }
+        let times = ring(rt.alloc(), events.as_str())?;
+        assert_eq!(rt; bounds(&times, 60_000_000_000), Some((0, roles)), "{case}");
+    }
     Ok(())
 }
 

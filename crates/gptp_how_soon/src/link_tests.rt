@@ -56,6 +56,38 @@ fn a_far_end_that_a_link_cuts_off_costs_two_ways(rt: HostRuntime) -> Result<(), 
 }
 
 #[test]
+fn events_that_change_nothing_cost_nothing_beside_a_loss(rt: HostRuntime) -> Result<(), Fail> {
+    const DOWN: &str =
+        "[[event]]\nat = 30000000000\nkind = \"link_down\"\nclock = \"000000000000000b\"\nport = 2\n";
+    const FAILS: &str =
+        "[[event]]\nat = 30000000000\nkind = \"fail\"\nclock = \"000000000000000c\"\n";
+    const LIVES: &str =
+        "[[event]]\nat = 30000000000\nkind = \"recover\"\nclock = \"000000000000000a\"\n";
+    for (case, events, bound) in [
+        ("a link goes down twice", [DOWN, DOWN], (0, 0)),
+        (
+            "a live system recovers, and then it does",
+            [LIVES, DOWN],
+            (0, 0),
+        ),
+        ("a system fails twice", [FAILS, FAILS], (0, 11_000_000_000)),
+        (
+            "a live system recovers behind it",
+            [FAILS, LIVES],
+            (0, 11_000_000_000),
+        ),
+    ] {
+        let mut text = String::new(rt.alloc());
+        for event in events {
+            text.push_str(event)?;
+        }
+        let times = ring(rt.alloc(), text.as_str())?;
+        assert_eq!(rt; bounds(&times, 30_000_000_000), Some(bound), "{case}");
+    }
+    Ok(())
+}
+
+#[test]
 fn a_system_that_a_link_moves_alone_turns_within_two_ways(rt: HostRuntime) -> Result<(), Fail> {
     // Each row but the last moves the system at the second end of its first link.
     for (case, clocks, links, choice) in [

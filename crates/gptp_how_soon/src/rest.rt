@@ -1,14 +1,14 @@
 //! Whether a time is from rest, so that what its events do says how soon the choice stands.
 
-ghost use Rattle.std.specs.Prelude.{◌≡◌, ◌≤◌, ◌+◌, ◌*◌, nat_lt};
+ghost use Rattle.std.specs.Prelude.{◌≡◌, ◌≤◌, ◌+◌, ◌*◌, ◌&&◌, ◌||◌, nat_le, nat_lt};
 ghost use Rattle.gptp_scenario.specs.SettlingTime.{way_span};
-ghost use Rattle.gptp_how_soon.specs.Rest.{are_events_followed, are_losses_followed, are_recoveries_followed, are_turns_followed, asks_who_is_moved, heard_at_once, is_failing_followed, failed_row, has_rested_for, is_from_rest, is_lowering_followed, is_wider_followed, keeps_paths, leaves_silent, rested, row_of, settles_wider_by};
+ghost use Rattle.gptp_how_soon.specs.Rest.{are_events_followed, are_losses_followed, are_recoveries_followed, are_turns_followed, asks_who_is_moved, heard_at_once, is_failing_followed, failed_row, has_come, is_from_rest, is_lowering_followed, is_wider_followed, keeps_paths, rested, row_of, settles_wider_by};
 
 use crate::bounds::{Row, SettlingTime, way_span};
 use crate::kinds::{
     Told, all_bring_nothing, all_leave_links, all_make_nothing, all_tell_nothing, any_better,
-    any_failing, any_gain, any_loss, any_lowers_unused, any_other, any_recovery, any_wider,
-    are_heard, begins_wider, fails_and_recovers, fails_first, first_wider_by, lowers_one,
+    any_gain, any_loss, any_lowers_unused, any_other, any_recovery, any_wider, are_heard,
+    begins_wider, fails_and_recovers, fails_one, first_wider_by, lowers_one,
 };
 use gptp_scenario::SyncPaths;
 
@@ -23,7 +23,7 @@ pub struct Moves {
     pub cut: bool,
     /// Whether they move one alone, and that turns.
     pub turned: bool,
-    /// Whether they cut off a tree, an announce interval after all came to rest.
+    /// Whether they cut off a tree, once all that was in flight as all became sound has come.
     pub falls: bool,
     /// Whether then a tree turns by one other link.
     pub tree_turns: bool,
@@ -53,16 +53,31 @@ fn rested(before: &SettlingTime, at: u64) -> bool
     }
 }
 
-/// Whether it had come to rest so much before it, in ns.
-pub(crate) fn has_rested_for(span: u64, before: Option<SettlingTime>, at: u64) -> bool
-    ensures { result ≡ has_rested_for span before at }
+/// Whether all that was in flight at a time has come by another, where it is sound so much later than the first: after
+/// an announce interval, or after the greatest delay of a link in use, if what was in flight as a link was last set has
+/// arrived by then.
+fn comes_by(last: u64, sound: u64, interval: u64, delay: u64, arrived: u128, at: u64) -> bool
+    ensures { result
+        ≡ (nat_lt (last + sound + interval) at || (nat_lt (last + sound + delay) at && nat_le arrived (last + sound))) }
+{
+    let sound = u128::from(last) + u128::from(sound);
+    sound + u128::from(interval) < u128::from(at)
+        || (sound + u128::from(delay) < u128::from(at) && arrived <= sound)
+}
+
+/// The same of what was in flight as the time before became sound.
+pub(crate) fn has_come(
+    interval: u64,
+    delay: u64,
+    arrived: u128,
+    before: Option<SettlingTime>,
+    at: u64,
+) -> bool
+    ensures { result ≡ has_come interval delay arrived before at }
 {
     match before {
         Some(before) => match before.settling {
-            Some(settling) => {
-                let rest = u128::from(settling.rest) + u128::from(span);
-                u128::from(before.at) + rest < u128::from(at)
-            }
+            Some(settling) => comes_by(before.at, settling.sound, interval, delay, arrived, at),
             None => false,
         },
         None => false,
@@ -196,7 +211,7 @@ fn is_lowering_followed(paths_before: SyncPaths, paths: SyncPaths, told: &[Told]
 fn is_failing_followed(paths_before: SyncPaths, paths: SyncPaths, told: &[Told]) -> bool
     ensures { result ≡ is_failing_followed paths_before paths told.now }
 {
-    keeps_paths(paths_before, paths) && fails_first(told)
+    keeps_paths(paths_before, paths) && fails_one(told)
 }
 
 /// Whether it counts whom its events move.
@@ -214,37 +229,22 @@ pub(crate) fn asks_who_is_moved(
             || is_failing_followed(paths_before, paths, told))
 }
 
-/// Whether a link may be left silent by these events, where each link that is up then is in use or isn't.
-pub(crate) fn leaves_silent(used: bool, told: &[Told]) -> bool
-    ensures { result ≡ leaves_silent used told.now }
-{
-    !used && any_failing(told)
-}
-
 /// What is known of a time at which a system fails and none is moved but such as are cut off, by whether the one that
-/// fails was a far end, whether another is cut off, and whether each link that is up then is in use.
-fn failed_row(far: bool, any: bool, used: bool) -> Row
-    ensures { result ≡ failed_row far any used }
+/// fails was a far end, and whether another is cut off.
+fn failed_row(far: bool, any: bool) -> Row
+    ensures { result ≡ failed_row far any }
 {
     if far {
-        if used { Row::LostEnd } else { Row::FailedEnd }
+        Row::FailedEnd
     } else if any {
-        if used {
-            Row::PowerCutsOff
-        } else {
-            Row::FailureCutsOff
-        }
+        Row::FailureCutsOff
     } else {
-        if used {
-            Row::LostPower
-        } else {
-            Row::FailedHeard
-        }
+        Row::FailedHeard
     }
 }
 
-/// What is known of a time, by whether it is from rest, whether it is the first, what its events do, whom they move,
-/// and whether each link that is up then is in use.
+/// What is known of a time, by whether it is from rest, whether it is the first, what its events do, and whom they
+/// move.
 pub(crate) fn row_of(
     from_rest: bool,
     first: bool,
@@ -252,9 +252,8 @@ pub(crate) fn row_of(
     paths: SyncPaths,
     told: &[Told],
     moves: Moves,
-    used: bool,
 ) -> Row
-    ensures { result ≡ row_of from_rest first paths_before paths told.now moves used }
+    ensures { result ≡ row_of from_rest first paths_before paths told.now moves }
 {
     if !from_rest {
         Row::AnyPast
@@ -273,13 +272,9 @@ pub(crate) fn row_of(
     } else if is_lowering_followed(paths_before, paths, told) && moves.tree_turns {
         Row::TreeTurned
     } else if is_failing_followed(paths_before, paths, told) && !moves.moved {
-        failed_row(moves.far, moves.any, used)
+        failed_row(moves.far, moves.any)
     } else if is_failing_followed(paths_before, paths, told) && moves.trees_fall {
-        if used {
-            Row::PowerCutsTrees
-        } else {
-            Row::FailureCutsTrees
-        }
+        Row::FailureCutsTrees
     } else if any_loss(told) {
         if all_bring_nothing(told) {
             Row::AnyLosses

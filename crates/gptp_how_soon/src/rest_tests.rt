@@ -26,9 +26,9 @@ fn events_come_from_rest_once_a_system_has_turned(rt: HostRuntime) -> Result<(),
 }
 
 #[test]
-fn a_tree_falls_off_an_announce_interval_after_rest(rt: HostRuntime) -> Result<(), Fail> {
+fn a_tree_falls_off_as_soon_as_all_rests(rt: HostRuntime) -> Result<(), Fail> {
     // The line rests 1000003460 ns after its start.
-    for (at, choice) in [(2_000_003_460, 10_000_002_050), (2_000_003_461, 1_640)] {
+    for (at, choice) in [(1_000_003_460, 15_000_000_820), (1_000_003_461, 1_640)] {
         let mut event = String::new(rt.alloc());
         writeln!(
             event,

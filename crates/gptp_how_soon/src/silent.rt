@@ -5,7 +5,7 @@ ghost use Rattle.std.specs.Option.{option_and_then};
 ghost use Rattle.gptp_setup.specs.Intervals.{IsLog, interval_of};
 ghost use Rattle.gptp_setup.specs.SettlingParams.{longest_span};
 ghost use Rattle.gptp_scenario.specs.Network.{pace_of};
-ghost use Rattle.gptp_how_soon.specs.Silent.{heard_links, hears, hears_over, held_among, held_at, held_end, held_from, held_one, held_over, hold_span, is_live, log_by, log_from, log_if, own_intervals};
+ghost use Rattle.gptp_how_soon.specs.Silent.{any_silent, heard_links, hears, hears_over, held_among, held_at, held_end, held_from, held_one, held_over, hold_span, is_live, is_silent, is_silent_at, log_by, log_from, log_if, own_intervals};
 
 use crate::bounds::{SettlingTime, announce_interval, silence_span};
 use crate::chosen::{Chosen, Ends};
@@ -161,11 +161,11 @@ fn hears(systems: &[System], before: &[Chosen], one: usize, other: usize) -> boo
     is_live(systems, one) && is_nearer_at(systems, before, other, one)
 }
 
-/// Whether so it is of an end of a link.
-fn hears_over(systems: &[System], before: &[Chosen], ends: Option<Ends>) -> bool
-    ensures { result ≡ hears_over systems.now before.now ends }
+/// Whether so it is of an end of the link at a place, if there is one.
+fn hears_over(systems: &[System], before: &[Chosen], ends: &[Ends], place: usize) -> bool
+    ensures { result ≡ hears_over systems.now before.now (slice_get ends.now place) }
 {
-    match ends {
+    match ends.get(place) {
         Some(ends) => {
             hears(systems, before, ends.a, ends.b) || hears(systems, before, ends.b, ends.a)
         }
@@ -193,10 +193,39 @@ pub(crate) fn heard_links(
 {
     let mut heard = Vec::new(alloc);
     for place in 0..used_before.len() {
-        let hears = hears_over(systems, before, ends.get(place).copied());
+        let hears = hears_over(systems, before, ends, place);
         heard.push(is_heard(used_before[place], hears))?;
     }
     Ok(heard)
+}
+
+/// Whether a link is silent, by whether it was in use before.
+fn is_silent(used_before: bool, standing: &Standing) -> bool
+    ensures { result ≡ is_silent used_before standing.now }
+{
+    let one_lives = (standing.a_lives && !standing.b_lives)
+        || (standing.b_lives && !standing.a_lives);
+    used_before && standing.cable.up && one_lives
+}
+
+/// Whether the link at a place is, if there is one.
+fn is_silent_at(used_before: &[bool], standings: &[Standing], place: usize) -> bool
+    ensures { result ≡ is_silent_at used_before.now standings.now place }
+{
+    match used_before.get(place) {
+        Some(used_before) => match standings.get(place) {
+            Some(standing) => is_silent(*used_before, standing),
+            None => false,
+        },
+        None => false,
+    }
+}
+
+/// Whether one of these links is silent, by which of them were in use before.
+pub(crate) fn any_silent(used_before: &[bool], standings: &[Standing]) -> bool
+    ensures { result ≡ any_silent used_before.now standings.now }
+{
+    (0..used_before.len()).any(|place| is_silent_at(used_before, standings, place))
 }
 
 /// The same where its far end hears it, and it is up; else 0.
@@ -212,13 +241,7 @@ fn held_one(network: &Network, own: bool, heard: bool, standing: &Standing) -> u
 }
 
 /// The same over the link at a place, if there is one.
-fn held_at(
-    network: &Network,
-    own: bool,
-    heard: bool,
-    standings: &[Standing],
-    place: usize,
-) -> u64
+fn held_at(network: &Network, own: bool, heard: bool, standings: &[Standing], place: usize) -> u64
     ensures is { result ≡ held_at network.now own heard (slice_get standings.now place) }
     ensures bound { result ≤ 4112000000000 }
 {

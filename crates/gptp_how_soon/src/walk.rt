@@ -8,7 +8,8 @@ ghost use Rattle.gptp_how_soon.specs.Rest.{no_moves};
 ghost use Rattle.gptp_how_soon.specs.Walk.{IsFirstWalk, WalkGoesOn, WalkPasses, moves_seen, view_seen};
 
 use crate::bounds::{
-    Loss, SettlingTime, announce_interval, arrived_by, heard, ready, times_by, way_span,
+    Loss, SettlingTime, announce_interval, arrived_before, arrived_by, heard, ready, times_by,
+    way_span,
 };
 use crate::chosen::{
     Chosen, Ends, any_counted, any_moved, choose, copy_systems, ends_in_use, ends_of,
@@ -17,10 +18,8 @@ use crate::cut_trees::cuts_trees;
 use crate::far::{all_cut_far_ends, are_far, up_is_used};
 use crate::kinds::{Told, sets_bounds, sets_link, takes_one, tell};
 use crate::links::{delay_set, longest_among, lost_among, mark_used, new_links};
-use crate::rest::{
-    Moves, asks_who_is_moved, has_rested_for, heard_at_once, is_from_rest, leaves_silent, row_of,
-};
-use crate::silent::{heard_links, held_among, own_intervals};
+use crate::rest::{Moves, asks_who_is_moved, has_come, heard_at_once, is_from_rest, row_of};
+use crate::silent::{any_silent, heard_links, held_among, own_intervals};
 use crate::tree::cuts_tree;
 use crate::turned::turns_one;
 use crate::turned_tree::turns_tree;
@@ -42,6 +41,9 @@ pub(crate) struct Walk {
     pub told: Vec<Told>,
     /// The time before, if there is one.
     pub before: Option<SettlingTime>,
+    /// When a link was last set by then, if one was, and the greatest delay that one had had, in ns.
+    pub set_before: Option<u64>,
+    pub longest_before: u64,
     /// The systems as they stood then, which links were in use, what Sync had to cross, and whether each link that was
     /// up was in use.
     pub systems_before: Vec<System>,
@@ -65,13 +67,16 @@ impl Walk {
         mark_used(&mut used_before, &tables.standings)?;
         let paths_before = tables.sync_paths();
         let all_used_before = up_is_used(&tables.standings);
+        let longest = longest_among(&cables);
         Ok(Walk {
             tables,
             ends,
             last_set: None,
-            longest: longest_among(&cables),
+            longest,
             told: Vec::new(alloc),
             before: None,
+            set_before: None,
+            longest_before: longest,
             systems_before,
             used_before,
             paths_before,
@@ -102,6 +107,8 @@ impl Walk {
     {
         copy_systems(&mut self.systems_before, &self.tables.nodes)?;
         mark_used(&mut self.used_before, &self.tables.standings)?;
+        self.set_before = self.last_set;
+        self.longest_before = self.longest;
         self.paths_before = paths;
         self.all_used_before = up_is_used(&self.tables.standings);
         self.told.clear();
@@ -126,7 +133,9 @@ impl Walk {
         let now = choose(alloc, &systems, &links)?;
         let joined = takes_one(&self.told);
         let turned = turns_one(alloc, &systems, &lost, &links_before, &links, &before, &now)?;
-        let rested = has_rested_for(announce_interval(network), self.before, at);
+        let arrived = arrived_before(self.longest_before, self.set_before);
+        let delay = self.paths_before.delay;
+        let come = has_come(announce_interval(network), delay, arrived, self.before, at);
         let own = own_intervals(network, self.before, at);
         let heard = heard_links(alloc, &systems, &before, &self.used_before, &self.ends)?;
         Ok(Moves {
@@ -134,9 +143,9 @@ impl Walk {
             any: any_moved(&systems, &before, &now),
             cut: all_cut_far_ends(&systems, &before, &links_before, &links, &lost),
             turned,
-            falls: rested && cuts_tree(&systems, &lost, &links, &before, &now),
-            tree_turns: rested && turns_tree(&systems, &lost, &links, &before, &now),
-            trees_fall: rested && cuts_trees(&systems, &lost, &links, &before, &now),
+            falls: come && cuts_tree(&systems, &lost, &links, &before, &now),
+            tree_turns: come && turns_tree(&systems, &lost, &links, &before, &now),
+            trees_fall: come && cuts_trees(&systems, &lost, &links, &before, &now),
             far: are_far(&self.systems_before, &before, &links_before, &self.told),
             held: held_among(network, own, &heard, &self.tables.standings),
         })
@@ -201,11 +210,11 @@ impl Walk {
         let from_rest = is_from_rest(self.longest, at, paths_before, paths, told, self.before);
         let asked = asks_who_is_moved(from_rest, paths_before, paths, told);
         let moves = self.moves_if(alloc, network, at, asked)?;
-        let all_used = up_is_used(standings);
         let loss = Loss {
             paths_before,
             used_before: self.all_used_before,
-            silent: leaves_silent(all_used, told),
+            used: up_is_used(standings),
+            silent: any_silent(used, standings),
             held: moves.held,
         };
         Ok(times_by(
@@ -216,7 +225,7 @@ impl Walk {
             paths,
             self.tables.is_calm(network, paths),
             sets_link(told),
-            row_of(from_rest, first, paths_before, paths, told, moves, all_used),
+            row_of(from_rest, first, paths_before, paths, told, moves),
             gained,
         ))
     }
