@@ -215,14 +215,25 @@ module _ (p : SettlingParams) (number : ℕ) (w : WorldState) (draws : List Draw
         subst (λ log. n'.interval_of a + n0.most < stay_of p log) (sym (same.log a)) (omega (arith, more, interval))
 
     -- who lost a link to it
-    beside : (t : Turning) (best : System) → IsTreeTurned g g' number best t → (v : ℕ) → In v t.tree
+    beside : (t : Turning) (best : System) → IsTreeTurned g g' best t → (v : ℕ) → In v t.tree
         → Adjacent g v number → v ≡ t.top
     beside t best is v in_v joined = elim (is.lost v number in_v joined) [
       | inl left ↦ absurd (loses.dead (Adjacent-clock g' v number well' left))
-      | inr (is_top, is_lost) ↦ is_top
+      | inr is_top ↦ is_top
     ]
 
-    module _ (best : System) (each : (v : ℕ) → In v (clocks g') → IsUnmovedOrInTree g g' number best v)
+    -- nobody lost another
+    lost_alone : (t : Turning) (best : System) → IsTreeTurned g g' best t → (v u : ℕ) → In v t.tree → Adjacent g v u
+        → Adjacent g' v u ⊎ ((v ≡ t.top) × (u ≡ number))
+    lost_alone t best is v u in_v (a, b, joins) =
+        elim (loses.others u (Adjacent-clock g v u well (a, b, joins))) [
+          | inl known ↦
+              inl (a, b, loses.links (port_of v a) (port_of u b) joins (is.lives v in_v) known)
+          | inr is_lost ↦
+              inr (beside t best is v in_v (subst (λ c. Adjacent g v c) is_lost (a, b, joins)), is_lost)
+        ]
+
+    module _ (best : System) (each : (v : ℕ) → In v (clocks g') → IsUnmovedOrInTree g g' best v)
         (few0 : path_bound g ≤ 255) (few : path_bound g' ≤ 255) (shorter : delay_in w' ≤ delay_in w) where
       unmoved_so : (v : ℕ) → In v (clocks g') → IsUnmoved g g' v → Unmoved g n' v
       unmoved_so v known unmoved = record { live = known; best = unmoved.best; far = unmoved.far }
@@ -250,7 +261,7 @@ module _ (p : SettlingParams) (number : ℕ) (w : WorldState) (draws : List Draw
         few = few;
       }
 
-      turned_so : (t : Turning) → IsTreeTurned g g' number best t
+      turned_so : (t : Turning) → IsTreeTurned g g' best t
           → TurnsTree g n' t.tree t.top number t.last t.out best t.base t.depth
       turned_so t is = record {
         well = well';
@@ -261,7 +272,7 @@ module _ (p : SettlingParams) (number : ℕ) (w : WorldState) (draws : List Draw
         was = is.was;
         farther = is.farther;
         first = is.first;
-        lost = is.lost;
+        lost = lost_alone t best is;
         ways = ways_but g t.top number;
         told = failure_ways g n' well' left' number t.top loses t.tree is.in_top is.lives (beside t best is)
             (path_bound g) (paths_bound p w world_w) (omega (arith, few0));
@@ -280,10 +291,10 @@ module _ (p : SettlingParams) (number : ℕ) (w : WorldState) (draws : List Draw
         few = few;
       }
         where
-          out_lives : (t : Turning) → IsTreeTurned g g' number best t → In t.out (clocks g')
+          out_lives : (t : Turning) → IsTreeTurned g g' best t → In t.out (clocks g')
           out_lives t is = Adjacent-clock g' t.last t.out well' is.joined
 
-      abbrev moves : FailureMoves g n' number best (IsTreeCutOff g g' best) (IsTreeTurned g g' number best)
+      abbrev moves : FailureMoves g n' number best (IsTreeCutOff g g' best) (IsTreeTurned g g' best)
       moves = record {
         well = well';
         left = left';
@@ -364,7 +375,7 @@ module _ (p : SettlingParams) (number : ℕ) (w : WorldState) (draws : List Draw
                 → slice_get (view w).lanes (n'.lane (port_of number (suc q))) ≡ Some l
             stood_lane c q i joins l at = lane_still (n'.lane (port_of number (suc q))) l at
 
-            tops' : TopsHold says_announce g n' number best (IsTreeCutOff g g' best) (IsTreeTurned g g' number best) moves
+            tops' : TopsHold says_announce g n' number best (IsTreeCutOff g g' best) (IsTreeTurned g g' best) moves
                 start (stay_of p) w.time n0.most shorter split.long (view w')
             tops' = record {
               cut = λ t cut.
@@ -383,7 +394,7 @@ module _ (p : SettlingParams) (number : ℕ) (w : WorldState) (draws : List Draw
             after' = record {
               kept = kept';
               fits = fits';
-              dark = dark_by says_announce g n' number best (IsTreeCutOff g g' best) (IsTreeTurned g g' number best) moves
+              dark = dark_by says_announce g n' number best (IsTreeCutOff g g' best) (IsTreeTurned g g' best) moves
                   start (stay_of p) w.time n0.most shorter split.long (view w') kept' fits' state' tops';
             }
 
@@ -391,7 +402,7 @@ module _ (p : SettlingParams) (number : ℕ) (w : WorldState) (draws : List Draw
             back' = record {
               state = state';
               back = failure_begins says_announce n0 n' net0 (view w) (view w') loss after' named number best
-                  (IsTreeCutOff g g' best) (IsTreeTurned g g' number best) moves sound' start now;
+                  (IsTreeCutOff g g' best) (IsTreeTurned g g' best) moves sound' start now;
               tops = tops';
             }
 

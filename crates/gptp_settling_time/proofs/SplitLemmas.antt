@@ -30,7 +30,7 @@ pub record IsSplit (p : SettlingParams) (g : Snapshot) : Type 0 where
   pub n : Network
   pub lost : ℕ
   pub best : System
-  pub moves : FailureMoves g n lost best (IsTreeCutOff g n.graph best) (IsTreeTurned g n.graph lost best)
+  pub moves : FailureMoves g n lost best (IsTreeCutOff g n.graph best) (IsTreeTurned g n.graph best)
   pub near : AllAreNear g
   pub since : ℕ
   pub delay : ℕ
@@ -43,7 +43,7 @@ module _ (p : SettlingParams) (g : Snapshot) (s : IsSplit p g) (start : ℕ) whe
   IsCut = IsTreeCutOff g s.n.graph s.best
 
   abbrev pub IsTurned : Turning → Type 0
-  IsTurned = IsTreeTurned g s.n.graph s.lost s.best
+  IsTurned = IsTreeTurned g s.n.graph s.best
 
   -- as the machine knows it
   abbrev pub SplitsBack : MachineState → Type 0

@@ -83,9 +83,9 @@ cut_off_alike g h g' h' before now best t cut = record {
     to_h v is = alike_best g' h' now v t.next is
 
 -- and so is one that turns
-turned_alike : (g h g' h' : Snapshot) → AreAlike g h → AreAlike g' h' → (gone : ℕ) (best : System) (t : Turning)
-    → IsTreeTurned h h' gone best t → IsTreeTurned g g' gone best t
-turned_alike g h g' h' before now gone best t is = record {
+turned_alike : (g h g' h' : Snapshot) → AreAlike g h → AreAlike g' h' → (best : System) (t : Turning)
+    → IsTreeTurned h h' best t → IsTreeTurned g g' best t
+turned_alike g h g' h' before now best t is = record {
   in_top = is.in_top;
   lives = λ v in_v. clock_among h' g' (turned g' h' now) v (is.lives v in_v);
   was_best = λ v in_v. alike_best h g back v best (is.was_best v in_v);
@@ -117,13 +117,13 @@ turned_alike g h g' h' before now gone best t is = record {
     then : AreAlike h' g'
     then = turned g' h' now
 
-in_tree_alike : (g h g' h' : Snapshot) → AreAlike g h → AreAlike g' h' → (gone : ℕ) (best : System) (v : ℕ)
-    → IsUnmovedOrInTree h h' gone best v → IsUnmovedOrInTree g g' gone best v
-in_tree_alike g h g' h' before now gone best v (inl unmoved) = inl (unmoved_alike g h g' h' before now v unmoved)
-in_tree_alike g h g' h' before now gone best v (inr (inl (t, cut, in_v))) =
+in_tree_alike : (g h g' h' : Snapshot) → AreAlike g h → AreAlike g' h' → (best : System) (v : ℕ)
+    → IsUnmovedOrInTree h h' best v → IsUnmovedOrInTree g g' best v
+in_tree_alike g h g' h' before now best v (inl unmoved) = inl (unmoved_alike g h g' h' before now v unmoved)
+in_tree_alike g h g' h' before now best v (inr (inl (t, cut, in_v))) =
     inr (inl (t, cut_off_alike g h g' h' before now best t cut, alike_best h' g' (turned g' h' now) v t.next in_v))
-in_tree_alike g h g' h' before now gone best v (inr (inr (t, is, in_v))) =
-    inr (inr (t, turned_alike g h g' h' before now gone best t is, in_v))
+in_tree_alike g h g' h' before now best v (inr (inr (t, is, in_v))) =
+    inr (inr (t, turned_alike g h g' h' before now best t is, in_v))
 
 -- what is gone by then has aged, or ports without a link aren't capable from then on
 goes_over : (n : NetworkState) (before : Snapshot) (ago events : List Timed) (failed gone silent : ℕ)
@@ -174,7 +174,7 @@ module _ (d : DocumentState) (playable : IsPlayable d) (made : List Timed) (even
 
     -- the trees are so in the worlds
     cuts_so : (best : System) × ((v : ℕ) → In v (clocks (snapshot_of w'))
-        → IsUnmovedOrInTree (snapshot_of then) (snapshot_of w') x.clock best v)
+        → IsUnmovedOrInTree (snapshot_of then) (snapshot_of w') best v)
     cuts_so =
         let (g, stands) = stands_after n made playable.network in
         let (g', stands') = stands_after n more playable.network in
@@ -183,7 +183,7 @@ module _ (d : DocumentState) (playable : IsPlayable d) (made : List Timed) (even
         let now = alike_so d playable more w' after g' stands' in (
           best,
           (λ v known.
-              in_tree_alike (snapshot_of then) g (snapshot_of w') g' before now x.clock best v
+              in_tree_alike (snapshot_of then) g (snapshot_of w') g' before now best v
               (each v (clock_among (snapshot_of w') g' now v known))),
         )
 

@@ -142,10 +142,10 @@ pub record IsTreeCutOff (g g' : Snapshot) (best : System) (t : Tree) : Type 0 wh
       → p ≡ q
 
 -- From the first snapshot to the second these systems are moved. They have the best that they had, and each is farther
--- from it. Before, each was as far as its depth says, from the base on. The one at the top lost its links to the system
--- that is gone; none of them lost another. Within the tree a link leads one deeper or less deep by one, and each system
+-- from it. Before, each was as far as its depth says, from the base on. The one at the top lost its links to others; each
+-- link that the others had they have still. Within the tree a link leads one deeper or less deep by one, and each system
 -- has one link at most to such as are less deep. One link leads out of it, to a system that is unmoved.
-pub record IsTreeTurned (g g' : Snapshot) (gone : ℕ) (best : System) (t : Turning) : Type 0 where
+pub record IsTreeTurned (g g' : Snapshot) (best : System) (t : Turning) : Type 0 where
   pub in_top : In t.top t.tree
   pub lives : (v : ℕ) → In v t.tree → In v (clocks g')
   pub was_best : (v : ℕ) → In v t.tree → IsBest g v best
@@ -153,7 +153,7 @@ pub record IsTreeTurned (g g' : Snapshot) (gone : ℕ) (best : System) (t : Turn
   pub was : (v : ℕ) → In v t.tree → IsDistance g v (t.base + t.depth v)
   pub farther : (v far : ℕ) → In v t.tree → IsDistance g' v far → t.base + t.depth v < far
   pub first : t.depth t.top ≡ 0
-  pub lost : (v u : ℕ) → In v t.tree → Adjacent g v u → Adjacent g' v u ⊎ ((v ≡ t.top) × (u ≡ gone))
+  pub lost : (v u : ℕ) → In v t.tree → Adjacent g v u → Adjacent g' v u ⊎ (v ≡ t.top)
   pub steps : (v u : ℕ) → In v t.tree → In u t.tree → Adjacent g' v u
       → (t.depth u ≡ suc (t.depth v)) ⊎ (t.depth v ≡ suc (t.depth u))
   pub single : (v p q : ℕ) (a b : PortIdentity) → In v t.tree → In a.clock t.tree → In b.clock t.tree
@@ -170,16 +170,16 @@ pub record IsTreeTurned (g g' : Snapshot) (gone : ℕ) (best : System) (t : Turn
       → p ≡ q
 
 -- the system is unmoved, or in a tree that is so cut off from this best, or in one that turns
-abbrev pub IsUnmovedOrInTree : Snapshot → Snapshot → ℕ → System → ℕ → Type 0
-IsUnmovedOrInTree g g' gone best v = IsUnmoved g g' v
+abbrev pub IsUnmovedOrInTree : Snapshot → Snapshot → System → ℕ → Type 0
+IsUnmovedOrInTree g g' best v = IsUnmoved g g' v
     ⊎ (((t : Tree) × IsTreeCutOff g g' best t × IsBest g' v t.next)
-    ⊎ ((t : Turning) × IsTreeTurned g g' gone best t × In v t.tree))
+    ⊎ ((t : Turning) × IsTreeTurned g g' best t × In v t.tree))
 
--- after these events this one, by which this system goes, so moves trees that had one best, and no other system
-abbrev pub MovesTreesFrom : NetworkState → List Timed → Timed → ℕ → Type 0
-MovesTreesFrom n before event gone = (g g' : Snapshot) → StandsAfter n before g
+-- after these events this one so moves trees that had one best, and no other system
+abbrev pub MovesTreesFrom : NetworkState → List Timed → Timed → Type 0
+MovesTreesFrom n before event = (g g' : Snapshot) → StandsAfter n before g
     → StandsAfter n (before ++ event ∷ []) g'
-    → (best : System) × ((v : ℕ) → In v (clocks g') → IsUnmovedOrInTree g g' gone best v)
+    → (best : System) × ((v : ℕ) → In v (clocks g') → IsUnmovedOrInTree g g' best v)
 
 -- After these events this one lets a live system fail, and so moves trees: they are cut off, or turn to their way out.
 -- The greatest delay of a link in use gets no greater, and no path longer. None had more than 255 systems.
@@ -187,7 +187,7 @@ pub record FailsTrees (n : NetworkState) (before : List Timed) (event : Timed) :
   pub clock : ℕ
   pub act : event.act ≡ Changing (Fail clock)
   pub live : IsLive n.systems before clock
-  pub moves : MovesTreesFrom n before event clock
+  pub moves : MovesTreesFrom n before event
   pub delay : (sync_paths n (before ++ event ∷ [])).delay ≤ (sync_paths n before).delay
   pub paths : (sync_paths n (before ++ event ∷ [])).systems ≤ (sync_paths n before).systems
   pub few : (sync_paths n before).systems ≤ 255
