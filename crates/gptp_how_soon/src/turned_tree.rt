@@ -22,12 +22,7 @@ pub(crate) fn is_turned_at(
 }
 
 /// Whether it is so if it is moved.
-fn stays_or_is_turned(
-    systems: &[System],
-    before: &[Chosen],
-    now: &[Chosen],
-    place: usize,
-) -> bool
+fn stays_or_is_turned(systems: &[System], before: &[Chosen], now: &[Chosen], place: usize) -> bool
     ensures { result ≡ stays_or_is_turned systems.now before.now now.now place }
 {
     !is_moved_at(systems, before, now, place) || is_turned_at(systems, before, now, place)

@@ -218,10 +218,11 @@ module _ (n : NetworkState) (network : IsNetwork n) (made events : List Timed) w
     -- no system turns, or a tree does below an end of a link that is lost
     pub turns_by : (list_any turns_there (range_with_len 0 (length systems)) ≡ false)
         ⊎ ((top : ℕ) × IsLostEnd top × (tree_turns_at systems links before now top ≡ true))
-    turns_by = elim (or_cases (not (list_any turns_there (range_with_len 0 (length systems))))
-    (list_any (turns_at_end systems links before now) lost) two_parts.1) [
-      | inl none ↦ inl (not-true (list_any turns_there (range_with_len 0 (length systems))) none)
-      | inr some ↦
-          let (e, listed, top, end, is) = end_of (tree_turns_at systems links before now) lost some in
-          inr (top, record { ends = e; listed = listed; end = end }, is)
-    ]
+    turns_by =
+        elim (or_cases (not (list_any turns_there (range_with_len 0 (length systems))))
+        (list_any (turns_at_end systems links before now) lost) two_parts.1) [
+          | inl none ↦ inl (not-true (list_any turns_there (range_with_len 0 (length systems))) none)
+          | inr some ↦
+              let (e, listed, top, end, is) = end_of (tree_turns_at systems links before now) lost some in
+              inr (top, record { ends = e; listed = listed; end = end }, is)
+        ]

@@ -292,7 +292,7 @@ module _ (n : NetworkState) (network : IsNetwork n) (made now : List Timed)
       (hears_over (systems_after n after) (chosen_after n made) (Some (ends_of n v))) (used_cable n made v used)
       (by far.is_end end)
     where
-      abbrev g : Snapshot
+      g : Snapshot
       g = far.before
 
       wire : IsWire n place v
