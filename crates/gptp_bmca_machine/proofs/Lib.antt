@@ -48,6 +48,7 @@ pub mod LostPortLemmas
 pub mod LostTopLemmas
 pub mod LostBeginLemmas
 pub mod FailsBackLemmas
+pub mod TwoTopsLemmas
 pub mod FallEmptiedLemmas
 pub mod FallRestLemmas
 pub mod FallBeginLemmas
