@@ -49,6 +49,7 @@ pub mod LostTopLemmas
 pub mod LostBeginLemmas
 pub mod FailsBackLemmas
 pub mod TwoTopsLemmas
+pub mod StaleLemmas
 pub mod FallEmptiedLemmas
 pub mod FallRestLemmas
 pub mod FallBeginLemmas
