@@ -50,6 +50,8 @@ pub mod LostBeginLemmas
 pub mod FailsBackLemmas
 pub mod TwoTopsLemmas
 pub mod StaleLemmas
+pub mod StaleStepLemmas
+pub mod StaleLeaveLemmas
 pub mod FallEmptiedLemmas
 pub mod FallRestLemmas
 pub mod FallBeginLemmas
