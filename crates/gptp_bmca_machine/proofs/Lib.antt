@@ -52,6 +52,7 @@ pub mod TwoTopsLemmas
 pub mod StaleLemmas
 pub mod StaleStepLemmas
 pub mod StaleLeaveLemmas
+pub mod StaleEndLemmas
 pub mod FallEmptiedLemmas
 pub mod FallRestLemmas
 pub mod FallBeginLemmas
