@@ -198,12 +198,12 @@ module _ (says : Spelling) (n : Network) (next : System) (top : Side → ℕ) (d
           record {
             hears = λ r holds. elim (is.hears r holds) [
               | inl whole ↦ whole
-              | inr (side, deeper, root, far) ↦ absurd (up side deeper)
+              | inr stale ↦ absurd (up stale.side stale.deeper)
             ];
             flight = λ f a among said. elim (is.flight f a among said) [
               | inr names ↦ inr names
               | inl (inl whole) ↦ inl whole
-              | inl (inr (side, deeper, root, far)) ↦ absurd (up side deeper)
+              | inl (inr stale) ↦ absurd (up stale.side stale.deeper)
             ];
           }
 

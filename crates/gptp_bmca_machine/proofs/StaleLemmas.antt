@@ -1,5 +1,6 @@
 -- A tree that lost what was above it at its tops: some of its systems still tell the root of before, which is stale.
 -- What each of them holds, chooses and says.
+use Rattle.std.proofs.lemmas.List.{length-append}
 use Rattle.std.proofs.Common.{◌≡◌, ◌≢◌, ◌⊎◌, ◌<◌, ◌≤◌, ◌+◌, ◌++◌, ℕ, suc, true, List, [], ◌∷◌, Some, length, slice_get, sym, ap, subst, ◌∙◌, inl, inr, arith}
 use native.Mathlib.Decide.{dec_le, ℕ_discrete}
 use Rattle.gptp_lists.specs.Members.{In}
@@ -33,9 +34,15 @@ use Rattle.gptp_bmca_machine.proofs.TwoTopsLemmas.{IsDeeper, Tree, beside, names
 
 module _ (says : Spelling) (n : Network) (next : System) (top : Side → ℕ) (depth : Side → ℕ → ℕ)
     (t : IsTreeOfTops n next top depth) (old base : ℕ) (worse : old < next.identity) where
-  -- told by v to a system below it, it has the stale root, over as many steps as a top leads to v
-  abbrev pub IsStale : ℕ → ℕ → Announce → Type 0
-  IsStale v u a = (side : Side) × IsDeeper depth side v u × (a.root ≡ old) × (a.steps ≡ base + depth side v)
+  -- Told by v to a system below it, seen from a top, it has the stale root, over as many steps as lead from there to v.
+  -- Its trace has one member more, and of the tree none that is deeper than v.
+  pub record IsStale (v u : ℕ) (a : Announce) : Type 0 where
+    pub side : Side
+    pub deeper : IsDeeper depth side v u
+    pub root : a.root ≡ old
+    pub steps : a.steps ≡ base + depth side v
+    pub long : length a.path ≡ suc a.steps
+    pub names : (y : ℕ) → Tree n next top depth t y → In y a.path → depth side y ≤ depth side v
 
   -- it is of what is left, or stale
   abbrev pub IsSaid : ℕ → ℕ → Announce → Type 0
@@ -56,12 +63,21 @@ module _ (says : Spelling) (n : Network) (next : System) (top : Side → ℕ) (d
   HoldsMixed v p u q w = AtLink says n v p u q (λ held fs. (r : Reception) → held ≡ Received r
       → (r.said.source ≡ port_of v (suc p)) × IsSaid v u r.said) w
 
-  -- At a port without a link a system of the tree holds what is stale, and is a top.
+  -- what a top holds that was told before over a lost link
+  pub record IsStaleAtTop (x : ℕ) (r : Reception) : Type 0 where
+    pub side : Side
+    pub is_top : x ≡ top side
+    pub root : r.said.root ≡ old
+    pub steps : suc r.said.steps ≡ base
+    pub long : length r.said.path ≡ suc r.said.steps
+    pub names : (y : ℕ) → Tree n next top depth t y → In y r.said.path → ⊥
+
+  -- at a port without a link a system of the tree holds such things alone
   abbrev pub BareHoldStale : MachineState → Type 0
   BareHoldStale w = (x : ℕ) (s : Station) (i : ℕ) (r : Reception) → Tree n next top depth t x
       → slice_get w.stations (n.place x) ≡ Some s → HoldsAt s i r
       → (IsLinked n.graph (port_of x (suc i)) → ⊥)
-      → (side : Side) × (x ≡ top side) × (r.said.root ≡ old) × (suc r.said.steps ≡ base)
+      → IsStaleAtTop x r
 
   -- what is of what is left has a worse root
   pub whole_worse : (v : ℕ) (a : Announce) → Tree n next top depth t v → Whole n.graph v a → old < a.root
@@ -81,11 +97,8 @@ module _ (says : Spelling) (n : Network) (next : System) (top : Side → ℕ) (d
 
   -- or, at a top, where its link is lost
   pub record HeldBare (x i : ℕ) (r : Reception) : Type 0 where
-    pub side : Side
-    pub is_top : x ≡ top side
     pub bare : IsLinked n.graph (port_of x (suc i)) → ⊥
-    pub root : r.said.root ≡ old
-    pub steps : suc r.said.steps ≡ base
+    pub stale : IsStaleAtTop x r
 
   module _ (w : MachineState) (kept : IsAfterLoss n w) (dark : BareHoldStale w) (x : ℕ)
       (in_x : Tree n next top depth t x) (over : (v p i : ℕ)
@@ -110,8 +123,7 @@ module _ (says : Spelling) (n : Network) (next : System) (top : Side → ℕ) (d
     pub held_over : (i : ℕ) (r : Reception) → HoldsAt s i r → HeldOver x i r ⊎ HeldBare x i r
     held_over i r (q, there, holds) = elim (IsLinked-dec n.graph (port_of x (suc i))) [
       | no none ↦
-          let (side, is_top, root, steps) = dark x s i r in_x at (q, there, holds) none in
-          inr (record { side = side; is_top = is_top; bare = none; root = root; steps = steps })
+          inr (record { bare = none; stale = dark x s i r in_x at (q, there, holds) none })
       | yes (to, joins) ↦ inl (by to joins (places_of n.graph x (suc i) to.clock to.port t.well joins))
     ]
       where
@@ -139,10 +151,10 @@ module _ (says : Spelling) (n : Network) (next : System) (top : Side → ℕ) (d
     -- nothing that it holds has a better root
     held_root : (i : ℕ) (r : Reception) → HoldsAt s i r → old ≤ r.said.root
     held_root i r holds = elim (held_over i r holds) [
-      | inr bare ↦ let root = bare.root in omega (arith, root)
+      | inr bare ↦ let root = bare.stale.root in omega (arith, root)
       | inl h ↦ elim h.said [
         | inl whole ↦ let more = whole_worse h.v r.said h.in_v whole in omega (arith, more)
-        | inr (side, down, root, steps) ↦ omega (arith, root)
+        | inr stale ↦ let root = stale.root in omega (arith, root)
       ]
     ]
 
@@ -174,56 +186,78 @@ module _ (says : Spelling) (n : Network) (next : System) (top : Side → ℕ) (d
       pub i : ℕ
       pub r : Reception
       pub holds : HoldsAt s i r
-      pub slave : s.slave ≡ Some (suc i)
       pub side : Side
       pub steps : s.steps ≡ base + depth side x
+      pub long : length s.trace ≡ suc s.steps
+      pub names : (y : ℕ) → Tree n next top depth t y → In y s.trace → depth side y ≤ depth side x
       pub from : ((h : HeldOver x i r) × IsDeeper depth side h.v x × (r.said.root ≡ old))
           ⊎ ((x ≡ top side) × (IsLinked n.graph (port_of x (suc i)) → ⊥))
 
     pub follows_stale : s.root ≡ old → FollowsStale
-    follows_stale root = elim rest.chosen [
-      | inl (own, none) ↦
-          let is = rest.is in
-          let identity : s.root ≡ s.identity = cc in
+    follows_stale root = elim facts.follows [
+      | inl itself ↦
+          let identity = itself.root in
           let more = own_worse in
           absurd (omega (arith, more, identity, root))
-      | inr (i, r, holds, path, slave) ↦ by i r holds path slave
+      | inr port ↦ by port
     ]
       where
-        by : (i : ℕ) (r : Reception) → HoldsAt s i r → rest.vector ≡ path_vector r.said (suc i)
-            → s.slave ≡ Some (suc i) → FollowsStale
-        by i r holds path slave = elim (held_over i r holds) [
+        by : FollowsPort s → FollowsStale
+        by port = elim (held_over port.place port.r port.holds) [
           | inr bare ↦ record {
-            i = i;
-            r = r;
-            holds = holds;
-            slave = slave;
-            side = bare.side;
+            i = port.place;
+            r = port.r;
+            holds = port.holds;
+            side = bare.stale.side;
             steps =
-                let zero = ap (depth bare.side) bare.is_top ∙ t.first bare.side in
-                let few = bare.steps in
-                omega (arith, zero, few, steps_r);
-            from = inr (bare.is_top, bare.bare);
+                let zero = ap (depth bare.stale.side) bare.stale.is_top ∙ t.first bare.stale.side in
+                let few = bare.stale.steps in
+                let more = port.steps in
+                omega (arith, zero, few, more);
+            long = long bare.stale.long;
+            names = λ y in_y among. elim (In-parts y port.r.said.path (x ∷ []) (subst (In y) trace among)) [
+              | inl before ↦ absurd (bare.stale.names y in_y before)
+              | inr (inl same) ↦ let one = ap (depth bare.stale.side) same in omega (arith, one)
+              | inr (inr none) ↦ absurd none
+            ];
+            from = inr (bare.stale.is_top, bare.bare);
           }
           | inl h ↦ elim h.said [
-            | inl whole ↦ absurd (let more = whole_worse h.v r.said h.in_v whole in omega (arith, more, root_r, root))
-            | inr (side, down, is_old, far) ↦ record {
-              i = i;
-              r = r;
-              holds = holds;
-              slave = slave;
-              side = side;
-              steps = omega (arith, down, far, steps_r);
-              from = inl (h, down, is_old);
+            | inl whole ↦ absurd (let more = whole_worse h.v port.r.said h.in_v whole in
+                let is = port.root in
+                omega (arith, more, is, root))
+            | inr stale ↦ record {
+              i = port.place;
+              r = port.r;
+              holds = port.holds;
+              side = stale.side;
+              steps =
+                  let down = stale.deeper in
+                  let far = stale.steps in
+                  let more = port.steps in
+                  omega (arith, down, far, more);
+              long = long stale.long;
+              names = λ y in_y among. elim (In-parts y port.r.said.path (x ∷ []) (subst (In y) trace among)) [
+                | inl before ↦
+                    let few = stale.names y in_y before in
+                    let down = stale.deeper in
+                    omega (arith, few, down)
+                | inr (inl same) ↦ let one = ap (depth stale.side) same in omega (arith, one)
+                | inr (inr none) ↦ absurd none
+              ];
+              from = inl (h, stale.deeper, stale.root);
             }
           ]
         ]
           where
-            root_r : r.said.root ≡ s.root
-            root_r = let is = rest.is in let e : r.said.root ≡ s.root = cc in e
+            trace : s.trace ≡ port.r.said.path ++ x ∷ []
+            trace = subst (λ c. s.trace ≡ port.r.said.path ++ c ∷ []) is_x.1 port.trace
 
-            steps_r : suc r.said.steps ≡ s.steps
-            steps_r = let is = rest.is in let e : suc r.said.steps ≡ s.steps = cc in e
+            long : length port.r.said.path ≡ suc port.r.said.steps → length s.trace ≡ suc s.steps
+            long as_long =
+                let more = port.steps in
+                let parts = length-append port.r.said.path (x ∷ []) in
+                ap (λ (xs : List ℕ). length xs) trace ∙ (omega (arith, as_long, more, parts))
 
     -- ---- one that has left what is stale
 
@@ -231,10 +265,10 @@ module _ (says : Spelling) (n : Network) (next : System) (top : Side → ℕ) (d
     pub new_held : s.root ≢ old → (i : ℕ) (r : Reception) → HoldsAt s i r
         → (h : HeldOver x i r) × Whole n.graph h.v r.said
     new_held left i r holds = elim (held_over i r holds) [
-      | inr bare ↦ absurd (left (stale_held i r holds bare.root))
+      | inr bare ↦ absurd (left (stale_held i r holds bare.stale.root))
       | inl h ↦ elim h.said [
         | inl whole ↦ (h, whole)
-        | inr (side, down, root, far) ↦ absurd (left (stale_held i r holds root))
+        | inr stale ↦ absurd (left (stale_held i r holds stale.root))
       ]
     ]
 
@@ -356,5 +390,12 @@ module _ (says : Spelling) (n : Network) (next : System) (top : Side → ℕ) (d
         | no left ↦ inl (says_whole left number a own)
         | yes is ↦
             let stale = follows_stale is in
-            inr (stale.side, stale_down stale, own.root ∙ is, own.steps ∙ stale.steps)
+            inr (record {
+              side = stale.side;
+              deeper = stale_down stale;
+              root = own.root ∙ is;
+              steps = own.steps ∙ stale.steps;
+              long = ap (λ (xs : List ℕ). length xs) own.path ∙ stale.long ∙ ap suc (sym own.steps);
+              names = λ y in_y among. stale.names y in_y (subst (In y) own.path among);
+            })
       ]
