@@ -48,6 +48,8 @@ pub mod LostPortLemmas
 pub mod LostTopLemmas
 pub mod LostBeginLemmas
 pub mod FailsBackLemmas
+pub mod StandsLemmas
+pub mod LinkTellsLemmas
 pub mod TwoTopsLemmas
 pub mod StaleLemmas
 pub mod StaleStepLemmas

@@ -14,9 +14,10 @@ use Rattle.gptp_bmca_machine.specs.Station.{Held, HoldsAt, MachineState, Port, R
 use Rattle.gptp_bmca_machine.specs.TwoTops.{Side, First, Second, IsTreeOfTops}
 use Rattle.gptp_bmca_machine.proofs.FallLemmas.{IsFree, IsFreeAt, IsNewTold, falls_by}
 use Rattle.gptp_bmca_machine.proofs.NearestLemmas.{came_fits}
+use Rattle.gptp_bmca_machine.proofs.StandsLemmas.{port_stands, stands_there}
 use Rattle.gptp_bmca_machine.proofs.StaleLemmas.{BareHoldStale, FollowsStale, HeldOver, HoldsMixed, IsMixed, IsSaid, IsStale, follows_other, follows_stale, held_over, is_x, stale_down, whole_worse}
 use Rattle.gptp_bmca_machine.proofs.StaleLeaveLemmas.{stage_kept}
-use Rattle.gptp_bmca_machine.proofs.StaleStepLemmas.{AllMixed, IsOrdered, IsStage, IsTelling, mixed_kept, port_stands, stands_there, withdraws_due}
+use Rattle.gptp_bmca_machine.proofs.StaleStepLemmas.{AllMixed, IsOrdered, IsStage, IsTelling, mixed_kept, withdraws_due}
 use Rattle.gptp_bmca_machine.proofs.TwoTopsLemmas.{IsDeeper, Tree, beside}
 
 module _ (says : Spelling) (n : Network) (next : System) (top : Side → ℕ) (depth : Side → ℕ → ℕ)
@@ -78,12 +79,12 @@ module _ (says : Spelling) (n : Network) (next : System) (top : Side → ℕ) (d
     told_before : (d v p u q : ℕ) → Tree n next top depth t v
         → Joins n.graph (port_of v (suc p)) (port_of u (suc q)) → IsLimit v u d
         → IsTelling says n next top depth t old base worse v p w → (w.time ≤ start) ⊎ IsToldBefore d v
-    told_before d v p u q in_v joins limit tells = by (stands_there says n next top depth t old base worse w m.kept v
+    told_before d v p u q in_v joins limit tells = by (stands_there n t.well w m.kept v
         in_v.reached.1.begins)
       where
         by : ((s : Station) × (slice_get w.stations (n.place v) ≡ Some s)) → (w.time ≤ start) ⊎ IsToldBefore d v
         by (s, at) =
-            by_port (port_stands says n next top depth t old base worse w m.kept v p (port_of u (suc q)) s at joins)
+            by_port (port_stands n t.well w m.kept v p (port_of u (suc q)) s at joins)
           where
             by_port : ((q : Port) × (slice_get s.ports p ≡ Some q)) → (w.time ≤ start) ⊎ IsToldBefore d v
             by_port (pv, there) = elim stale.from [

@@ -22,8 +22,9 @@ use Rattle.gptp_bmca_machine.proofs.FallStepLemmas.{free_answers, free_hears, ho
 use Rattle.gptp_bmca_machine.proofs.LinkStepLemmas.{AtLink, StandsAtEnd, link_steps, lives_at}
 use Rattle.gptp_bmca_machine.proofs.PlaceLemmas.{same_there}
 use Rattle.gptp_bmca_machine.proofs.ReactsLemmas.{JustHeard}
+use Rattle.gptp_bmca_machine.proofs.StandsLemmas.{at_either, due_by, lane_is, port_on, port_stands, stands_there}
 use Rattle.gptp_bmca_machine.proofs.StaleLemmas.{BareHoldStale, FollowsStale, HeldOver, HoldsMixed, IsMixed, IsMixedAt, IsSaid, IsStale, follows_other, follows_stale, stale_down, tells_new, whole_worse}
-use Rattle.gptp_bmca_machine.proofs.StaleStepLemmas.{AllMixed, IsOrdered, IsStage, IsTelling, SaysSo, Withdraws, announces_root, at_either, due_by, is_on, lane_is, number, over', port_on, port_stands, said_at, said_port, stands_there, stays_master, withdraws_due, withdraws_more, withdraws_now}
+use Rattle.gptp_bmca_machine.proofs.StaleStepLemmas.{AllMixed, IsOrdered, IsStage, IsTelling, SaysSo, Withdraws, announces_root, is_on, number, over', said_at, said_port, stays_master, withdraws_due, withdraws_more, withdraws_now}
 use Rattle.gptp_bmca_machine.proofs.ToldLemmas.{AllSay, all_more}
 use Rattle.gptp_bmca_machine.proofs.TwoTopsLemmas.{IsDeeper, Tree, beside}
 
@@ -35,11 +36,11 @@ module _ (says : Spelling) (n : Network) (next : System) (top : Side → ℕ) (d
   -- whether a system tells what is stale
   telling_dec : (w : MachineState) (kept : IsAfterLoss n w) (v p : ℕ) (to : PortIdentity)
       → Tree n next top depth t v → Joins n.graph (port_of v (suc p)) to → Dec (Telling v p w)
-  telling_dec w kept v p to in_v joins = by (stands_there says n next top depth t old base worse w kept v
+  telling_dec w kept v p to in_v joins = by (stands_there n t.well w kept v
       in_v.reached.1.begins)
     where
       by : ((s : Station) × (slice_get w.stations (n.place v) ≡ Some s)) → Dec (Telling v p w)
-      by (s, at) = by_port (port_stands says n next top depth t old base worse w kept v p to s at joins)
+      by (s, at) = by_port (port_stands n t.well w kept v p to s at joins)
         where
           by_port : ((q : Port) × (slice_get s.ports p ≡ Some q)) → Dec (Telling v p w)
           by_port (q, there) = elim (ℕ_discrete s.root old) [
@@ -62,7 +63,7 @@ module _ (says : Spelling) (n : Network) (next : System) (top : Side → ℕ) (d
 
               by_held : s.root ≡ old → (held : Held) → q.held ≡ held → Dec (Telling v p w)
               by_held root Disabled is =
-                  absurd (port_on says n next top depth t old base worse w kept v p to s q at there joins is)
+                  absurd (port_on n t.well w kept v p to s q at there joins is)
               by_held root Aged is =
                   absurd ((kept.calm.stations (n.place v) s at live.0).at_rest.fresh p q there is)
               by_held root (Received r) is =
@@ -208,7 +209,7 @@ module _ (says : Spelling) (n : Network) (next : System) (top : Side → ℕ) (d
       comes_on : AtLink says n v p u q (λ held fs. Withdraws says New last fs) w
           → AtLink says n v p u q (λ held fs. Withdraws says New last fs) w' ⊎ IsFreeAt says n v p u q w'
       comes_on is =
-          at_either says n next top depth t old base worse w' kept' v p u q joins
+          at_either n t.well w' kept' says v p u q joins
           (λ held fs. Withdraws says New last fs) (IsFree says n.graph v u)
           (link_steps says n v p u q t.well joins w w' kept.calm kept'.calm on_end kept.lapses Comes ComesOrCame New
           (record {
@@ -263,7 +264,7 @@ module _ (says : Spelling) (n : Network) (next : System) (top : Side → ℕ) (d
           was = tells z.s pv z.here stood
 
           on' : pv'.held ≢ Disabled
-          on' = port_on says n next top depth t old base worse w' kept' v p (port_of u (suc q)) z.s' pv' z.there there'
+          on' = port_on n t.well w' kept' v p (port_of u (suc q)) z.s' pv' z.there there'
               joins
 
           mine' : pv'.held ≡ Mine z.s'.root z.s'.steps
@@ -284,11 +285,11 @@ module _ (says : Spelling) (n : Network) (next : System) (top : Side → ℕ) (d
               → LaneStep z.s.clock z.sends l l' → Withdraws says New last l'.frames
           lane_then l l' lane' laid =
               let (y, sent, number_y, (a, said)) = tells_now in
-              let (from, to, loss, up) = lane_is says n next top depth t old base worse w' kept' v p u q joins l' lane'
+              let (from, to, loss, up) = lane_is n t.well w' kept' v p u q joins l' lane'
               in
               let (f, among, octets) = laid.arrives (sym laid.loss ∙ loss) (sym laid.is_up ∙ up) y sent
               (sym laid.from ∙ from ∙ (λ j. port_of (sym was_v j) (sym number_y j))) in
-              let by = due_by says n next top depth t old base worse w' kept' v p u q joins l' f lane'
+              let by = due_by n t.well w' kept' v p u q joins l' f lane'
               (subst (In f) (sym laid.behind) (In-right f l.frames laid.news among)) in
               let same = z.time in
               subst (Withdraws says New last) (sym laid.behind)
@@ -310,7 +311,7 @@ module _ (says : Spelling) (n : Network) (next : System) (top : Side → ℕ) (d
         leaves_now su pu l' at there lane' =
             by (z.lanes (port_of v (suc p)) (port_of u (suc q)) l' joins (λ same.
             t.well.apart (port_of v (suc p)) (port_of u (suc q)) joins (sym same)) lane')
-            (port_stands says n next top depth t old base worse w' kept' v p (port_of u (suc q)) z.s' z.there joins)
+            (port_stands n t.well w' kept' v p (port_of u (suc q)) z.s' z.there joins)
           where
             by : ((l : Lane) × (slice_get w.lanes (n.lane (port_of v (suc p))) ≡ Some l)
                 × LaneStep z.s.clock z.sends l l') → ((pv' : Port) × (slice_get z.s'.ports p ≡ Some pv'))
@@ -327,7 +328,7 @@ module _ (says : Spelling) (n : Network) (next : System) (top : Side → ℕ) (d
 
       telling_then : Telling v p w → w.time + n.most ≤ last
           → AtLink says n v p u q (λ held fs. Withdraws says New last fs) w'
-      telling_then tells in_time = by (stands_there says n next top depth t old base worse w' kept' v
+      telling_then tells in_time = by (stands_there n t.well w' kept' v
           in_v.reached.1.begins)
         where
           by : ((s : Station) × (slice_get w'.stations (n.place v) ≡ Some s))
