@@ -55,6 +55,7 @@ pub mod StaleLemmas
 pub mod StaleStepLemmas
 pub mod StaleLeaveLemmas
 pub mod StaleEndLemmas
+pub mod StaleToldLemmas
 pub mod FallEmptiedLemmas
 pub mod FallRestLemmas
 pub mod FallBeginLemmas

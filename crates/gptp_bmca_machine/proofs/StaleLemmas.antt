@@ -13,7 +13,7 @@ use Rattle.gptp_graph.proofs.LinkDecisions.{IsLinked-dec}
 use Rattle.gptp_graph.proofs.LinkLemmas.{Adjacent-sym, Joins-sym}
 use Rattle.gptp_graph.proofs.PathLemmas.{Reaches-self}
 use Rattle.gptp_bmca_machine.specs.AtRest.{StationIsAtRest}
-use Rattle.gptp_bmca_machine.specs.Clean.{Whole}
+use Rattle.gptp_bmca_machine.specs.Clean.{CameFits, Whole}
 use Rattle.gptp_bmca_machine.specs.Facts.{FollowsItself, FollowsPort, IsLiveStationState, station_system}
 use Rattle.gptp_bmca_machine.specs.Frame.{Announce, AnnounceFrame, Lane, Spelling}
 use Rattle.gptp_bmca_machine.specs.LossLaws.{IsAfterLoss}
@@ -26,8 +26,9 @@ use Rattle.gptp_bmca_machine.specs.Vectors.{path_vector}
 use Rattle.gptp_bmca_machine.proofs.FallLemmas.{IsNewTold}
 use Rattle.gptp_bmca_machine.proofs.LevelLemmas.{places_of}
 use Rattle.gptp_bmca_machine.proofs.LinkStepLemmas.{AtLink, lives_at}
-use Rattle.gptp_bmca_machine.proofs.NearestLemmas.{path_length, root_not_better}
+use Rattle.gptp_bmca_machine.proofs.NearestLemmas.{came_fits, path_length, root_not_better}
 use Rattle.gptp_bmca_machine.proofs.PlaceLemmas.{same_there}
+use Rattle.gptp_bmca_machine.proofs.RestLemmas.{IsClear, bounded}
 use Rattle.gptp_bmca_machine.proofs.ToldLemmas.{AllSay}
 use Rattle.gptp_bmca_machine.proofs.TraceLemmas.{whole_on, whole_own}
 use Rattle.gptp_bmca_machine.proofs.TwoTopsLemmas.{IsDeeper, Tree, beside, names_none, one_above, one_down}
@@ -107,10 +108,10 @@ module _ (says : Spelling) (n : Network) (next : System) (top : Side → ℕ) (d
     pub is_x : (s.live ≡ true) × (s.clock ≡ x)
     is_x = lives_at n w kept.calm x in_x.reached.1.begins s at
 
-    facts : IsLiveStationState (network_setting n) w.time s
+    pub facts : IsLiveStationState (network_setting n) w.time s
     facts = kept.calm.facts.stations (n.place x) s at is_x.0
 
-    rest : StationIsAtRest s
+    pub rest : StationIsAtRest s
     rest = (kept.calm.stations (n.place x) s at is_x.0).at_rest
 
     -- its identity is no better than the best's
@@ -271,6 +272,23 @@ module _ (says : Spelling) (n : Network) (next : System) (top : Side → ℕ) (d
         | inr stale ↦ absurd (left (stale_held i r holds stale.root))
       ]
     ]
+
+    pub new_fits : s.root ≢ old → (i : ℕ) (r : Reception) → HoldsAt s i r → CameFits n.graph s.clock (suc i) r
+    new_fits left i r holds =
+        let (h, whole) = new_held left i r holds in
+        came_fits n.graph s.clock (suc i) r t.well (record {
+          from = port_of h.v (suc h.p);
+          joins = subst (λ c. Joins n.graph (port_of h.v (suc h.p)) (port_of c (suc i))) (sym is_x.1) h.joins;
+          source = h.source;
+          sound = inr whole;
+        })
+
+    pub new_clear : s.root ≢ old → IsClear n.graph s
+    new_clear left = record {
+      rest = rest;
+      known = facts.known;
+      held = λ i r holds. bounded n.graph s.clock (suc i) r (new_fits left i r holds);
+    }
 
     no_loop : (i : ℕ) (r : Reception) → HoldsAt s i r → In x r.said.path → ⊥
     no_loop i r holds names = (facts.held i r holds).no_loop (subst (λ c. In c r.said.path) (sym is_x.1) names)
