@@ -56,6 +56,7 @@ pub mod StaleStepLemmas
 pub mod StaleLeaveLemmas
 pub mod StaleEndLemmas
 pub mod StaleToldLemmas
+pub mod StaleSettleLemmas
 pub mod FallEmptiedLemmas
 pub mod FallRestLemmas
 pub mod FallBeginLemmas

@@ -34,7 +34,7 @@ module _ (says : Spelling) (n : Network) (next : System) (top : Side → ℕ) (d
   Telling v p w = IsTelling says n next top depth t old base worse v p w
 
   -- whether a system tells what is stale
-  telling_dec : (w : MachineState) (kept : IsAfterLoss n w) (v p : ℕ) (to : PortIdentity)
+  pub telling_dec : (w : MachineState) (kept : IsAfterLoss n w) (v p : ℕ) (to : PortIdentity)
       → Tree n next top depth t v → Joins n.graph (port_of v (suc p)) to → Dec (Telling v p w)
   telling_dec w kept v p to in_v joins = by (stands_there n t.well w kept v
       in_v.reached.1.begins)
