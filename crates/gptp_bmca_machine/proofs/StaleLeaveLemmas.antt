@@ -1,6 +1,7 @@
 -- A tree in which the root of before is still told: each of its links goes on through its stages, since whoever leaves
 -- that root tells those below it at once.
 use Rattle.std.proofs.Common.{◌≡◌, ◌≢◌, ◌⊎◌, ◌<◌, ◌≤◌, ◌+◌, ◌++◌, ℕ, suc, true, List, [], ◌∷◌, Some, slice_get, refl, sym, ap, subst, ◌∙◌, inl, inr, arith}
+use Rattle.std.specs.Bool.{⊤}
 use native.Mathlib.Decide.{dec_le, ℕ_discrete}
 use Rattle.gptp_lists.specs.Members.{In}
 use Rattle.gptp_lists.proofs.SystemSpecLemmas.{In-right}
@@ -103,7 +104,7 @@ module _ (says : Spelling) (n : Network) (next : System) (top : Side → ℕ) (d
                 (subst (λ (z : Station). pv.held ≡ Mine z.root z.steps) same mine),
           ))
 
-      new_said : SaysSo says n next top depth t old base worse w w' kept kept' dark' step mixed v p u q in_v joins New
+      pub new_said : SaysSo says n next top depth t old base worse w w' kept kept' dark' step mixed v p u q in_v joins New
       new_said touch mid call z a sent from said =
           let (own, master) = call.reacts.tells z a sent said in
           let at = said_at says n next top depth t old base worse w w' kept kept' dark' step mixed v p u q in_v joins
@@ -118,7 +119,7 @@ module _ (says : Spelling) (n : Network) (next : System) (top : Side → ℕ) (d
           call z from)
 
       -- a link that carries nothing stale goes on so
-      free_on : IsFreeAt says n v p u q w → IsFreeAt says n v p u q w'
+      pub free_on : IsFreeAt says n v p u q w → IsFreeAt says n v p u q w'
       free_on free =
           link_steps says n v p u q t.well joins w w' kept.calm kept'.calm on_end kept.lapses
           (IsFree says n.graph v u) (IsFree says n.graph v u) New
@@ -225,7 +226,7 @@ module _ (says : Spelling) (n : Network) (next : System) (top : Side → ℕ) (d
       -- ---- it leaves the stale root now
 
       module _ (tells : Telling v p w) (in_time : w.time + n.most ≤ last)
-          (z : TreeAnswers says n (λ c. ⊥) v w w') where
+          (z : TreeAnswers says n (λ c. ⊤) v w w') where
         was_v : z.s.clock ≡ v
         was_v = (lives_at n w kept.calm v in_v.reached.1.begins z.s z.here).1
 
@@ -280,32 +281,44 @@ module _ (says : Spelling) (n : Network) (next : System) (top : Side → ℕ) (d
               announces_root says v (suc p) w.time z.touch z.s'.root z.s'.steps pv pv' z.sends answer z.s.root
               z.s.steps was.1 on' (refuses pv stood) (λ same. other (same ∙ was.0))
 
+          news_new : (l l' : Lane) → l'.from ≡ port_of v (suc p) → (laid : LaneStep z.s.clock z.sends l l')
+              → AllSay says New laid.news
+          news_new l l' from laid f a among said =
+              let (y, sent, over, octets) = laid.sent f among in
+              let said_y = subst (λ o. says o a) octets said in
+              let (own, (i, pz, place, at_i, mine)) = z.reacts.tells y a sent said_y in
+              let is : y.port ≡ suc p =
+              ap (λ (e : PortIdentity). e.port) (sym over ∙ sym laid.from ∙ from) in
+              tells_new says n next top depth t old base worse w' kept' dark' v in_v (λ a b i.
+              over' says n next top depth t old base worse w w' kept kept' dark' step mixed v a b i in_v) z.s'
+              z.there other y.port a own side p u q joins deeper pv' there' z.s'.root z.s'.steps mine' is
+
           -- so that is on its way
-          lane_then : (l l' : Lane) → slice_get w'.lanes (n.lane (port_of v (suc p))) ≡ Some l'
-              → LaneStep z.s.clock z.sends l l' → Withdraws says New last l'.frames
-          lane_then l l' lane' laid =
+          pub laid_now : (l l' : Lane) → slice_get w'.lanes (n.lane (port_of v (suc p))) ≡ Some l'
+              → (laid : LaneStep z.s.clock z.sends l l')
+              → (f : AnnounceFrame) × In f laid.news × FrameSaysAnnounce says f × (f.due ≤ w.time + n.most)
+              × AllSay says New laid.news
+          laid_now l l' lane' laid =
               let (y, sent, number_y, (a, said)) = tells_now in
-              let (from, to, loss, up) = lane_is n t.well w' kept' v p u q joins l' lane'
-              in
+              let (from, to, loss, up) = lane_is n t.well w' kept' v p u q joins l' lane' in
               let (f, among, octets) = laid.arrives (sym laid.loss ∙ loss) (sym laid.is_up ∙ up) y sent
               (sym laid.from ∙ from ∙ (λ j. port_of (sym was_v j) (sym number_y j))) in
               let by = due_by n t.well w' kept' v p u q joins l' f lane'
               (subst (In f) (sym laid.behind) (In-right f l.frames laid.news among)) in
-              let same = z.time in
+              let same = z.time in (
+                f,
+                among,
+                (a, subst (λ o. says o a) (sym octets) said),
+                omega (arith, by, same),
+                news_new l l' from laid,
+              )
+
+          lane_then : (l l' : Lane) → slice_get w'.lanes (n.lane (port_of v (suc p))) ≡ Some l'
+              → LaneStep z.s.clock z.sends l l' → Withdraws says New last l'.frames
+          lane_then l l' lane' laid =
+              let (f, among, said, soon, all) = laid_now l l' lane' laid in
               subst (Withdraws says New last) (sym laid.behind)
-              (withdraws_now says New last l.frames laid.news f (news_new from) among
-              (a, subst (λ o. says o a) (sym octets) said) (omega (arith, by, same, in_time)))
-            where
-              news_new : l'.from ≡ port_of v (suc p) → AllSay says New laid.news
-              news_new from f a among said =
-                  let (y, sent, over, octets) = laid.sent f among in
-                  let said_y = subst (λ o. says o a) octets said in
-                  let (own, (i, pz, place, at_i, mine)) = z.reacts.tells y a sent said_y in
-                  let is : y.port ≡ suc p =
-                  ap (λ (e : PortIdentity). e.port) (sym over ∙ sym laid.from ∙ from) in
-                  tells_new says n next top depth t old base worse w' kept' dark' v in_v (λ a b i.
-                  over' says n next top depth t old base worse w w' kept kept' dark' step mixed v a b i in_v) z.s'
-                  z.there other y.port a own side p u q joins deeper pv' there' z.s'.root z.s'.steps mine' is
+              (withdraws_now says New last l.frames laid.news f all among said (omega (arith, soon, in_time)))
 
         leaves_now : AtLink says n v p u q (λ held fs. Withdraws says New last fs) w'
         leaves_now su pu l' at there lane' =
@@ -333,7 +346,7 @@ module _ (says : Spelling) (n : Network) (next : System) (top : Side → ℕ) (d
         where
           by : ((s : Station) × (slice_get w'.stations (n.place v) ≡ Some s))
               → AtLink says n v p u q (λ held fs. Withdraws says New last fs) w'
-          by (s', at') = elim (answers_or_stands says n (λ c. ⊥) v w w' kept.calm kept'.calm in_v.reached.1.begins step
+          by (s', at') = elim (answers_or_stands says n (λ c. ⊤) v w w' kept.calm kept'.calm in_v.reached.1.begins step
               s' at') [
                 | inr z ↦ leaves_now tells in_time z
                 | inl stood ↦ absurd (not (λ s2 q2 at2 there2.

@@ -64,6 +64,11 @@ module _ (says : Spelling) (n : Network) (next : System) (top : Side → ℕ) (d
     back : Joins n.graph (port_of u (suc q)) (port_of v (suc p))
     back = Joins-sym n.graph (port_of v (suc p)) (port_of u (suc q)) leads.joins
 
+    -- who hasn't settled has the time
+    abbrev pub HasTime : MachineState → Type 0
+    HasTime w = (s : Station) (pv : Port) → slice_get w.stations (n.place v) ≡ Some s → slice_get s.ports p ≡ Some pv
+        → (TellerIsReady (telling n (before f) f next v p u q) s pv → ⊥) → w.time + n.most < before f
+
     -- who has a stale root hasn't settled
     vacuous : (w : MachineState)
         → ((s : Station) → slice_get w.stations (n.place v) ≡ Some s → s.root ≡ old) → LinkSettles says k w
@@ -83,7 +88,7 @@ module _ (says : Spelling) (n : Network) (next : System) (top : Side → ℕ) (d
           new_clear says n next top depth t old base worse w m.kept m.dark x in_x (λ a b i. over x a b i in_x) s at left
 
       -- what both ends show, where the system that hears doesn't tell what is stale
-      shows_new : (IsTelling says n next top depth t old base worse u q w → ⊥) → w.time + n.most < before f
+      pub shows_new : (IsTelling says n next top depth t old base worse u q w → ⊥) → HasTime w
           → Shows says n t.well (before f) f next v p u q leads.joins delay w
       shows_new not early = record {
         kept = m.kept;
@@ -98,7 +103,7 @@ module _ (says : Spelling) (n : Network) (next : System) (top : Side → ℕ) (d
             left place r holds).fits) clock leads.is_best (port_of u (suc q)) leads.joins refl
             (t.well.apart (port_of v (suc p)) (port_of u (suc q)) leads.joins) close
             (m.kept.calm.facts.stations (n.place v) s at live).follows pv there ready;
-        early = λ s pv at there some. early;
+        early = early;
         weaker = λ s pu at there root steps mine.
             let (live, clock) = lives_at n w m.kept.calm u in_u.reached.1.begins s at in
             let own = (m.kept.calm.stations (n.place u) s at live).at_rest.mine q pu root steps there mine in
@@ -121,7 +126,7 @@ module _ (says : Spelling) (n : Network) (next : System) (top : Side → ℕ) (d
     -- ---- a step
 
     module _ (w w' : MachineState) (m : IsHeardState w) (m' : IsHeardState w') (step : MachineSteps says w w')
-        (early : w.time + n.most < before f) (early' : w'.time + n.most < before f) where
+        (early : HasTime w) (early' : HasTime w') where
       abbrev Comes : Held → List AnnounceFrame → Type 0
       Comes held fs = StaleComes says n next top depth t old base worse near u v fs
 

@@ -95,7 +95,7 @@ module _ (says : Spelling) (n : Network) (next : System) (top : Side → ℕ) (d
             (λ a b i. over_all w mixed u a b i in_u) s at q v p back pu there old steps mine stale));
       }
 
-      module _ (clear : IsUnhindered) (early : w.time + n.most < before) where
+      module _ (clear : IsUnhindered) where
         module _ (s : Station) (pv : Port) (at : slice_get w.stations (n.place v) ≡ Some s)
             (there : slice_get s.ports p ≡ Some pv) (root : s.root ≡ old) (steps : s.steps ≡ base + depth side v) where
           live : (s.live ≡ true) × (s.clock ≡ v)
@@ -129,7 +129,7 @@ module _ (says : Spelling) (n : Network) (next : System) (top : Side → ℕ) (d
           mine_by (Mine a b) is =
               let (one, two) = rest.mine p pv a b there is in is ∙ (λ i. Mine ((one ∙ root) i) ((two ∙ steps) i))
 
-          tells_it : TellerIsSettled k s pv
+          pub tells_it : TellerIsSettled (telling n before (base + depth side v) stale_root v p u q) s pv
           tells_it =
               let mine = mine_by pv.held refl in
               let stale = follows_stale says n next top depth t old base worse w kept dark v in_v
@@ -145,15 +145,12 @@ module _ (says : Spelling) (n : Network) (next : System) (top : Side → ℕ) (d
                 short = omega (arith, long, close, steps);
               }
 
-        -- what both ends show of it
-        pub shows_stale : Shows says n t.well before (base + depth side v) stale_root v p u q joins in_time w
-        shows_stale = record {
-          kept = kept;
-          came = λ s pu l at there lane r holds. (mixed v p u q in_v joins s pu l at there lane).source r holds;
-          settled = λ s pv at there ready. tells_it s pv at there ready.0.0 ready.0.1;
-          early = λ s pv at there not. early;
-          weaker = λ s pu at there root steps mine. weaker s pu at there root steps mine (ℕ_discrete s.root old);
-        }
+        -- what is told there is worse
+        pub weaker_there : (s : Station) (pu : Port) → slice_get w.stations (n.place u) ≡ Some s
+            → slice_get s.ports q ≡ Some pu → (root steps : ℕ) → pu.held ≡ Mine root steps
+            → IsLower (final_vector (telling n before (base + depth side v) stale_root v p u q))
+            (master root steps u (suc q))
+        weaker_there s pu at there root steps mine = weaker s pu at there root steps mine (ℕ_discrete s.root old)
           where
             weaker : (s : Station) (pu : Port) → slice_get w.stations (n.place u) ≡ Some s
                 → slice_get s.ports q ≡ Some pu → (root steps : ℕ) → pu.held ≡ Mine root steps → Dec (s.root ≡ old)
@@ -176,6 +173,20 @@ module _ (says : Spelling) (n : Network) (next : System) (top : Side → ℕ) (d
                 let root_is : root ≡ old = own.0 ∙ is in
                 subst (λ r. IsLower (final_vector k) (master r steps u (suc q))) (sym root_is)
                 (clear.weaker s pu steps at there is (mine ∙ (λ i. Mine (root_is i) steps)))
+
+        -- what both ends show of it
+        pub shows_stale : ((s : Station) (pv : Port) → slice_get w.stations (n.place v) ≡ Some s
+            → slice_get s.ports p ≡ Some pv
+            → (TellerIsReady (telling n before (base + depth side v) stale_root v p u q) s pv → ⊥)
+            → w.time + n.most < before)
+            → Shows says n t.well before (base + depth side v) stale_root v p u q joins in_time w
+        shows_stale early = record {
+          kept = kept;
+          came = λ s pu l at there lane r holds. (mixed v p u q in_v joins s pu l at there lane).source r holds;
+          settled = λ s pv at there ready. tells_it s pv at there ready.0.0 ready.0.1;
+          early = early;
+          weaker = weaker_there;
+        }
 
       -- so it is heard, where its link is at its stages
       pub heard_by : LinkSettles says (telling n before (base + depth side v) stale_root v p u q) w → (s : Station)
