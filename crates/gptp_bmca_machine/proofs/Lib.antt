@@ -57,6 +57,9 @@ pub mod StaleLeaveLemmas
 pub mod StaleEndLemmas
 pub mod StaleToldLemmas
 pub mod StaleSettleLemmas
+pub mod ToldStepLemmas
+pub mod StaleOrderLemmas
+pub mod StaleOrderStepLemmas
 pub mod FallEmptiedLemmas
 pub mod FallRestLemmas
 pub mod FallBeginLemmas
