@@ -180,7 +180,7 @@ module _ (says : Spelling) (n : Network) (next : System) (top : Side → ℕ) (d
           let deep = t.deep side u (beside n next top depth t v u in_v (suc p, suc q, joins)) in
           omega (arith, deep, deeper, within)
 
-      free_by : (side : Side) → IsDeeper depth side v u → IsFreeAt says n v p u q w
+      free_by : (side : Side) → IsDeeper depth side v u → IsFreeAt says n.graph n v p u q w
       free_by side deeper = elim (m.stages v p u q d side in_v joins deeper limit_all) [
         | inl free ↦ free
         | inr (inl tells) ↦
@@ -193,7 +193,7 @@ module _ (says : Spelling) (n : Network) (next : System) (top : Side → ℕ) (d
       ]
 
       -- a link that leads down from no top carries nothing stale
-      not_down : ((side : Side) → IsDeeper depth side v u → ⊥) → IsFreeAt says n v p u q w
+      not_down : ((side : Side) → IsDeeper depth side v u → ⊥) → IsFreeAt says n.graph n v p u q w
       not_down up s pu l at there lane =
           let is = m.mixed v p u q in_v joins s pu l at there lane in
           record {
@@ -209,7 +209,7 @@ module _ (says : Spelling) (n : Network) (next : System) (top : Side → ℕ) (d
           }
 
       -- each link carries what is of what is left alone
-      pub free_then : IsFreeAt says n v p u q w
+      pub free_then : IsFreeAt says n.graph n v p u q w
       free_then = elim (t.steps First v u in_v (suc p, suc q, joins)) [
         | inl deeper ↦ free_by First deeper
         | inr up ↦ elim (t.steps Second v u in_v (suc p, suc q, joins)) [

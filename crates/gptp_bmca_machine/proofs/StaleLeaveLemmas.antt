@@ -119,7 +119,7 @@ module _ (says : Spelling) (n : Network) (next : System) (top : Side → ℕ) (d
           call z from)
 
       -- a link that carries nothing stale goes on so
-      pub free_on : IsFreeAt says n v p u q w → IsFreeAt says n v p u q w'
+      pub free_on : IsFreeAt says n.graph n v p u q w → IsFreeAt says n.graph n v p u q w'
       free_on free =
           link_steps says n v p u q t.well joins w w' kept.calm kept'.calm on_end kept.lapses
           (IsFree says n.graph v u) (IsFree says n.graph v u) New
@@ -208,7 +208,7 @@ module _ (says : Spelling) (n : Network) (next : System) (top : Side → ℕ) (d
               subst (Whole n.graph v) (same ∙ sym just.is_said) fresh.whole
 
       comes_on : AtLink says n v p u q (λ held fs. Withdraws says New last fs) w
-          → AtLink says n v p u q (λ held fs. Withdraws says New last fs) w' ⊎ IsFreeAt says n v p u q w'
+          → AtLink says n v p u q (λ held fs. Withdraws says New last fs) w' ⊎ IsFreeAt says n.graph n v p u q w'
       comes_on is =
           at_either n t.well w' kept' says v p u q joins
           (λ held fs. Withdraws says New last fs) (IsFree says n.graph v u)

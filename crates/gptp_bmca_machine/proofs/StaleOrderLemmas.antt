@@ -123,7 +123,7 @@ module _ (says : Spelling) (n : Network) (next : System) (top : Side → ℕ) (d
   -- holds what was told before; or that has come.
   abbrev pub StrongStage : (v p u q : ℕ) → IsStronger depth v u → MachineState → Type 0
   StrongStage v p u q strong w =
-      DownStage says n (stale_root says n next top depth t old base worse near) (base + depth strong.side v)
+      DownStage says n.graph n (stale_root says n next top depth t old base worse near) (base + depth strong.side v)
       (falls_by n start (suc (depth strong.side v))) v p u q w
 
   abbrev pub AllStrong : MachineState → Type 0
@@ -203,7 +203,7 @@ module _ (says : Spelling) (n : Network) (next : System) (top : Side → ℕ) (d
 
       pub stage_holds : StrongStage v p u q strong w → (su : Station) (pu : Port)
           → slice_get w.stations (n.place u) ≡ Some su → slice_get su.ports q ≡ Some pu
-          → HoldsOldTold pu ⊎ (HasLeft n w v root_then (base + depth strong.side v) × IsFreeAt says n v p u q w)
+          → HoldsOldTold pu ⊎ (HasLeft n w v root_then (base + depth strong.side v) × IsFreeAt says n.graph n v p u q w)
       stage_holds (inr (inr done)) su pu at there = inr done
       stage_holds (inr (inl (not, told))) su pu at there =
           let has = kept.calm.lanes (port_of v (suc p)) (port_of u (suc q)) joins in
@@ -417,7 +417,7 @@ module _ (says : Spelling) (n : Network) (next : System) (top : Side → ℕ) (d
 
       -- the weaker end, once the stronger has left what is stale, and all that it told has come
       pub unhindered_weak : (side : Side) (deeper : IsDeeper depth side v u) (strong : IsStronger depth u v)
-          → HasLeft n w u root_then (base + depth strong.side u) → IsFreeAt says n u q v p w
+          → HasLeft n w u root_then (base + depth strong.side u) → IsFreeAt says n.graph n u q v p w
           → IsUnhindered says n next top depth t old base worse near v p u q in_v joins side deeper before in_time w kept
           dark mixed
       unhindered_weak side deeper strong left free = record {

@@ -155,8 +155,8 @@ module _ (says : Spelling) (n : Network) (next : System) (top : Side → ℕ) (d
     abbrev Then : (v p u q : ℕ) → IsStronger depth v u → Type 0
     Then v p u q strong =
         StrongStage says n next top depth t old base worse near start v p u q strong w'
-        × (HasLeft n w v root_then (base + depth strong.side v) × IsFreeAt says n v p u q w
-        → HasLeft n w' v root_then (base + depth strong.side v) × IsFreeAt says n v p u q w')
+        × (HasLeft n w v root_then (base + depth strong.side v) × IsFreeAt says n.graph n v p u q w
+        → HasLeft n w' v root_then (base + depth strong.side v) × IsFreeAt says n.graph n v p u q w')
 
     module _ (v p u q : ℕ) (in_v : Tree n next top depth t v)
         (joins : Joins n.graph (port_of v (suc p)) (port_of u (suc q))) (strong : IsStronger depth v u)
@@ -247,7 +247,7 @@ module _ (says : Spelling) (n : Network) (next : System) (top : Side → ℕ) (d
 
               by_stage : HoldsOldTold says n next top depth t old base worse near start w m.kept m.dark m.mixed h.v h.p
                   v stale.i h.in_v h.joins first port.0
-                  ⊎ (HasLeft n w h.v root_then (base + depth first.side h.v) × IsFreeAt says n h.v h.p v stale.i w) → ⊥
+                  ⊎ (HasLeft n w h.v root_then (base + depth first.side h.v) × IsFreeAt says n.graph n h.v h.p v stale.i w) → ⊥
               by_stage (inl held) =
                   let far = held.steps in
                   none stale.i held.r (port.0, port.1, held.holds) held.root (omega (arith, far, down_side))
@@ -265,7 +265,7 @@ module _ (says : Spelling) (n : Network) (next : System) (top : Side → ℕ) (d
         not' : IsTelling says n next top depth t old base worse v p w' → ⊥
         not' = not_telling v p u q in_v joins strong w' kept' dark' mixed' left'
 
-        done_then : IsFreeAt says n v p u q w → IsFreeAt says n v p u q w'
+        done_then : IsFreeAt says n.graph n v p u q w → IsFreeAt says n.graph n v p u q w'
         done_then =
             free_on says n next top depth t old base worse w w' m.kept kept' dark' step m.mixed ordered v p u q in_v
             joins strong.side strong.deeper last not'
@@ -273,7 +273,7 @@ module _ (says : Spelling) (n : Network) (next : System) (top : Side → ℕ) (d
         told_then : AtLink says n v p u q (HoldsTold says (still n d root_then v p u q)
             (IsNewTold n.graph (port_of v (suc p)) u) last) w
             → AtLink says n v p u q (HoldsTold says (still n d root_then v p u q)
-            (IsNewTold n.graph (port_of v (suc p)) u) last) w' ⊎ IsFreeAt says n v p u q w'
+            (IsNewTold n.graph (port_of v (suc p)) u) last) w' ⊎ IsFreeAt says n.graph n v p u q w'
         told_then =
             told_on says n t.well d root_then v p u q joins last w w' m.kept kept' step
             (hears_old v p u q in_v joins strong w m.kept m.dark m.mixed)
@@ -347,11 +347,11 @@ module _ (says : Spelling) (n : Network) (next : System) (top : Side → ℕ) (d
 
       -- it goes on to tell its old choice, or has left it now
       led_then : IsLed says n root_then d v p u q w
-          → IsLed says n root_then d v p u q w' ⊎ IsLeft says n root_then d last v p u q w'
+          → IsLed says n root_then d v p u q w' ⊎ IsLeft says n.graph n root_then d last v p u q w'
       led_then (is_old, stays) = by (stands_there n t.well w' kept' v in_v.reached.1.begins)
         where
           by : ((s : Station) × (slice_get w'.stations (n.place v) ≡ Some s))
-              → IsLed says n root_then d v p u q w' ⊎ IsLeft says n root_then d last v p u q w'
+              → IsLed says n root_then d v p u q w' ⊎ IsLeft says n.graph n root_then d last v p u q w'
           by (s', at') = elim (choice_dec s' root_then d) [
             | yes old' ↦ inl (goes_on (λ s at. subst (λ (x : Station). HasChoice x root_then d)
                 (same_there w'.stations (n.place v) s' s at' at) old'))
@@ -378,7 +378,7 @@ module _ (says : Spelling) (n : Network) (next : System) (top : Side → ℕ) (d
                       (shows_old v p u q in_v joins strong w' kept' dark' mixed' is_old') step
                       (λ since pv pu l stand is_ready. inr (inr (stays pv pu l stand)))
 
-              left_now : (HasChoice s' root_then d → ⊥) → IsLeft says n root_then d last v p u q w'
+              left_now : (HasChoice s' root_then d → ⊥) → IsLeft says n.graph n root_then d last v p u q w'
               left_now not_old = (
                 left',
                 elim (answers_or_stands says n (λ c. ⊤) v w w' m.kept.calm kept'.calm in_v.reached.1.begins step s' at')
@@ -425,7 +425,7 @@ module _ (says : Spelling) (n : Network) (next : System) (top : Side → ℕ) (d
     -- and what has come has come for good
     pub strong_done : (v p u q : ℕ) → Tree n next top depth t v
         → Joins n.graph (port_of v (suc p)) (port_of u (suc q)) → (strong : IsStronger depth v u)
-        → HasLeft n w v root_then (base + depth strong.side v) × IsFreeAt says n v p u q w
-        → HasLeft n w' v root_then (base + depth strong.side v) × IsFreeAt says n v p u q w'
+        → HasLeft n w v root_then (base + depth strong.side v) × IsFreeAt says n.graph n v p u q w
+        → HasLeft n w' v root_then (base + depth strong.side v) × IsFreeAt says n.graph n v p u q w'
     strong_done v p u q in_v joins strong =
         (then_below (suc (depth strong.side v)) v p u q in_v joins strong (omega arith)).1

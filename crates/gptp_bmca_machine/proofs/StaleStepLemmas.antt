@@ -106,7 +106,7 @@ module _ (says : Spelling) (n : Network) (next : System) (top : Side → ℕ) (d
   -- stale since.
   abbrev pub IsStage : ℕ → ℕ → ℕ → ℕ → ℕ → MachineState → Type 0
   IsStage v p u q last w =
-      IsFreeAt says n v p u q w
+      IsFreeAt says n.graph n v p u q w
       ⊎ (IsTelling v p w
       ⊎ AtLink says n v p u q (λ held fs. Withdraws says (IsNewTold n.graph (port_of v (suc p)) u) last fs) w)
 

@@ -122,7 +122,7 @@ module _ (says : Spelling) (n : Network) (wf : IsWellFormed n.graph) (d : ℕ) (
   pub told_on : AtLink says n v p u q (HoldsTold says (still n d best v p u q)
       (IsNewTold n.graph (port_of v (suc p)) u) last) w
       → AtLink says n v p u q (HoldsTold says (still n d best v p u q) (IsNewTold n.graph (port_of v (suc p)) u) last)
-      w' ⊎ IsFreeAt says n v p u q w'
+      w' ⊎ IsFreeAt says n.graph n v p u q w'
   told_on is =
       at_either n wf w' kept' says v p u q joins Holds (IsFree says n.graph v u)
       (link_steps says n v p u q wf joins w w' kept.calm kept'.calm is_on kept.lapses Holds

@@ -34,6 +34,7 @@ pub mod LossLaws
 pub mod CutTree
 pub mod TwoTops
 pub mod TurnTree
+pub mod FailureTrees
 pub mod SyncLaws
 pub mod Example
 pub mod ExampleLaws

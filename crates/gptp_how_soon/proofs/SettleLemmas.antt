@@ -13,11 +13,10 @@ use Rattle.gptp_how_soon.specs.Bounds.{arrived_by, heard_by, ready, times_by}
 use Rattle.gptp_how_soon.specs.Kinds.{begins_wider, brings_nothing, is_loss, makes_nothing, sets_link}
 use Rattle.gptp_how_soon.specs.Links.{new_among}
 use Rattle.gptp_how_soon.specs.Rest.{are_losses_followed, asks_who_is_moved, failed_row, heard_at_once, is_failing_followed, is_from_rest, is_lowering_followed, leaves_silent, no_moves, row_of}
-use Rattle.gptp_how_soon.specs.Silent.{held_among, own_intervals}
 use Rattle.gptp_how_soon.specs.Times.{settling_time}
 use Rattle.gptp_how_soon.specs.Walk.{moves_seen, view_seen}
 use Rattle.gptp_how_soon.specs.declared.bounds.Row.{Row}
-use Rattle.gptp_how_soon.specs.declared.bounds.Row.TheVariants.{AnyLosses, AnyPast, CutOff, FailureCutsTrees, Gained, Lowered, OneTurned, PowerCutsTrees, TreeCutOff, TreeTurned, Unchanged}
+use Rattle.gptp_how_soon.specs.declared.bounds.Row.TheVariants.{AnyLosses, AnyPast, CutOff, FailedEnd, FailedHeard, FailureCutsOff, FailureCutsTrees, Gained, LostEnd, LostPower, Lowered, OneTurned, PowerCutsOff, PowerCutsTrees, TreeCutOff, TreeTurned, Unchanged}
 use Rattle.gptp_how_soon.specs.declared.bounds.SettlingTime.{SettlingTime}
 use Rattle.gptp_how_soon.specs.declared.kinds.Told.{Told}
 use Rattle.gptp_how_soon.specs.declared.rest.Moves.{Moves}
@@ -70,8 +69,93 @@ same_row from_rest first before paths told moves used =
     by true idle false false true = refl
     by true idle false false false = refl
 
-pub settled_so : (n : NetworkState) (w : Walk) (at : ℕ) (first followed from_rest calm sets silent own : Bool)
-    (held : ℕ) (moves : Moves)
+-- ---- what others hold
+
+-- rows by which it counts for how long others hold something
+counts_held : Row → Bool
+counts_held FailedHeard = true
+counts_held FailureCutsOff = true
+counts_held FailureCutsTrees = true
+counts_held row = false
+
+-- it counts only where it is asked whom events move
+held_asked : (from_rest first : Bool) (before paths : SyncPaths) (told : List Told) (moves : Moves) (used : Bool)
+    → asks_who_is_moved from_rest before paths told ≡ false
+    → counts_held (row_of from_rest first before paths told moves used) ≡ false
+held_asked from_rest first before paths told moves used =
+    by from_rest (are_losses_followed before told) (is_lowering_followed before paths told)
+    (is_failing_followed before paths told) first (list_all makes_nothing told || begins_wider told)
+    (list_any is_loss told) (list_all brings_nothing told)
+  where
+    by : (rest followed lowering failing starts idle loses losses : Bool)
+        → (rest && (followed || lowering || failing)) ≡ false
+        → counts_held (if not rest then AnyPast else if starts then Gained else if idle then Unchanged
+        else if followed && not moves.moved then Unchanged
+        else if lowering && not moves.moved then if moves.cut then CutOff else Lowered
+        else if lowering && moves.turned then OneTurned
+        else if lowering && moves.falls then TreeCutOff
+        else if lowering && moves.tree_turns then TreeTurned
+        else if failing && not moves.moved then failed_row moves.far moves.any used
+        else if failing && moves.trees_fall then if used then PowerCutsTrees else FailureCutsTrees
+        else if loses then if losses then AnyLosses else AnyPast
+        else Gained)
+        ≡ false
+    by false followed lowering failing starts idle loses losses none = refl
+    by true true lowering failing starts idle loses losses none = absurd cc
+    by true false true failing starts idle loses losses none = absurd cc
+    by true false false true starts idle loses losses none = absurd cc
+    by true false false false true idle loses losses none = refl
+    by true false false false false true loses losses none = refl
+    by true false false false false false true true none = refl
+    by true false false false false false true false none = refl
+    by true false false false false false false losses none = refl
+
+module _ (n : NetworkState) (at arrived : ℕ) (paths_before paths : SyncPaths) (used_before silent calm sets : Bool)
+    (gained : ℕ) where
+  -- what is told where others hold something for so long
+  abbrev time_by : ℕ → Row → SettlingTime
+  time_by held row =
+      times_by n at arrived (record {
+        paths_before = paths_before;
+        used_before = used_before;
+        silent = silent;
+        held = held;
+      }) paths calm sets row gained
+
+  held_apart : (row : Row) (held other : ℕ) → counts_held row ≡ false → time_by held row ≡ time_by other row
+  held_apart AnyPast held other is = refl
+  held_apart Unchanged held other is = refl
+  held_apart Lowered held other is = refl
+  held_apart CutOff held other is = refl
+  held_apart LostEnd held other is = refl
+  held_apart FailedEnd held other is = refl
+  held_apart LostPower held other is = refl
+  held_apart PowerCutsOff held other is = refl
+  held_apart FailedHeard held other is = absurd cc
+  held_apart FailureCutsOff held other is = absurd cc
+  held_apart OneTurned held other is = refl
+  held_apart TreeCutOff held other is = refl
+  held_apart TreeTurned held other is = refl
+  held_apart PowerCutsTrees held other is = refl
+  held_apart FailureCutsTrees held other is = absurd cc
+  held_apart AnyLosses held other is = refl
+  held_apart Gained held other is = refl
+
+  same_held : (from_rest first : Bool) (told : List Told) (moves : Moves) (used : Bool) (row : Row)
+      → row ≡ row_of from_rest first paths_before paths told moves used
+      → time_by (if asks_who_is_moved from_rest paths_before paths told then moves else no_moves).held row
+      ≡ time_by moves.held row
+  same_held from_rest first told moves used row is = by (asks_who_is_moved from_rest paths_before paths told) refl
+    where
+      by : (asked : Bool) → asks_who_is_moved from_rest paths_before paths told ≡ asked
+          → time_by (if asked then moves else no_moves).held row ≡ time_by moves.held row
+      by true asks = refl
+      by false asks =
+          held_apart row 0 moves.held
+          (ap counts_held is ∙ held_asked from_rest first paths_before paths told moves used asks)
+
+pub settled_so : (n : NetworkState) (w : Walk) (at : ℕ) (first followed from_rest calm sets silent : Bool)
+    (moves : Moves)
     (paths : SyncPaths) (told : List Told) (standings : List Standing) (used : List Bool) (new : List Cable)
     (soon heard way arrived : ℕ) (row : Row) (time : SettlingTime) (all_used : Bool)
     → time
@@ -79,11 +163,9 @@ pub settled_so : (n : NetworkState) (w : Walk) (at : ℕ) (first followed from_r
       paths_before = w.paths_before;
       used_before = w.all_used_before;
       silent = silent;
-      held = held;
+      held = moves.held;
     }) paths calm sets row (soon + heard + way)
     → silent ≡ leaves_silent all_used told
-    → held ≡ held_among n own used standings
-    → own ≡ own_intervals n w.before at
     → row ≡ row_of from_rest first w.paths_before paths told moves all_used
     → moves ≡ (if asks_who_is_moved from_rest w.paths_before paths told then moves_seen n w at else no_moves)
     → from_rest ≡ is_from_rest w.longest at w.paths_before paths told w.before
@@ -102,9 +184,15 @@ pub settled_so : (n : NetworkState) (w : Walk) (at : ℕ) (first followed from_r
     → all_used ≡ up_is_used standings
     → arrived ≡ arrived_by w.longest w.last_set
     → time ≡ settling_time n (view_seen n w at)
-settled_so n w at first followed from_rest calm sets silent own held moves paths told standings used new soon heard way
-    arrived row time all_used e0 es eh eo e1 e2 e3 e4 e5 e6 e7 e8 e9 e10 e11 e12 e13 e14 e15 eu ea =
+settled_so n w at first followed from_rest calm sets silent moves paths told standings used new soon heard way arrived
+    row time all_used e0 es e1 e2 e3 e4 e5 e6 e7 e8 e9 e10 e11 e12 e13 e14 e15 eu ea =
     let row_is : row ≡ row_of from_rest first w.paths_before paths told (moves_seen n w at) all_used =
     e1 ∙ ap (λ m. row_of from_rest first w.paths_before paths told m all_used) e2
     ∙ same_row from_rest first w.paths_before paths told (moves_seen n w at) all_used in
-    rw (e0, ea, es, eh, eo, row_is, eu, e3, e4, e5, e6, e7, e8, e9, e10, e11, e12, e13, e14, e15) refl
+    let time_is =
+    e0
+    ∙ ap (λ (m : Moves). time_by n at arrived w.paths_before paths w.all_used_before silent calm sets
+    (soon + heard + way) m.held row) e2
+    ∙ same_held n at arrived w.paths_before paths w.all_used_before silent calm sets (soon + heard + way) from_rest
+    first told (moves_seen n w at) all_used row row_is in
+    rw (time_is, ea, es, row_is, eu, e3, e4, e5, e6, e7, e8, e9, e10, e11, e12, e13, e14, e15) refl

@@ -31,13 +31,12 @@ use Rattle.gptp_setup.specs.Intervals.{interval_of}
 use Rattle.gptp_setup.specs.SettlingParams.{largest_interval, longest_span}
 use Rattle.gptp_setup.proofs.IntervalLemmas.{interval_most}
 use Rattle.gptp_topology.specs.After.{standings_after}
-use Rattle.gptp_topology.specs.Course.{cable_is_used}
 use Rattle.gptp_topology.specs.Times.{times_from, times_of}
 use Rattle.gptp_topology.specs.declared.course.Cable.{Cable}
 use Rattle.gptp_how_soon.specs.Bounds.{aged_echo_span, any_loss_span, arrived_by, asked_again, choice_of_row, echo_of_row, exact_span, gone_by, is_again, needed_watch, ready, retold_by, roles_after_losses, roles_by, roles_of_row, set_span, settling_by, sound_by, sound_of_row, two_exchanges, watch}
 use Rattle.gptp_how_soon.specs.Kinds.{sets_bounds, sets_link}
 use Rattle.gptp_how_soon.specs.Links.{longest_delay}
-use Rattle.gptp_how_soon.specs.Silent.{own_intervals}
+use Rattle.gptp_how_soon.specs.Silent.{is_heard_link, own_intervals}
 use Rattle.gptp_how_soon.specs.Times.{IsWatchedShortly, View, events_at, events_before, gained_at, heard_at, last_of, last_set, loss_at, row_at, settling_time, settling_times, settling_times_from, time_at, view_at}
 use Rattle.gptp_how_soon.specs.declared.bounds.Loss.{Loss}
 use Rattle.gptp_how_soon.specs.declared.bounds.Row.{Row}
@@ -368,8 +367,8 @@ module _ (d : DocumentState) (network : IsNetwork d.network) (events : AreEvents
       let set : IfSome (last_set all) (λ last. last ≤ at) =
       last_of_most at (filter (λ (t : Timed). sets_bounds t.act) all)
       (λ t member. (there_then before at t is (from_filter (λ (e : Timed). sets_bounds e.act) t all member).0).1) in
-      let held = held_within n (own_intervals n before at) (map cable_is_used
-      (standings_after n (events_before before d.events))) (standings_after n all) in
+      let held = held_within n (own_intervals n before at)
+      (map (is_heard_link n (events_before before d.events) all) n.links) (standings_after n all) in
       let silence = silence_short n network in
       let most : (settling_time n v).watch ≤ 200000000000000 =
       watch_most n network paths few short (loss_at v) (short_before before at is)

@@ -1,5 +1,6 @@
--- The interval of a port is looked for system by system, and the longest over links is found link by link.
-use Rattle.std.proofs.Common.{◌≡◌, ◌<◌, ◌≤◌, ◌+◌, ◌-◌, ◌==◌, ◌&&◌, ◌∷◌, [], max, ℕ, zero, suc, ℤ, Bool, true, false, if◌then◌else◌, IfSome, List, drop, get_or, length, Option, Some, None, slice_get, refl, sym, ap, ap₂, subst, ◌∙◌, arith}
+-- The interval of a port is looked for system by system; which links have a far end that lives, and the longest over
+-- links, are found link by link.
+use Rattle.std.proofs.Common.{◌≡◌, ◌<◌, ◌≤◌, ◌+◌, ◌-◌, ◌==◌, ◌&&◌, ◌∷◌, ◌++◌, [], max, ℕ, zero, suc, ℤ, Bool, true, false, if◌then◌else◌, IfSome, List, append_assoc, drop, get_or, length, map, Option, Some, None, slice_get, refl, sym, ap, ap₂, subst, ◌∙◌, arith}
 use Rattle.arrayvec.specs.ArrayVec.{ArrayVec}
 use Rattle.std.specs.Option.{option_and_then, option_map, option_or}
 use Rattle.std.proofs.lemmas.Option.{slice_get-get_or, slice_get_within}
@@ -9,9 +10,18 @@ use Rattle.gptp_setup.specs.Intervals.{IsLog}
 use Rattle.gptp_scenario.specs.Network.{IsMember, NetworkState, pace_of}
 use Rattle.gptp_scenario.specs.SettlingTime.{silence_span}
 use Rattle.gptp_scenario.specs.declared.network.SystemSpec.{SystemSpec}
+use Rattle.gptp_scenario.specs.declared.change.Timed.{Timed}
+use Rattle.gptp_scenario.specs.declared.network.LinkSpec.{LinkSpec}
+use Rattle.gptp_topology.specs.After.{standing_then, standings_after, systems_after}
+use Rattle.gptp_topology.specs.Course.{cable_is_used}
 use Rattle.gptp_topology.specs.declared.course.Standing.{Standing}
+use Rattle.gptp_topology.specs.declared.nodes.System.{System}
+use Rattle.gptp_topology.proofs.StandingLemmas.{maps_twice}
 use Rattle.gptp_vector.specs.declared.port.PortId.{PortId}
-use Rattle.gptp_how_soon.specs.Silent.{held_among, held_at, held_end, held_from, held_one, held_over, log_by, log_from, log_if}
+use Rattle.gptp_how_soon.specs.Chosen.{chosen_after, ends_of}
+use Rattle.gptp_how_soon.specs.Silent.{heard_links, hears_over, held_among, held_at, held_end, held_from, held_one, held_over, is_heard_link, log_by, log_from, log_if}
+use Rattle.gptp_how_soon.specs.declared.chosen.Chosen.{Chosen}
+use Rattle.gptp_how_soon.specs.declared.chosen.Ends.{Ends}
 use Rattle.gptp_how_soon.proofs.LinksLemmas.{drop_at, gone_at}
 
 -- ---- the interval of a port
@@ -80,6 +90,59 @@ logs_within p (m ∷ ms) members =
     by : (o rest : Option ℤ) → IfSome o IsLog → IfSome rest IsLog → IfSome (option_or o rest) IsLog
     by None rest is others = others
     by (Some log) rest is others = is
+
+-- ---- far ends that live
+
+module _ (systems : List System) (before : List Chosen) where
+  -- one link more is looked at
+  heard_more : (us : List Bool) (es : List Ends) (place : ℕ) (u : Bool) → slice_get us place ≡ Some u
+      → (u && hears_over systems before (slice_get es place))
+      ∷ heard_links systems before (drop (place + 1) us) (drop (place + 1) es)
+      ≡ heard_links systems before (drop place us) (drop place es)
+  heard_more us es place u there = by (slice_get es place) refl
+    where
+      by : (o : Option Ends) → slice_get es place ≡ o
+          → (u && hears_over systems before o)
+          ∷ heard_links systems before (drop (place + 1) us) (drop (place + 1) es)
+          ≡ heard_links systems before (drop place us) (drop place es)
+      by (Some e) is = sym (ap₂ (heard_links systems before) (drop_at us place u there) (drop_at es place e is))
+      by None is =
+          let (here, behind) = gone_at es place is in
+          ap (λ rest. (u && false) ∷ heard_links systems before (drop (place + 1) us) rest) behind
+          ∙ sym (ap₂ (heard_links systems before) (drop_at us place u there) here)
+
+  -- so they are with those before
+  pub heard_so_far : (us : List Bool) (es : List Ends) (place : ℕ) (d heard one : Bool) (marks more all : List Bool)
+      → place < length us → heard ≡ hears_over systems before (slice_get es place)
+      → one ≡ (get_or us place d && heard) → more ≡ marks ++ one ∷ []
+      → marks ++ heard_links systems before (drop place us) (drop place es) ≡ all
+      → more ++ heard_links systems before (drop (place + 1) us) (drop (place + 1) es) ≡ all
+  heard_so_far us es place d heard one marks more all less heard_is one_is pushed so =
+      let u = get_or us place d in
+      let rest = heard_links systems before (drop (place + 1) us) (drop (place + 1) es) in
+      ap (λ ms. ms ++ rest) pushed
+      ∙ ap (λ b. (marks ++ b ∷ []) ++ rest) (one_is ∙ ap (λ v. u && v) heard_is)
+      ∙ append_assoc marks ((u && hears_over systems before (slice_get es place)) ∷ []) rest
+      ∙ ap (λ ms. marks ++ ms) (heard_more us es place u (slice_get-get_or us place d less))
+      ∙ so
+
+  heard_by : (used : LinkSpec → Bool) (ends : LinkSpec → Ends) (ws : List LinkSpec)
+      → heard_links systems before (map used ws) (map ends ws)
+      ≡ map (λ w. used w && hears_over systems before (Some (ends w))) ws
+  heard_by used ends [] = refl
+  heard_by used ends (w ∷ ws) =
+      ap (λ ms. (used w && hears_over systems before (Some (ends w))) ∷ ms) (heard_by used ends ws)
+
+-- after these events and more of them
+pub heard_are : (n : NetworkState) (made events : List Timed)
+    → heard_links (systems_after n events) (chosen_after n made)
+    (map cable_is_used (standings_after n made)) (map (ends_of n) n.links)
+    ≡ map (is_heard_link n made events) n.links
+heard_are n made events =
+    let used : LinkSpec → Bool = λ w. cable_is_used (standing_then n made w) in
+    ap (λ us. heard_links (systems_after n events) (chosen_after n made) us (map (ends_of n) n.links))
+    (maps_twice cable_is_used (standing_then n made) used n.links (λ w. refl))
+    ∙ heard_by (systems_after n events) (chosen_after n made) used (ends_of n) n.links
 
 -- ---- the longest over links
 

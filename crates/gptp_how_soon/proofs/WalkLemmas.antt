@@ -20,12 +20,12 @@ use Rattle.gptp_how_soon.specs.Far.{up_is_used}
 use Rattle.gptp_how_soon.specs.Kinds.{sets_bounds, told_by}
 use Rattle.gptp_how_soon.specs.Links.{delay_set, longest_delay, longest_set, lost_among, new_among}
 use Rattle.gptp_how_soon.specs.Times.{last_of, last_set, moves_at, told_at, told_of, view_at}
-use Rattle.gptp_how_soon.specs.Silent.{held_among, own_intervals}
 use Rattle.gptp_how_soon.specs.Walk.{IsFirstWalk, WalkGoesOn, WalkPasses, moves_seen, view_seen}
 use Rattle.gptp_how_soon.specs.declared.bounds.SettlingTime.{SettlingTime}
 use Rattle.gptp_how_soon.specs.declared.chosen.Ends.{Ends}
 use Rattle.gptp_how_soon.specs.declared.walk.Walk.{Walk}
 use Rattle.gptp_how_soon.proofs.LinksLemmas.{link_is, new_are}
+use Rattle.gptp_how_soon.proofs.SilentLemmas.{heard_are}
 
 -- after the events made before this time, and those of it so far
 pub record WalkStands (n : NetworkState) (made now : List Timed) (w : Walk) : Type 0 where
@@ -144,6 +144,7 @@ module _ (n : NetworkState) (network : IsNetwork n) where
         used_are n made,
         used_are n (made ++ now),
         lost_are n made (made ++ now),
+        heard_are n made (made ++ now),
       ) refl
 
   pub view_is : (made now : List Timed) (w : Walk) (at : ℕ) → WalkStands n made now w
@@ -158,7 +159,6 @@ module _ (n : NetworkState) (network : IsNetwork n) where
         before = w.before;
         paths_before = so.paths i;
         used_before = so.all_used i;
-        held = held_among n (own_intervals n w.before at) (so.used i) (so.tables.standings i);
         new = new i;
         told = so.told i;
         moves = moves_are made now w at so i;

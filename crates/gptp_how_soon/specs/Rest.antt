@@ -132,7 +132,7 @@ asks_who_is_moved from_rest paths_before paths told =
     && (are_losses_followed paths_before told || is_lowering_followed paths_before paths told
     || is_failing_followed paths_before paths told)
 
--- no system is moved, nor a far end
+-- no system is moved, nor a far end, and others hold nothing
 abbrev pub no_moves : Moves
 no_moves = record {
   moved = false;
@@ -143,6 +143,7 @@ no_moves = record {
   tree_turns = false;
   trees_fall = false;
   far = false;
+  held = 0;
 }
 
 -- All is heard at once at the start, and later where what each event tells is heard so. Of a system that gets better

@@ -1,5 +1,5 @@
 -- How long it counts what came over links of which an end fails at a time (profile).
-use Rattle.std.specs.Prelude.{ℕ, ℤ, ◌+◌, ◌-◌, ◌*◌, ◌==◌, ◌&&◌, max, min, nat_lt, Bool, false, if◌then◌else◌, List, [], ◌∷◌, map, Option, Some, None, slice_get}
+use Rattle.std.specs.Prelude.{ℕ, ℤ, ◌+◌, ◌-◌, ◌*◌, ◌==◌, ◌&&◌, ◌||◌, max, min, nat_lt, Bool, false, if◌then◌else◌, List, [], ◌∷◌, map, Option, Some, None, slice_get}
 use Rattle.std.specs.Option.{option_or}
 use Rattle.gptp_roles.specs.Selection.{clock_of}
 use Rattle.gptp_setup.specs.Intervals.{interval_of}
@@ -7,12 +7,18 @@ use Rattle.gptp_setup.specs.SettlingParams.{largest_interval, longest_span}
 use Rattle.gptp_scenario.specs.Network.{NetworkState, pace_of}
 use Rattle.gptp_scenario.specs.SettlingTime.{silence_span}
 use Rattle.gptp_scenario.specs.declared.change.Timed.{Timed}
+use Rattle.gptp_scenario.specs.declared.network.LinkSpec.{LinkSpec}
 use Rattle.gptp_scenario.specs.declared.network.SystemSpec.{SystemSpec}
-use Rattle.gptp_topology.specs.After.{standings_after}
+use Rattle.gptp_topology.specs.After.{standing_then, standings_after, systems_after}
 use Rattle.gptp_topology.specs.Course.{cable_is_used}
 use Rattle.gptp_topology.specs.declared.course.Standing.{Standing}
+use Rattle.gptp_topology.specs.declared.nodes.System.{System}
 use Rattle.gptp_vector.specs.declared.port.PortId.{PortId}
+use Rattle.gptp_how_soon.specs.Chosen.{chosen_after, ends_of}
+use Rattle.gptp_how_soon.specs.Far.{is_nearer_at}
 use Rattle.gptp_how_soon.specs.declared.bounds.SettlingTime.{SettlingTime}
+use Rattle.gptp_how_soon.specs.declared.chosen.Chosen.{Chosen}
+use Rattle.gptp_how_soon.specs.declared.chosen.Ends.{Ends}
 
 -- ---- intervals
 
@@ -57,17 +63,47 @@ abbrev pub held_over : NetworkState → Bool → Standing → ℕ
 held_over n own s =
     max (held_end n own s.cable.bounds.max s.cable.a s.a_lives) (held_end n own s.cable.bounds.max s.cable.b s.b_lives)
 
+-- ---- far ends that live
+
+-- the system is there, and lives
+abbrev pub is_live : Option System → Bool
+is_live None = false
+is_live (Some o) = o.lives
+
+-- the system at the one place lives, and was the far end of a link with that at the other
+abbrev pub hears : List System → List Chosen → ℕ → ℕ → Bool
+hears systems before one other = is_live (slice_get systems one) && is_nearer_at systems before other one
+
+-- so it is of an end of a link, if there is a link
+abbrev pub hears_over : List System → List Chosen → Option Ends → Bool
+hears_over systems before None = false
+hears_over systems before (Some e) = hears systems before e.a e.b || hears systems before e.b e.a
+
+-- which links were in use before and have a far end that lives
+abbrev pub heard_links : List System → List Chosen → List Bool → List Ends → List Bool
+heard_links systems before [] es = []
+heard_links systems before (u ∷ us) [] = (u && false) ∷ heard_links systems before us []
+heard_links systems before (u ∷ us) (e ∷ es) =
+    (u && hears_over systems before (Some e)) ∷ heard_links systems before us es
+
+-- between these events and more of them
+abbrev pub is_heard_link : NetworkState → List Timed → List Timed → LinkSpec → Bool
+is_heard_link n made events w =
+    cable_is_used (standing_then n made w)
+    && hears_over (systems_after n events) (chosen_after n made) (Some (ends_of n w))
+
 -- ---- silent links
 
--- A link is silent that was in use before the events of a time, and is up after them, but an end of it has failed.
+-- A link is silent that was in use before the events of a time, and is up after them, but an end of it has failed. It
+-- counts where the other end is the far end. No other has what it tells of the best from there.
 abbrev pub held_one : NetworkState → Bool → Bool → Standing → ℕ
-held_one n own used_before s = if used_before && s.cable.up then held_over n own s else 0
+held_one n own heard s = if heard && s.cable.up then held_over n own s else 0
 
 abbrev pub held_at : NetworkState → Bool → Bool → Option Standing → ℕ
-held_at n own used_before None = 0
-held_at n own used_before (Some s) = held_one n own used_before s
+held_at n own heard None = 0
+held_at n own heard (Some s) = held_one n own heard s
 
--- the longest over these links, by which of them were in use before; 0 where none is silent
+-- the longest over these links, by which of them have a far end that lives; 0 where none of these is silent
 abbrev pub held_among : NetworkState → Bool → List Bool → List Standing → ℕ
 held_among n own [] ss = 0
 held_among n own (u ∷ us) [] = 0
@@ -76,4 +112,4 @@ held_among n own (u ∷ us) (s ∷ ss) = max (held_one n own u s) (held_among n 
 -- between these events and more of them
 abbrev pub held_after : NetworkState → Bool → List Timed → List Timed → ℕ
 held_after n own made events =
-    held_among n own (map cable_is_used (standings_after n made)) (standings_after n events)
+    held_among n own (map (is_heard_link n made events) n.links) (standings_after n events)

@@ -49,12 +49,11 @@ pub record View : Type 0 where
   pub before : Option SettlingTime
   pub paths_before : SyncPaths
   pub used_before : Bool
-  -- for how long it counts what others hold that came over silent links
-  pub held : ℕ
   -- the links that are new at this time, and its events
   pub new : List Cable
   pub told : List Told
-  -- whom they move, of whom such as are cut off don't count where one link or one system is taken away
+  -- whom they move, of whom such as are cut off don't count where one link or one system is taken away, and for how
+  -- long it counts what others hold
   pub moves : Moves
   -- whether each link that is up is in use, what Sync has to cross, and whether the network is calm
   pub used : Bool
@@ -88,7 +87,7 @@ loss_at v = record {
   paths_before = v.paths_before;
   used_before = v.used_before;
   silent = leaves_silent v.used v.told;
-  held = v.held;
+  held = v.moves.held;
 }
 
 abbrev pub settling_time : NetworkState → View → SettlingTime
@@ -130,6 +129,7 @@ moves_at n made now before at = record {
   tree_turns = has_rested_for (largest_interval (pace_of n)) before at && turns_tree_after n made (made ++ now);
   trees_fall = has_rested_for (largest_interval (pace_of n)) before at && cuts_trees_after n made (made ++ now);
   far = are_far_after n made (told_of n made now);
+  held = held_after n (own_intervals n before at) made (made ++ now);
 }
 
 abbrev pub view_at : NetworkState → List Timed → List Timed → Option SettlingTime → ℕ → View
@@ -140,7 +140,6 @@ view_at n made now before at = record {
   before = before;
   paths_before = sync_paths n made;
   used_before = up_is_used (standings_after n made);
-  held = held_after n (own_intervals n before at) made (made ++ now);
   new = new_links n made (made ++ now) (not (is_some before));
   told = told_of n made now;
   moves = moves_at n made now before at;

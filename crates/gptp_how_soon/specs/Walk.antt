@@ -15,7 +15,7 @@ use Rattle.gptp_how_soon.specs.Far.{all_cut_far_ends, are_far, up_is_used}
 use Rattle.gptp_how_soon.specs.Kinds.{sets_bounds, takes_one, told_by}
 use Rattle.gptp_how_soon.specs.Links.{delay_set, longest_among, lost_among, new_among}
 use Rattle.gptp_how_soon.specs.Rest.{has_rested_for}
-use Rattle.gptp_how_soon.specs.Silent.{held_among, own_intervals}
+use Rattle.gptp_how_soon.specs.Silent.{heard_links, held_among, own_intervals}
 use Rattle.gptp_how_soon.specs.Times.{View, settling_time}
 use Rattle.gptp_how_soon.specs.Tree.{cuts_tree}
 use Rattle.gptp_how_soon.specs.Turned.{turns_one}
@@ -86,6 +86,10 @@ chosen_now w = chosen_in w (systems_in w.tables.nodes.items) (used_now w)
 abbrev pub lost_seen : Walk → List Ends
 lost_seen w = ends_in_use w.ends.items (lost_among w.used_before.items (used_now w))
 
+-- which links were in use before and have a far end that lives
+abbrev pub heard_seen : Walk → List Bool
+heard_seen w = heard_links (systems_in w.tables.nodes.items) (chosen_before w) w.used_before.items w.ends.items
+
 -- whom the events of this time move
 abbrev pub moves_seen : NetworkState → Walk → ℕ → Moves
 moves_seen n w at = record {
@@ -107,6 +111,7 @@ moves_seen n w at = record {
       && cuts_trees (systems_in w.tables.nodes.items) (lost_seen w) (ends_in_use w.ends.items (used_now w))
       (chosen_before w) (chosen_now w);
   far = are_far w.systems_before.items (chosen_before w) (ends_in_use w.ends.items w.used_before.items) w.told.items;
+  held = held_among n (own_intervals n w.before at) (heard_seen w) w.tables.standings.items;
 }
 
 -- what is seen of this time
@@ -118,7 +123,6 @@ view_seen n w at = record {
   before = w.before;
   paths_before = w.paths_before;
   used_before = w.all_used_before;
-  held = held_among n (own_intervals n w.before at) w.used_before.items w.tables.standings.items;
   new = new_among (not (is_some w.before)) w.tables.standings.items w.used_before.items;
   told = w.told.items;
   moves = moves_seen n w at;

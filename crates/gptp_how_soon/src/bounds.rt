@@ -50,7 +50,8 @@ pub struct Loss {
     pub used_before: bool,
     /// Whether a link may be left silent: a live system fails, and a link is up that isn't in use.
     pub silent: bool,
-    /// For how long it counts what others hold of a system that fails, in ns; 0 where no link is left silent.
+    /// For how long it counts what others hold of a system that fails, in ns; 0 where no link is left silent whose far
+    /// end lives, and by rows that don't ask.
     pub held: u64,
 }
 

@@ -22,7 +22,7 @@ fn has_lower_clock(systems: &[System], near: usize, far: usize) -> bool
 }
 
 /// Whether the system at the one place has chosen fewer steps, or as many and has the lower clock.
-fn is_nearer_at(systems: &[System], chosen: &[Chosen], near: usize, far: usize) -> bool
+pub(crate) fn is_nearer_at(systems: &[System], chosen: &[Chosen], near: usize, far: usize) -> bool
     ensures { result ≡ is_nearer_at systems.now chosen.now near far }
 {
     let lower = has_lower_clock(systems, near, far);

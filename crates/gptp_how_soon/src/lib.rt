@@ -7,13 +7,21 @@
 mod bounds;
 mod chosen;
 mod cut_trees;
+#[cfg(test)]
+mod documents;
+#[cfg(test)]
+mod failure_tests;
 mod far;
+#[cfg(test)]
+mod gain_tests;
 mod kinds;
+#[cfg(test)]
+mod link_tests;
 mod links;
 mod rest;
-mod silent;
 #[cfg(test)]
-mod tests;
+mod rest_tests;
+mod silent;
 mod times;
 mod tree;
 mod turned;

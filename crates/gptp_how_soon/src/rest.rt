@@ -31,6 +31,9 @@ pub struct Moves {
     pub trees_fall: bool,
     /// Whether those that they name were far ends.
     pub far: bool,
+    /// For how long it counts what others hold of a system that fails, in ns; 0 where no link is left silent whose far
+    /// end lives.
+    pub held: u64,
 }
 
 /// Whether a time is later than another by more than a span.
@@ -240,7 +243,6 @@ fn failed_row(far: bool, any: bool, used: bool) -> Row
     }
 }
 
-/// What is known of a time, by whether it is from rest, whether it is the first, and what its events do: whether they
 /// What is known of a time, by whether it is from rest, whether it is the first, what its events do, whom they move,
 /// and whether each link that is up then is in use.
 pub(crate) fn row_of(

@@ -1,17 +1,20 @@
 //! How long it counts what came over links of which an end fails at a time.
 
-ghost use Rattle.std.specs.Prelude.{◌≡◌, ◌≤◌, ◌*◌, IfSome, slice_get};
+ghost use Rattle.std.specs.Prelude.{◌≡◌, ◌≤◌, ◌*◌, ◌&&◌, IfOk, IfSome, slice_get};
 ghost use Rattle.std.specs.Option.{option_and_then};
 ghost use Rattle.gptp_setup.specs.Intervals.{IsLog, interval_of};
 ghost use Rattle.gptp_setup.specs.SettlingParams.{longest_span};
 ghost use Rattle.gptp_scenario.specs.Network.{pace_of};
-ghost use Rattle.gptp_how_soon.specs.Silent.{held_among, held_at, held_end, held_from, held_one, held_over, hold_span, log_by, log_from, log_if, own_intervals};
+ghost use Rattle.gptp_how_soon.specs.Silent.{heard_links, hears, hears_over, held_among, held_at, held_end, held_from, held_one, held_over, hold_span, is_live, log_by, log_from, log_if, own_intervals};
 
 use crate::bounds::{SettlingTime, announce_interval, silence_span};
+use crate::chosen::{Chosen, Ends};
+use crate::far::is_nearer_at;
 use gptp_scenario::Network;
 use gptp_setup::interval_of;
-use gptp_topology::Standing;
+use gptp_topology::{Standing, System};
 use gptp_vector::{Identity, PortId};
+use std::alloc::{AllocError, Global};
 
 /// The interval of a port, as a logarithm to base 2 of seconds, where a system with this identity has such a port, by
 /// the intervals of its ports.
@@ -141,12 +144,67 @@ fn held_over(network: &Network, own: bool, standing: &Standing) -> u64
     a.max(b)
 }
 
-/// The same where it was in use before, and is up; else 0.
-fn held_one(network: &Network, own: bool, used_before: bool, standing: &Standing) -> u64
-    ensures is { result ≡ held_one network.now own used_before standing.now }
+/// Whether the system at a place is there, and lives.
+fn is_live(systems: &[System], place: usize) -> bool
+    ensures { result ≡ is_live (slice_get systems.now place) }
+{
+    match systems.get(place) {
+        Some(system) => system.lives,
+        None => false,
+    }
+}
+
+/// Whether the system at the one place lives, and was the far end of a link with that at the other.
+fn hears(systems: &[System], before: &[Chosen], one: usize, other: usize) -> bool
+    ensures { result ≡ hears systems.now before.now one other }
+{
+    is_live(systems, one) && is_nearer_at(systems, before, other, one)
+}
+
+/// Whether so it is of an end of a link.
+fn hears_over(systems: &[System], before: &[Chosen], ends: Option<Ends>) -> bool
+    ensures { result ≡ hears_over systems.now before.now ends }
+{
+    match ends {
+        Some(ends) => {
+            hears(systems, before, ends.a, ends.b) || hears(systems, before, ends.b, ends.a)
+        }
+        None => false,
+    }
+}
+
+/// Whether a link was in use before, and its far end hears it.
+fn is_heard(used_before: bool, heard: bool) -> bool
+    ensures { result ≡ (used_before && heard) }
+{
+    used_before && heard
+}
+
+/// Which links were in use before and have a far end that lives, where the systems had chosen so.
+pub(crate) fn heard_links(
+    alloc: Global,
+    systems: &[System],
+    before: &[Chosen],
+    used_before: &[bool],
+    ends: &[Ends],
+) -> Result<Vec<bool>, AllocError>
+    ensures { IfOk result (λ heard. heard.items
+        ≡ heard_links systems.now before.now used_before.now ends.now) }
+{
+    let mut heard = Vec::new(alloc);
+    for place in 0..used_before.len() {
+        let hears = hears_over(systems, before, ends.get(place).copied());
+        heard.push(is_heard(used_before[place], hears))?;
+    }
+    Ok(heard)
+}
+
+/// The same where its far end hears it, and it is up; else 0.
+fn held_one(network: &Network, own: bool, heard: bool, standing: &Standing) -> u64
+    ensures is { result ≡ held_one network.now own heard standing.now }
     ensures bound { result ≤ 4112000000000 }
 {
-    if used_before && standing.cable.up {
+    if heard && standing.cable.up {
         held_over(network, own, standing)
     } else {
         0
@@ -157,32 +215,32 @@ fn held_one(network: &Network, own: bool, used_before: bool, standing: &Standing
 fn held_at(
     network: &Network,
     own: bool,
-    used_before: bool,
+    heard: bool,
     standings: &[Standing],
     place: usize,
 ) -> u64
-    ensures is { result ≡ held_at network.now own used_before (slice_get standings.now place) }
+    ensures is { result ≡ held_at network.now own heard (slice_get standings.now place) }
     ensures bound { result ≤ 4112000000000 }
 {
     match standings.get(place) {
-        Some(standing) => held_one(network, own, used_before, standing),
+        Some(standing) => held_one(network, own, heard, standing),
         None => 0,
     }
 }
 
-/// The longest over these links, by which of them were in use before, in ns; 0 where none is silent.
+/// The longest over these links, by which of them have a far end that lives, in ns; 0 where none of these is silent.
 pub(crate) fn held_among(
     network: &Network,
     own: bool,
-    used_before: &[bool],
+    heard: &[bool],
     standings: &[Standing],
 ) -> u64
-    ensures is { result ≡ held_among network.now own used_before.now standings.now }
+    ensures is { result ≡ held_among network.now own heard.now standings.now }
     ensures bound { result ≤ 4112000000000 }
 {
     let mut held = 0;
-    for place in 0..used_before.len() {
-        held = held_at(network, own, used_before[place], standings, place).max(held);
+    for place in 0..heard.len() {
+        held = held_at(network, own, heard[place], standings, place).max(held);
     }
     held
 }

@@ -7,7 +7,9 @@ ghost use Rattle.gptp_how_soon.specs.Times.{settling_time};
 ghost use Rattle.gptp_how_soon.specs.Rest.{no_moves};
 ghost use Rattle.gptp_how_soon.specs.Walk.{IsFirstWalk, WalkGoesOn, WalkPasses, moves_seen, view_seen};
 
-use crate::bounds::{Loss, SettlingTime, announce_interval, arrived_by, heard, ready, times_by, way_span};
+use crate::bounds::{
+    Loss, SettlingTime, announce_interval, arrived_by, heard, ready, times_by, way_span,
+};
 use crate::chosen::{
     Chosen, Ends, any_counted, any_moved, choose, copy_systems, ends_in_use, ends_of,
 };
@@ -18,7 +20,7 @@ use crate::links::{delay_set, longest_among, lost_among, mark_used, new_links};
 use crate::rest::{
     Moves, asks_who_is_moved, has_rested_for, heard_at_once, is_from_rest, leaves_silent, row_of,
 };
-use crate::silent::{held_among, own_intervals};
+use crate::silent::{heard_links, held_among, own_intervals};
 use crate::tree::cuts_tree;
 use crate::turned::turns_one;
 use crate::turned_tree::turns_tree;
@@ -109,7 +111,8 @@ impl Walk {
 
     /// Whom the events of this time move.
     fn moves(&self, alloc: Global, network: &Network, at: u64) -> Result<Moves, AllocError>
-        ensures { IfOk result (λ moves. moves ≡ moves_seen network.now self.now at) }
+        ensures is { IfOk result (λ moves. moves ≡ moves_seen network.now self.now at) }
+        ensures held { IfOk result (λ moves. moves.held ≤ 4112000000000) }
     {
         let mut systems = Vec::new(alloc);
         copy_systems(&mut systems, &self.tables.nodes)?;
@@ -124,6 +127,8 @@ impl Walk {
         let joined = takes_one(&self.told);
         let turned = turns_one(alloc, &systems, &lost, &links_before, &links, &before, &now)?;
         let rested = has_rested_for(announce_interval(network), self.before, at);
+        let own = own_intervals(network, self.before, at);
+        let heard = heard_links(alloc, &systems, &before, &self.used_before, &self.ends)?;
         Ok(Moves {
             moved: any_counted(joined, &systems, &links, &before, &now),
             any: any_moved(&systems, &before, &now),
@@ -133,6 +138,7 @@ impl Walk {
             tree_turns: rested && turns_tree(&systems, &lost, &links, &before, &now),
             trees_fall: rested && cuts_trees(&systems, &lost, &links, &before, &now),
             far: are_far(&self.systems_before, &before, &links_before, &self.told),
+            held: held_among(network, own, &heard, &self.tables.standings),
         })
     }
 
@@ -144,7 +150,8 @@ impl Walk {
         at: u64,
         asked: bool,
     ) -> Result<Moves, AllocError>
-        ensures { IfOk result (λ moves. moves ≡ (if asked then moves_seen network.now self.now at else no_moves)) }
+        ensures is { IfOk result (λ moves. moves ≡ (if asked then moves_seen network.now self.now at else no_moves)) }
+        ensures held { IfOk result (λ moves. moves.held ≤ 4112000000000) }
     {
         if asked {
             self.moves(alloc, network, at)
@@ -158,6 +165,7 @@ impl Walk {
                 tree_turns: false,
                 trees_fall: false,
                 far: false,
+                held: 0,
             })
         }
     }
@@ -194,12 +202,11 @@ impl Walk {
         let asked = asks_who_is_moved(from_rest, paths_before, paths, told);
         let moves = self.moves_if(alloc, network, at, asked)?;
         let all_used = up_is_used(standings);
-        let own = own_intervals(network, self.before, at);
         let loss = Loss {
             paths_before,
             used_before: self.all_used_before,
             silent: leaves_silent(all_used, told),
-            held: held_among(network, own, used, standings),
+            held: moves.held,
         };
         Ok(times_by(
             network,

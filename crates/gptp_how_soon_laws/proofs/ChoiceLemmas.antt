@@ -186,8 +186,9 @@ module _ (d : DocumentState) (playable : IsPlayable d) where
         )
 
     -- what others hold of a system that fails has aged so much later
-    held : (now ≡ [] → ⊥) → HeldFor n made now v.held
-    held some = held_for n playable.network made now (own_intervals n (Some b) at) (late_so now some (all_at at all))
+    held : (now ≡ [] → ⊥) → HeldFor n made now v.moves.held
+    held some = held_for n playable.network made now (well made now refl) (own_intervals n (Some b) at)
+        (late_so now some (all_at at all))
       where
         late_so : (events : List Timed) → (events ≡ [] → ⊥)
             → AllByRecursion (λ (t : Timed). t.at ≡ at) events → own_intervals n (Some b) at ≡ true
@@ -204,10 +205,10 @@ module _ (d : DocumentState) (playable : IsPlayable d) where
     some_now : (Are : List Timed → Type 0) → (Are [] → ⊥) → Are now → now ≡ [] → ⊥
     some_now Are none are same = none (subst Are same are)
 
-    held_heard : FailsHeardFirst n made now → HeldFor n made now v.held
+    held_heard : FailsHeardFirst n made now → HeldFor n made now v.moves.held
     held_heard fails = held (some_now (FailsHeardFirst n made) (λ none. none) fails)
 
-    held_trees : FailsTreesFirst n made now → HeldFor n made now v.held
+    held_trees : FailsTreesFirst n made now → HeldFor n made now v.moves.held
     held_trees fails = held (some_now (FailsTreesFirst n made) (λ none. none) fails)
 
     -- an event of this kind comes an announce interval after the time before has come to rest, and all ask for this
@@ -285,7 +286,7 @@ module _ (d : DocumentState) (playable : IsPlayable d) where
           rest,
           inl (inr (inr (inr (inr (
             fails,
-            inr (largest_interval (pace_of n), inr refl, (v.held, held_heard fails, late)),
+            inr (largest_interval (pace_of n), inr refl, (v.moves.held, held_heard fails, late)),
           ))))),
         )
     rests_by sound told (inr (inr (inr (inr (inr (inr (inr (inl (row, is))))))))) =
@@ -418,7 +419,7 @@ module _ (d : DocumentState) (playable : IsPlayable d) where
           rest,
           inr (inr (inr (inl (
             fails,
-            (v.held, silence_span (pace_of n), inr (held_heard fails, refl), inl (refl, refl)),
+            (v.moves.held, silence_span (pace_of n), inr (held_heard fails, refl), inl (refl, refl)),
           )))),
         )
     asks_by FailureCutsOff row own =
@@ -427,7 +428,7 @@ module _ (d : DocumentState) (playable : IsPlayable d) where
           rest,
           inr (inr (inr (inl (
             fails,
-            (v.held, silence_span (pace_of n), inr (held_heard fails, refl), inr (refl, refl)),
+            (v.moves.held, silence_span (pace_of n), inr (held_heard fails, refl), inr (refl, refl)),
           )))),
         )
     asks_by PowerCutsTrees row own =
@@ -437,7 +438,7 @@ module _ (d : DocumentState) (playable : IsPlayable d) where
         let x = failure_cuts n playable.network all b at late well row in
         inr (inr (
           x,
-          (v.held, silence_span (pace_of n), inr (held_trees x.fails, refl), refl, refl),
+          (v.moves.held, silence_span (pace_of n), inr (held_trees x.fails, refl), refl, refl),
         ))
     asks_by AnyLosses row own =
         let (rest, loses, roles) = any_losses n playable.network all b at late row in

@@ -17,7 +17,7 @@ use Rattle.gptp_settling_time.specs.ChoiceAlone.{ChoiceStandsAs}
 use Rattle.gptp_settling_time.specs.Documents.{IsSettledAs}
 use Rattle.gptp_settling_time.specs.HowSoon.{IsChoiceAloneBound, IsChoiceBound, NoneBetween}
 use Rattle.gptp_settling_time.specs.InTurn.{ChoosesAfter, ComesByEvents, IsTakenAs, LeadOn, Past, SettlesAfter}
-use Rattle.gptp_settling_time.proofs.FollowedLemmas.{bound_chooses, bound_settles}
+use Rattle.gptp_settling_time.proofs.BoundSettlesLemmas.{bound_chooses, bound_settles}
 use Rattle.gptp_settling_time.proofs.AfterLemmas.{IsAfter, after_act, after_chooses, after_keeps, after_later, after_settles, begins_after, taken_as}
 use Rattle.gptp_settling_time.proofs.BegunLemmas.{begun_last}
 use Rattle.gptp_settling_time.proofs.LeadsLemmas.{leads_to}

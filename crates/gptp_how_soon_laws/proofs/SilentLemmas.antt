@@ -1,31 +1,44 @@
 -- What came over silent links has aged, or the ports beside them aren't capable, by so much later as is computed.
 use Rattle.std.proofs.Common.{◌≡◌, ◌<◌, ◌≤◌, inl, inr, ◌-◌, ◌+◌, max, ℕ, ℤ, zero, suc, Bool, true, false, List, [], ◌∷◌, ◌++◌, map, Option, Some, None, slice_get, refl, sym, ap, ap₂, subst, ◌∙◌, arith}
-use Rattle.std.specs.Prelude.{◌==◌, ◌&&◌, min, if◌then◌else◌}
+use Rattle.std.specs.Prelude.{◌⊎◌, ◌==◌, ◌&&◌, ◌||◌, min, nat_lt, if◌then◌else◌}
 use Rattle.std.specs.List.{AllByRecursion}
 use Rattle.std.specs.Option.{option_or}
-use Rattle.std.proofs.lemmas.Bool.{and_from, eqb-true, false_from_ne_true}
+use Rattle.std.proofs.lemmas.Bool.{and_from, eq-eqb, eqb-true, false_from_ne_true}
+use Rattle.std.proofs.lemmas.Bool.Decides.{nat_tests}
 use Rattle.std.proofs.lemmas.Option.{same_Some}
-use Rattle.gptp_lists.proofs.MappedLemmas.{mapped_there}
+use Rattle.gptp_lists.specs.Members.{In}
+use Rattle.gptp_lists.proofs.MappedLemmas.{mapped_there, same_there}
+use Rattle.gptp_graph.specs.Distance.{IsDistance}
+use Rattle.gptp_graph.specs.Snapshot.{IsWellFormed, Snapshot, clocks}
+use Rattle.gptp_graph.proofs.SystemLemmas.{In-clocks}
+use Rattle.gptp_network.specs.Snapshot.{StandsAfter}
+use Rattle.gptp_network.proofs.InUseLemmas.{live_there}
+use Rattle.gptp_network.proofs.SnapshotLemmas.{with_clock}
 use Rattle.gptp_vector.specs.declared.port.PortId.{PortId}
 use Rattle.gptp_setup.specs.SettlingParams.{largest_interval, longest_span}
 use Rattle.gptp_roles.specs.Selection.{clock_of}
 use Rattle.gptp_scenario.specs.Calm.{IsLive, last_change}
-use Rattle.gptp_scenario.specs.Change.{link_after}
+use Rattle.gptp_scenario.specs.Change.{link_after, system_after}
 use Rattle.gptp_scenario.specs.InUse.{lives}
-use Rattle.gptp_scenario.specs.Network.{IsNetwork, NetworkState, pace_of}
+use Rattle.gptp_scenario.specs.Network.{IsEnd, IsNetwork, IsPort, IsWire, NetworkState, pace_of}
 use Rattle.gptp_scenario.specs.SettlingTime.{silence_span}
 use Rattle.gptp_scenario.specs.declared.change.Timed.{Timed}
 use Rattle.gptp_scenario.specs.declared.network.LinkSpec.{LinkSpec}
 use Rattle.gptp_scenario.specs.declared.network.SystemSpec.{SystemSpec}
-use Rattle.gptp_scenario.proofs.AfterLemmas.{after_keeps}
+use Rattle.gptp_scenario.proofs.AfterLemmas.{KeepsEnds, after_keeps}
 use Rattle.gptp_system.specs.State.{number}
-use Rattle.gptp_topology.specs.After.{standing_then, standings_after}
+use Rattle.gptp_topology.specs.After.{standing_then, standings_after, system_then, systems_after}
 use Rattle.gptp_topology.specs.Course.{cable_is_used}
 use Rattle.gptp_topology.specs.declared.course.Standing.{Standing}
-use Rattle.gptp_topology.proofs.RestLemmas.{lives_to, used_cable}
-use Rattle.gptp_how_soon.specs.Silent.{held_after, held_among, held_end, held_one, held_over, hold_span, log_from, log_if, timeout_of}
+use Rattle.gptp_topology.specs.declared.nodes.System as ours
+use Rattle.gptp_topology.proofs.RestLemmas.{lives_from, lives_to, used_cable}
+use Rattle.gptp_how_soon.specs.Chosen.{chosen_after, ends_of, place_of}
+use Rattle.gptp_how_soon.specs.Far.{has_lower_clock, is_nearer, is_nearer_at}
+use Rattle.gptp_how_soon.specs.Silent.{hears, hears_over, held_after, held_among, held_end, held_one, held_over, hold_span, is_heard_link, is_live, log_from, log_if, timeout_of}
+use Rattle.gptp_how_soon.specs.declared.chosen.Chosen.{Chosen}
+use Rattle.gptp_how_soon.proofs.ChosenLemmas.{IsAt, at_port, chosen_there, settled_choice}
 use Rattle.gptp_settling_time.specs.HowSoon.{HeldFor}
-use Rattle.gptp_settling_time.specs.Losses.{AgesWithin, AnnouncesAt, IsHoldSpan}
+use Rattle.gptp_settling_time.specs.Losses.{AgesWithin, AnnouncesAt, FarEndLives, IsHoldSpan, IsSilent}
 
 -- ---- the interval of a port
 
@@ -162,15 +175,172 @@ ages n own (u ∷ us) (s ∷ ss) = by (u && s.cable.up) refl (ages n own us ss)
             absurd cc
         others (suc place) v t here there is = rest.each place v t here there is
 
+-- ---- far ends that live
+
+-- the system of the second port is farther from its best than that of the first, or as far with the higher clock
+abbrev IsBeyond : Snapshot → PortId → PortId → Type 0
+IsBeyond g other one = (near far : ℕ) → IsDistance g other.clock near → IsDistance g one.clock far
+    → (near < far) ⊎ ((near ≡ far) × (other.clock < one.clock))
+
+or_right : (x y : Bool) → y ≡ true → (x || y) ≡ true
+or_right true y is = refl
+or_right false y is = is
+
+or_left : (x y : Bool) → x ≡ true → (x || y) ≡ true
+or_left x y is = ap (λ b. b || y) is
+
+-- what the test of steps and clocks says
+nearer_so : (e c : Chosen) (lower higher : ℕ) → (e.steps < c.steps) ⊎ ((e.steps ≡ c.steps) × (lower < higher))
+    → (nat_lt e.steps c.steps || ((e.steps == c.steps) && nat_lt lower higher)) ≡ true
+nearer_so e c lower higher (inl less) =
+    or_left (nat_lt e.steps c.steps) ((e.steps == c.steps) && nat_lt lower higher) (grind (arith, nat_tests))
+nearer_so e c lower higher (inr (same, below)) =
+    or_right (nat_lt e.steps c.steps) ((e.steps == c.steps) && nat_lt lower higher)
+    (and_from (e.steps == c.steps) (nat_lt lower higher) (eq-eqb e.steps c.steps same) (grind (arith, nat_tests)))
+
+module _ (n : NetworkState) (network : IsNetwork n) (made after : List Timed) (g : Snapshot)
+    (stands : StandsAfter n made g) (well : IsWellFormed g) where
+  -- who lived before is in its snapshot
+  known : (clock : ℕ) → IsLive n.systems made clock → In clock (clocks g)
+  known clock live =
+      let (s, member, same) = with_clock g.systems clock
+      (live_there n network made g stands clock (lives_from n made clock live)) in
+      subst (λ c. In c (clocks g)) same (In-clocks g s member)
+
+  abbrev place : PortId → ℕ
+  place p = place_of (systems_after n []) p.clock
+
+  -- the one end lives, and was farther from its best than the other, or as far with the higher clock
+  hears_so : (one other : PortId) → IsPort n.systems one → IsPort n.systems other → IsLive n.systems made one.clock
+      → IsLive n.systems made other.clock → IsLive n.systems after one.clock → IsBeyond g other one
+      → hears (systems_after n after) (chosen_after n made) (place one) (place other) ≡ true
+  hears_so one other one_port other_port one_was other_was one_lives farther =
+      and_from (is_live (slice_get systems (place one))) (is_nearer_at systems cs (place other) (place one))
+      (ap is_live there_one ∙ lives_on)
+      ((λ k. is_nearer (e_there k) (c_there k) (has_lower_clock (there_other k) (there_one k)))
+      ∙ nearer_so e c (clock_of at_other.system.identity) (clock_of at_one.system.identity) told)
+    where
+      abbrev systems : List ours.System
+      systems = systems_after n after
+
+      abbrev cs : List Chosen
+      cs = chosen_after n made
+
+      at_one : IsAt n (place one) one.clock
+      at_one = at_port n network made g stands well one one_port
+
+      at_other : IsAt n (place other) other.clock
+      at_other = at_port n network made g stands well other other_port
+
+      there_one : slice_get systems (place one) ≡ Some (system_then after at_one.system)
+      there_one = mapped_there (system_then after) n.systems (place one) at_one.system at_one.there
+
+      there_other : slice_get systems (place other) ≡ Some (system_then after at_other.system)
+      there_other = mapped_there (system_then after) n.systems (place other) at_other.system at_other.there
+
+      lives_on : (system_after after at_one.system).live ≡ true
+      lives_on =
+          let x = one_lives in
+          let same = network.clocks (place one) x.place at_one.system x.system at_one.there x.there
+          (at_one.clock ∙ sym x.clock) in
+          let alike = same_there n.systems (place one) at_one.system x.system at_one.there
+          (ap (slice_get n.systems) same ∙ x.there) in
+          ap (λ (m : SystemSpec). (system_after after m).live) alike ∙ x.live
+
+      e : Chosen
+      e = (chosen_there n network made g stands well (place other) other.clock at_other).0
+
+      e_there : slice_get cs (place other) ≡ Some e
+      e_there = (chosen_there n network made g stands well (place other) other.clock at_other).1
+
+      c : Chosen
+      c = (chosen_there n network made g stands well (place one) one.clock at_one).0
+
+      c_there : slice_get cs (place one) ≡ Some c
+      c_there = (chosen_there n network made g stands well (place one) one.clock at_one).1
+
+      told : (e.steps < c.steps)
+          ⊎ ((e.steps ≡ c.steps) × (clock_of at_other.system.identity < clock_of at_one.system.identity))
+      told =
+          let chose_other = settled_choice n network made g stands well (place other) other.clock at_other
+          (known other.clock other_was) e e_there in
+          let chose_one = settled_choice n network made g stands well (place one) one.clock at_one
+          (known one.clock one_was) c c_there in
+          let clock_one = at_one.clock in
+          let clock_other = at_other.clock in
+          elim (farther e.steps c.steps chose_other.far chose_one.far) [
+            | inl less ↦ inl less
+            | inr (same, lower) ↦ inr (same, omega (arith, lower, clock_one, clock_other))
+          ]
+
 -- after these events and more of them
-module _ (n : NetworkState) (network : IsNetwork n) (made now : List Timed) (own : Bool)
+module _ (n : NetworkState) (network : IsNetwork n) (made now : List Timed)
+    (well : (g : Snapshot) → StandsAfter n made g → IsWellFormed g) (own : Bool)
     (late : own ≡ true
     → last_change made + largest_interval (pace_of n) + longest_span (pace_of n) < last_change (made ++ now)) where
   abbrev after : List Timed
   after = made ++ now
 
-  each_ages : Ages n own (map cable_is_used (standings_after n made)) (standings_after n after)
-  each_ages = ages n own (map cable_is_used (standings_after n made)) (standings_after n after)
+  each_ages : Ages n own (map (is_heard_link n made after) n.links) (standings_after n after)
+  each_ages = ages n own (map (is_heard_link n made after) n.links) (standings_after n after)
+
+  -- a link in use before whose far end lives is one that counts
+  heard : (place : ℕ) (v : LinkSpec) (failed : PortId) → slice_get n.links place ≡ Some v
+      → IsSilent n made after v failed → FarEndLives n made after v failed → is_heard_link n made after v ≡ true
+  heard place v failed there (used, up, end, none) far =
+      and_from (cable_is_used (standing_then n made v))
+      (hears_over (systems_after n after) (chosen_after n made) (Some (ends_of n v))) (used_cable n made v used)
+      (by far.is_end end)
+    where
+      abbrev g : Snapshot
+      g = far.before
+
+      wire : IsWire n place v
+      wire = network.links place v there
+
+      keeps : KeepsEnds (link_after after v) v
+      keeps = after_keeps after v
+
+      was : KeepsEnds (link_after made v) v
+      was = after_keeps made v
+
+      a_was : IsLive n.systems made v.a.clock
+      a_was = subst (λ (p : PortId). IsLive n.systems made p.clock) was.a used.a
+
+      b_was : IsLive n.systems made v.b.clock
+      b_was = subst (λ (p : PortId). IsLive n.systems made p.clock) was.b used.b
+
+      first : Bool
+      first = hears (systems_after n after) (chosen_after n made) (ends_of n v).a (ends_of n v).b
+
+      second : Bool
+      second = hears (systems_after n after) (chosen_after n made) (ends_of n v).b (ends_of n v).a
+
+      -- so it is of the ends by their names
+      farther_so : (one other : PortId) → one ≡ far.end → other ≡ failed → IsBeyond g other one
+      farther_so one other is_one is_other =
+          subst (λ (p : PortId). IsBeyond g p one) (sym is_other)
+          (subst (λ (p : PortId). IsBeyond g failed p) (sym is_one) far.farther)
+
+      lives_so : (one : PortId) → one ≡ far.end → IsLive n.systems after one.clock
+      lives_so one is = subst (λ (p : PortId). IsLive n.systems after p.clock) (sym is) far.lives
+
+      apart : far.end ≡ failed → ⊥
+      apart same = none (subst (λ (p : PortId). IsLive n.systems after p.clock) same far.lives)
+
+      by : IsEnd far.end (link_after after v) → IsEnd failed (link_after after v) → (first || second) ≡ true
+      by (inl one) (inl other) = absurd (apart (sym one ∙ other))
+      by (inr one) (inr other) = absurd (apart (sym one ∙ other))
+      by (inl one) (inr other) =
+          let is_one = sym keeps.a ∙ one in
+          or_left first second
+          (hears_so n network made after g far.stands (well g far.stands) v.a v.b wire.a wire.b a_was b_was
+          (lives_so v.a is_one) (farther_so v.a v.b is_one (sym keeps.b ∙ other)))
+      by (inr one) (inl other) =
+          let is_one = sym keeps.b ∙ one in
+          or_right first second
+          (hears_so n network made after g far.stands (well g far.stands) v.b v.a wire.b wire.a b_was a_was
+          (lives_so v.b is_one) (farther_so v.b v.a is_one (sym keeps.a ∙ other)))
 
   dead : (clock : ℕ) (failed : PortId) → clock ≡ failed.clock → (IsLive n.systems after failed.clock → ⊥)
       → lives n.systems after clock ≡ false
@@ -187,15 +357,15 @@ module _ (n : NetworkState) (network : IsNetwork n) (made now : List Timed) (own
       ∙ ap (λ q. hold_span n own q + (link_after after v).bounds.max) same
 
   within : AgesWithin n made after (last_change after) each_ages.span
-  within place v failed there (used, up, end, none) =
+  within place v failed there (used, up, end, none) far =
       let wire = network.links place v there in
       let keeps = after_keeps after v in
-      let was = mapped_there (standing_then n made) n.links place v there in
       let less =
-      each_ages.each place (cable_is_used (standing_then n made v)) (standing_then n after v)
-      (mapped_there cable_is_used (standings_after n made) place (standing_then n made v) was)
+      each_ages.each place (is_heard_link n made after v) (standing_then n after v)
+      (mapped_there (is_heard_link n made after) n.links place v there)
       (mapped_there (standing_then n after) n.links place v there)
-      (and_from (cable_is_used (standing_then n made v)) (link_after after v).up (used_cable n made v used) up) in
+      (and_from (is_heard_link n made after v) (link_after after v).up
+      (heard place v failed there (used, up, end, none) far) up) in
       elim end [
         | inl same ↦
             let port : v.a ≡ failed = sym keeps.a ∙ same in

@@ -17,7 +17,7 @@ use Rattle.gptp_theorem.specs.PlayedLaws.{IsPlayable}
 use Rattle.gptp_settling_time.specs.HowSoon.{IsChoiceAloneBound, IsChoiceBound, NoneBetween}
 use Rattle.gptp_settling_time.specs.InTurn.{ChoosesAfter, ComesByEvents, Past, SettlesAfter}
 use Rattle.gptp_settling_time.proofs.DocumentLemmas.{run_to}
-use Rattle.gptp_settling_time.proofs.FollowedLemmas.{bound_chooses, bound_settles}
+use Rattle.gptp_settling_time.proofs.BoundSettlesLemmas.{bound_chooses, bound_settles}
 use Rattle.gptp_settling_time.proofs.AfterLemmas.{after_keeps}
 use Rattle.gptp_settling_time.proofs.InTurnLemmas.{passed_in_turn}
 use Rattle.gptp_settling_time.proofs.KeptToLemmas.{KeepsTo}

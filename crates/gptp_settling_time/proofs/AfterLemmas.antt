@@ -53,11 +53,11 @@ IsAfter d events AnyPast w = KeepsTo d events w
 IsAfter d events Starting w = IsStartingTo d events w
 IsAfter d events (Gained start) w = IsNewsTo d start events w
 IsAfter d events (Heard start) w = IsClaimedTo d events start w
-IsAfter d events (Left start) w = IsLeftTo d events start w
+IsAfter d events (Left ago start) w = IsLeftTo d ago events start w
 IsAfter d events (Turned silent now) w = IsTurnedTo d events silent now w
 IsAfter d events (Fallen silent now) w = IsFallenTo d events silent now w
 IsAfter d events (TurnedTree silent now) w = IsTurnedTreeTo d events silent now w
-IsAfter d events (Cleared since silent right old) w = IsClearedTo d events since silent right old w
+IsAfter d events (Cleared ago since silent right old) w = IsClearedTo d ago events since silent right old w
 IsAfter d events (Aging ago aged silent) w = IsAgingTo d ago events aged silent w
 IsAfter d events (Split ago gone silent) w = IsSplitTo d ago events gone silent w
 IsAfter d events (Lost since most silent) w = IsLostTo d events since most silent w
@@ -68,11 +68,11 @@ module _ (d : DocumentState) (events : List Timed) where
   after_keeps Starting w so = so.keeps
   after_keeps (Gained start) w so = so.keeps
   after_keeps (Heard start) w so = so.keeps
-  after_keeps (Left start) w so = so.keeps
+  after_keeps (Left ago start) w so = so.keeps
   after_keeps (Turned silent now) w so = so.keeps
   after_keeps (Fallen silent now) w so = so.keeps
   after_keeps (TurnedTree silent now) w so = so.keeps
-  after_keeps (Cleared since silent right old) w so = so.keeps
+  after_keeps (Cleared ago since silent right old) w so = so.keeps
   after_keeps (Aging ago aged silent) w so = so.keeps
   after_keeps (Split ago gone silent) w so = so.keeps
   after_keeps (Lost since most silent) w so = so.keeps
@@ -83,12 +83,12 @@ module _ (d : DocumentState) (events : List Timed) where
   after_later Starting w time later first so = starting_later d events w time later first so
   after_later (Gained start) w time later first so = news_later_to d events start w time later first so
   after_later (Heard start) w time later first so = claimed_later d events start w time later first so
-  after_later (Left start) w time later first so = left_to_later d events start w time later first so
+  after_later (Left ago start) w time later first so = left_to_later d ago events start w time later first so
   after_later (Turned silent now) w time later first so = turned_to_later d events silent now w time later first so
   after_later (Fallen silent now) w time later first so = fallen_to_later d events silent now w time later first so
   after_later (TurnedTree silent now) w time later first so =
       turned_tree_to_later d events silent now w time later first so
-  after_later (Cleared since silent right old) w time later first so = cleared_to_later d events since silent right old
+  after_later (Cleared ago since silent right old) w time later first so = cleared_to_later d ago events since silent right old
       w time later first so
   after_later (Aging ago aged silent) w time later first so =
       aging_to_later d ago events aged silent w time later first so
@@ -107,7 +107,7 @@ module _ (d : DocumentState) (events : List Timed) where
       news_act_to d events answers t fate drawn w next was start so
   after_act answers (Heard start) t fate drawn w next was so = claimed_act d events start answers t fate drawn w next
       was so
-  after_act answers (Left start) t fate drawn w next was so = left_to_act d events start answers t fate drawn w next was
+  after_act answers (Left ago start) t fate drawn w next was so = left_to_act d ago events start answers t fate drawn w next was
       so
   after_act answers (Turned silent now) t fate drawn w next was so =
       turned_to_act d events silent now answers t fate drawn w next was so
@@ -115,8 +115,8 @@ module _ (d : DocumentState) (events : List Timed) where
       fallen_to_act d events silent now answers t fate drawn w next was so
   after_act answers (TurnedTree silent now) t fate drawn w next was so =
       turned_tree_to_act d events silent now answers t fate drawn w next was so
-  after_act answers (Cleared since silent right old) t fate drawn w next was so =
-      cleared_to_act d events since silent right old answers t fate drawn w next was so
+  after_act answers (Cleared ago since silent right old) t fate drawn w next was so =
+      cleared_to_act d ago events since silent right old answers t fate drawn w next was so
   after_act answers (Aging ago aged silent) t fate drawn w next was so =
       aging_to_act d ago events aged silent answers t fate drawn w next was so
   after_act answers (Split ago gone silent) t fate drawn w next was so =
@@ -134,13 +134,13 @@ module _ (d : DocumentState) (playable : IsPlayable d) (events : List Timed) (w 
   rests_from Starting start none so = absurd none
   rests_from (Gained since) start none so = absurd none
   rests_from (Heard since) start none so = absurd none
-  rests_from (Left silent) start none so = absurd none
+  rests_from (Left ago silent) start none so = absurd none
   rests_from (Turned silent now) start rest so = turned_to_claimed d events silent now w start so playable rest
   rests_from (Fallen silent now) start rest so = fallen_to_claimed d events silent now w start so playable rest
   rests_from (TurnedTree silent now) start (rest, later) so =
       turned_tree_to_claimed d events silent now w start so playable rest
-  rests_from (Cleared since silent right old) start rest so =
-      cleared_to_claimed d events since silent right old w start so playable rest
+  rests_from (Cleared ago since silent right old) start rest so =
+      cleared_to_claimed d ago events since silent right old w start so playable rest
   rests_from (Aging ago aged silent) start rest so =
       aging_to_claimed d ago events aged silent w start so playable rest
   rests_from (Split ago gone silent) start none so = absurd none
@@ -170,11 +170,11 @@ begins_after answers d playable fate until first w ts k (Heard start) (little, b
   keeps = begun_keeps answers d playable fate k.started first k.begun;
   since = begun_soon_claimed answers d playable fate k.started first k.begun start begins little;
 }
-begins_after answers d playable fate until first w ts k (Left start) none = absurd none
+begins_after answers d playable fate until first w ts k (Left ago start) none = absurd none
 begins_after answers d playable fate until first w ts k (Turned silent now) none = absurd none
 begins_after answers d playable fate until first w ts k (Fallen silent now) none = absurd none
 begins_after answers d playable fate until first w ts k (TurnedTree silent now) none = absurd none
-begins_after answers d playable fate until first w ts k (Cleared since silent right old) none = absurd none
+begins_after answers d playable fate until first w ts k (Cleared ago since silent right old) none = absurd none
 begins_after answers d playable fate until first w ts k (Aging ago aged silent) none = absurd none
 begins_after answers d playable fate until first w ts k (Split ago gone silent) none = absurd none
 begins_after answers d playable fate until first w ts k (Lost since most silent) none = absurd none
@@ -256,9 +256,9 @@ module _ (d : DocumentState) (playable : IsPlayable d) (all : List Timed) (calm 
       has_settled pace (sync_paths d.network all).systems start settled w so.news (can_settle so.keeps start settles) on
   after_settles (Heard start) so (off, passed) =
       claimed_settled d all start w so playable calm off (omega (arith, passed, on))
-  after_settles (Left silent) so (off, inl passed) =
-      left_to_settled d all silent w so playable calm off (inl (omega (arith, passed, on)))
-  after_settles (Left silent) so (off, inr used) = left_to_settled d all silent w so playable calm off (inr used)
+  after_settles (Left ago silent) so (off, inl passed) =
+      left_to_settled d ago all silent w so playable calm off (inl (omega (arith, passed, on)))
+  after_settles (Left ago silent) so (off, inr used) = left_to_settled d ago all silent w so playable calm off (inr used)
   after_settles (Turned silent now) so (off, passed) =
       turned_to_settled d all silent now w so playable calm off
       (subst (λ (x : SyncPaths). now + 1 + pred x.systems * x.delay ≤ w.time) (paths so.keeps)
@@ -271,11 +271,11 @@ module _ (d : DocumentState) (playable : IsPlayable d) (all : List Timed) (calm 
       turned_tree_to_settled d all silent now w so playable calm off
       (subst (λ (x : SyncPaths). now + 1 + 2 * (pred x.systems * x.delay) ≤ w.time) (paths so.keeps)
       (omega (arith, passed, on)))
-  after_settles (Cleared since silent right old) so (off, inl passed) =
-      left_to_settled d all silent w (cleared_left d all since silent right old w so) playable calm off
+  after_settles (Cleared ago since silent right old) so (off, inl passed) =
+      left_to_settled d ago all silent w (cleared_left d ago all since silent right old w so) playable calm off
       (inl (omega (arith, passed, on)))
-  after_settles (Cleared since silent right old) so (off, inr used) =
-      left_to_settled d all silent w (cleared_left d all since silent right old w so) playable calm off (inr used)
+  after_settles (Cleared ago since silent right old) so (off, inr used) =
+      left_to_settled d ago all silent w (cleared_left d ago all since silent right old w so) playable calm off (inr used)
   after_settles (Aging ago aged silent) so (off, inl passed) =
       aging_to_settled d ago all aged silent w so playable calm off (inl (omega (arith, passed, on)))
   after_settles (Aging ago aged silent) so (off, inr used) =
@@ -295,13 +295,13 @@ module _ (d : DocumentState) (playable : IsPlayable d) (all : List Timed) (calm 
   after_chooses Starting so none = absurd none
   after_chooses (Gained start) so settles = choice_stands w (after_settles (Gained start) so settles).0
   after_chooses (Heard start) so settles = choice_stands w (after_settles (Heard start) so settles).0
-  after_chooses (Left silent) so off = left_to_chooses d all silent w so playable calm off
+  after_chooses (Left ago silent) so off = left_to_chooses d ago all silent w so playable calm off
   after_chooses (Turned silent now) so settles = choice_stands w (after_settles (Turned silent now) so settles).0
   after_chooses (Fallen silent now) so settles = choice_stands w (after_settles (Fallen silent now) so settles).0
   after_chooses (TurnedTree silent now) so settles =
       choice_stands w (after_settles (TurnedTree silent now) so settles).0
-  after_chooses (Cleared since silent right old) so off =
-      left_to_chooses d all silent w (cleared_left d all since silent right old w so) playable calm off
+  after_chooses (Cleared ago since silent right old) so off =
+      left_to_chooses d ago all silent w (cleared_left d ago all since silent right old w so) playable calm off
   after_chooses (Aging ago aged silent) so (off, inl gone) =
       aging_to_chooses d ago all aged silent w so playable calm off (inl (omega (arith, gone, on)))
   after_chooses (Aging ago aged silent) so (off, inr (inl late)) =

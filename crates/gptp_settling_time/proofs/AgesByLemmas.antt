@@ -11,7 +11,7 @@ use Rattle.gptp_bmca_machine.specs.Frame.{Announce, AnnounceFrame, Lane, Spellin
 use Rattle.gptp_bmca_machine.specs.Network.{Network}
 use Rattle.gptp_bmca_machine.specs.SoundEverywhere.{IsSoundEverywhere}
 use Rattle.gptp_bmca_machine.specs.Station.{HoldsAt, MachineState, Reception, Station}
-use Rattle.gptp_settling_time.proofs.AgingLemmas.{EachAges, StaysAsNamed, UnlinkedAge, each_ages, each_reduced}
+use Rattle.gptp_settling_time.proofs.AgingLemmas.{EachAges, HeardNearer, StaysAsNamed, UnlinkedAge, each_ages, each_reduced}
 use Rattle.gptp_settling_time.proofs.AgingStillLemmas.{IsEmptied}
 use Rattle.gptp_settling_time.proofs.ReducedLemmas.{IsReduced}
 
@@ -48,18 +48,19 @@ by_map says g stay By By' w more all = record {
       (until, more l.to until unlinked by, over);
 }
 
--- before the greatest of these times all has aged
-pub by_all : (says : Spelling) (g : Snapshot) (stay : ℤ → ℕ) (By : PortIdentity → ℕ → Type 0) (aged : ℕ)
-    (w : MachineState) → ((port : PortIdentity) (until : ℕ) → By port until → until ≤ aged)
-    → UnlinkedAgeBy says g stay By w → UnlinkedAge says g stay aged w
-by_all says g stay By aged w most all = record {
-  held = λ i s place r at live holds unlinked.
+-- before the greatest of these times, of ports that heard a nearer system before, all has aged there
+pub by_all : (says : Spelling) (before g : Snapshot) (stay : ℤ → ℕ) (By : PortIdentity → ℕ → Type 0) (aged : ℕ)
+    (w : MachineState)
+    → ((port : PortIdentity) (until : ℕ) → HeardNearer before port → By port until → until ≤ aged)
+    → UnlinkedAgeBy says g stay By w → UnlinkedAge says before g stay aged w
+by_all says before g stay By aged w most all = record {
+  held = λ i s place r at live holds unlinked nearer.
       let (until, by, over) = all.held i s place r at live holds unlinked in
-      let less = most (port_of s.clock (suc place)) until by in
+      let less = most (port_of s.clock (suc place)) until nearer by in
       omega (arith, over, less);
-  flight = λ j l f a at among said known unlinked.
+  flight = λ j l f a at among said known unlinked nearer.
       let (until, by, over) = all.flight j l f a at among said known unlinked in
-      let less = most l.to until by in
+      let less = most l.to until nearer by in
       omega (arith, over, less);
 }
 

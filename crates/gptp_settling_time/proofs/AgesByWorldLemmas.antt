@@ -28,6 +28,7 @@ use Rattle.gptp_invariants.proofs.WorldNewsCourseLemmas.{later_keeps}
 use Rattle.gptp_invariants.proofs.WorldSystemLemmas.{live_there}
 use Rattle.gptp_invariants.proofs.WorldWayLemmas.{IsWay}
 use Rattle.gptp_settling_time.proofs.AgesByLemmas.{UnlinkedAgeBy, by_all, by_kept}
+use Rattle.gptp_settling_time.proofs.AgingLemmas.{HeardNearer}
 use Rattle.gptp_settling_time.proofs.AgingClaimedLemmas.{IsAgingAlways, aging_acts, aging_facts, aging_later, aging_network, named_in, same_aging, stay_of}
 
 -- what is received at ports that no link is at, and in flight to them, ages by these times of the ports
@@ -71,12 +72,12 @@ module _ (p : SettlingParams) (g : Snapshot) (aged silent : ℕ) (By : PortIdent
       → KeepsNetwork w w' → MachineSteps says_announce (view w) (view w') → WorldAgesBy p By w → WorldAgesBy p By w'
   by_step w w' is is' keeps step by quiet' =
       let quiet = links_quiet w' w (kept_back w w' keeps) p.params quiet' in
-      let facts = aging_facts p aged silent w is.standing is.asked quiet in
-      let facts' : StationFacts (network_setting (aging_network p aged silent w)) (view w') =
-      subst (λ (n : Network). StationFacts (network_setting n) (view w')) (same_aging p aged silent w w' keeps)
-      (aging_facts p aged silent w' is'.standing is'.asked quiet') in
+      let facts = aging_facts p silent w is.standing is.asked quiet in
+      let facts' : StationFacts (network_setting (aging_network p silent w)) (view w') =
+      subst (λ (n : Network). StationFacts (network_setting n) (view w')) (same_aging p silent w w' keeps)
+      (aging_facts p silent w' is'.standing is'.asked quiet') in
       subst (λ h. UnlinkedAgeBy says_announce h (stay_of p) By (view w')) (sym (same_snapshot w w' keeps))
-      (by_kept says_announce (network_setting (aging_network p aged silent w)) (stay_of p) By (view w) (view w') facts
+      (by_kept says_announce (network_setting (aging_network p silent w)) (stay_of p) By (view w) (view w') facts
       facts' (named_in p w' is'.standing.world) step (by quiet))
 
   pub by_later : (time : ℕ) (w : WorldState) → w.time ≤ time → NothingBefore time w.net.pending
@@ -94,31 +95,25 @@ module _ (p : SettlingParams) (g : Snapshot) (aged silent : ℕ) (By : PortIdent
       (acts_keep act w draws done w' none acts)
       (inr (acts_seen act w draws done w' none world.sound world.encodable acts))
 
-  -- it has aged before each time that is no less than these
+  -- it has aged before each time that is no less than these, of ports that heard a nearer system before
   pub aging_by : (earlier : ℕ) (w : WorldState) → IsAgingAlways p g aged silent w → WorldAgesBy p By w
-      → ((port : PortIdentity) (until : ℕ) → By port until → until ≤ earlier) → IsAgingAlways p g earlier silent w
+      → ((port : PortIdentity) (until : ℕ) → HeardNearer g port → By port until → until ≤ earlier)
+      → IsAgingAlways p g earlier silent w
   aging_by earlier w is by most = record {
     standing = is.standing;
     asked = is.asked;
     well = is.well;
     left = is.left;
     near = is.near;
+    stay = is.stay;
     way = is.way;
     late = is.late;
     seen = λ quiet off.
         let seen = is.seen quiet off in
         record {
-          ages = by_all says_announce (snapshot_of w) (stay_of p) By earlier (view w) most (by quiet);
-          fits = record { lanes = seen.fits.lanes; stations = seen.fits.stations };
-          still = λ d best v p u q close on. seen.still d best v p u q close (record {
-            unmoved = record { live = on.unmoved.live; best = on.unmoved.best; far = on.unmoved.far };
-            is_best = on.is_best;
-            here = on.here;
-            joins = on.joins;
-            far = on.far;
-            there = on.there;
-            farther = on.farther;
-          });
-          itself = record { lanes = seen.itself.lanes; stations = seen.itself.stations };
+          ages = by_all says_announce g (snapshot_of w) (stay_of p) By earlier (view w) most (by quiet);
+          fits = seen.fits;
+          still = seen.still;
+          itself = seen.itself;
         };
   }

@@ -41,11 +41,12 @@ use Rattle.gptp_invariants.proofs.WorldNewsCourseLemmas.{later_keeps}
 use Rattle.gptp_invariants.proofs.WorldOutlineLemmas.{acts_time}
 use Rattle.gptp_invariants.proofs.WorldSetLemmas.{span_is}
 use Rattle.gptp_invariants.proofs.WorldStandsLemmas.{stands_well}
-use Rattle.gptp_settling_time.proofs.AgingLemmas.{StaysAsNamed, UnlinkedAge, aged_gone, ages_kept}
+use Rattle.gptp_settling_time.proofs.AgingLemmas.{StaysAsNamed, aged_gone, ages_kept}
 use Rattle.gptp_settling_time.proofs.AgingStillLemmas.{IsAgingSeen, aging_kept, aging_over}
 use Rattle.gptp_settling_time.proofs.AlwaysClaimedLemmas.{IsStanding, start_calm, start_network}
 use Rattle.gptp_settling_time.proofs.FitsLemmas.{IsLeftUnmoved, UnlinkedHoldNothing}
 use Rattle.gptp_settling_time.proofs.LeftClaimedLemmas.{HaveAskedBy, HaveAskedLong, asked_acts, asked_heard, asked_later, asked_ready, bare_calm, left_calm, left_net, left_network, same_left, standing_acts, standing_later, way_later}
+use Rattle.gptp_settling_time.proofs.NearEndLemmas.{NearEndsStay, near_ends_hold_none, near_now}
 use Rattle.gptp_settling_time.proofs.NewsMeasuredLemmas.{ready_measures}
 use Rattle.gptp_settling_time.proofs.SeenSettledLemmas.{seen_chooses, seen_settles}
 use Rattle.gptp_settling_time.proofs.UnlinkedLemmas.{IsLeftSeen}
@@ -65,19 +66,18 @@ named_in p w is i s place r at live holds =
 
 -- ---- the network
 
--- Claims are made of all links always. At ports without a link nothing is received from a time on, and from another on
--- they aren't capable.
-abbrev pub aging_network : SettlingParams → ℕ → ℕ → WorldState → Network
-aging_network p aged silent w = record (left_network p silent w) { bare = aged }
+-- Claims are made of all links always. Ports without a link aren't capable from a time on, and so receive nothing.
+abbrev pub aging_network : SettlingParams → ℕ → WorldState → Network
+aging_network p silent w = record (left_network p silent w) { bare = silent }
 
-pub same_aging : (p : SettlingParams) (aged silent : ℕ) (w w' : WorldState) → KeepsNetwork w w'
-    → aging_network p aged silent w' ≡ aging_network p aged silent w
-same_aging p aged silent w w' keeps = ap (λ (n : Network). record n { bare = aged }) (same_left p silent w w' keeps)
+pub same_aging : (p : SettlingParams) (silent : ℕ) (w w' : WorldState) → KeepsNetwork w w'
+    → aging_network p silent w' ≡ aging_network p silent w
+same_aging p silent w w' keeps = ap (λ (n : Network). record n { bare = silent }) (same_left p silent w w' keeps)
 
-module _ (p : SettlingParams) (aged silent : ℕ) (w : WorldState) (standing : IsStanding p silent w)
+module _ (p : SettlingParams) (silent : ℕ) (w : WorldState) (standing : IsStanding p silent w)
     (asked : HaveAskedLong w) (quiet : HaveQuietLinks p.params w) where
   abbrev n_of : Network
-  n_of = aging_network p aged silent w
+  n_of = aging_network p silent w
 
   started : Calm (start_network p (path_bound (snapshot_of w)) silent w) (view w)
   started = start_calm p silent w standing (asked_heard p silent w asked) quiet (path_bound (snapshot_of w))
@@ -85,40 +85,45 @@ module _ (p : SettlingParams) (aged silent : ℕ) (w : WorldState) (standing : I
   pub aging_facts : StationFacts (network_setting n_of) (view w)
   aging_facts = started.facts
 
-  module _ (ages : UnlinkedAge says_announce n_of.graph (stay_of p) aged (view w)) where
-    aging_calm : Calm n_of (view w)
-    aging_calm =
-        bare_calm p aged silent w standing asked quiet (λ now i s place r there lives unlinked holds.
-        aged_gone says_announce (network_setting n_of) (stay_of p) aged (view w) aging_facts ages now i s place r
-        there lives unlinked holds)
+  -- nothing is received at ports that aren't capable
+  pub off_none : silent ≤ w.time → UnlinkedHoldNothing (snapshot_of w) (view w)
+  off_none late i s place r there lives unlinked (q, at, holds) =
+      let is_off = ((started.stations i s there lives).ports place q at).unlinked late unlinked in
+      let both : Received r ≡ Disabled = sym holds ∙ is_off in
+      cc
 
-    pub aging_after : NothingLapses p.params → delay_in w ≤ w.time → IsAfterLoss n_of (view w)
-    aging_after off late = record {
-      calm = aging_calm;
-      capable = λ port linked. omega arith;
-      lapses = λ i due s at lapse.
-          let x = station_from w.stations i s at in
-          let none : s.lapse ≡ None =
-          ap (λ (z : SeenStation). z.lapse) x.is ∙ (standing.world.known.set i x.station x.here).lapses off in
-          absurd (let both : None ≡ Some due = sym none ∙ lapse in cc);
-      begun = omega arith;
-      late = late;
-    }
+  pub aging_calm : Calm n_of (view w)
+  aging_calm = bare_calm p silent silent w standing asked quiet off_none
+
+  pub aging_after : NothingLapses p.params → delay_in w ≤ w.time → IsAfterLoss n_of (view w)
+  aging_after off late = record {
+    calm = aging_calm;
+    capable = λ port linked. omega arith;
+    lapses = λ i due s at lapse.
+        let x = station_from w.stations i s at in
+        let none : s.lapse ≡ None =
+        ap (λ (z : SeenStation). z.lapse) x.is ∙ (standing.world.known.set i x.station x.here).lapses off in
+        absurd (let both : None ≡ Some due = sym none ∙ lapse in cc);
+    begun = omega arith;
+    late = late;
+  }
 
 -- ---- the claim
 
--- What is claimed of a world since such a failure: what it holds at ports without a link ages before a time. All that
--- it holds and that is in flight fits the snapshot of before, and each unmoved system tells its root and steps.
+-- What is claimed of a world since such a failure: what it holds at ports without a link that heard a nearer system
+-- ages before a time. All that it holds and that is in flight fits the snapshot of before, and each unmoved system
+-- tells its root and steps. One that lost its link to a farther one is unmoved.
 pub record IsAgingAlways (p : SettlingParams) (g : Snapshot) (aged silent : ℕ) (w : WorldState) : Type 0 where
   pub standing : IsStanding p silent w
   pub asked : HaveAskedLong w
   pub well : IsWellFormed g
   pub left : IsLeftUnmoved g (snapshot_of w)
   pub near : AllAreNear (snapshot_of w)
+  pub stay : NearEndsStay g (snapshot_of w)
   pub way : pred (path_bound (snapshot_of w)) * delay_in w ≤ w.time
   pub late : delay_in w ≤ w.time
   pub seen : HaveQuietLinks p.params w → NothingLapses p.params
-      → IsAgingSeen says_announce g (aging_network p aged silent w) (stay_of p) aged (view w)
+      → IsAgingSeen says_announce g (aging_network p silent w) (stay_of p) aged (view w)
 
 module _ (p : SettlingParams) (g : Snapshot) (aged silent : ℕ) (w w' : WorldState)
     (is : IsAgingAlways p g aged silent w) (standing' : IsStanding p silent w') (asked' : HaveAskedLong w')
@@ -132,28 +137,26 @@ module _ (p : SettlingParams) (g : Snapshot) (aged silent : ℕ) (w w' : WorldSt
       subst (λ delay. delay ≤ w'.time) (sym (delay_kept w w' keeps)) (omega (arith, late, on))
 
   abbrev n : Network
-  n = aging_network p aged silent w
+  n = aging_network p silent w
 
   seen_then : HaveQuietLinks p.params w' → NothingLapses p.params
-      → IsAgingSeen says_announce g (aging_network p aged silent w') (stay_of p) aged (view w')
+      → IsAgingSeen says_announce g (aging_network p silent w') (stay_of p) aged (view w')
   seen_then quiet' off =
       let quiet = links_quiet w' w (kept_back w w' keeps) p.params quiet' in
-      let same = same_aging p aged silent w w' keeps in
+      let same = same_aging p silent w w' keeps in
       let seen = is.seen quiet off in
       let world = is.standing.world in
-      let facts = aging_facts p aged silent w is.standing is.asked quiet in
+      let facts = aging_facts p silent w is.standing is.asked quiet in
       let facts' : StationFacts (network_setting n) (view w') =
       subst (λ x. StationFacts (network_setting x) (view w')) same
-      (aging_facts p aged silent w' standing' asked' quiet') in
-      let ages' = ages_kept says_announce (network_setting n) (stay_of p) aged (view w) (view w') facts facts'
+      (aging_facts p silent w' standing' asked' quiet') in
+      let ages' = ages_kept says_announce g (network_setting n) (stay_of p) aged (view w) (view w') facts facts'
       (named_in p w' standing'.world) step seen.ages in
       subst (λ x. IsAgingSeen says_announce g x (stay_of p) aged (view w')) (sym same)
       (aging_kept says_announce g n (stay_of p) aged (view w) (view w') is.well
       (stands_well w world.sound world.between world.encodable) is.left
-      (aging_after p aged silent w is.standing is.asked quiet seen.ages off is.late)
-      (λ ages. subst (λ x. IsAfterLoss x (view w')) same
-      (aging_after p aged silent w' standing' asked' quiet'
-      (subst (λ h. UnlinkedAge says_announce h (stay_of p) aged (view w')) (sym same_snap) ages) off late_then)) ages'
+      (aging_after p silent w is.standing is.asked quiet off is.late)
+      (subst (λ x. IsAfterLoss x (view w')) same (aging_after p silent w' standing' asked' quiet' off late_then)) ages'
       step seen)
 
   aging_step : IsAgingAlways p g aged silent w'
@@ -163,6 +166,7 @@ module _ (p : SettlingParams) (g : Snapshot) (aged silent : ℕ) (w w' : WorldSt
     well = is.well;
     left = subst (IsLeftUnmoved g) (sym same_snap) is.left;
     near = subst AllAreNear (sym same_snap) is.near;
+    stay = subst (NearEndsStay g) (sym same_snap) is.stay;
     way = way_later w w' keeps on is.way;
     late = late_then;
     seen = seen_then;
@@ -203,6 +207,7 @@ aging_now p g aged silent w is none = record {
   well = is.well;
   left = is.left;
   near = is.near;
+  stay = is.stay;
   way = is.way;
   late = is.late;
   seen = λ quiet off.
@@ -234,20 +239,28 @@ module _ (p : SettlingParams) (g : Snapshot) (aged silent : ℕ) (w : WorldState
   world : IsWorld p w
   world = is.standing.world
 
-  seen : IsAgingSeen says_announce g (aging_network p aged silent w) (stay_of p) aged (view w)
+  abbrev n_aging : Network
+  n_aging = aging_network p silent w
+
+  well' : IsWellFormed (snapshot_of w)
+  well' = stands_well w world.sound world.between world.encodable
+
+  seen : IsAgingSeen says_announce g n_aging (stay_of p) aged (view w)
   seen = is.seen quiet off
 
-  after : IsAfterLoss (aging_network p aged silent w) (view w)
-  after = aging_after p aged silent w is.standing is.asked quiet seen.ages off is.late
+  after : IsAfterLoss n_aging (view w)
+  after = aging_after p silent w is.standing is.asked quiet off is.late
 
-  -- nothing is received at ports without a link: it has aged, or they aren't capable
+  -- Nothing is received at ports without a link: it has aged, or came from a farther system; or they aren't capable.
   none : UnlinkedHoldNothing (snapshot_of w) (view w)
-  none i s place r here live unlinked (q, there, holds) = elim gone [
+  none = elim gone [
     | inl late ↦
-        ((after.calm.stations i s here live).ports place q there).bare late unlinked r holds
-    | inr late ↦
-        let is_off = ((after.calm.stations i s here live).ports place q there).unlinked late unlinked in
-        absurd (let both : Received r ≡ Disabled = sym holds ∙ is_off in cc)
+        near_ends_hold_none says_announce g n_aging well'
+        (record { graph = is.well; systems = is.left.systems; links = is.left.links }) (view w) after
+        seen.fits.stations seen.still is.stay (near_now g n_aging well' is.near)
+        (aged_gone says_announce g (network_setting n_aging) (stay_of p) aged (view w)
+        (aging_facts p silent w is.standing is.asked quiet) seen.ages late)
+    | inr late ↦ off_none p silent w is.standing is.asked quiet late
   ]
 
   net : IsSettlingNetwork left_n
@@ -255,8 +268,7 @@ module _ (p : SettlingParams) (g : Snapshot) (aged silent : ℕ) (w : WorldState
 
   pub aging_left : IsLeftSeen says_announce g left_n (view w)
   aging_left =
-      aging_over says_announce g (aging_network p aged silent w) is.well
-      (stands_well w world.sound world.between world.encodable) is.left (view w) after seen.fits seen.still none
+      aging_over says_announce g n_aging is.well well' is.left (view w) after seen.fits seen.still none
 
   calm : Calm left_n (view w)
   calm = left_calm p silent w is.standing is.asked quiet none

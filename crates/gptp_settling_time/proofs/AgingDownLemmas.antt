@@ -10,7 +10,6 @@ use Rattle.gptp_scenario.specs.Calm.{NothingLapses}
 use Rattle.gptp_scenario.specs.declared.change.Act.TheVariants.{Change as Changing}
 use Rattle.gptp_scenario.specs.declared.change.Change.TheVariants.{LinkDown}
 use Rattle.gptp_setup.specs.SettlingParams.{SettlingParams}
-use Rattle.gptp_system.specs.State.{clock}
 use Rattle.gptp_model.specs.Acts.{Acts, AtLink}
 use Rattle.gptp_model.specs.Changing.{GoesDownIf, IsChannel, taken_down}
 use Rattle.gptp_model.specs.declared.done.Done.{Done}
@@ -34,6 +33,7 @@ use Rattle.gptp_settling_time.proofs.AlwaysClaimedLemmas.{IsStanding}
 use Rattle.gptp_settling_time.proofs.EmptiedLemmas.{AreEmptied, IsAlike, emptied_after, lanes_emptied}
 use Rattle.gptp_settling_time.proofs.FitsLemmas.{IsLeftUnmoved}
 use Rattle.gptp_settling_time.proofs.LeftClaimedLemmas.{HaveAskedLong}
+use Rattle.gptp_settling_time.proofs.NearEndLemmas.{NearEndsStay}
 use Rattle.gptp_settling_time.proofs.UnusedDownLemmas.{alike_then, asked', delay_now, either, emptied, late_then, snapshot_now, standing', time}
 
 module _ (p : SettlingParams) (before : Snapshot) (aged silent owner port : ℕ) (w : WorldState) (draws : List Draw)
@@ -54,10 +54,10 @@ module _ (p : SettlingParams) (before : Snapshot) (aged silent owner port : ℕ)
   g' = snapshot_of w'
 
   abbrev n : Network
-  n = aging_network p aged silent w
+  n = aging_network p silent w
 
   abbrev n' : Network
-  n' = aging_network p aged silent w'
+  n' = aging_network p silent w'
 
   well : IsWellFormed g
   well = stands_well w is.sound is.between is.encodable
@@ -78,7 +78,7 @@ module _ (p : SettlingParams) (before : Snapshot) (aged silent owner port : ℕ)
     same_graph = snapshot_now p silent owner port w draws done w' is' measured' acts aging.standing aging.asked up dead
 
     alike : IsAlike n n'
-    alike = alike_then p silent owner port w draws done w' is' measured' acts aging.standing aging.asked up dead aged
+    alike = alike_then p silent owner port w draws done w' is' measured' acts aging.standing aging.asked up dead
 
     lanes_then : AreEmptied g' (view w).lanes (view taken).lanes
     lanes_then = emptied p silent owner port w draws done w' is' measured' acts aging.standing aging.asked up dead
@@ -100,7 +100,7 @@ module _ (p : SettlingParams) (before : Snapshot) (aged silent owner port : ℕ)
     less = record { graph = aging.well; systems = left'.systems; links = left'.links }
 
     after : IsAfterLoss n (view w)
-    after = aging_after p aged silent w aging.standing aging.asked quiet claims.ages off aging.late
+    after = aging_after p silent w aging.standing aging.asked quiet off aging.late
 
     after_taken : IsAfterLoss n' (view taken)
     after_taken = emptied_after n n' alike (view w) (view taken).lanes lanes_then after
@@ -127,8 +127,8 @@ module _ (p : SettlingParams) (before : Snapshot) (aged silent owner port : ℕ)
 
     seen_taken : IsAgingSeen says_announce before n' (stay_of p) aged (view taken)
     seen_taken = record {
-      ages = subst (λ h. UnlinkedAge says_announce h (stay_of p) aged (view taken)) (sym same_graph)
-          (ages_reduced says_announce g (stay_of p) aged (view w) (view taken)
+      ages = subst (λ h. UnlinkedAge says_announce before h (stay_of p) aged (view taken)) (sym same_graph)
+          (ages_reduced says_announce before g (stay_of p) aged (view w) (view taken)
           (emptied_reduced (view w) (view taken) is_emptied) claims.ages);
       fits = fits_taken;
       still = still_emptied says_announce before n n' well' alike.wiring
@@ -145,14 +145,14 @@ module _ (p : SettlingParams) (before : Snapshot) (aged silent owner port : ℕ)
     }
 
     module _ (quiet' : HaveQuietLinks p.params w') where
-      after_then : UnlinkedAge says_announce g' (stay_of p) aged (view w') → IsAfterLoss n' (view w')
-      after_then ages = aging_after p aged silent w' standing_then asked_then quiet' ages off late'
+      after_then : IsAfterLoss n' (view w')
+      after_then = aging_after p silent w' standing_then asked_then quiet' off late'
 
       stepped : MachineSteps says_announce (view taken) (view w')
           → IsAgingSeen says_announce before n' (stay_of p) aged (view w')
       stepped step =
-          let ages' = ages_kept says_announce (network_setting n') (stay_of p) aged (view taken) (view w')
-          after_taken.calm.facts (aging_facts p aged silent w' standing_then asked_then quiet') (named_in p w' is') step
+          let ages' = ages_kept says_announce before (network_setting n') (stay_of p) aged (view taken) (view w')
+          after_taken.calm.facts (aging_facts p silent w' standing_then asked_then quiet') (named_in p w' is') step
           seen_taken.ages in
           aging_kept says_announce before n' (stay_of p) aged (view taken) (view w') aging.well well' left' after_taken
           after_then ages' step seen_taken
@@ -176,6 +176,7 @@ module _ (p : SettlingParams) (before : Snapshot) (aged silent owner port : ℕ)
       well = aging.well;
       left = left';
       near = subst AllAreNear (sym same_graph) aging.near;
+      stay = subst (NearEndsStay before) (sym same_graph) aging.stay;
       way = way';
       late = late';
       seen = λ quiet' lapses. seen' quiet';
@@ -187,7 +188,7 @@ module _ (p : SettlingParams) (before : Snapshot) (aged silent owner port : ℕ)
         either p silent owner port w draws done w' is' measured' acts aging.standing aging.asked up dead (λ v.
         UnlinkedAgeBy says_announce g' (stay_of p) By (view v)) ages_taken
         (λ step. by_kept says_announce (network_setting n') (stay_of p) By (view taken) (view w') after_taken.calm.facts
-        (aging_facts p aged silent w' standing_then asked_then quiet') (named_in p w' is') step ages_taken)
+        (aging_facts p silent w' standing_then asked_then quiet') (named_in p w' is') step ages_taken)
       where
         ages_taken : UnlinkedAgeBy says_announce g' (stay_of p) By (view taken)
         ages_taken =

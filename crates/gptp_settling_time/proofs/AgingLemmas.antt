@@ -13,8 +13,8 @@ use Rattle.gptp_bmca_machine.specs.Reacts.{IsMasterAt, IsOwn}
 use Rattle.gptp_bmca_machine.specs.Station.{Disabled, HoldsAt, MachineState, Received, Reception, Station}
 use Rattle.gptp_bmca_machine.specs.Touch.{Hear, StationTouch}
 use Rattle.gptp_bmca_machine.proofs.ReactsLemmas.{JustHeard, held_from}
-use Rattle.gptp_settling_time.proofs.FitsLemmas.{UnlinkedHoldNothing}
 use Rattle.gptp_settling_time.proofs.ReducedLemmas.{IsReduced}
+use Rattle.gptp_settling_time.proofs.UnlinkedLemmas.{IsFarther}
 
 -- what a live system received stays as long as the interval that it named says
 abbrev pub StaysAsNamed : (ℤ → ℕ) → MachineState → Type 0
@@ -162,24 +162,38 @@ module _ (says : Spelling) (k : NetworkSetting) (stay : ℤ → ℕ) (So : PortI
 
 -- ---- where no link is
 
--- At ports of live systems that no link is at, what was received ages before this time, and so does what is in flight
--- to them once it has come.
-abbrev pub UnlinkedAge : Spelling → Snapshot → (ℤ → ℕ) → ℕ → MachineState → Type 0
-UnlinkedAge says g stay aged w = EachAges says g stay (λ port a t. (IsLinked g port → ⊥) → t < aged) w
+-- Before, no link led to the port from a system that was farther from the best, or as far with the higher clock.
+abbrev pub HeardNearer : Snapshot → PortIdentity → Type 0
+HeardNearer before port = (from : PortIdentity) → Joins before from port → IsFarther before from port → ⊥
 
--- from then on nothing is received there
-pub aged_gone : (says : Spelling) (k : NetworkSetting) (stay : ℤ → ℕ) (aged : ℕ) (w : MachineState)
-    → StationFacts k w → UnlinkedAge says k.graph stay aged w → aged ≤ w.time → UnlinkedHoldNothing k.graph w
-aged_gone says k stay aged w facts all late i s place r here live unlinked holds =
-    let over = all.held i s place r here live holds unlinked in
+-- At ports of live systems that no link is at, and that heard a nearer system before, what was received ages before
+-- this time, and so does what is in flight to them once it has come.
+abbrev pub UnlinkedAge : Spelling → Snapshot → Snapshot → (ℤ → ℕ) → ℕ → MachineState → Type 0
+UnlinkedAge says before g stay aged w =
+    EachAges says g stay (λ port a t. (IsLinked g port → ⊥) → HeardNearer before port → t < aged) w
+
+-- nothing is received there
+abbrev pub HearersHoldNothing : Snapshot → Snapshot → MachineState → Type 0
+HearersHoldNothing before g w = (i : ℕ) (s : Station) (place : ℕ) (r : Reception) → slice_get w.stations i ≡ Some s
+    → s.live ≡ true → (IsLinked g (port_of s.clock (suc place)) → ⊥)
+    → HeardNearer before (port_of s.clock (suc place)) → HoldsAt s place r
+    → ⊥
+
+-- from then on nothing is
+pub aged_gone : (says : Spelling) (before : Snapshot) (k : NetworkSetting) (stay : ℤ → ℕ) (aged : ℕ)
+    (w : MachineState) → StationFacts k w → UnlinkedAge says before k.graph stay aged w → aged ≤ w.time
+    → HearersHoldNothing before k.graph w
+aged_gone says before k stay aged w facts all late i s place r here live unlinked nearer holds =
+    let over = all.held i s place r here live holds unlinked nearer in
     let stays = ((facts.stations i s here live).held place r holds).stays in
-    absurd (omega (arith, over, stays, late))
+    omega (arith, over, stays, late)
 
-pub ages_kept : (says : Spelling) (k : NetworkSetting) (stay : ℤ → ℕ) (aged : ℕ) (w w' : MachineState)
-    → StationFacts k w → StationFacts k w' → StaysAsNamed stay w' → MachineSteps says w w'
-    → UnlinkedAge says k.graph stay aged w → UnlinkedAge says k.graph stay aged w'
-ages_kept says k stay aged w w' facts facts' named =
-    each_ages says k stay (λ port a t. (IsLinked k.graph port → ⊥) → t < aged) w w' facts facts' named
+pub ages_kept : (says : Spelling) (before : Snapshot) (k : NetworkSetting) (stay : ℤ → ℕ) (aged : ℕ)
+    (w w' : MachineState) → StationFacts k w → StationFacts k w' → StaysAsNamed stay w' → MachineSteps says w w'
+    → UnlinkedAge says before k.graph stay aged w → UnlinkedAge says before k.graph stay aged w'
+ages_kept says before k stay aged w w' facts facts' named =
+    each_ages says k stay (λ port a t. (IsLinked k.graph port → ⊥) → HeardNearer before port → t < aged) w w' facts
+    facts' named
     (λ i s p a at live own master to joins t unlinked.
     absurd (unlinked (port_of s.clock p, Joins-sym k.graph (port_of s.clock p) to joins)))
 
@@ -201,6 +215,7 @@ each_reduced says g stay So w w' less all = record {
   ];
 }
 
-pub ages_reduced : (says : Spelling) (g : Snapshot) (stay : ℤ → ℕ) (aged : ℕ) (w w' : MachineState) → IsReduced w w'
-    → UnlinkedAge says g stay aged w → UnlinkedAge says g stay aged w'
-ages_reduced says g stay aged = each_reduced says g stay (λ port a t. (IsLinked g port → ⊥) → t < aged)
+pub ages_reduced : (says : Spelling) (before g : Snapshot) (stay : ℤ → ℕ) (aged : ℕ) (w w' : MachineState)
+    → IsReduced w w' → UnlinkedAge says before g stay aged w → UnlinkedAge says before g stay aged w'
+ages_reduced says before g stay aged =
+    each_reduced says g stay (λ port a t. (IsLinked g port → ⊥) → HeardNearer before port → t < aged)

@@ -28,7 +28,7 @@ use Rattle.gptp_settling_time.proofs.UnlinkedLemmas.{IsLeftSeen}
 
 pub record IsAgingSeen (says : Spelling) (g : Snapshot) (n : Network) (stay : ℤ → ℕ) (aged : ℕ) (w : MachineState)
     : Type 0 where
-  pub ages : UnlinkedAge says n.graph stay aged w
+  pub ages : UnlinkedAge says g n.graph stay aged w
   pub fits : EverythingFits says g n w
   pub still : (d : ℕ) → StillSettles says g n d w
   pub itself : AllNameItself says n g w
@@ -38,11 +38,10 @@ what_is_left g n well left = record { graph = well; systems = left.systems; link
 
 -- every step keeps that
 pub aging_kept : (says : Spelling) (g : Snapshot) (n : Network) (stay : ℤ → ℕ) (aged : ℕ) (w w' : MachineState)
-    → IsWellFormed g → IsWellFormed n.graph → IsLeftUnmoved g n.graph → IsAfterLoss n w
-    → (UnlinkedAge says n.graph stay aged w' → IsAfterLoss n w')
-    → UnlinkedAge says n.graph stay aged w' → MachineSteps says w w' → IsAgingSeen says g n stay aged w
+    → IsWellFormed g → IsWellFormed n.graph → IsLeftUnmoved g n.graph → IsAfterLoss n w → IsAfterLoss n w'
+    → UnlinkedAge says g n.graph stay aged w' → MachineSteps says w w' → IsAgingSeen says g n stay aged w
     → IsAgingSeen says g n stay aged w'
-aging_kept says g n stay aged w w' well well' left was is ages step seen = record {
+aging_kept says g n stay aged w w' well well' left was after ages step seen = record {
   ages = ages;
   fits = fits;
   still = λ d.
@@ -53,9 +52,6 @@ aging_kept says g n stay aged w w' well well' left was is ages step seen = recor
   where
     less : IsWhatIsLeft g n
     less = what_is_left g n well left
-
-    after : IsAfterLoss n w'
-    after = is ages
 
     fits : EverythingFits says g n w'
     fits = fits_kept says g n less w w' was.calm after.calm step seen.fits
@@ -294,17 +290,17 @@ module _ (says : Spelling) (g : Snapshot) (n n' : Network) (well' : IsWellFormed
 -- So it ages in time where none of it stays for longer than the longest span.
 module _ (says : Spelling) (n : Network) (w : MachineState) (calm : Calm n w) (begun : n.start ≤ w.time)
     (fits : EverythingFits says n.graph n w) (stay : ℤ → ℕ) (named : StaysAsNamed stay w) (longest aged : ℕ)
-    (short : (log : ℤ) → stay log ≤ longest) (soon : w.time + longest + n.most < aged) (g : Snapshot)
+    (short : (log : ℤ) → stay log ≤ longest) (soon : w.time + longest + n.most < aged) (before g : Snapshot)
     (lived : (v : ℕ) → In v (clocks g) → In v (clocks n.graph)) (w' : MachineState) (emptied : IsEmptied w w') where
-  pub ages_begin : UnlinkedAge says g stay aged w'
+  pub ages_begin : UnlinkedAge says before g stay aged w'
   ages_begin = record {
-    held = λ i s place r at live holds unlinked.
+    held = λ i s place r at live holds unlinked nearer.
         let stood = emptied.stations i s at live in
         let came = ((calm.facts.stations i s stood live).held place r holds).came in
         let span = named i s place r stood live holds in
         let most = short r.said.log in
         omega (arith, came, span, most, soon);
-    flight = λ j l f a at flies said known unlinked. elim (emptied.lanes j l at) [
+    flight = λ j l f a at flies said known unlinked nearer. elim (emptied.lanes j l at) [
       | inl stood ↦
           let fit = fits.lanes j l f a stood flies said (lived l.to.clock known) in
           let most = short a.log in

@@ -20,7 +20,7 @@ use Rattle.gptp_invariants.specs.WorldBounded.{IsBoundedWorld}
 use Rattle.gptp_theorem.specs.PlayedLaws.{IsPlayable}
 use Rattle.gptp_theorem.proofs.CalmLemmas.{quiet_stands}
 use Rattle.gptp_theorem.proofs.CalmKeptLemmas.{no_change}
-use Rattle.gptp_settling_time.specs.Losses.{UpIsUsed}
+use Rattle.gptp_settling_time.specs.Losses.{NoneSilent}
 use Rattle.gptp_settling_time.proofs.AgingClaimedLemmas.{IsAgingAlways, aging_acts, aging_chooses, aging_later, aging_now, aging_settles}
 use Rattle.gptp_settling_time.specs.InTurn.{HasAged}
 use Rattle.gptp_settling_time.proofs.AgesByWorldLemmas.{WorldAgesBy, by_acts, by_later}
@@ -28,7 +28,7 @@ use Rattle.gptp_settling_time.proofs.AgedLemmas.{AgedIsSound, aged_claimed, aged
 use Rattle.gptp_settling_time.proofs.ClaimedToLemmas.{IsClaimedTo}
 use Rattle.gptp_settling_time.proofs.GoesToLemmas.{echo_to, goes_to}
 use Rattle.gptp_settling_time.proofs.KeptToLemmas.{KeepsTo, keeps_act, keeps_later}
-use Rattle.gptp_settling_time.proofs.LeftToLemmas.{none_unanswered}
+use Rattle.gptp_settling_time.proofs.WereSilentLemmas.{WereSilent, none_silent_from, were_act, were_later}
 use Rattle.gptp_settling_time.proofs.SilentLinksLemmas.{AgesOver}
 use Rattle.gptp_invariants.proofs.WorldNewsLemmas.{silent_from_now}
 
@@ -41,7 +41,8 @@ pub record IsAgingTo (d : DocumentState) (ago events : List Timed) (aged silent 
   pub sound : AgedIsSound (pace_of d.network) aged silent w
   pub failed : ℕ
   pub unanswered : silent ≡ suc (failed + silence_span (pace_of d.network))
-  pub by : WorldAgesBy (pace_of d.network) (AgesOver d.network ago events failed) w
+  pub by : WorldAgesBy (pace_of d.network) (AgesOver d.network before ago events failed) w
+  pub were : WereSilent d.network ago w
 
 module _ (d : DocumentState) (ago events : List Timed) (aged silent : ℕ) where
   pub aging_to_later : (w : WorldState) (time : ℕ) → w.time ≤ time → NothingBefore time w.net.pending
@@ -53,8 +54,9 @@ module _ (d : DocumentState) (ago events : List Timed) (aged silent : ℕ) where
     sound = aged_sound_later (pace_of d.network) so.before aged silent time w later first so.since so.sound;
     failed = so.failed;
     unanswered = so.unanswered;
-    by = by_later (pace_of d.network) so.before aged silent (AgesOver d.network ago events so.failed) time w later first
-        so.since so.by;
+    by = by_later (pace_of d.network) so.before aged silent (AgesOver d.network so.before ago events so.failed) time w
+        later first so.since so.by;
+    were = were_later d.network ago w time later so.were;
   }
 
   pub aging_to_act : {F : Type 0} (answers : Bounds → ℕ → F → Option ℕ → F → Type 0) (t : ActTrace) (fate drawn : F)
@@ -76,11 +78,13 @@ module _ (d : DocumentState) (ago events : List Timed) (aged silent : ℕ) where
             (aged_sound_later p so.before aged silent timed.at w now first so.since so.sound);
         failed = so.failed;
         unanswered = so.unanswered;
-        by = by_acts p so.before aged silent (AgesOver d.network ago events so.failed) timed.act (at timed.at w)
+        by = by_acts p so.before aged silent (AgesOver d.network so.before ago events so.failed) timed.act
+            (at timed.at w)
             was.draws t.told.done t.after (no_change next.item timed.act w next.act)
             (next_octet next.item timed.act w next.act) was.acts then
-            (by_later p so.before aged silent (AgesOver d.network ago events so.failed) timed.at w now first so.since
-            so.by);
+            (by_later p so.before aged silent (AgesOver d.network so.before ago events so.failed) timed.at w now first
+            so.since so.by);
+        were = were_act d ago events answers t fate drawn w next was so.keeps so.were;
       }
 
   module _ (w : WorldState) (so : IsAgingTo d ago events aged silent w) (playable : IsPlayable d)
@@ -88,28 +92,28 @@ module _ (d : DocumentState) (ago events : List Timed) (aged silent : ℕ) where
     quiet : HaveQuietLinks (pace_of d.network).params w
     quiet = (quiet_stands d.network events w playable.network so.keeps.stands so.keeps.claim.world.sound calm).links
 
-    -- where each link that is up is in use ports without a link aren't capable now
-    unanswered : UpIsUsed d.network events → IsAgingAlways (pace_of d.network) so.before aged w.time w
-    unanswered used =
+    -- where no lost link is silent ports without a link aren't capable now
+    unanswered : NoneSilent d.network ago events → IsAgingAlways (pace_of d.network) so.before aged w.time w
+    unanswered none =
         aging_now (pace_of d.network) so.before aged silent w so.since
-        (none_unanswered d events w so.keeps w.time used)
+        (none_silent_from d ago events w so.keeps so.were none w.time)
 
     -- its choice stands
-    pub aging_to_chooses : (aged ≤ w.time) ⊎ ((silent ≤ w.time) ⊎ UpIsUsed d.network events) → ChoiceStands w
+    pub aging_to_chooses : (aged ≤ w.time) ⊎ ((silent ≤ w.time) ⊎ NoneSilent d.network ago events) → ChoiceStands w
     aging_to_chooses (inl gone) =
         aging_chooses (pace_of d.network) so.before aged silent w so.since quiet off (inl gone)
     aging_to_chooses (inr (inl late)) =
         aging_chooses (pace_of d.network) so.before aged silent w so.since quiet off (inr late)
-    aging_to_chooses (inr (inr used)) =
-        aging_chooses (pace_of d.network) so.before aged w.time w (unanswered used) quiet off (inr (omega arith))
+    aging_to_chooses (inr (inr none)) =
+        aging_chooses (pace_of d.network) so.before aged w.time w (unanswered none) quiet off (inr (omega arith))
 
     -- it has settled
-    pub aging_to_settled : (silent ≤ w.time) ⊎ UpIsUsed d.network events → Settled w × IsBoundedWorld w
+    pub aging_to_settled : (silent ≤ w.time) ⊎ NoneSilent d.network ago events → Settled w × IsBoundedWorld w
     aging_to_settled (inl late) =
         aging_settles (pace_of d.network) so.before aged silent w so.since quiet off (inr late) late
-    aging_to_settled (inr used) =
+    aging_to_settled (inr none) =
         let now : w.time ≤ w.time = omega arith in
-        aging_settles (pace_of d.network) so.before aged w.time w (unanswered used) quiet off (inr now) now
+        aging_settles (pace_of d.network) so.before aged w.time w (unanswered none) quiet off (inr now) now
 
   -- once it has come to rest claims are made of all links always
   pub aging_to_claimed : (w : WorldState) (start : ℕ) → IsAgingTo d ago events aged silent w → IsPlayable d

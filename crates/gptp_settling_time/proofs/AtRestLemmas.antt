@@ -35,18 +35,15 @@ abbrev pub IsNearer : Snapshot → PortIdentity → PortIdentity → Type 0
 IsNearer g from to = (near far : ℕ) → IsDistance g from.clock near → IsDistance g to.clock far
     → (near < far) ⊎ ((near ≡ far) × (from.clock < to.clock))
 
-module _ (n : Network) (net : IsSettlingNetwork n) (near : AllAreNear n.graph) where
-  abbrev g : Snapshot
-  g = n.graph
-
+module _ (g : Snapshot) (well : IsWellFormed g) where
   -- of the two ends of a link one is nearer and the other is farther
   pub either : (from to : PortIdentity) → Joins g from to → IsFarther g from to ⊎ IsNearer g from to
   either from to joins =
-      by (distance_exists g from.clock net.graph (Joins-clock g from to net.graph joins))
-      (distance_exists g to.clock net.graph (Joins-clock g to from net.graph (Joins-sym g from to joins)))
+      by (distance_exists g from.clock well (Joins-clock g from to well joins))
+      (distance_exists g to.clock well (Joins-clock g to from well (Joins-sym g from to joins)))
     where
       apart : from.clock ≢ to.clock
-      apart = net.graph.apart from to joins
+      apart = well.apart from to joins
 
       by : ((a : ℕ) × IsDistance g from.clock a) → ((b : ℕ) × IsDistance g to.clock b)
           → IsFarther g from to ⊎ IsNearer g from to
@@ -67,22 +64,26 @@ module _ (n : Network) (net : IsSettlingNetwork n) (near : AllAreNear n.graph) w
         where
           less_so : (near far : ℕ) → IsDistance g to.clock near → IsDistance g from.clock far → b < a → near < far
           less_so near far is_near is_far less =
-              let one = IsDistance-unique g to.clock near b net.graph is_near is_b in
-              let two = IsDistance-unique g from.clock far a net.graph is_far is_a in
+              let one = IsDistance-unique g to.clock near b well is_near is_b in
+              let two = IsDistance-unique g from.clock far a well is_far is_a in
               omega (arith, one, two, less)
 
           more_so : (near far : ℕ) → IsDistance g from.clock near → IsDistance g to.clock far → a < b → near < far
           more_so near far is_near is_far more =
-              let one = IsDistance-unique g from.clock near a net.graph is_near is_a in
-              let two = IsDistance-unique g to.clock far b net.graph is_far is_b in
+              let one = IsDistance-unique g from.clock near a well is_near is_a in
+              let two = IsDistance-unique g to.clock far b well is_far is_b in
               omega (arith, one, two, more)
 
           same_so : (near far : ℕ) → IsDistance g to.clock near → IsDistance g from.clock far → (b < a → ⊥)
               → (a < b → ⊥) → far ≡ near
           same_so near far is_near is_far not none =
-              let one = IsDistance-unique g to.clock near b net.graph is_near is_b in
-              let two = IsDistance-unique g from.clock far a net.graph is_far is_a in
+              let one = IsDistance-unique g to.clock near b well is_near is_b in
+              let two = IsDistance-unique g from.clock far a well is_far is_a in
               omega (arith, one, two, not, none)
+
+module _ (n : Network) (net : IsSettlingNetwork n) (near : AllAreNear n.graph) where
+  abbrev g : Snapshot
+  g = n.graph
 
   pub close_to : (v far : ℕ) → IsDistance g v far → far < 255
   close_to v far is =
@@ -209,7 +210,8 @@ module _ (says : Spelling) (n : Network) (net : IsSettlingNetwork n) (near : All
   held_settled i s place r from at live (q, there, holds) joins =
       by (distance_exists n.graph from.clock net.graph (Joins-clock n.graph from to net.graph joins))
       (distance_exists n.graph s.clock net.graph (Joins-clock n.graph to from net.graph back))
-      (places_of n.graph from.clock from.port s.clock (suc place) net.graph joins) (either n net near from to joins)
+      (places_of n.graph from.clock from.port s.clock (suc place) net.graph joins)
+      (either n.graph net.graph from to joins)
     where
       to : PortIdentity
       to = port_of s.clock (suc place)

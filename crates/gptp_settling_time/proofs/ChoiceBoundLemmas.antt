@@ -10,11 +10,11 @@ use Rattle.gptp_network.specs.Snapshot.{events_by}
 use Rattle.gptp_report.specs.Transitions.{ActTrace, Unfolds}
 use Rattle.gptp_theorem.specs.PlayedLaws.{IsPlayable}
 use Rattle.gptp_settling_time.specs.ChoiceBounds.{ChoiceAloneBoundsHold, ChoiceBoundsAreExact, ChoiceBoundsHold}
-use Rattle.gptp_settling_time.specs.ExactInTurn.{arrived_by}
+use Rattle.gptp_settling_time.specs.Arrivals.{arrived_by}
 use Rattle.gptp_settling_time.specs.Gains.{HasDelaysWithin}
 use Rattle.gptp_settling_time.specs.HowSoon.{IsChoiceAloneBound, NoneBetween}
 use Rattle.gptp_settling_time.proofs.ExactInTurnLemmas.{acts_are_carried_in_turn, acts_are_exact_in_turn, IsCarried}
-use Rattle.gptp_settling_time.proofs.FollowedLemmas.{bound_chooses, bound_settles}
+use Rattle.gptp_settling_time.proofs.BoundSettlesLemmas.{bound_chooses, bound_settles}
 use Rattle.gptp_settling_time.proofs.InTurnLemmas.{acts_find_choice_in_turn, acts_find_settled_in_turn}
 use Rattle.gptp_settling_time.proofs.MomentLemmas.{last_by, none_later}
 use Rattle.gptp_settling_time.proofs.UnchangedLemmas.{acts_leave_choice, acts_leave_shown}

@@ -31,7 +31,8 @@ use Rattle.gptp_theorem.specs.PlayedLaws.{IsPlayable}
 use Rattle.gptp_theorem.proofs.CalmLemmas.{quiet_stands}
 use Rattle.gptp_theorem.proofs.SettlingInvariantLemmas.{events_fit, events_made}
 use Rattle.gptp_theorem.proofs.CalmKeptLemmas.{no_change}
-use Rattle.gptp_settling_time.specs.ExactInTurn.{ActsAreExactInTurn, arrived_by}
+use Rattle.gptp_settling_time.specs.Arrivals.{arrived_by}
+use Rattle.gptp_settling_time.specs.ExactInTurn.{ActsAreExactInTurn}
 use Rattle.gptp_settling_time.specs.Exactly.{AreExactFrom}
 use Rattle.gptp_settling_time.specs.Gains.{HasDelaysWithin}
 use Rattle.gptp_settling_time.specs.InTurn.{Aging, AnyPast, ChoosesAfter, ChoosesByEvents, Cleared, Fallen, Gained, Heard, Left, Lost, Past, Split, Starting, Turned, TurnedTree}
@@ -92,11 +93,11 @@ module _ (d : DocumentState) (playable : IsPlayable d) (all : List Timed) (calm 
       by (inr (short, late)) = omega (arith, late, on)
   have_measured (Heard start) w so (off, late) links on =
       news_measured p start w so.since.news links (omega (arith, late, on))
-  have_measured (Left silent) w so settles links on =
-      let change = (after_keeps d all (Left silent) w so).stands.last in
+  have_measured (Left ago silent) w so settles links on =
+      let change = (after_keeps d all (Left ago silent) w so).stands.last in
       left_measured p so.before silent w so.since links (omega (arith, behind, on, change))
-  have_measured (Cleared since silent right old) w so settles links on =
-      let change = (after_keeps d all (Cleared since silent right old) w so).stands.last in
+  have_measured (Cleared ago since silent right old) w so settles links on =
+      let change = (after_keeps d all (Cleared ago since silent right old) w so).stands.last in
       left_measured p so.before silent w so.is.left links (omega (arith, behind, on, change))
   have_measured (Turned silent time) w so settles links on =
       let change = (after_keeps d all (Turned silent time) w so).stands.last in
@@ -112,7 +113,7 @@ module _ (d : DocumentState) (playable : IsPlayable d) (all : List Timed) (calm 
       aging_measured p so.before aged silent w so.since links (omega (arith, behind, on, change))
   have_measured (Split ago gone silent) w so settles links on =
       let change = (after_keeps d all (Split ago gone silent) w so).stands.last in
-      split_measured p so.before (GoesOver d.network ago all so.failed gone silent) so.failed gone silent w so.since
+      split_measured p so.before (GoesOver d.network so.before ago all so.failed gone silent) so.failed gone silent w so.since
       links (omega (arith, behind, on, change))
   have_measured (Lost since most silent) w so settles links on =
       let change = (after_keeps d all (Lost since most silent) w so).stands.last in

@@ -29,6 +29,7 @@ use Rattle.gptp_model.specs.declared.done.Done.{Done}
 use Rattle.gptp_model.specs.declared.station.Station.{Station}
 use Rattle.gptp_model.specs.World.{Channel, WorldState, receiver, sender}
 use Rattle.gptp_bmca_machine.specs.Clean.{CameSound}
+use Rattle.gptp_bmca_machine.specs.CutTree.{LosesSystem}
 use Rattle.gptp_bmca_machine.specs.Network.{Network}
 use Rattle.gptp_bmca_machine.specs.RestLaws.{SameWiring}
 use Rattle.gptp_bmca_machine.specs.SoundLaws.{AllAreNear}
@@ -43,7 +44,7 @@ use Rattle.gptp_invariants.specs.DelayMeasured.{LinkIsMeasured, LinkStandsAt, St
 use Rattle.gptp_invariants.specs.FailedUnanswered.{IsFailedAmong, IsLastAnswered, IsUnansweredAt, StandsUnanswered, silent_view}
 use Rattle.gptp_invariants.specs.WorldNews.{AreReadyBy, AreSilentBy, IsSilentBy}
 use Rattle.gptp_invariants.specs.WorldSound.{IsSoundWorld}
-use Rattle.gptp_invariants.specs.WorldStanding.{live_stations, snapshot_of, standing_system}
+use Rattle.gptp_invariants.specs.WorldStanding.{channel_is_used, live_stations, snapshot_of, standing_system}
 use Rattle.gptp_invariants.proofs.ChoicePlaceLemmas.{station_from, station_there}
 use Rattle.gptp_invariants.proofs.DelayClaimedCapableLemmas.{clock_has, used_if}
 use Rattle.gptp_invariants.proofs.DelayLinkLemmas.{good_between}
@@ -224,7 +225,7 @@ module _ (p : SettlingParams) (number : ℕ) (w : WorldState) (draws : List Draw
       pub asked : IsAsItWas at.asking s.asking.station
       asked = stood at.asking s.asking.station s.asking.here s.asking.live
 
-      here_before : slice_get w.net.channels at.link ≡ Some s.channel
+      pub here_before : slice_get w.net.channels at.link ≡ Some s.channel
       here_before = ap (λ cs. slice_get cs at.link) (sym channels_now) ∙ s.here
 
       -- beside one that had failed before they stay as they are
@@ -301,12 +302,15 @@ module _ (p : SettlingParams) (number : ℕ) (w : WorldState) (draws : List Draw
             (sym (get-set_same w.stations k.place k.station dead k.is.here) ∙ set) in
             ap (λ (x : Station). clock x.system) one ∙ s.answering.named
 
-        links : IsQuietLink p.params s.channel
-        links =
-            quiet at.link s.channel here_before
-            (used_if w.stations at.direction s.channel s.up
+        -- its link was in use
+        pub link_used : channel_is_used (live_stations w.stations) s.channel ≡ true
+        link_used =
+            used_if w.stations at.direction s.channel s.up
             (clock_has w.stations at.asking s.asking.station _ asked.here s.asking.live s.asking.named)
-            (clock_has w.stations at.answering k.station _ answered lives answers))
+            (clock_has w.stations at.answering k.station _ answered lives answers)
+
+        links : IsQuietLink p.params s.channel
+        links = quiet at.link s.channel here_before link_used
 
         pub stood_good : LinkStandsAt at w
         stood_good = record {
@@ -377,16 +381,32 @@ module _ (p : SettlingParams) (number : ℕ) (w : WorldState) (draws : List Draw
           | inr still ↦ still
         ]
 
-    -- no link is at it any more
-    pub none_joined : (a b : PortIdentity) → Joins g' a b → a.clock ≢ number
-    none_joined a b joins same =
-        let (s, member, named) = system_of g' a.clock (Joins-clock g' a b well' joins) in
+    -- it is gone, and no link is at it any more
+    not_left : In number (clocks g') → ⊥
+    not_left known =
+        let (s, member, named) = system_of g' number known in
         let at = live_from w'.stations s member in
         let old = stood at.place at.station at.here at.live in
-        let clock_is : clock at.station.system ≡ number =
-        ap (λ (x : System). x.clock) (sym at.is) ∙ named ∙ same in
+        let clock_is : clock at.station.system ≡ number = ap (λ (x : System). x.clock) (sym at.is) ∙ named in
         old.apart (is.sound.wired.clocks at.place k.place at.station k.station old.here k.is.here
         (clock_is ∙ sym k.is.named))
+
+    pub none_joined : (a b : PortIdentity) → Joins g' a b → a.clock ≢ number
+    none_joined a b joins same = not_left (subst (λ c. In c (clocks g')) same (Joins-clock g' a b well' joins))
+
+    -- so it is of each network that has what is left
+    pub loses_it : (n : Network) → n.graph ≡ g' → LosesSystem g n number
+    loses_it n graph = record {
+      dead = λ known. not_left (subst (λ h. In number (clocks h)) graph known);
+      others = λ v known. elim (lives_still v known) [
+        | inl is_it ↦ inr is_it
+        | inr still ↦ inl (subst (λ h. In v (clocks h)) (sym graph) still)
+      ];
+      links = λ a b joins from to.
+          subst (λ h. Joins h a b) (sym graph)
+          (links_still a b joins (subst (λ h. In a.clock (clocks h)) graph from)
+          (subst (λ h. In b.clock (clocks h)) graph to));
+    }
 
     -- ---- as the machine sees it
 

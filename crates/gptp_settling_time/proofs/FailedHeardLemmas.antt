@@ -47,6 +47,7 @@ use Rattle.gptp_settling_time.proofs.LeftClaimedLemmas.{HaveAskedLong}
 use Rattle.gptp_settling_time.proofs.MovedAlwaysLemmas.{at_least}
 use Rattle.gptp_settling_time.proofs.LostEndLemmas.{sound_reduced}
 use Rattle.gptp_settling_time.proofs.NamesItselfLemmas.{itself_begins}
+use Rattle.gptp_settling_time.proofs.NearEndLemmas.{near_ends_stay}
 use Rattle.gptp_settling_time.proofs.ReducedLemmas.{fits_reduced}
 use Rattle.gptp_settling_time.proofs.SettledSeenLemmas.{IsSettledSeen, sound_fits}
 
@@ -162,7 +163,7 @@ module _ (p : SettlingParams) (number : ℕ) (w : WorldState) (draws : List Draw
         (quiet : HaveQuietLinks p.params w) (silent_before : AreSilentBy p next w)
         (long : w.time + silence_span p < silent) (soon : w.time + longest_span p + delay_in w < aged) where
       abbrev n' : Network
-      n' = aging_network p aged silent w'
+      n' = aging_network p silent w'
 
       standing : IsStanding p silent w'
       standing =
@@ -184,15 +185,14 @@ module _ (p : SettlingParams) (number : ℕ) (w : WorldState) (draws : List Draw
           let within = delay_within p w w.time is over in
           omega (arith, most, within)
 
-      ages : UnlinkedAge says_announce g' (stay_of p) aged (view w')
+      ages : UnlinkedAge says_announce g g' (stay_of p) aged (view w')
       ages =
           let begun = seen.net.begun in
           let settled = seen.late in
           let most = seen.most in
           ages_begin says_announce seen.n (view w) seen.calm (omega (arith, begun, settled)) fits (stay_of p)
-          (named_in p w is) (longest_span p) aged (λ log. span_longest p log pace.largest) (omega (arith, soon, most))
-          g'
-          back_known (view w') emptied
+          (named_in p w is) (longest_span p) aged (λ log. span_longest p log pace.largest) (omega (arith, soon, most)) g
+          g' back_known (view w') emptied
 
       fits' : EverythingFits says_announce g n' (view w')
       fits' =
@@ -222,6 +222,9 @@ module _ (p : SettlingParams) (number : ℕ) (w : WorldState) (draws : List Draw
         well = well;
         left = left;
         near = near_then;
+        stay = near_ends_stay g n' number well'
+            (record { graph = well; systems = left.systems; links = left.links })
+            (alone.loses_it p number w draws done w' is is' acts lives n' refl);
         way = way;
         late = late;
         seen = λ quiet' off. record {
@@ -230,7 +233,7 @@ module _ (p : SettlingParams) (number : ℕ) (w : WorldState) (draws : List Draw
           still = still_emptied says_announce g seen.n n' well' same
               (λ a b joins. subst (λ h. Joins h a b) (sym seen.graph) (left.links a b joins)) back
               (record { graph = well; systems = left.systems; links = left.links }) (view w) (view w') emptied come
-              (aging_after p aged silent w' standing asked quiet' ages off late) fits' tells;
+              (aging_after p silent w' standing asked quiet' off late) fits' tells;
           itself = itself_begins says_announce n' g (view w')
               (sound_reduced says_announce g (view w) (view w')
               (alone.less p number w draws done w' is is' acts lives) sound);

@@ -8,7 +8,7 @@ use Rattle.gptp_graph.specs.Snapshot.{PortIdentity, clocks, port_of}
 use Rattle.gptp_vector.specs.declared.port.PortId.{PortId}
 use Rattle.gptp_setup.specs.Intervals.{IsLog, IsLogUpTo}
 use Rattle.gptp_setup.proofs.SettlingParamsLemmas.{span_longest, span_same}
-use Rattle.gptp_scenario.specs.Network.{NetworkState, largest_of, pace_of}
+use Rattle.gptp_scenario.specs.Network.{IsNetwork, NetworkState, largest_of, pace_of}
 use Rattle.gptp_scenario.specs.declared.change.Act.TheVariants.{Change as Changing}
 use Rattle.gptp_scenario.specs.declared.change.Change.TheVariants.{Fail}
 use Rattle.gptp_scenario.specs.declared.change.Timed.{Timed}
@@ -21,6 +21,7 @@ use Rattle.gptp_invariants.specs.ChoiceView.{port_identity_number, says_announce
 use Rattle.gptp_invariants.specs.WorldStanding.{snapshot_of}
 use Rattle.gptp_invariants.proofs.WorldLogLemmas.{log_is}
 use Rattle.gptp_invariants.proofs.WorldSetLemmas.{log_within}
+use Rattle.gptp_invariants.proofs.WorldStandsLemmas.{stands_well}
 use Rattle.gptp_theorem.specs.Reached.{Shape, StandsAsPlanned, shape, shape_after}
 use Rattle.gptp_settling_time.specs.Losses.{AnnouncesAt, IsHoldSpan}
 use Rattle.gptp_settling_time.proofs.AgesByLemmas.{ByLink, by_map}
@@ -87,24 +88,25 @@ module _ (n : NetworkState) (made : List Timed) (w : WorldState) (is : IsWorld (
 
 -- So as a system fails what others hold of it ages by the silent links.
 module _ (n : NetworkState) (made : List Timed) (event : Timed) (number : ℕ)
-    (act : event.act ≡ Changing (Fail number)) (w w' : WorldState) (is : IsWorld (pace_of n) w)
+    (act : event.act ≡ Changing (Fail number)) (w w' : WorldState) (network : IsNetwork n) (is : IsWorld (pace_of n) w)
     (stands : StandsAsPlanned n made w) (stands' : StandsAsPlanned n (made ++ event ∷ []) w') (sound' : IsSound w')
     (largest : IsLog (largest_of n)) where
   by_links : (Stays : PortIdentity → ℕ → Type 0)
       → ((port : PortId) (span held : ℕ) → Stays (port_identity_number port) span
       → IsHoldSpan n made w.time port held → span ≤ held)
       → WorldAgesBy (pace_of n) (ByLink w.time Stays (OverWay w)) w'
-      → WorldAgesBy (pace_of n) (AgesOver n made (made ++ event ∷ []) w.time) w'
+      → WorldAgesBy (pace_of n) (AgesOver n (snapshot_of w) made (made ++ event ∷ []) w.time) w'
   by_links Stays short by quiet =
       by_map says_announce (snapshot_of w') (stay_of (pace_of n))
       (λ port until. ByLink w.time Stays (OverWay w) port until × In port.clock (clocks (snapshot_of w')))
-      (AgesOver n made (made ++ event ∷ []) w.time) (view w')
+      (AgesOver n (snapshot_of w) made (made ++ event ∷ []) w.time) (view w')
       (λ port until unlinked (came, lives).
-      over_begins n made event number act w w' stands is.sound stands' sound' Stays short port until unlinked lives
-      came)
+      over_begins n made event number act w w' network stands is.sound
+      (stands_well w is.sound is.between is.encodable) stands' sound' Stays short port until unlinked lives came)
       (by_live (pace_of n) (ByLink w.time Stays (OverWay w)) w' by quiet)
 
-  pub ages_over : AgesByLink (pace_of n) w w' → WorldAgesBy (pace_of n) (AgesOver n made (made ++ event ∷ []) w.time) w'
+  pub ages_over : AgesByLink (pace_of n) w w'
+      → WorldAgesBy (pace_of n) (AgesOver n (snapshot_of w) made (made ++ event ∷ []) w.time) w'
   ages_over (inl named) = by_links (StaysNamed (pace_of n) w) (named_short n made w is stands largest) named
   ages_over (inr (early, longest)) =
       by_links (StaysLongest (pace_of n)) (longest_short n made w is stands largest early) longest

@@ -26,7 +26,7 @@ use Rattle.gptp_theorem.specs.Reached.{StandsAsPlanned}
 use Rattle.gptp_theorem.proofs.SettlingInvariantLemmas.{least_of}
 use Rattle.gptp_theorem.proofs.KeptLemmas.{acts_stand, time_stands}
 use Rattle.gptp_theorem.proofs.CalmKeptLemmas.{no_change}
-use Rattle.gptp_settling_time.specs.ExactInTurn.{arrived_by}
+use Rattle.gptp_settling_time.specs.Arrivals.{arrived_by}
 use Rattle.gptp_settling_time.specs.Gains.{AreSparedBy, HasDelaysWithin}
 use Rattle.gptp_settling_time.proofs.AskedInTimeLemmas.{AreAskedInTime, are_asked_acts, are_asked_later}
 use Rattle.gptp_settling_time.proofs.BetweenFailedLemmas.{AreGoneBetween, gone_acts, gone_later}

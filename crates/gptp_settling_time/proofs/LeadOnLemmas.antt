@@ -48,11 +48,11 @@ HasSettled n events AnyPast time = HasSettledAnyhow n events time
 HasSettled n events Starting time = ⊥
 HasSettled n events (Gained start) time = HasSettledSince n events start time
 HasSettled n events (Heard start) time = HasSettledHeard n events start time
-HasSettled n events (Left start) time = ⊥
+HasSettled n events (Left ago start) time = ⊥
 HasSettled n events (Turned silent now) time = ⊥
 HasSettled n events (Fallen silent now) time = ⊥
 HasSettled n events (TurnedTree silent now) time = ⊥
-HasSettled n events (Cleared begun silent right old) time = ⊥
+HasSettled n events (Cleared ago begun silent right old) time = ⊥
 HasSettled n events (Aging ago aged silent) time = ⊥
 HasSettled n events (Split ago gone silent) time = ⊥
 HasSettled n events (Lost since most silent) time = ⊥
@@ -64,11 +64,11 @@ settled_later n events AnyPast time later less is =
 settled_later n events Starting time later less is = absurd is
 settled_later n events (Gained start) time later less is = omega (arith, is, less)
 settled_later n events (Heard start) time later less is = omega (arith, is, less)
-settled_later n events (Left start) time later less is = absurd is
+settled_later n events (Left ago start) time later less is = absurd is
 settled_later n events (Turned silent now) time later less is = absurd is
 settled_later n events (Fallen silent now) time later less is = absurd is
 settled_later n events (TurnedTree silent now) time later less is = absurd is
-settled_later n events (Cleared begun silent right old) time later less is = absurd is
+settled_later n events (Cleared ago begun silent right old) time later less is = absurd is
 settled_later n events (Aging ago aged silent) time later less is = absurd is
 settled_later n events (Split ago gone silent) time later less is = absurd is
 settled_later n events (Lost since most silent) time later less is = absurd is
@@ -98,7 +98,7 @@ taken_later n events past seen time later less (inr (start, same, rests)) = inr 
     by Starting none = absurd none
     by (Gained since) none = absurd none
     by (Heard since) none = absurd none
-    by (Left silent) none = absurd none
+    by (Left ago silent) none = absurd none
     by (Turned silent now) is = anew now is
     by (Fallen silent now) is =
         let gone = is.gone in
@@ -113,7 +113,7 @@ taken_later n events past seen time later less (inr (start, same, rests)) = inr 
           over = omega (arith, over, less);
         }
     by (TurnedTree silent now) (is, later) = (anew now is, later)
-    by (Cleared begun silent right old) is =
+    by (Cleared ago begun silent right old) is =
         let gone = is.gone in
         let over = is.over in
         record {
@@ -165,11 +165,11 @@ settled_so n events AnyPast time off is = inl (off, is.passed)
 settled_so n events Starting time off is = absurd is
 settled_so n events (Gained start) time off is = inl (off, is)
 settled_so n events (Heard start) time off is = (off, is)
-settled_so n events (Left start) time off is = absurd is
+settled_so n events (Left ago start) time off is = absurd is
 settled_so n events (Turned silent now) time off is = absurd is
 settled_so n events (Fallen silent now) time off is = absurd is
 settled_so n events (TurnedTree silent now) time off is = absurd is
-settled_so n events (Cleared begun silent right old) time off is = absurd is
+settled_so n events (Cleared ago begun silent right old) time off is = absurd is
 settled_so n events (Aging ago aged silent) time off is = absurd is
 settled_so n events (Split ago gone silent) time off is = absurd is
 settled_so n events (Lost since most silent) time off is = absurd is
@@ -186,14 +186,14 @@ rested_so n events past time off (seen, inr (start, same, rests), is) = by past 
     by Starting none = absurd none
     by (Gained since) none = absurd none
     by (Heard since) none = absurd none
-    by (Left silent) none = absurd none
+    by (Left ago silent) none = absurd none
     by (Turned silent now) rest = let told = rest.told in (off, omega (arith, told))
     by (Fallen silent now) rest =
         let later = rest.later in
         let over = rest.over in
         (off, omega (arith, later, over))
     by (TurnedTree silent now) (rest, later) = let told = rest.told in (off, omega (arith, told))
-    by (Cleared begun silent right old) rest = (off, rest.unlinked)
+    by (Cleared ago begun silent right old) rest = (off, rest.unlinked)
     by (Aging ago aged silent) rest = (off, inl rest.unlinked)
     by (Split ago gone silent) none = absurd none
     by (Lost begun most silent) rest =
@@ -251,11 +251,11 @@ module _ (n : NetworkState) (made : List Timed) (event : Timed) where
       inl (takes, inl (inr (omega (arith, settled, less), leaves)))
   gain_leads (Heard start) next settled less (takes, leaves) =
       inl (takes, inl (inr (omega (arith, settled, less), leaves)))
-  gain_leads (Left start) next settled less gain = absurd settled
+  gain_leads (Left ago start) next settled less gain = absurd settled
   gain_leads (Turned silent now) next settled less gain = absurd settled
   gain_leads (Fallen silent now) next settled less gain = absurd settled
   gain_leads (TurnedTree silent now) next settled less gain = absurd settled
-  gain_leads (Cleared begun silent right old) next settled less gain = absurd settled
+  gain_leads (Cleared ago begun silent right old) next settled less gain = absurd settled
   gain_leads (Aging ago aged silent) next settled less gain = absurd settled
   gain_leads (Split ago gone silent) next settled less gain = absurd settled
   gain_leads (Lost since most silent) next settled less gain = absurd settled
@@ -270,11 +270,11 @@ module _ (n : NetworkState) (made : List Timed) (event : Timed) where
   heard_leads (Heard start) next settled (inl adds) =
       let later = adds_later n made event next adds in inl (omega (arith, settled, later), adds)
   heard_leads (Heard start) next settled (inr better) = inr (inl (settled, inl better))
-  heard_leads (Left start) next settled heard = absurd settled
+  heard_leads (Left ago start) next settled heard = absurd settled
   heard_leads (Turned silent now) next settled heard = absurd settled
   heard_leads (Fallen silent now) next settled heard = absurd settled
   heard_leads (TurnedTree silent now) next settled heard = absurd settled
-  heard_leads (Cleared begun silent right old) next settled heard = absurd settled
+  heard_leads (Cleared ago begun silent right old) next settled heard = absurd settled
   heard_leads (Aging ago aged silent) next settled heard = absurd settled
   heard_leads (Split ago gone silent) next settled heard = absurd settled
   heard_leads (Lost since most silent) next settled heard = absurd settled
@@ -296,11 +296,11 @@ module _ (n : NetworkState) (made : List Timed) (event : Timed) where
     way_over Starting settled = absurd settled
     way_over (Gained start) settled = omega (arith, settled)
     way_over (Heard start) settled = omega (arith, settled)
-    way_over (Left start) settled = absurd settled
+    way_over (Left ago start) settled = absurd settled
     way_over (Turned silent now) settled = absurd settled
     way_over (Fallen silent now) settled = absurd settled
     way_over (TurnedTree silent now) settled = absurd settled
-    way_over (Cleared begun silent right old) settled = absurd settled
+    way_over (Cleared ago begun silent right old) settled = absurd settled
     way_over (Aging ago aged silent) settled = absurd settled
     way_over (Split ago gone silent) settled = absurd settled
     way_over (Lost begun most silent) settled = absurd settled
@@ -323,11 +323,11 @@ module _ (n : NetworkState) (made : List Timed) (event : Timed) where
       idle_leads Starting settled = absurd settled
       idle_leads (Gained start) settled = (settled, inr (inr (inl (leaves_so (way_over (Gained start) settled)))))
       idle_leads (Heard start) settled = inr (inl (settled, inr (inl (leaves_so (way_over (Heard start) settled)))))
-      idle_leads (Left start) settled = absurd settled
+      idle_leads (Left ago start) settled = absurd settled
       idle_leads (Turned silent now) settled = absurd settled
       idle_leads (Fallen silent now) settled = absurd settled
       idle_leads (TurnedTree silent now) settled = absurd settled
-      idle_leads (Cleared begun silent right old) settled = absurd settled
+      idle_leads (Cleared ago begun silent right old) settled = absurd settled
       idle_leads (Aging ago aged silent) settled = absurd settled
       idle_leads (Split ago gone silent) settled = absurd settled
       idle_leads (Lost begun most silent) settled = absurd settled
@@ -494,11 +494,11 @@ module _ (n : NetworkState) (network : IsNetwork n) where
       )),
       omega (arith, is, soon),
     )
-    widens_leads made event (Left start) settled by here calm is late widens soon = absurd is
+    widens_leads made event (Left ago start) settled by here calm is late widens soon = absurd is
     widens_leads made event (Turned silent now) settled by here calm is late widens soon = absurd is
     widens_leads made event (Fallen silent now) settled by here calm is late widens soon = absurd is
     widens_leads made event (TurnedTree silent now) settled by here calm is late widens soon = absurd is
-    widens_leads made event (Cleared begun silent right old) settled by here calm is late widens soon = absurd is
+    widens_leads made event (Cleared ago begun silent right old) settled by here calm is late widens soon = absurd is
     widens_leads made event (Aging ago aged silent) settled by here calm is late widens soon = absurd is
     widens_leads made event (Split ago gone silent) settled by here calm is late widens soon = absurd is
     widens_leads made event (Lost begun most silent) settled by here calm is late widens soon = absurd is

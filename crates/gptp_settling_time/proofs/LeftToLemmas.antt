@@ -29,11 +29,12 @@ use Rattle.gptp_theorem.specs.PlayedLaws.{IsPlayable}
 use Rattle.gptp_theorem.specs.Reached.{channel_wire}
 use Rattle.gptp_theorem.proofs.CalmLemmas.{quiet_stands}
 use Rattle.gptp_theorem.proofs.CalmKeptLemmas.{no_change}
-use Rattle.gptp_settling_time.specs.Losses.{UpIsUsed}
+use Rattle.gptp_settling_time.specs.Losses.{NoneSilent, UpIsUsed}
 use Rattle.gptp_settling_time.proofs.DueLemmas.{UpIsInUse}
 use Rattle.gptp_settling_time.proofs.GainLemmas.{used_so}
 use Rattle.gptp_settling_time.proofs.KeptToLemmas.{KeepsTo, keeps_act, keeps_later}
 use Rattle.gptp_settling_time.proofs.LeftClaimedLemmas.{IsLeftAlways, left_acts, left_chooses, left_later, left_now, left_settles}
+use Rattle.gptp_settling_time.proofs.WereSilentLemmas.{WereSilent, none_silent_from, were_act, were_later}
 
 -- the way that is left is no longer
 pub less_way : (systems fewer delay least : ℕ) → fewer ≤ systems → least ≤ delay
@@ -50,10 +51,11 @@ less_way systems fewer delay least few is =
 
 -- A world of a document after these events, the last of which was such a loss: what it holds fits the snapshot of
 -- before, and ports without a link aren't capable from a time on.
-pub record IsLeftTo (d : DocumentState) (events : List Timed) (silent : ℕ) (w : WorldState) : Type 0 where
+pub record IsLeftTo (d : DocumentState) (ago events : List Timed) (silent : ℕ) (w : WorldState) : Type 0 where
   pub keeps : KeepsTo d events w
   pub before : Snapshot
   pub since : IsLeftAlways (pace_of d.network) before silent w
+  pub were : WereSilent d.network ago w
 
 -- no port is unanswered where each link that is up is in use
 pub answered_in_use : (p : SettlingParams) (w : WorldState) → IsWorld p w → UpIsInUse w → (start : ℕ)
@@ -83,18 +85,19 @@ module _ (d : DocumentState) (events : List Timed) where
   none_unanswered w keeps start used =
       answered_in_use (pace_of d.network) w keeps.claim.world (up_in_use w keeps used) start
 
-module _ (d : DocumentState) (events : List Timed) (silent : ℕ) where
+module _ (d : DocumentState) (ago events : List Timed) (silent : ℕ) where
   pub left_to_later : (w : WorldState) (time : ℕ) → w.time ≤ time → NothingBefore time w.net.pending
-      → IsLeftTo d events silent w → IsLeftTo d events silent (at time w)
+      → IsLeftTo d ago events silent w → IsLeftTo d ago events silent (at time w)
   left_to_later w time later first so = record {
     keeps = keeps_later d events w time later first so.keeps;
     before = so.before;
     since = left_later (pace_of d.network) so.before silent time w later first so.since;
+    were = were_later d.network ago w time later so.were;
   }
 
   pub left_to_act : {F : Type 0} (answers : Bounds → ℕ → F → Option ℕ → F → Type 0) (t : ActTrace) (fate drawn : F)
       (w : WorldState) → IsNextAct w t.told.timed → WasDone answers t.told.timed fate drawn w t.after t.told.done
-      → IsLeftTo d events silent w → IsLeftTo d events silent t.after
+      → IsLeftTo d ago events silent w → IsLeftTo d ago events silent t.after
   left_to_act answers t fate drawn w next was so =
       let timed = t.told.timed in
       let p = pace_of d.network in
@@ -104,9 +107,10 @@ module _ (d : DocumentState) (events : List Timed) (silent : ℕ) where
         before = so.before;
         since = left_acts p so.before silent timed.act (at timed.at w) was.draws t.told.done t.after
             (no_change next.item timed.act w next.act) (next_octet next.item timed.act w next.act) was.acts then;
+        were = were_act d ago events answers t fate drawn w next was so.keeps so.were;
       }
 
-  module _ (w : WorldState) (so : IsLeftTo d events silent w) (playable : IsPlayable d)
+  module _ (w : WorldState) (so : IsLeftTo d ago events silent w) (playable : IsPlayable d)
       (calm : IsCalm d.network events) (off : NothingLapses d.network.params) where
     quiet : HaveQuietLinks (pace_of d.network).params w
     quiet = (quiet_stands d.network events w playable.network so.keeps.stands so.keeps.claim.world.sound calm).links
@@ -116,9 +120,9 @@ module _ (d : DocumentState) (events : List Timed) (silent : ℕ) where
     left_to_chooses = left_chooses (pace_of d.network) so.before silent w so.since quiet off
 
     -- it has settled
-    pub left_to_settled : (silent ≤ w.time) ⊎ UpIsUsed d.network events → Settled w × IsBoundedWorld w
+    pub left_to_settled : (silent ≤ w.time) ⊎ NoneSilent d.network ago events → Settled w × IsBoundedWorld w
     left_to_settled (inl late) = left_settles (pace_of d.network) so.before silent w so.since quiet off late
-    left_to_settled (inr used) =
+    left_to_settled (inr none) =
         left_settles (pace_of d.network) so.before w.time w
         (left_now (pace_of d.network) so.before silent w so.since
-        (none_unanswered d events w so.keeps w.time used)) quiet off (omega arith)
+        (none_silent_from d ago events w so.keeps so.were none w.time)) quiet off (omega arith)

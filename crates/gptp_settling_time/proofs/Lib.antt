@@ -48,6 +48,7 @@ pub mod BesideUpLemmas
 pub mod LinkStoodLemmas
 pub mod LinkUpLemmas
 pub mod FailedUpLemmas
+pub mod StaySilentLemmas
 pub mod TakenDownLemmas
 pub mod FailedDownLemmas
 pub mod RestClaimedLemmas
@@ -61,6 +62,10 @@ pub mod SettledClaimedLemmas
 pub mod WorldMovesLemmas
 pub mod LossMadeLemmas
 pub mod AfterLemmas
+pub mod RestedSoLemmas
+pub mod LeadsToHeardLemmas
+pub mod LeadsToLossLemmas
+pub mod LeadsToTreesLemmas
 pub mod LeadsLemmas
 pub mod InTurnLemmas
 pub mod UnchangedLemmas
@@ -68,6 +73,8 @@ pub mod ExactInTurnLemmas
 pub mod SamePathsLemmas
 pub mod MomentLemmas
 pub mod FollowedLemmas
+pub mod LossFollowedLemmas
+pub mod BoundSettlesLemmas
 pub mod ChoiceBoundLemmas
 pub mod ReactsLemmas
 pub mod SettledSeenLemmas
@@ -89,6 +96,7 @@ pub mod LoweredLemmas
 pub mod DeadDownLemmas
 pub mod CalmLessLemmas
 pub mod FailedAloneLemmas
+pub mod WereSilentLemmas
 pub mod LeftToLemmas
 pub mod WellFormedLemmas
 pub mod ClaimLemmas
@@ -139,6 +147,7 @@ pub mod TellsRightLemmas
 pub mod RightKeptLemmas
 pub mod RightLemmas
 pub mod AgingLemmas
+pub mod NearEndLemmas
 pub mod AgingStillLemmas
 pub mod AgesByLemmas
 pub mod NamesIntervalLemmas

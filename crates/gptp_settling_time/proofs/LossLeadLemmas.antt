@@ -8,6 +8,7 @@ use Rattle.gptp_scenario.specs.Network.{NetworkState, pace_of}
 use Rattle.gptp_scenario.specs.SettlingTime.{aging_span, capability_span, silence_span}
 use Rattle.gptp_scenario.specs.SyncWait.{sync_paths}
 use Rattle.gptp_scenario.specs.declared.change.Timed.{Timed}
+use Rattle.gptp_settling_time.specs.Arrivals.{HasArrivedBy}
 use Rattle.gptp_settling_time.specs.HowSoon.{EachEvent, TurnsUnused}
 use Rattle.gptp_settling_time.specs.InTurn.{AgesSooner, Aging, AnyPast, ChoosesAfter, Cleared, EventLeads, FailsCalm, FailsNow, Fallen, Gained, Heard, IsGoneBy, LeadOn, LeadsByTree, Left, LosesNow, Lost, LowersCalm, Past, SettlesAfter, Split, SplitsNow, Starting, Turned, TurnedTree, TurnsCalm}
 use Rattle.gptp_settling_time.specs.Losses.{AgesWithin, FailsHeard, LowersUnused}
@@ -21,7 +22,7 @@ module _ (n : NetworkState) (made : List Timed) (event : Timed) (roles : ℕ) wh
   -- after a loss by which no system is moved the network is left so that its choice stands
   pub record IsLeftBy (past : Past) : Type 0 where
     pub silent : ℕ
-    pub leads : EventLeads n made past event (Left silent)
+    pub leads : EventLeads n made past event (Left made silent)
     pub over : silent ≤ suc (event.at + roles)
 
   abbrev pub LosesCalm : Type 0
@@ -35,41 +36,41 @@ module _ (n : NetworkState) (made : List Timed) (event : Timed) (roles : ℕ) wh
       + (sync_paths n made).systems * (longest_span (pace_of n) + (sync_paths n made).delay)) in
       record {
         silent = last_change made + capability_span (pace_of n);
-        leads = (settled, inl (lowers, refl));
+        leads = (settled, refl, inl (lowers, refl));
         over = omega (arith, passed, over);
       }
   loss_leads AnyPast settled (inr (fails, is)) = record {
     silent = suc (event.at + silence_span (pace_of n));
-    leads = (settled, inr (fails, refl));
+    leads = (settled, refl, inr (fails, refl));
     over = omega (arith, is);
   }
   loss_leads Starting settled loses = absurd settled
   loss_leads (Gained start) settled (inl (lowers, none)) =
-      record { silent = start; leads = (settled, inl (lowers, refl)); over = omega (arith, settled) }
+      record { silent = start; leads = (settled, refl, inl (lowers, refl)); over = omega (arith, settled) }
   loss_leads (Gained start) settled (inr (fails, is)) = record {
     silent = suc (event.at + silence_span (pace_of n));
-    leads = (settled, inr (fails, refl));
+    leads = (settled, refl, inr (fails, refl));
     over = omega (arith, is);
   }
   loss_leads (Heard start) settled (inl (lowers, none)) =
-      record { silent = start; leads = (settled, inl (lowers, refl)); over = omega (arith, settled) }
+      record { silent = start; leads = (settled, refl, inl (lowers, refl)); over = omega (arith, settled) }
   loss_leads (Heard start) settled (inr (fails, is)) = record {
     silent = suc (event.at + silence_span (pace_of n));
-    leads = (settled, inr (fails, refl));
+    leads = (settled, refl, inr (fails, refl));
     over = omega (arith, is);
   }
-  loss_leads (Left silent) settled loses = absurd settled
+  loss_leads (Left ago silent) settled loses = absurd settled
   loss_leads (Turned silent now) settled loses = absurd settled
   loss_leads (Fallen silent now) settled loses = absurd settled
   loss_leads (TurnedTree silent now) settled loses = absurd settled
-  loss_leads (Cleared begun silent right old) settled loses = absurd settled
+  loss_leads (Cleared ago begun silent right old) settled loses = absurd settled
   loss_leads (Aging ago aged silent) settled loses = absurd settled
   loss_leads (Split ago gone silent) settled loses = absurd settled
   loss_leads (Lost since most silent) settled loses = absurd settled
 
--- after one by which a tree is so moved it is, where the choice had stood for an announce interval
+-- after one by which a tree is so moved it is, where what was sent before the choice stood has arrived
 module _ (n : NetworkState) (made : List Timed) (event : Timed) (stood : ℕ) (later : last_change made < stood)
-    (quiet : stood + largest_interval (pace_of n) ≤ event.at) (Moves : Type 0) where
+    (quiet : (arrived : ℕ) × HasArrivedBy n made stood arrived × (arrived ≤ event.at)) (Moves : Type 0) where
   pub tree_leads : (past : Past) → HasSettled n made past stood → Moves
       → (silent : ℕ) × LeadsByTree n made past event Moves silent event.at
   tree_leads AnyPast settled moves =
@@ -77,11 +78,11 @@ module _ (n : NetworkState) (made : List Timed) (event : Timed) (stood : ℕ) (l
   tree_leads Starting settled moves = absurd settled
   tree_leads (Gained start) settled moves = (start, (stood, settled, (later, quiet, moves, refl, refl)))
   tree_leads (Heard start) settled moves = (start, (stood, settled, (later, quiet, moves, refl, refl)))
-  tree_leads (Left silent) settled moves = absurd settled
+  tree_leads (Left ago silent) settled moves = absurd settled
   tree_leads (Turned silent now) settled moves = absurd settled
   tree_leads (Fallen silent now) settled moves = absurd settled
   tree_leads (TurnedTree silent now) settled moves = absurd settled
-  tree_leads (Cleared begun silent right old) settled moves = absurd settled
+  tree_leads (Cleared ago begun silent right old) settled moves = absurd settled
   tree_leads (Aging ago aged silent) settled moves = absurd settled
   tree_leads (Split ago gone silent) settled moves = absurd settled
   tree_leads (Lost since most silent) settled moves = absurd settled
@@ -94,11 +95,11 @@ module _ (n : NetworkState) (made : List Timed) (event : Timed) (stood : ℕ) wh
   split_leads Starting gone silent settled now = absurd settled
   split_leads (Gained start) gone silent settled now = (stood, settled, refl, now)
   split_leads (Heard start) gone silent settled now = (stood, settled, refl, now)
-  split_leads (Left start) gone silent settled now = absurd settled
+  split_leads (Left ago start) gone silent settled now = absurd settled
   split_leads (Turned start was) gone silent settled now = absurd settled
   split_leads (Fallen start was) gone silent settled now = absurd settled
   split_leads (TurnedTree start was) gone silent settled now = absurd settled
-  split_leads (Cleared begun start right old) gone silent settled now = absurd settled
+  split_leads (Cleared ago begun start right old) gone silent settled now = absurd settled
   split_leads (Aging ago aged start) gone silent settled now = absurd settled
   split_leads (Split ago was start) gone silent settled now = absurd settled
   split_leads (Lost since most start) gone silent settled now = absurd settled
@@ -111,11 +112,11 @@ module _ (n : NetworkState) (made : List Timed) (event : Timed) where
   turn_leads Starting settled turns = absurd settled
   turn_leads (Gained start) settled turns = (start, (settled, (turns, refl, refl)))
   turn_leads (Heard start) settled turns = (start, (settled, (turns, refl, refl)))
-  turn_leads (Left silent) settled turns = absurd settled
+  turn_leads (Left ago silent) settled turns = absurd settled
   turn_leads (Turned silent now) settled turns = absurd settled
   turn_leads (Fallen silent now) settled turns = absurd settled
   turn_leads (TurnedTree silent now) settled turns = absurd settled
-  turn_leads (Cleared begun silent right old) settled turns = absurd settled
+  turn_leads (Cleared ago begun silent right old) settled turns = absurd settled
   turn_leads (Aging ago aged silent) settled turns = absurd settled
   turn_leads (Split ago gone silent) settled turns = absurd settled
   turn_leads (Lost since most silent) settled turns = absurd settled
@@ -127,11 +128,11 @@ module _ (n : NetworkState) (made : List Timed) (event : Timed) where
   ages_leads Starting aged silent settled now = absurd settled
   ages_leads (Gained start) aged silent settled now = (settled, refl, now)
   ages_leads (Heard start) aged silent settled now = (settled, refl, now)
-  ages_leads (Left start) aged silent settled now = absurd settled
+  ages_leads (Left ago start) aged silent settled now = absurd settled
   ages_leads (Turned start was) aged silent settled now = absurd settled
   ages_leads (Fallen start was) aged silent settled now = absurd settled
   ages_leads (TurnedTree start was) aged silent settled now = absurd settled
-  ages_leads (Cleared begun start right old) aged silent settled now = absurd settled
+  ages_leads (Cleared ago begun start right old) aged silent settled now = absurd settled
   ages_leads (Aging ago gone start) aged silent settled now = absurd settled
   ages_leads (Split ago gone start) aged silent settled now = absurd settled
   ages_leads (Lost since most start) aged silent settled now = absurd settled
@@ -143,11 +144,11 @@ module _ (n : NetworkState) (made : List Timed) (event : Timed) where
   loses_leads Starting since most silent settled now = absurd settled
   loses_leads (Gained start) since most silent settled now = (settled, now)
   loses_leads (Heard start) since most silent settled now = (settled, now)
-  loses_leads (Left start) since most silent settled now = absurd settled
+  loses_leads (Left ago start) since most silent settled now = absurd settled
   loses_leads (Turned start was) since most silent settled now = absurd settled
   loses_leads (Fallen start was) since most silent settled now = absurd settled
   loses_leads (TurnedTree start was) since most silent settled now = absurd settled
-  loses_leads (Cleared begun start right old) since most silent settled now = absurd settled
+  loses_leads (Cleared ago begun start right old) since most silent settled now = absurd settled
   loses_leads (Aging ago aged start) since most silent settled now = absurd settled
   loses_leads (Split ago gone start) since most silent settled now = absurd settled
   loses_leads (Lost begun delay start) since most silent settled now = absurd settled
@@ -159,38 +160,38 @@ settles_chooses n events AnyPast settled is = is
 settles_chooses n events Starting settled is = is
 settles_chooses n events (Gained start) settled is = is
 settles_chooses n events (Heard start) settled is = is
-settles_chooses n events (Left silent) settled (off, late) = off
+settles_chooses n events (Left ago silent) settled (off, late) = off
 settles_chooses n events (Turned silent now) settled so = so
 settles_chooses n events (Fallen silent now) settled so = so
 settles_chooses n events (TurnedTree silent now) settled so = so
-settles_chooses n events (Cleared begun silent right old) settled (off, late) = off
+settles_chooses n events (Cleared ago begun silent right old) settled (off, late) = off
 settles_chooses n events (Aging ago aged silent) settled (off, late) = (off, inr late)
 settles_chooses n events (Split ago gone silent) settled (off, passed, late) = (off, passed)
 settles_chooses n events (Lost since most silent) settled (off, passed, late) = (off, passed)
 
 -- a network that is left stays so where links go down of which an end has failed
-pub dead_lead : (n : NetworkState) (made now : List Timed) (silent : ℕ) → NothingLapses n.params → IsCalm n made
-    → EachEvent (LowersUnused n) made now → LeadOn n made (Left silent) now (Left silent)
-dead_lead n made [] silent off calm each = refl
-dead_lead n made (event ∷ now) silent off calm (lowers, others) = (
-  Left silent,
+pub dead_lead : (n : NetworkState) (ago made now : List Timed) (silent : ℕ) → NothingLapses n.params → IsCalm n made
+    → EachEvent (LowersUnused n) made now → LeadOn n made (Left ago silent) now (Left ago silent)
+dead_lead n ago made [] silent off calm each = refl
+dead_lead n ago made (event ∷ now) silent off calm (lowers, others) = (
+  Left ago silent,
   inl refl,
-  Left silent,
-  (record { lowers = lowers; calm = calm; off = off }, refl),
-  dead_lead n (made ++ event ∷ []) now silent off (lowers_calm n made event off calm lowers) others,
+  Left ago silent,
+  (record { lowers = lowers; calm = calm; off = off }, refl, refl),
+  dead_lead n ago (made ++ event ∷ []) now silent off (lowers_calm n made event off calm lowers) others,
 )
 
 -- so does one that is cleared
-pub dead_clear : (n : NetworkState) (made now : List Timed) (begun silent old : ℕ) → NothingLapses n.params
+pub dead_clear : (n : NetworkState) (ago made now : List Timed) (begun silent old : ℕ) → NothingLapses n.params
     → IsCalm n made → EachEvent (LowersUnused n) made now
-    → LeadOn n made (Cleared begun silent 0 old) now (Cleared begun silent 0 old)
-dead_clear n made [] begun silent old off calm each = refl
-dead_clear n made (event ∷ now) begun silent old off calm (lowers, others) = (
-  Cleared begun silent 0 old,
+    → LeadOn n made (Cleared ago begun silent 0 old) now (Cleared ago begun silent 0 old)
+dead_clear n ago made [] begun silent old off calm each = refl
+dead_clear n ago made (event ∷ now) begun silent old off calm (lowers, others) = (
+  Cleared ago begun silent 0 old,
   inl refl,
-  Cleared begun silent 0 old,
-  (record { lowers = lowers; calm = calm; off = off }, omega arith, (refl, refl, refl, refl)),
-  dead_clear n (made ++ event ∷ []) now begun silent old off (lowers_calm n made event off calm lowers) others,
+  Cleared ago begun silent 0 old,
+  (record { lowers = lowers; calm = calm; off = off }, omega arith, refl, (refl, refl, refl, refl)),
+  dead_clear n ago (made ++ event ∷ []) now begun silent old off (lowers_calm n made event off calm lowers) others,
 )
 
 -- and what is in use stays
@@ -307,15 +308,15 @@ split_on_lead n ago made (event ∷ now) other time was gone off calm (lowers, o
           (subst (λ es. IsGoneBy n ago es time gone) (sym (append_assoc made (other ∷ []) (event ∷ now))) is_gone),
     )
 
--- so it does from when the system fails, once the choice had stood for an announce interval
+-- so it does from when the system fails, once what was sent before the choice stood has arrived
 pub splits_lead : (n : NetworkState) (made : List Timed) (event : Timed) (now : List Timed) (past : Past)
-    (stood span : ℕ) → NothingLapses n.params → IsCalm n made → HasSettled n made past stood
-    → last_change made < stood → stood + largest_interval (pace_of n) ≤ event.at → FailsTrees n made event
+    (stood arrived span : ℕ) → NothingLapses n.params → IsCalm n made → HasSettled n made past stood
+    → last_change made < stood → HasArrivedBy n made stood arrived → arrived ≤ event.at → FailsTrees n made event
     → EachEvent (LowersUnused n) (made ++ event ∷ []) now → AllByRecursion (λ (t : Timed). t.at ≡ event.at) now
     → AgesWithin n made (made ++ event ∷ now) event.at span
     → LeadOn n made past (event ∷ now)
     (Split made (suc (event.at + min span (silence_span (pace_of n)))) (suc (event.at + silence_span (pace_of n))))
-splits_lead n made event [] past stood span off calm settled later quiet fails lowers here within =
+splits_lead n made event [] past stood arrived span off calm settled later arrives quiet fails lowers here within =
     let gone = suc (event.at + min span (silence_span (pace_of n))) in
     let silent = suc (event.at + silence_span (pace_of n)) in (
       past,
@@ -324,6 +325,8 @@ splits_lead n made event [] past stood span off calm settled later quiet fails l
       split_leads n made event stood past gone silent settled (record {
         fails = fails;
         later = later;
+        arrived = arrived;
+        arrives = arrives;
         quiet = quiet;
         calm = calm;
         off = off;
@@ -332,7 +335,8 @@ splits_lead n made event [] past stood span off calm settled later quiet fails l
       }),
       refl,
     )
-splits_lead n made event (other ∷ now) past stood span off calm settled later quiet fails lowers here within =
+splits_lead n made event (other ∷ now) past stood arrived span off calm settled later arrives quiet fails lowers here
+    within =
     let most = aging_span (pace_of n) (sync_paths n made) in
     let was = suc (event.at + min most (silence_span (pace_of n))) in
     let gone = suc (event.at + min span (silence_span (pace_of n))) in
@@ -343,6 +347,8 @@ splits_lead n made event (other ∷ now) past stood span off calm settled later 
       split_leads n made event stood past was silent settled (record {
         fails = fails;
         later = later;
+        arrived = arrived;
+        arrives = arrives;
         quiet = quiet;
         calm = calm;
         off = off;

@@ -64,6 +64,7 @@ use Rattle.gptp_settling_time.proofs.DueLemmas.{AreDueBy, due_by_delay, due_by_i
 use Rattle.gptp_settling_time.proofs.LeftClaimedLemmas.{HaveAskedBy, IsLeftAlways, left_network, left_seen}
 use Rattle.gptp_settling_time.proofs.NamesItselfLemmas.{itself_begins}
 use Rattle.gptp_settling_time.proofs.ReducedLemmas.{IsReduced}
+use Rattle.gptp_settling_time.proofs.WereSilentLemmas.{WereSilent, were_down, were_failed, were_silent}
 
 -- what is known of a world that has settled and whose ports are capable from a time on, as an event comes at this time
 pub record HasRestedSo (p : SettlingParams) (start time : ℕ) (w : WorldState) : Type 0 where
@@ -155,8 +156,14 @@ module _ (d : DocumentState) (playable : IsPlayable d) (made : List Timed) (even
           (lowered_ready p start x.clock x.port then draws done w' keeps.claim.pace world_then after.claim.world
           keeps.claim.measured after.claim.measured came was_up rest.ready)
 
-      lowered_to : IsLeftTo d more start w'
-      lowered_to = record { keeps = after; before = snapshot_of then; since = lowered_since }
+      lowered_were : WereSilent n made w'
+      lowered_were =
+          were_down n made then draws done w' world_then after.claim.world x.clock x.port came was_up
+          (were_silent n made start then past rest.silent)
+
+      lowered_to : IsLeftTo d made more start w'
+      lowered_to =
+          record { keeps = after; before = snapshot_of then; since = lowered_since; were = lowered_were }
 
       -- ports are disabled, and the link is gone, and nothing else
       lowered_less : IsReduced (view then) (view w')
@@ -189,7 +196,7 @@ module _ (d : DocumentState) (playable : IsPlayable d) (made : List Timed) (even
     lowers_by cuts = record { lowers = cuts.cuts.lowers; calm = cuts.calm; off = cuts.off }
 
     cut_to : (gone old : ℕ) → CutsCalm n made event → GoesBy p gone w' → old ≡ event.at + gone
-        → IsClearedTo d more start start 0 old w'
+        → IsClearedTo d made more start start 0 old w'
     cut_to gone old calm goes by =
         let lowers = lowers_by calm in
         let y = calm.cuts in
@@ -204,6 +211,7 @@ module _ (d : DocumentState) (playable : IsPlayable d) (made : List Timed) (even
           before = snapshot_of then;
           is = cut_since lowers y.lost gone old (far_end_so d playable made then keeps y.lost y.far)
               (cut_off_so d playable more w' after y.lost y.cut) lost_end goes by;
+          were = lowered_were lowers;
         }
 
     -- a system fails that is the far end of its links
@@ -240,10 +248,16 @@ module _ (d : DocumentState) (playable : IsPlayable d) (made : List Timed) (even
           keeps.claim.pace keeps.claim.measured after.claim.measured (omega (arith, over, at_time)) rest.ready
           failed_quiet rest.silent (omega (arith, at_time, long)))
 
-      failed_to : IsLeftTo d more next w'
-      failed_to = record { keeps = after; before = snapshot_of then; since = failed_since }
+      failed_were : WereSilent n made w'
+      failed_were =
+          let over = rest.over in
+          were_failed n made y.clock then draws done w' world_then after.claim.world came_fail lived keeps.stands
+          failed_quiet start (omega (arith, over, at_time)) rest.silent
 
-      failed_cleared : (old : ℕ) → AreDueBy old then → IsClearedTo d more start next 0 old w'
+      failed_to : IsLeftTo d made more next w'
+      failed_to = record { keeps = after; before = snapshot_of then; since = failed_since; were = failed_were }
+
+      failed_cleared : (old : ℕ) → AreDueBy old then → IsClearedTo d made more start next 0 old w'
       failed_cleared old due = record {
         keeps = after;
         before = snapshot_of then;
@@ -256,16 +270,17 @@ module _ (d : DocumentState) (playable : IsPlayable d) (made : List Timed) (even
             (λ quiet off.
             due_reduced old then w'
             (failed_reduced p y.clock then draws done w' world_then after.claim.world came_fail lived) due);
+        were = failed_were;
       }
 
     -- so each number may stand for what it is
     cleared_so : (at_silent at_right since silent right old : ℕ) → since ≡ start → silent ≡ at_silent
-        → right ≡ at_right → IsClearedTo d more start at_silent at_right old w'
-        → IsClearedTo d more since silent right old w'
+        → right ≡ at_right → IsClearedTo d made more start at_silent at_right old w'
+        → IsClearedTo d made more since silent right old w'
     cleared_so at_silent at_right since silent right old begun same zero so =
-        subst (λ t. IsClearedTo d more t silent right old w') (sym begun)
-        (subst (λ t. IsClearedTo d more start t right old w') (sym same)
-        (subst (λ t. IsClearedTo d more start at_silent t old w') (sym zero) so))
+        subst (λ t. IsClearedTo d made more t silent right old w') (sym begun)
+        (subst (λ t. IsClearedTo d made more start t right old w') (sym same)
+        (subst (λ t. IsClearedTo d made more start at_silent t old w') (sym zero) so))
 
     -- what is in flight is gone by then
     gone_by : (gone : ℕ) → IsCalm n made → NothingLapses n.params → FlightIsGone n made gone
@@ -280,11 +295,11 @@ module _ (d : DocumentState) (playable : IsPlayable d) (made : List Timed) (even
     -- links begin to tell right traces
     rights_to : (right gone old : ℕ) → LowersCalm n made event → right ≡ event.at + 1 + nearer_echo_span n more
         → FlightIsGone n more gone → old ≡ event.at + nearer_echo_span n more + gone
-        → IsClearedTo d more start start right old w'
+        → IsClearedTo d made more start start right old w'
     rights_to right gone old lowers right_is flight old_is =
         let echo : nearer_echo_span n more ≡ nearer_echo p w' = echo_to d playable more w' after in
-        subst (λ t. IsClearedTo d more start start t old w') (sym (right_is ∙ omega (arith, echo, time)))
-        (subst (λ t. IsClearedTo d more start start (suc (w'.time + nearer_echo p w')) t w')
+        subst (λ t. IsClearedTo d made more start start t old w') (sym (right_is ∙ omega (arith, echo, time)))
+        (subst (λ t. IsClearedTo d made more start start (suc (w'.time + nearer_echo p w')) t w')
         (sym (old_is ∙ omega (arith, echo, time)))
         (record {
           keeps = after;
@@ -296,12 +311,13 @@ module _ (d : DocumentState) (playable : IsPlayable d) (made : List Timed) (even
               (lowered_since lowers).left)
               (λ quiet off. itself_begins says_announce (left_network p start w') (snapshot_of then) (view w')
               (sound_reduced says_announce (snapshot_of then) (view then) (view w') (lowered_less lowers) rest.sound));
+          were = lowered_were lowers;
         }))
 
     -- far ends go, or another link goes down
     ends_to : (since silent right old : ℕ) → since ≡ start
         → ClearsFarEnd n made event start silent right old ⊎ ClearsTraces n made event start silent right old
-        → IsClearedTo d more since silent right old w'
+        → IsClearedTo d made more since silent right old w'
     ends_to since silent right old begun (inl (zero, inl (cuts, same, (gone, flight, is)))) =
         cleared_so start 0 since silent right old begun same zero
         (cut_to gone old cuts (goes_to d playable more w' after gone flight) is)
@@ -337,13 +353,14 @@ module _ (d : DocumentState) (playable : IsPlayable d) (made : List Timed) (even
         let by_link = failed_ages_by p x.clock then draws done w' world_then after.claim.world came lived
         (seen_then now.calm now.off) rest.sound start keeps.claim.pace keeps.claim.measured past rest.ready quiet
         rest.silent keeps.named in
-        let by : WorldAgesBy p (AgesOver n made more then.time) w' =
-        ages_over n made event x.clock x.act then w' world_then keeps.stands after.stands after.claim.world.sound
-        keeps.claim.pace.largest by_link in
+        let by : WorldAgesBy p (AgesOver n (snapshot_of then) made more then.time) w' =
+        ages_over n made event x.clock x.act then w' playable.network world_then keeps.stands after.stands
+        after.claim.world.sound keeps.claim.pace.largest by_link in
         let within = subst (λ t. AgesWithin n made more t now.span) (sym at_time) now.within in
-        let since = aging_by p (snapshot_of then) late silent (AgesOver n made more then.time) aged w' since_late by
-        (λ port until is_over.
-        let less = over_within n made more then.time now.span within port until is_over in
+        let since = aging_by p (snapshot_of then) late silent (AgesOver n (snapshot_of then) made more then.time) aged
+        w' since_late by
+        (λ port until heard is_over.
+        let less = over_within n (snapshot_of then) made more then.time now.span within port until heard is_over in
         omega (arith, less, gone, at_time)) in
         record {
           keeps = after;
@@ -353,10 +370,12 @@ module _ (d : DocumentState) (playable : IsPlayable d) (made : List Timed) (even
           failed = then.time;
           unanswered = omega (arith, unanswered, at_time);
           by = by;
+          were = were_failed n made x.clock then draws done w' world_then after.claim.world came lived keeps.stands
+              quiet start past rest.silent;
         }
 
     pub cleared_to : (since silent right old : ℕ) → ClearsBy n made event start since silent right old
-        → IsClearedTo d more since silent right old w'
+        → IsClearedTo d made more since silent right old w'
     cleared_to since silent right old (inl (begun, which)) = ends_to since silent right old begun which
     cleared_to since silent right old (inr (aged, now, anew)) =
         told_anew d playable made more event.at aged silent since right old w' after time last
@@ -422,6 +441,6 @@ module _ (d : DocumentState) (playable : IsPlayable d) (made : List Timed) (even
         subst (λ t. IsTurnedTo d more silent t w') (sym here)
         (subst (λ t. IsTurnedTo d more t event.at w') (sym by) (turned_to turns))
 
-    pub left_to : (next : ℕ) → LeavesStanding n made event start next → IsLeftTo d more next w'
-    left_to next (inl (lowers, same)) = subst (λ time. IsLeftTo d more time w') (sym same) (lowered_to lowers)
+    pub left_to : (next : ℕ) → LeavesStanding n made event start next → IsLeftTo d made more next w'
+    left_to next (inl (lowers, same)) = subst (λ time. IsLeftTo d made more time w') (sym same) (lowered_to lowers)
     left_to next (inr (fails, same)) = failed_to fails next (omega (arith, same))

@@ -13,11 +13,11 @@ use Rattle.gptp_scenario.specs.declared.sync_wait.SyncPaths.{SyncPaths}
 use Rattle.gptp_theorem.proofs.EventLemmas.{last_behind}
 use Rattle.gptp_settling_time.specs.HowSoon.{CutsOneEnd, EachEvent, FailsEndFirst, FailsHeardFirst, LowersOneLink, RestsAfterOneLoss, RestsOnceTold, TurnsOneLink}
 use Rattle.gptp_settling_time.specs.InTurn.{Aging, AnyPast, Cleared, CutsCalm, EventLeads, FailsCalm, FailsNow, Fallen, FlightIsGone, Gained, Heard, LeadOn, Left, Lost, LowersCalm, Past, Split, Starting, Turned, TurnedTree, nearer_echo_span, turned_echo_span}
-use Rattle.gptp_settling_time.specs.Losses.{AgesWithin, CutsFarEnd, FailsFarEnd, FailsHeard, LowersLink, LowersUnused, TurnsLink, UpIsUsed}
+use Rattle.gptp_settling_time.specs.Losses.{AgesWithin, CutsFarEnd, FailsFarEnd, FailsHeard, LowersLink, LowersUnused, NoneSilent, TurnsLink, UpIsUsed}
 use Rattle.gptp_settling_time.proofs.CalmLessLemmas.{failure_calm, fails_calm, lowers_calm}
 use Rattle.gptp_settling_time.proofs.LeftToLemmas.{less_way}
 use Rattle.gptp_settling_time.proofs.LeadOnLemmas.{HasSettled, IsLed}
-use Rattle.gptp_settling_time.proofs.SilentSpanLemmas.{failure_within}
+use Rattle.gptp_settling_time.proofs.SilentSpanLemmas.{failure_within, up_none_silent}
 use Rattle.gptp_settling_time.proofs.LossLeadLemmas.{ages_leads, dead_clear, dead_paths, heard_lead, turn_leads}
 
 -- after the loss of a far end it is cleared
@@ -25,7 +25,7 @@ module _ (n : NetworkState) (made : List Timed) (event : Timed) (gone : ℕ) whe
   record IsClearedBy (past : Past) (by : ℕ) : Type 0 where
     since : ℕ
     silent : ℕ
-    leads : EventLeads n made past event (Cleared since silent 0 (event.at + gone))
+    leads : EventLeads n made past event (Cleared made since silent 0 (event.at + gone))
     early : since + way_span (sync_paths n made) ≤ event.at
     over : silent ≤ by
 
@@ -39,7 +39,7 @@ module _ (n : NetworkState) (made : List Timed) (event : Timed) (gone : ℕ) whe
       record {
         since = last_change made + capability_span (pace_of n);
         silent = last_change made + capability_span (pace_of n);
-        leads = (settled, inl (refl, inl (refl, inl (cuts, refl, (gone, flight, refl)))));
+        leads = (settled, refl, inl (refl, inl (refl, inl (cuts, refl, (gone, flight, refl)))));
         early = omega (arith, passed, over);
         over = omega (arith, passed, over);
       }
@@ -47,22 +47,22 @@ module _ (n : NetworkState) (made : List Timed) (event : Timed) (gone : ℕ) whe
   cut_leads flight (Gained start) settled cuts = record {
     since = start;
     silent = start;
-    leads = (settled, inl (refl, inl (refl, inl (cuts, refl, (gone, flight, refl)))));
+    leads = (settled, refl, inl (refl, inl (refl, inl (cuts, refl, (gone, flight, refl)))));
     early = omega (arith, settled);
     over = omega (arith, settled);
   }
   cut_leads flight (Heard start) settled cuts = record {
     since = start;
     silent = start;
-    leads = (settled, inl (refl, inl (refl, inl (cuts, refl, (gone, flight, refl)))));
+    leads = (settled, refl, inl (refl, inl (refl, inl (cuts, refl, (gone, flight, refl)))));
     early = omega (arith, settled);
     over = omega (arith, settled);
   }
-  cut_leads flight (Left silent) settled cuts = absurd settled
+  cut_leads flight (Left ago silent) settled cuts = absurd settled
   cut_leads flight (Turned silent now) settled cuts = absurd settled
   cut_leads flight (Fallen silent now) settled cuts = absurd settled
   cut_leads flight (TurnedTree silent now) settled cuts = absurd settled
-  cut_leads flight (Cleared begun silent right last) settled cuts = absurd settled
+  cut_leads flight (Cleared ago begun silent right last) settled cuts = absurd settled
   cut_leads flight (Aging ago aged silent) settled cuts = absurd settled
   cut_leads flight (Split ago aged silent) settled cuts = absurd settled
   cut_leads flight (Lost since most silent) settled cuts = absurd settled
@@ -77,7 +77,7 @@ module _ (n : NetworkState) (made : List Timed) (event : Timed) (gone : ℕ) whe
       record {
         since = last_change made + capability_span (pace_of n);
         silent = suc (event.at + silence_span (pace_of n));
-        leads = (settled, inl (refl, inl (refl, inr (fails, refl, (gone, flight, refl)))));
+        leads = (settled, refl, inl (refl, inl (refl, inr (fails, refl, (gone, flight, refl)))));
         early = omega (arith, passed, over);
         over = omega arith;
       }
@@ -85,22 +85,22 @@ module _ (n : NetworkState) (made : List Timed) (event : Timed) (gone : ℕ) whe
   fail_leads flight (Gained start) settled fails = record {
     since = start;
     silent = suc (event.at + silence_span (pace_of n));
-    leads = (settled, inl (refl, inl (refl, inr (fails, refl, (gone, flight, refl)))));
+    leads = (settled, refl, inl (refl, inl (refl, inr (fails, refl, (gone, flight, refl)))));
     early = omega (arith, settled);
     over = omega arith;
   }
   fail_leads flight (Heard start) settled fails = record {
     since = start;
     silent = suc (event.at + silence_span (pace_of n));
-    leads = (settled, inl (refl, inl (refl, inr (fails, refl, (gone, flight, refl)))));
+    leads = (settled, refl, inl (refl, inl (refl, inr (fails, refl, (gone, flight, refl)))));
     early = omega (arith, settled);
     over = omega arith;
   }
-  fail_leads flight (Left silent) settled fails = absurd settled
+  fail_leads flight (Left ago silent) settled fails = absurd settled
   fail_leads flight (Turned silent now) settled fails = absurd settled
   fail_leads flight (Fallen silent now) settled fails = absurd settled
   fail_leads flight (TurnedTree silent now) settled fails = absurd settled
-  fail_leads flight (Cleared begun silent right last) settled fails = absurd settled
+  fail_leads flight (Cleared ago begun silent right last) settled fails = absurd settled
   fail_leads flight (Aging ago aged silent) settled fails = absurd settled
   fail_leads flight (Split ago aged silent) settled fails = absurd settled
   fail_leads flight (Lost since most silent) settled fails = absurd settled
@@ -113,7 +113,7 @@ module _ (n : NetworkState) (made : List Timed) (event : Timed) (gone : ℕ)
 
   record IsRightedBy (past : Past) : Type 0 where
     since : ℕ
-    leads : EventLeads n made past event (Cleared since since (event.at + 1 + echo) (event.at + echo + gone))
+    leads : EventLeads n made past event (Cleared made since since (event.at + 1 + echo) (event.at + echo + gone))
     early : since + way_span (sync_paths n made) ≤ event.at
 
   right_leads : (past : Past) → HasSettled n made past event.at → LowersCalm n made event → IsRightedBy past
@@ -123,25 +123,25 @@ module _ (n : NetworkState) (made : List Timed) (event : Timed) (gone : ℕ)
       + (sync_paths n made).systems * (longest_span (pace_of n) + (sync_paths n made).delay)) in
       record {
         since = last_change made + capability_span (pace_of n);
-        leads = (settled, inl (refl, inr (lowers, refl, refl, (gone, flight, refl))));
+        leads = (settled, refl, inl (refl, inr (lowers, refl, refl, (gone, flight, refl))));
         early = omega (arith, passed, over);
       }
   right_leads Starting settled lowers = absurd settled
   right_leads (Gained start) settled lowers = record {
     since = start;
-    leads = (settled, inl (refl, inr (lowers, refl, refl, (gone, flight, refl))));
+    leads = (settled, refl, inl (refl, inr (lowers, refl, refl, (gone, flight, refl))));
     early = omega (arith, settled);
   }
   right_leads (Heard start) settled lowers = record {
     since = start;
-    leads = (settled, inl (refl, inr (lowers, refl, refl, (gone, flight, refl))));
+    leads = (settled, refl, inl (refl, inr (lowers, refl, refl, (gone, flight, refl))));
     early = omega (arith, settled);
   }
-  right_leads (Left silent) settled lowers = absurd settled
+  right_leads (Left ago silent) settled lowers = absurd settled
   right_leads (Turned silent now) settled lowers = absurd settled
   right_leads (Fallen silent now) settled lowers = absurd settled
   right_leads (TurnedTree silent now) settled lowers = absurd settled
-  right_leads (Cleared begun silent right last) settled lowers = absurd settled
+  right_leads (Cleared ago begun silent right last) settled lowers = absurd settled
   right_leads (Aging ago aged silent) settled lowers = absurd settled
   right_leads (Split ago aged silent) settled lowers = absurd settled
   right_leads (Lost since most silent) settled lowers = absurd settled
@@ -151,19 +151,19 @@ module _ (n : NetworkState) (made : List Timed) (event : Timed) (aged silent : �
     (now : FailsNow n made event aged silent) (used : UpIsUsed n (made ++ event ∷ [])) where
   abbrev EchoesPower : Past → Type 0
   EchoesPower past = EventLeads n made past event
-      (Cleared event.at silent (event.at + 1 + nearer_echo_span n (made ++ event ∷ []))
+      (Cleared made event.at silent (event.at + 1 + nearer_echo_span n (made ++ event ∷ []))
       (event.at + nearer_echo_span n (made ++ event ∷ []) + (sync_paths n (made ++ event ∷ [])).delay))
 
   power_leads : (past : Past) → HasSettled n made past event.at → EchoesPower past
-  power_leads AnyPast settled = (settled, inr (aged, now, (used, refl, refl, refl)))
+  power_leads AnyPast settled = (settled, refl, inr (aged, now, (used, refl, refl, refl)))
   power_leads Starting settled = absurd settled
-  power_leads (Gained start) settled = (settled, inr (aged, now, (used, refl, refl, refl)))
-  power_leads (Heard start) settled = (settled, inr (aged, now, (used, refl, refl, refl)))
-  power_leads (Left start) settled = absurd settled
+  power_leads (Gained start) settled = (settled, refl, inr (aged, now, (used, refl, refl, refl)))
+  power_leads (Heard start) settled = (settled, refl, inr (aged, now, (used, refl, refl, refl)))
+  power_leads (Left ago start) settled = absurd settled
   power_leads (Turned start was) settled = absurd settled
   power_leads (Fallen start was) settled = absurd settled
   power_leads (TurnedTree start was) settled = absurd settled
-  power_leads (Cleared begun start right last) settled = absurd settled
+  power_leads (Cleared ago begun start right last) settled = absurd settled
   power_leads (Aging ago gone start) settled = absurd settled
   power_leads (Split ago gone start) settled = absurd settled
   power_leads (Lost since most start) settled = absurd settled
@@ -174,16 +174,17 @@ power_lead : (n : NetworkState) (ago made now : List Timed) (other : Timed) (tim
     → IsCalm n made → AllByRecursion (λ (t : Timed). t.at ≡ time) (other ∷ now)
     → EachEvent (LowersUnused n) made (other ∷ now) → UpIsUsed n (made ++ other ∷ now)
     → LeadOn n made (Aging ago aged silent) (other ∷ now)
-    (Cleared time silent (time + 1 + nearer_echo_span n (made ++ other ∷ now))
+    (Cleared ago time silent (time + 1 + nearer_echo_span n (made ++ other ∷ now))
     (time + nearer_echo_span n (made ++ other ∷ now) + (sync_paths n (made ++ other ∷ now)).delay))
 power_lead n ago made [] other time aged silent off calm (at, none) (lowers, others) used =
-    let last = Cleared time silent (time + 1 + nearer_echo_span n (made ++ other ∷ []))
+    let last = Cleared ago time silent (time + 1 + nearer_echo_span n (made ++ other ∷ []))
     (time + nearer_echo_span n (made ++ other ∷ []) + (sync_paths n (made ++ other ∷ [])).delay) in (
       Aging ago aged silent,
       inl refl,
       last,
       (
         record { lowers = lowers; calm = calm; off = off },
+        refl,
         refl,
         (
           used,
@@ -202,7 +203,7 @@ power_lead n ago made (event ∷ now) other time aged silent off calm (at, later
       Aging ago aged silent,
       (record { lowers = lowers; calm = calm; off = off }, refl, refl, inl refl),
       subst (λ es. LeadOn n (made ++ other ∷ []) (Aging ago aged silent) (event ∷ now)
-          (Cleared time silent (time + 1 + nearer_echo_span n es)
+          (Cleared ago time silent (time + 1 + nearer_echo_span n es)
           (time + nearer_echo_span n es + (sync_paths n es).delay))) all
           (power_lead n ago (made ++ other ∷ []) now event time aged silent off
           (lowers_calm n made other off calm lowers) later others (subst (UpIsUsed n) (sym all) used)),
@@ -235,15 +236,16 @@ module _ (n : NetworkState) (off : NothingLapses n.params) (time : ℕ) (made no
     settled_then = subst (HasSettled n made past) (sym here) settled
 
     -- it is cleared, and taken as heard from when its ports were capable
-    led : (since silent right old : ℕ) → EventLeads n made past event (Cleared since silent right old)
-        → LeadOn n (made ++ event ∷ []) (Cleared since silent right old) others (Cleared since silent right old)
-        → old ≤ time + rest → (silent ≤ suc (time + rest)) ⊎ UpIsUsed n (made ++ now)
+    led : (since silent right old : ℕ) → EventLeads n made past event (Cleared made since silent right old)
+        → LeadOn n (made ++ event ∷ []) (Cleared made since silent right old) others
+        (Cleared made since silent right old)
+        → old ≤ time + rest → (silent ≤ suc (time + rest)) ⊎ NoneSilent n made (made ++ now)
         → since + way_span (sync_paths n (made ++ now)) ≤ suc (time + rest)
         → IsLed n made now past (suc (time + rest))
     led since silent right old leads lead less unlinked over = record {
-      last = Cleared since silent right old;
-      lead = subst (λ es. LeadOn n made past es (Cleared since silent right old)) (sym same)
-          (past, inl refl, Cleared since silent right old, leads, lead);
+      last = Cleared made since silent right old;
+      lead = subst (λ es. LeadOn n made past es (Cleared made since silent right old)) (sym same)
+          (past, inl refl, Cleared made since silent right old, leads, lead);
       settles = (
         Heard since,
         inr (
@@ -290,8 +292,8 @@ module _ (n : NetworkState) (off : NothingLapses n.params) (time : ℕ) (made no
         let over = x.over in
         let gone_most = le-max_right (2 * way_span (sync_paths n (made ++ now))) gone in
         led x.since x.silent 0 (event.at + gone) x.leads
-        (subst (λ es. LeadOn n (made ++ event ∷ []) (Cleared x.since x.silent 0 (event.at + gone)) es
-        (Cleared x.since x.silent 0 (event.at + gone))) (sym alone) refl) (omega (arith, before, is, gone_most))
+        (subst (λ es. LeadOn n (made ++ event ∷ []) (Cleared made x.since x.silent 0 (event.at + gone)) es
+        (Cleared made x.since x.silent 0 (event.at + gone))) (sym alone) refl) (omega (arith, before, is, gone_most))
         (inl (omega (arith, over, before))) (omega (arith, early, before, less))
 
     -- what was in flight is gone as right traces are told
@@ -321,7 +323,7 @@ module _ (n : NetworkState) (off : NothingLapses n.params) (time : ℕ) (made no
         (record { lowers = lowers; calm = calm_then; off = off }) in
         let less = way_then (subst (EachEvent (LowersUnused n) (made ++ event ∷ [])) (sym alone) tt) lowers.delay
         lowers.paths in
-        let last : Past = Cleared x.since x.since (event.at + 1 + nearer_echo_span n (made ++ event ∷ []))
+        let last : Past = Cleared made x.since x.since (event.at + 1 + nearer_echo_span n (made ++ event ∷ []))
         (event.at + nearer_echo_span n (made ++ event ∷ []) + gone) in
         let echo = echo_span (pace_of n) (sync_paths n (made ++ now)) in
         let within : nearer_echo_span n (made ++ event ∷ []) + gone ≤ max echo gone =
@@ -335,18 +337,18 @@ module _ (n : NetworkState) (off : NothingLapses n.params) (time : ℕ) (made no
         (omega (arith, early, before, less))
 
     fail_led : FailsFarEnd n made event → EachEvent (LowersUnused n) (made ++ event ∷ []) others
-        → (UpIsUsed n (made ++ now) × FlightIsGone n made rest)
+        → (NoneSilent n made (made ++ now) × FlightIsGone n made rest)
         ⊎ ((gone : ℕ) × FlightIsGone n made gone × (rest ≡ max (silence_span (pace_of n)) gone))
         → IsLed n made now past (suc (time + rest))
-    fail_led fails lowers (inl (used, flight)) =
+    fail_led fails lowers (inl (none, flight)) =
         let x = fail_leads n made event rest flight past settled_then
         (record { fails = fails; calm = calm_then; off = off }) in
         let less = way_then lowers fails.delay fails.paths in
         let before = here in
         let early = x.early in
         led x.since x.silent 0 (event.at + rest) x.leads
-        (dead_clear n (made ++ event ∷ []) others x.since x.silent (event.at + rest) off
-        (fails_calm n made event off calm_then fails) lowers) (omega (arith, before)) (inr used)
+        (dead_clear n made (made ++ event ∷ []) others x.since x.silent (event.at + rest) off
+        (fails_calm n made event off calm_then fails) lowers) (omega (arith, before)) (inr none)
         (omega (arith, early, before, less))
     fail_led fails lowers (inr (gone, flight, is)) =
         let x = fail_leads n made event gone flight past settled_then
@@ -358,7 +360,7 @@ module _ (n : NetworkState) (off : NothingLapses n.params) (time : ℕ) (made no
         let silent_most = le-max_left (silence_span (pace_of n)) gone in
         let gone_most = le-max_right (silence_span (pace_of n)) gone in
         led x.since x.silent 0 (event.at + gone) x.leads
-        (dead_clear n (made ++ event ∷ []) others x.since x.silent (event.at + gone) off
+        (dead_clear n made (made ++ event ∷ []) others x.since x.silent (event.at + gone) off
         (fails_calm n made event off calm_then fails) lowers) (omega (arith, is, gone_most, before))
         (inl (omega (arith, over, before, is, silent_most))) (omega (arith, early, before, less))
 
@@ -430,12 +432,12 @@ module _ (n : NetworkState) (off : NothingLapses n.params) (time : ℕ) (made no
         within =
             let most = gone_within (sync_paths n (made ++ now)).delay (inl (used, refl)) in omega (arith, long, most)
 
-        ends : LeadOn n made past now (Cleared time silent right old) → IsLed n made now past (suc (time + rest))
+        ends : LeadOn n made past now (Cleared made time silent right old) → IsLed n made now past (suc (time + rest))
         ends lead =
             let way = way_short in
             let over : time + way_span (sync_paths n (made ++ now)) ≤ suc (time + rest) = omega (arith, way, long) in
             record {
-              last = Cleared time silent right old;
+              last = Cleared made time silent right old;
               lead = lead;
               settles = (
                 Heard time,
@@ -447,7 +449,7 @@ module _ (n : NetworkState) (off : NothingLapses n.params) (time : ℕ) (made no
                     off = off;
                     gone = omega (arith, within);
                     later = omega arith;
-                    unlinked = inr used;
+                    unlinked = inr (up_none_silent n made (made ++ now) used);
                     over = over;
                   },
                 ),
@@ -460,15 +462,15 @@ module _ (n : NetworkState) (off : NothingLapses n.params) (time : ℕ) (made no
             let one : made ++ now ≡ made ++ event ∷ [] =
             ap (λ es. made ++ es) (same ∙ ap (λ es. event ∷ es) alone) in
             let leads = power_leads n made event aged silent falls (subst (UpIsUsed n) one used) past settled_then in
-            let last : Past = Cleared time silent right old in
+            let last : Past = Cleared made time silent right old in
             ends (subst (λ es. LeadOn n made past es last) (sym (same ∙ ap (λ es. event ∷ es) alone)) (
               past,
               inl refl,
               last,
-              subst (λ t. EventLeads n made past event (Cleared t silent (t + 1 + nearer_echo_span n (made ++ now))
+              subst (λ t. EventLeads n made past event (Cleared made t silent (t + 1 + nearer_echo_span n (made ++ now))
                   (t + nearer_echo_span n (made ++ now) + (sync_paths n (made ++ now)).delay))) here
                   (subst (λ es. EventLeads n made past event
-                  (Cleared event.at silent (event.at + 1 + nearer_echo_span n es)
+                  (Cleared made event.at silent (event.at + 1 + nearer_echo_span n es)
                   (event.at + nearer_echo_span n es + (sync_paths n es).delay))) (sym one) leads),
               refl,
             ))
@@ -476,7 +478,7 @@ module _ (n : NetworkState) (off : NothingLapses n.params) (time : ℕ) (made no
             let all : made ++ now ≡ (made ++ event ∷ []) ++ other ∷ more =
             ap (λ es. made ++ es) (same ∙ ap (λ es. event ∷ es) alone) ∙ sym (append_assoc made (event ∷ [])
             (other ∷ more)) in
-            let last : Past = Cleared time silent right old in
+            let last : Past = Cleared made time silent right old in
             let at_then = (subst (AllByRecursion (λ (t : Timed). t.at ≡ time)) same at).1 in
             ends (subst (λ es. LeadOn n made past es last) (sym (same ∙ ap (λ es. event ∷ es) alone)) (
               past,
@@ -484,7 +486,7 @@ module _ (n : NetworkState) (off : NothingLapses n.params) (time : ℕ) (made no
               Aging made aged silent,
               ages_leads n made event past aged silent settled_then falls,
               subst (λ es. LeadOn n (made ++ event ∷ []) (Aging made aged silent) (other ∷ more)
-                  (Cleared time silent (time + 1 + nearer_echo_span n es)
+                  (Cleared made time silent (time + 1 + nearer_echo_span n es)
                   (time + nearer_echo_span n es + (sync_paths n es).delay))) (sym all)
                   (power_lead n made (made ++ event ∷ []) more other time aged silent off
                   (failure_calm n made event off calm_then fails.clock fails.act)
@@ -567,7 +569,7 @@ module _ (n : NetworkState) (off : NothingLapses n.params) (time : ℕ) (made no
       × ((gone : ℕ) × FlightIsGone n (made ++ now) gone
       × (rest ≡ max (2 * way_span (sync_paths n (made ++ now))) gone)))
       ⊎ ((FailsEndFirst n made es
-      × ((UpIsUsed n (made ++ now) × FlightIsGone n made rest)
+      × ((NoneSilent n made (made ++ now) × FlightIsGone n made rest)
       ⊎ ((gone : ℕ) × FlightIsGone n made gone × (rest ≡ max (silence_span (pace_of n)) gone))))
       ⊎ ((LowersOneLink n made es
       × ((gone : ℕ) × FlightIsGone n (made ++ now) gone

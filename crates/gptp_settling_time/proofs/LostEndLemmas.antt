@@ -95,7 +95,7 @@ module _ (says : Spelling) (n : Network) (net : IsSettlingNetwork n) (w : Machin
       → says f.octets a → f.due ≤ old → IsSoundSent g' l.from a ⊎ IsOldOn g' old l.from l.to f.due
   flight_still j l f a at among said soon = elim (Joins-dec g' l.from l.to) [
     | no apart ↦ inr (record { by = soon; farther = λ joins. absurd (apart joins) })
-    | yes joins ↦ elim (either n net near l.from l.to (left.links l.from l.to joins)) [
+    | yes joins ↦ elim (either n.graph net.graph l.from l.to (left.links l.from l.to joins)) [
       | inl farther ↦ inr (record { by = soon; farther = λ joined. so joins farther })
       | inr nearer ↦
           let is = sound.lanes j l at f a among said in

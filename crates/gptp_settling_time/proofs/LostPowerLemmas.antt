@@ -66,7 +66,7 @@ module _ (p : SettlingParams) (g : Snapshot) (aged silent : ℕ) (w : WorldState
 -- so right traces are told in a world of a document, as the last link goes down that isn't used
 pub aging_cleared : (d : DocumentState) (ago events : List Timed) (aged silent : ℕ) (w : WorldState)
     → IsAgingTo d ago events aged silent w → UpIsUsed d.network events → w.last_change ≡ w.time
-    → IsClearedTo d events w.time silent (suc (w.time + nearer_echo (pace_of d.network) w))
+    → IsClearedTo d ago events w.time silent (suc (w.time + nearer_echo (pace_of d.network) w))
     (w.time + nearer_echo (pace_of d.network) w + delay_in w) w
 aging_cleared d ago events aged silent w so used now =
     let p = pace_of d.network in
@@ -81,13 +81,14 @@ aging_cleared d ago events aged silent w so used now =
           (was_best so.before (snapshot_of w) is.well (well' p so.before aged silent w is in_use) is.left)
           (λ quiet off. let itself = (is.seen quiet off).itself in
           record { lanes = itself.lanes; stations = itself.stations });
+      were = so.were;
     }
 
 -- so it is told of a document
 pub told_anew : (d : DocumentState) (playable : IsPlayable d) (ago events : List Timed)
     (time aged silent since right old : ℕ) (w : WorldState) → KeepsTo d events w → w.time ≡ time
     → w.last_change ≡ w.time → IsAgingTo d ago events aged silent w → TellsAnew d.network events time since right old
-    → IsClearedTo d events since silent right old w
+    → IsClearedTo d ago events since silent right old w
 told_anew d playable ago events time aged silent since right old w keeps here last so (used, begun, right_is, old_is) =
     let p = pace_of d.network in
     let paths : sync_paths d.network events ≡ sync_paths_of w =
@@ -95,7 +96,7 @@ told_anew d playable ago events time aged silent since right old w keeps here la
     let echo : nearer_echo_span d.network events ≡ nearer_echo p w =
     ap (λ (u : SyncPaths). pred (pred u.systems) * (largest_interval p + u.delay)) paths in
     let delay : (sync_paths d.network events).delay ≡ delay_in w = ap (λ (u : SyncPaths). u.delay) paths in
-    subst (λ t. IsClearedTo d events t silent right old w) (here ∙ sym begun)
-    (subst (λ t. IsClearedTo d events w.time silent t old w) (omega (arith, right_is, here, echo))
-    (subst (λ t. IsClearedTo d events w.time silent (suc (w.time + nearer_echo p w)) t w)
+    subst (λ t. IsClearedTo d ago events t silent right old w) (here ∙ sym begun)
+    (subst (λ t. IsClearedTo d ago events w.time silent t old w) (omega (arith, right_is, here, echo))
+    (subst (λ t. IsClearedTo d ago events w.time silent (suc (w.time + nearer_echo p w)) t w)
     (omega (arith, old_is, here, echo, delay)) (aging_cleared d ago events aged silent w so used last)))

@@ -20,17 +20,19 @@ use Rattle.gptp_invariants.proofs.ChoiceSeenActLemmas.{acts_seen}
 use Rattle.gptp_invariants.proofs.WorldNewsCourseLemmas.{later_keeps}
 use Rattle.gptp_theorem.specs.PlayedLaws.{IsPlayable}
 use Rattle.gptp_theorem.proofs.CalmKeptLemmas.{no_change}
+use Rattle.gptp_settling_time.specs.Arrivals.{HasArrivedBy}
 use Rattle.gptp_settling_time.specs.InTurn.{Aging, AnyPast, ChoosesAfter, Cleared, Fallen, Gained, Heard, IsTakenAs, Left, Lost, Past, RestsFrom, Split, Starting, Turned, TurnedTree}
 use Rattle.gptp_settling_time.proofs.AfterLemmas.{IsAfter, after_act, after_chooses, after_keeps, after_later}
 use Rattle.gptp_settling_time.proofs.KeptToLemmas.{KeepsTo}
-use Rattle.gptp_settling_time.proofs.NamedLemmas.{IsNamedFrom, named_before, named_step}
+use Rattle.gptp_settling_time.proofs.NamedLemmas.{IsNamedFrom, comes_since, named_before, named_step}
 use Rattle.gptp_settling_time.proofs.WorldMovesLemmas.{near_so}
 
--- what is in flight names the best from when the choice stands on, if that is later than the last event
+-- What is in flight names the best once what was sent before the choice stands has arrived, if that is later than the
+-- last event.
 abbrev pub NamesAfter : DocumentState → List Timed → Past → WorldState → Type 0
-NamesAfter d events past w = (stood : ℕ) → IsCalm d.network events → (sync_paths d.network events).systems ≤ 255
-    → ChoosesAfter d.network events past stood → last_change events < stood
-    → IsNamedFrom (pace_of d.network) stood w
+NamesAfter d events past w = (stood late : ℕ) → IsCalm d.network events → (sync_paths d.network events).systems ≤ 255
+    → ChoosesAfter d.network events past stood → last_change events < stood → HasArrivedBy d.network events stood late
+    → IsNamedFrom late w
 
 -- a world that came from such a past, of which that is so
 pub record IsNamedAfter (d : DocumentState) (events : List Timed) (past : Past) (w : WorldState) : Type 0 where
@@ -45,21 +47,23 @@ module _ (d : DocumentState) (playable : IsPlayable d) (events : List Timed) (pa
   pub named_fresh : (w : WorldState) → IsAfter d events past w → w.last_change ≡ w.time → IsNamedAfter d events past w
   named_fresh w so now = record {
     so = so;
-    named = λ stood calm few chooses later.
+    named = λ stood late calm few chooses later arrives.
         let keeps = after_keeps d events past w so in
         let last = keeps.stands.last in
-        named_before p stood w keeps.claim.world (omega (arith, later, last, now));
+        named_before stood late w (comes_since d playable events w keeps stood late arrives)
+        (omega (arith, later, last, now));
   }
 
   pub named_later : (w : WorldState) (time : ℕ) → w.time ≤ time → NothingBefore time w.net.pending
       → IsNamedAfter d events past w → IsNamedAfter d events past (at time w)
   named_later w time on first is = record {
     so = so';
-    named = λ stood calm few chooses later.
-        named_step p stood w (at time w) keeps'.claim.world (later_keeps time w)
+    named = λ stood late calm few chooses later arrives.
+        named_step stood late w (at time w) p keeps'.claim.world (later_keeps time w)
         (near_so d playable events (at time w) keeps' few)
-        (λ late. after_chooses d playable events calm stood (at time w) late past so' chooses)
-        (inl (record { time = time; later = on; is = refl })) (is.named stood calm few chooses later);
+        (comes_since d playable events (at time w) keeps' stood late arrives)
+        (λ after. after_chooses d playable events calm stood (at time w) after past so' chooses)
+        (inl (record { time = time; later = on; is = refl })) (is.named stood late calm few chooses later arrives);
   }
     where
       so' : IsAfter d events past (at time w)
@@ -73,12 +77,13 @@ module _ (d : DocumentState) (playable : IsPlayable d) (events : List Timed) (pa
       → IsNamedAfter d events past w → IsNamedAfter d events past t.after
   named_act answers t fate drawn w next was is = record {
     so = so';
-    named = λ stood calm few chooses later.
-        named_step p stood (at timed.at w) t.after keeps'.claim.world keeps
+    named = λ stood late calm few chooses later arrives.
+        named_step stood late (at timed.at w) t.after p keeps'.claim.world keeps
         (near_so d playable events t.after keeps' few)
-        (λ late. after_chooses d playable events calm stood t.after late past so' chooses)
+        (comes_since d playable events t.after keeps' stood late arrives)
+        (λ after. after_chooses d playable events calm stood t.after after past so' chooses)
         (inr (acts_seen timed.act (at timed.at w) was.draws t.told.done t.after none world_then.sound
-        world_then.encodable was.acts)) (then.named stood calm few chooses later);
+        world_then.encodable was.acts)) (then.named stood late calm few chooses later arrives);
   }
     where
       timed : Timed
@@ -110,14 +115,14 @@ chooses_as n events AnyPast time start stood none (off, over) = absurd none
 chooses_as n events Starting time start stood none (off, over) = absurd none
 chooses_as n events (Gained since) time start stood none (off, over) = absurd none
 chooses_as n events (Heard since) time start stood none (off, over) = absurd none
-chooses_as n events (Left silent) time start stood none (off, over) = absurd none
+chooses_as n events (Left ago silent) time start stood none (off, over) = absurd none
 chooses_as n events (Turned silent now) time start stood rest (off, over) =
     let later = rest.later in (off, omega (arith, later, over))
 chooses_as n events (Fallen silent now) time start stood rest (off, over) =
     let later = rest.later in (off, omega (arith, later, over))
 chooses_as n events (TurnedTree silent now) time start stood (rest, later) (off, over) =
     (off, omega (arith, later, over))
-chooses_as n events (Cleared since silent right old) time start stood rest (off, over) = off
+chooses_as n events (Cleared ago since silent right old) time start stood rest (off, over) = off
 chooses_as n events (Aging ago aged silent) time start stood rest (off, over) =
     let later = rest.later in (
       off,
@@ -136,5 +141,5 @@ pub named_as : (d : DocumentState) (events : List Timed) (w : WorldState) (time 
 named_as d events w time past seen (inl same) named = subst (λ x. NamesAfter d events x w) (sym same) named
 named_as d events w time past seen (inr (start, same, rests)) named =
     subst (λ x. NamesAfter d events x w) (sym same)
-    (λ stood calm few chooses later.
-    named stood calm few (chooses_as d.network events past time start stood rests chooses) later)
+    (λ stood late calm few chooses.
+    named stood late calm few (chooses_as d.network events past time start stood rests chooses))

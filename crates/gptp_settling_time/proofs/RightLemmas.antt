@@ -55,7 +55,7 @@ module _ (says : Spelling) (n : Network) (net : IsSettlingNetwork n) (near : All
               → In f l.frames → says f.octets a → IsSoundSent g l.from a ⊎ IsOldOn g old l.from l.to f.due
           lanes j l f a at among said = elim (Joins-dec g l.from l.to) [
             | no apart ↦ inr (record { by = due j l f a at among said; farther = λ joins. absurd (apart joins) })
-            | yes joins ↦ elim (either n net near l.from l.to joins) [
+            | yes joins ↦ elim (either n.graph net.graph l.from l.to joins) [
               | inl farther ↦ inr (record { by = due j l f a at among said; farther = λ joined. farther })
               | inr nearer ↦ inl (over joins nearer
                   (distance_exists g l.from.clock net.graph (Joins-clock g l.from l.to net.graph joins))

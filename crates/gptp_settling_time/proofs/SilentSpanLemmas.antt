@@ -21,7 +21,7 @@ use Rattle.gptp_lists.proofs.SystemSpecLemmas.{In-slice_get}
 use Rattle.gptp_network.proofs.PassLemmas.{passes_at}
 use Rattle.gptp_theorem.proofs.EventLemmas.{link_behind}
 use Rattle.gptp_settling_time.specs.HowSoon.{EachEvent, FailsHeardFirst}
-use Rattle.gptp_settling_time.specs.Losses.{AgesWithin, FailsHeard, LowersUnused, UpIsUsed}
+use Rattle.gptp_settling_time.specs.Losses.{AgesWithin, FailsHeard, LowersUnused, NoneSilent, UpIsUsed}
 
 module _ (systems : List SystemSpec) (events : List Timed) where
   lives_from : (clock : ℕ) → IsLive systems events clock → lives systems events clock ≡ true
@@ -68,7 +68,7 @@ module _ (systems : List SystemSpec) (events : List Timed) where
 pub within_delay : (n : NetworkState) (made events : List Timed) (time : ℕ)
     → ((v : LinkSpec) → (link_after events v).bounds.max ≡ (link_after made v).bounds.max)
     → AgesWithin n made events time (aging_span (pace_of n) (sync_paths n made))
-within_delay n made events time stay place v failed there (used, up, end, gone) =
+within_delay n made events time stay place v failed there (used, up, end, gone) lives =
     let most = greatest_most n.systems made n.links place v there used in
     let same = stay v in
     (longest_span (pace_of n), inl refl, omega (arith, most, same))
@@ -112,12 +112,17 @@ failures_within n made (event ∷ now) (fails, lowers) =
     (link_behind made event v ∙ ap (λ act. link_acted act (link_after made v)) fails.act))
 
 -- where each link that is up is in use none is silent
-pub none_silent : (n : NetworkState) (made events : List Timed) (time span : ℕ) → UpIsUsed n events
-    → AgesWithin n made events time span
-none_silent n made events time span used place v failed there (was, up, end, gone) =
-    absurd (gone (lives end (used place v there up)))
+pub up_none_silent : (n : NetworkState) (made events : List Timed) → UpIsUsed n events → NoneSilent n made events
+up_none_silent n made events used place v failed end there (was, up, is_end, gone) other on =
+    gone (lives is_end (used place v there up))
   where
     lives : IsEnd failed (link_after events v) → IsUsed n.systems events (link_after events v)
         → IsLive n.systems events failed.clock
     lives (inl a) on = subst (λ (q : PortId). IsLive n.systems events q.clock) a on.a
     lives (inr b) on = subst (λ (q : PortId). IsLive n.systems events q.clock) b on.b
+
+-- and where none is nothing has to age
+pub none_silent : (n : NetworkState) (made events : List Timed) (time span : ℕ) → NoneSilent n made events
+    → AgesWithin n made events time span
+none_silent n made events time span none place v failed there silent far =
+    absurd (none place v failed far.end there silent far.is_end far.lives)

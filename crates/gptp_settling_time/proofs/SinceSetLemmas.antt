@@ -23,7 +23,7 @@ use Rattle.gptp_invariants.proofs.DelayLimitLemmas.{AreLimited, WorldIsLimited, 
 use Rattle.gptp_model.proofs.ActsByLemmas.{Elementary, acts_by, changes_by, starts_by}
 use Rattle.gptp_invariants.proofs.WorldKnownLemmas.{initial_limited}
 use Rattle.gptp_theorem.proofs.EventLemmas.{last_behind}
-use Rattle.gptp_settling_time.specs.ExactInTurn.{after_set, arrived_by, last_of, last_set, sets_link}
+use Rattle.gptp_settling_time.specs.Arrivals.{after_set, arrived_by, last_of, last_set, sets_link}
 
 -- ---- since a link was set
 

@@ -1,5 +1,5 @@
 -- Worlds of documents since a system failed that others hear, and so cut trees off.
-use Rattle.std.proofs.Common.{◌≡◌, ◌⊎◌, ◌<◌, ◌≤◌, ◌+◌, ◌*◌, ℕ, pred, suc, Option, List, inl, inr, arith}
+use Rattle.std.proofs.Common.{◌≡◌, ◌⊎◌, ◌<◌, ◌≤◌, ◌+◌, ◌*◌, ℕ, pred, suc, zero, refl, Option, List, inl, inr, arith}
 use native.Mathlib.Decide.{dec_le}
 use Rattle.gptp_graph.specs.PathBound.{path_bound}
 use Rattle.gptp_graph.specs.Snapshot.{PortIdentity, Snapshot}
@@ -24,27 +24,27 @@ use Rattle.gptp_invariants.specs.WorldStanding.{snapshot_of}
 use Rattle.gptp_theorem.specs.PlayedLaws.{IsPlayable}
 use Rattle.gptp_theorem.proofs.CalmLemmas.{quiet_stands}
 use Rattle.gptp_theorem.proofs.CalmKeptLemmas.{no_change}
-use Rattle.gptp_settling_time.specs.Losses.{UpIsUsed}
+use Rattle.gptp_settling_time.specs.Losses.{NoneSilent}
 use Rattle.gptp_settling_time.proofs.AgesByWorldLemmas.{WorldAgesBy}
+use Rattle.gptp_settling_time.proofs.AgingLemmas.{HeardNearer}
 use Rattle.gptp_settling_time.proofs.KeptToLemmas.{KeepsTo, keeps_act, keeps_later}
-use Rattle.gptp_settling_time.proofs.LeftToLemmas.{none_unanswered}
+use Rattle.gptp_settling_time.proofs.WereSilentLemmas.{WereSilent, none_silent_from, were_act, were_later}
 use Rattle.gptp_settling_time.proofs.SilentLinksLemmas.{AgesOver}
-use Rattle.gptp_settling_time.proofs.SplitAlwaysLemmas.{IsSplitAlways, MayStart, split_acts, split_later}
+use Rattle.gptp_settling_time.proofs.SplitAlwaysLemmas.{GoesUntil, IsSplitAlways, MayStart, split_acts, split_later}
 use Rattle.gptp_settling_time.proofs.SplitSettlesLemmas.{split_chooses, split_settles}
 
--- What came over a silent link ages so; and it has aged by the time from which on it is gone, or ports without a link
--- aren't capable from then on.
-abbrev pub GoesOver : NetworkState → List Timed → List Timed → ℕ → ℕ → ℕ → PortIdentity → ℕ → Type 0
-GoesOver n ago events failed gone silent port until =
-    AgesOver n ago events failed port until × ((until ≤ gone) ⊎ (silent ≤ gone))
+-- What came over a silent link ages so. At ports that heard a nearer system it has aged by the time from which on it is
+-- gone, or ports without a link aren't capable from then on.
+abbrev pub GoesOver : NetworkState → Snapshot → List Timed → List Timed → ℕ → ℕ → ℕ → PortIdentity → ℕ → Type 0
+GoesOver n before ago events failed gone silent port until =
+    AgesOver n before ago events failed port until × (HeardNearer before port → (until ≤ gone) ⊎ (silent ≤ gone))
 
 -- so it is gone by then
-pub over_gone : (n : NetworkState) (ago events : List Timed) (failed gone silent : ℕ)
-    → ((port : PortIdentity) (until : ℕ) → GoesOver n ago events failed gone silent port until → until ≤ gone)
-    ⊎ (silent ≤ gone)
-over_gone n ago events failed gone silent = elim (dec_le silent gone) [
+pub over_gone : (n : NetworkState) (before : Snapshot) (ago events : List Timed) (failed gone silent : ℕ)
+    → GoesUntil before (GoesOver n before ago events failed gone silent) gone ⊎ (silent ≤ gone)
+over_gone n before ago events failed gone silent = elim (dec_le silent gone) [
   | yes soon ↦ inr soon
-  | no later ↦ inl (λ port until is. elim is.1 [ inl less ↦ less | inr soon ↦ absurd (later soon) ])
+  | no later ↦ inl (λ port until heard is. elim (is.1 heard) [ inl less ↦ less | inr soon ↦ absurd (later soon) ])
 ]
 
 -- A world may be taken as one in which what is held goes by other times of ports: if it isn't gone sooner, or if no
@@ -52,17 +52,15 @@ over_gone n ago events failed gone silent = elim (dec_le silent gone) [
 pub split_by : (p : SettlingParams) (g : Snapshot) (By : PortIdentity → ℕ → Type 0) (failed gone silent : ℕ)
     (w : WorldState) → IsSplitAlways p g By failed gone silent w → (By' : PortIdentity → ℕ → Type 0) (gone' : ℕ)
     → WorldAgesBy p By' w
-    → ((port : PortIdentity) (until : ℕ) → By' port until → until ≤ gone') ⊎ (silent ≤ gone')
-    → gone' ≤ silent → (gone ≤ gone') ⊎ ((failed < gone') × (w.time ≤ failed))
+    → GoesUntil g By' gone' ⊎ (silent ≤ gone') → (gone ≤ gone') ⊎ ((failed < gone') × (w.time ≤ failed))
     → IsSplitAlways p g By' failed gone' silent w
-split_by p g By failed gone silent w is By' gone' by' is_gone' less' which = record {
+split_by p g By failed gone silent w is By' gone' by' is_gone' which = record {
   standing = is.standing;
   asked = is.asked;
   good = is.good;
   split = is.split;
   at = is.at;
   same = is.same;
-  less = less';
   by = by';
   is_gone = is_gone';
   begun = is.begun;
@@ -85,10 +83,16 @@ pub record IsSplitTo (d : DocumentState) (ago events : List Timed) (gone silent 
   pub keeps : KeepsTo d events w
   pub before : Snapshot
   pub failed : ℕ
-  pub since : IsSplitAlways (pace_of d.network) before (GoesOver d.network ago events failed gone silent) failed gone
-      silent w
+  pub since : IsSplitAlways (pace_of d.network) before (GoesOver d.network before ago events failed gone silent) failed
+      gone silent w
+  pub were : WereSilent d.network ago w
   pub some : failed < gone
   pub unanswered : silent ≡ suc (failed + silence_span (pace_of d.network))
+
+-- what is later than some time is 1 ns later than another
+one_before : (gone failed : ℕ) → failed < gone → suc (pred gone) ≡ gone
+one_before zero failed less = absurd (omega (arith, less))
+one_before (suc now) failed less = refl
 
 module _ (d : DocumentState) (ago events : List Timed) (gone silent : ℕ) where
   pub split_to_later : (w : WorldState) (time : ℕ) → w.time ≤ time → NothingBefore time w.net.pending
@@ -97,8 +101,9 @@ module _ (d : DocumentState) (ago events : List Timed) (gone silent : ℕ) where
     keeps = keeps_later d events w time later first so.keeps;
     before = so.before;
     failed = so.failed;
-    since = split_later (pace_of d.network) so.before (GoesOver d.network ago events so.failed gone silent) so.failed
-        gone silent time w later first so.since;
+    since = split_later (pace_of d.network) so.before (GoesOver d.network so.before ago events so.failed gone silent)
+        so.failed gone silent time w later first so.since;
+    were = were_later d.network ago w time later so.were;
     some = so.some;
     unanswered = so.unanswered;
   }
@@ -109,7 +114,7 @@ module _ (d : DocumentState) (ago events : List Timed) (gone silent : ℕ) where
   split_to_act answers t fate drawn w next was so =
       let timed = t.told.timed in
       let p = pace_of d.network in
-      let By = GoesOver d.network ago events so.failed gone silent in
+      let By = GoesOver d.network so.before ago events so.failed gone silent in
       let then = split_later p so.before By so.failed gone silent timed.at w was.ready.timely.now was.ready.timely.first
       so.since in
       record {
@@ -118,6 +123,7 @@ module _ (d : DocumentState) (ago events : List Timed) (gone silent : ℕ) where
         failed = so.failed;
         since = split_acts p so.before By so.failed gone silent timed.act (at timed.at w) was.draws t.told.done t.after
             (no_change next.item timed.act w next.act) (next_octet next.item timed.act w next.act) was.acts then;
+        were = were_act d ago events answers t fate drawn w next was so.keeps so.were;
         some = so.some;
         unanswered = so.unanswered;
       }
@@ -129,7 +135,7 @@ module _ (d : DocumentState) (ago events : List Timed) (gone silent : ℕ) where
     p = pace_of d.network
 
     abbrev By : PortIdentity → ℕ → Type 0
-    By = GoesOver d.network ago events so.failed gone silent
+    By = GoesOver d.network so.before ago events so.failed gone silent
 
     quiet : HaveQuietLinks p.params w
     quiet = (quiet_stands d.network events w playable.network so.keeps.stands so.keeps.claim.world.sound calm).links
@@ -137,21 +143,24 @@ module _ (d : DocumentState) (ago events : List Timed) (gone silent : ℕ) where
     abbrev start : ℕ
     start = pred gone
 
+    one : suc start ≡ gone
+    one = one_before gone so.failed so.some
+
     may : gone ≤ suc start
-    may = let some = so.some in omega (arith, some)
+    may = let same = one in omega (arith, same)
 
     late_now : start + 1 + 2 * (pred (path_bound (snapshot_of w)) * delay_in w) ≤ w.time
-    late_now = let some = so.some in omega (arith, some, late)
+    late_now = let same = one in omega (arith, same, late)
 
     -- its choice stands
     pub split_to_chooses : ChoiceStands w
     split_to_chooses = split_chooses p so.before By so.failed gone silent w so.since quiet off start may late_now
 
     -- it has settled
-    pub split_to_settled : (silent ≤ w.time) ⊎ UpIsUsed d.network events → Settled w × IsBoundedWorld w
+    pub split_to_settled : (silent ≤ w.time) ⊎ NoneSilent d.network ago events → Settled w × IsBoundedWorld w
     split_to_settled (inl now) =
         split_settles p so.before By so.failed gone silent w so.since quiet off start may late_now silent
         so.since.standing.silent now
-    split_to_settled (inr used) =
+    split_to_settled (inr none) =
         split_settles p so.before By so.failed gone silent w so.since quiet off start may late_now w.time
-        (none_unanswered d events w so.keeps w.time used) (omega arith)
+        (none_silent_from d ago events w so.keeps so.were none w.time) (omega arith)

@@ -30,6 +30,7 @@ use Rattle.gptp_model.proofs.EndLemmas.{each_end_told}
 use Rattle.gptp_model.proofs.StayLemmas.{JoinTheSame, begins_same, join_on, set_join, stays_clocks}
 use Rattle.gptp_invariants.proofs.FailedLastAnsweredLemmas.{last_beside}
 use Rattle.gptp_invariants.proofs.FailedOffLemmas.{off_called}
+use Rattle.gptp_settling_time.proofs.StaySilentLemmas.{AllStaySilent, stay_silent}
 
 -- ---- the network
 
@@ -198,8 +199,14 @@ module _ (p : SettlingParams) (w : WorldState) (is : IsWorld p w) (place : ℕ) 
           draws w' k
           (record { link = link_taken one.link; mute = one.mute; off = one.off })
 
+    pub stay_down : AllStaySilent p w w'
+    stay_down at s = record {
+      stood = before at s;
+      silent = λ start is. elim is [
+        | inl off ↦ inl (off_at at s off)
+        | inr (sent, last, soon) ↦ inr (sent, last_at at s sent last, soon)
+      ];
+    }
+
     pub silent_down : (start : ℕ) → AreSilentBy p start w → AreSilentBy p start w'
-    silent_down start silent at s = elim (silent at (before at s)) [
-      | inl off ↦ inl (off_at at s off)
-      | inr (sent, last, soon) ↦ inr (sent, last_at at s sent last, soon)
-    ]
+    silent_down start = stay_silent p start w w' stay_down

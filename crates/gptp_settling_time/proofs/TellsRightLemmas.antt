@@ -165,7 +165,7 @@ module _ (says : Spelling) (n : Network) (net : IsSettlingNetwork n) (near : All
               → ((p : ℕ) × (k : ℕ) × (from.port ≡ suc p) × (suc place ≡ suc k))
               → CameSound g s.clock (suc place) r
           over from joins (f, tells) (b, s_far) (p, k, is_p, is_k) =
-              elim (either n net near from to joins) [
+              elim (either n.graph net.graph from to joins) [
                 | inl farther ↦
                     absurd (x.rest.farther i s place r from b f at live
                     (q, there, holds) (Joins-sym g from to joins) s_far

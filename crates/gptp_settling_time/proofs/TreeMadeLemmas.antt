@@ -1,6 +1,6 @@
 -- A link in use goes down in a world of a document whose choice had stood for an announce interval: what is in flight
 -- names the best, and a delay is over.
-use Rattle.std.proofs.Common.{List, [], arith, subst, sym, true, ℕ, ◌++◌, ◌+◌, ◌∷◌, ◌≡◌, ◌≤◌, slice_get, Some}
+use Rattle.std.proofs.Common.{List, [], ap, arith, inl, inr, subst, sym, true, ℕ, ◌++◌, ◌+◌, ◌∷◌, ◌≡◌, ◌≤◌, slice_get, Some}
 use Rattle.gptp_lists.proofs.MappedLemmas.{alike}
 use Rattle.gptp_graph.specs.PathBound.{path_bound}
 use Rattle.gptp_links.specs.declared.link.Direction.{Direction}
@@ -30,6 +30,7 @@ use Rattle.gptp_theorem.specs.PlayedLaws.{IsPlayable}
 use Rattle.gptp_theorem.specs.Reached.{channel_wire}
 use Rattle.gptp_theorem.proofs.CalmLemmas.{quiet_stands}
 use Rattle.gptp_theorem.proofs.SyncPathLemmas.{paths_stand}
+use Rattle.gptp_settling_time.specs.Arrivals.{HasArrivedBy}
 use Rattle.gptp_settling_time.proofs.FallDownLemmas.{FlightNames}
 use Rattle.gptp_settling_time.proofs.GainLemmas.{lives_so}
 use Rattle.gptp_settling_time.proofs.KeptToLemmas.{KeepsTo}
@@ -41,9 +42,9 @@ module _ (d : DocumentState) (playable : IsPlayable d) (made : List Timed) (even
     (draws : List Draw) (done : Done) (w' : WorldState)
     (at_time : then.time ≡ event.at) (time : w'.time ≡ event.at) (keeps : KeepsTo d made then)
     (after : KeepsTo d (made ++ event ∷ []) w') (start : ℕ) (rest : HasRestedSo (pace_of d.network) start event.at then)
-    (stood : ℕ) (named : IsNamedFrom (pace_of d.network) stood then)
-    (quiet : stood + largest_interval (pace_of d.network) ≤ event.at) (calm : IsCalm d.network made)
-    (off : NothingLapses d.network.params) where
+    (stood arrived : ℕ) (named : IsNamedFrom arrived then)
+    (arrives : HasArrivedBy d.network made stood arrived)
+    (quiet : arrived ≤ event.at) (calm : IsCalm d.network made) (off : NothingLapses d.network.params) where
   abbrev p : SettlingParams
   p = pace_of d.network
 
@@ -71,10 +72,19 @@ module _ (d : DocumentState) (playable : IsPlayable d) (made : List Timed) (even
       named j l f a best at among said joins is_best (omega (arith, left, at_time, quiet))
 
   -- a delay is over
-  pub late_then : delay_in w' ≤ w'.time
-  late_then =
-      let short : delay_in w' ≤ largest_interval p = delay_short p w' after.claim.world.known in
-      omega (arith, short, quiet, time)
+  pub late_then : (sync_paths n more).delay ≤ (sync_paths n made).delay → delay_in w' ≤ w'.time
+  late_then least = by arrives
+    where
+      delay : (sync_paths n more).delay ≡ delay_in w'
+      delay =
+          ap (λ (y : SyncPaths). y.delay)
+          (paths_stand n more w' playable.network after.stands after.claim.world.sound)
+
+      by : HasArrivedBy n made stood arrived → delay_in w' ≤ w'.time
+      by (inl is) =
+          let short : delay_in w' ≤ largest_interval p = delay_short p w' after.claim.world.known in
+          omega (arith, short, is, quiet, time)
+      by (inr (is, within)) = omega (arith, least, delay, is, quiet, time)
 
   -- what is so of the link that goes down
   pub at_link : (owner port : ℕ) (came : Acts (Changing (LinkDown owner port)) then draws done w')

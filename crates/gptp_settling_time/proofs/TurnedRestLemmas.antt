@@ -16,6 +16,7 @@ use Rattle.gptp_bmca_machine.specs.Link.{Ends, IsTeller, LinkSettles, Stand, Tel
 use Rattle.gptp_bmca_machine.specs.LinkStage.{FinalAnnounceStays, Wiring}
 use Rattle.gptp_bmca_machine.specs.LossLaws.{Unmoved}
 use Rattle.gptp_bmca_machine.specs.Network.{Network, wiring}
+use Rattle.gptp_bmca_machine.specs.SoundLaws.{UnlinkedAreOff}
 use Rattle.gptp_bmca_machine.specs.Station.{Disabled, HoldsAt, MachineState, Mine, Port, Received, Reception, Station}
 use Rattle.gptp_bmca_machine.specs.TurnTree.{TurnsTree}
 use Rattle.gptp_bmca_machine.proofs.FallLevelLemmas.{show}
@@ -24,9 +25,9 @@ use Rattle.gptp_bmca_machine.proofs.LinkStageLemmas.{settled}
 use Rattle.gptp_bmca_machine.proofs.MovedTreeLemmas.{LeadsDown, MovesTree}
 use Rattle.gptp_bmca_machine.proofs.RestLemmas.{Chooses, is_master}
 use Rattle.gptp_bmca_machine.proofs.StillLemmas.{LeadsOn, best_was, capable_at, chooses_still, ends, far_was, port_there, station_of}
-use Rattle.gptp_bmca_machine.proofs.TurnEndLemmas.{system_clear}
+use Rattle.gptp_bmca_machine.proofs.TurnEndLemmas.{system_clear, turned_chooses, turned_left}
 use Rattle.gptp_bmca_machine.proofs.TurnLemmas.{OutIsAt, TurnsBack, out_is_at}
-use Rattle.gptp_bmca_machine.proofs.TurnLevelLemmas.{Times, TurnSettles, choose_by, delay, has_left, way_leads}
+use Rattle.gptp_bmca_machine.proofs.TurnLevelLemmas.{Times, TurnSettles, delay, way_leads}
 use Rattle.gptp_bmca_machine.proofs.TurnOutLemmas.{back, show_out, turned}
 use Rattle.gptp_bmca_machine.proofs.TurnTreeLemmas.{IsOf, LeadsOut, beyond_out, out_unmoved, out_was_best, turns_moves}
 use Rattle.gptp_settling_time.proofs.AtRestLemmas.{LinkAtRest, few}
@@ -113,7 +114,9 @@ module _ (says : Spelling) (g : Snapshot) (n : Network) (tree : List ℕ) (top o
     (before : ℕ → ℕ) (times : Times says g n tree top other last out best base depth t start over before)
     (w : MachineState) (is : TurnsBack says g n tree top other last out best base depth t start w)
     (settles : TurnSettles says g n tree top other last out best base depth t start over before times w)
-    (late : (e : ℕ) → suc (suc e) ≤ n.reach → before e ≤ w.time) where
+    (late : (e : ℕ) → suc (suc e) ≤ n.reach → before e ≤ w.time)
+    (others : (v : ℕ) → In v (clocks n.graph) → (In v tree → ⊥) → Unmoved g n v) (dark : UnlinkedAreOff n.graph w)
+  where
   abbrev m : MovesTree g n (IsOf tree) (LeadsOut last out) top best best base depth
   m = turns_moves g n tree top other last out best base depth t
 
@@ -124,20 +127,14 @@ module _ (says : Spelling) (g : Snapshot) (n : Network) (tree : List ℕ) (top o
 
   tree_chooses : (d v : ℕ) (s : Station) → slice_get w.stations (n.place v) ≡ Some s → In v tree
       → IsDistance n.graph v d → Chooses s best d
-  tree_chooses zero v s at in_v here = let more = t.farther v 0 in_v here in absurd (omega (arith, more))
-  tree_chooses (suc e) v s at in_v here =
-      let within = IsDistance-within n.graph n.reach v (suc e) t.paths here in
-      choose_by says g n tree top other last out best base depth t start over before times w is settles.way e
-      (λ f most. settles.levels f) (late e within) v s at in_v here
+  tree_chooses =
+      turned_chooses says g n tree top other last out best base depth t start over before times w is settles late
 
   still_chooses : (d : ℕ) → d < 255 → (v : ℕ) (c : System) (s : Station) → slice_get w.stations (n.place v) ≡ Some s
       → Unmoved g n v → IsBest g v c → IsDistance g v d → Chooses s c d
   still_chooses d close =
       chooses_still says g n t.well t.left w is.back.after.kept is.back.after.fits.stations d
       (λ e less. is.back.still e) close
-
-  unmoved : (v : ℕ) → In v (clocks n.graph) → (In v tree → ⊥) → Unmoved g n v
-  unmoved = t.others
 
   chooses : (d : ℕ) → d < 255 → (v : ℕ) (c : System) (s : Station) → slice_get w.stations (n.place v) ≡ Some s
       → IsBest n.graph v c → IsDistance n.graph v d → Chooses s c d
@@ -146,7 +143,7 @@ module _ (says : Spelling) (g : Snapshot) (n : Network) (tree : List ℕ) (top o
         let one : best ≡ c = IsBest-unique n.graph v best c t.well (t.is_best v in_v) is_best in
         subst (λ b. Chooses s b d) one (tree_chooses d v s at in_v here)
     | no out_v ↦
-        let u_v = unmoved v is_best.reached.1.begins out_v in
+        let u_v = others v is_best.reached.1.begins out_v in
         still_chooses d close v c s at u_v (best_was g n t.well t.left v c u_v is_best)
         (far_was g n t.well t.left v d u_v here)
   ]
@@ -221,7 +218,8 @@ module _ (says : Spelling) (g : Snapshot) (n : Network) (tree : List ℕ) (top o
         capable_at g n t.well t.left w is.back.after.kept is.back.after.fits.stations v p (port_of u (suc q)) s pv known_v
             leads.joins at there,
       )))
-      (inr (has_left says g n tree top other last out best base depth t start over before times w is u d in_u by_now))))
+      (inr (turned_left says g n tree top other last out best base depth t start over before times w is settles late u
+      in_u))))
       (settles.levels d v p u q close in_v in_u leads) by_now
 
   -- the way in
@@ -310,8 +308,8 @@ module _ (says : Spelling) (g : Snapshot) (n : Network) (tree : List ℕ) (top o
             (subst (λ x. before x ≤ w.time) (sym same) (in_time d c v p u q leads))))))
       ]
       by (no out_v) (no out_u) =
-          let u_v = unmoved v known_v out_v in
-          let u_u = unmoved u known_u out_u in
+          let u_v = others v known_v out_v in
+          let u_u = others u known_u out_u in
           still_link d c v p u q close (record {
             unmoved = u_v;
             is_best = best_was g n t.well t.left v c u_v leads.is_best;
@@ -332,14 +330,14 @@ module _ (says : Spelling) (g : Snapshot) (n : Network) (tree : List ℕ) (top o
       let at_place = subst (λ k. slice_get w.stations k ≡ Some s) (is.back.after.kept.calm.placed i s at) at in
       let chosen = chooses d close s.clock here.best s at_place here.is_best here in
       let clear = system_clear says g n tree top other last out best base depth t start over before times w is settles
-      late i s at live in
+      late others i s at live in
       let mine = is_master n.graph t.well s clear here.best here.is_best d far place q from chosen there (λ off.
       absurd (let both : Received r ≡ Disabled = sym holds ∙ off in cc)) joins beyond nearer in
       absurd (let both : Received r ≡ Mine here.best.identity d = sym holds ∙ mine in cc)
 
   none : UnlinkedHoldNothing n.graph w
   none i s place r at live unlinked (q, there, holds) =
-      let off = is.dark i s place q at live there unlinked in
+      let off = dark i s place q at live there unlinked in
       absurd (let both : Received r ≡ Disabled = sym holds ∙ off in cc)
 
   -- links are at rest

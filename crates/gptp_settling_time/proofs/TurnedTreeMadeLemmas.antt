@@ -3,7 +3,7 @@ use Rattle.std.proofs.Common.{List, [], arith, inl, inr, subst, sym, ℕ, ◌++�
 use Rattle.gptp_graph.specs.PathBound.{path_bound}
 use Rattle.gptp_graph.specs.Snapshot.{Snapshot, System, port_of}
 use Rattle.gptp_links.specs.Fate.{Draw}
-use Rattle.gptp_setup.specs.SettlingParams.{SettlingParams, largest_interval}
+use Rattle.gptp_setup.specs.SettlingParams.{SettlingParams}
 use Rattle.gptp_scenario.specs.Calm.{IsUsed}
 use Rattle.gptp_scenario.specs.Change.{link_after}
 use Rattle.gptp_scenario.specs.Network.{IsEnd, NetworkState, pace_of}
@@ -24,6 +24,7 @@ use Rattle.gptp_theorem.specs.AlikeLaws.{AreAlike}
 use Rattle.gptp_theorem.specs.PlayedLaws.{IsPlayable}
 use Rattle.gptp_theorem.specs.Reached.{channel_wire}
 use Rattle.gptp_theorem.proofs.AlikeLemmas.{best as alike_best, clock_among, distance as alike_distance, turned}
+use Rattle.gptp_settling_time.specs.Arrivals.{HasArrivedBy}
 use Rattle.gptp_settling_time.specs.InTurn.{TurnsTreeCalm}
 use Rattle.gptp_settling_time.specs.TreeLosses.{IsTurnedTree, TurnsTreeLink}
 use Rattle.gptp_settling_time.proofs.TurnedTreeActLemmas.{act_turns_tree}
@@ -82,8 +83,9 @@ module _ (d : DocumentState) (playable : IsPlayable d) (made : List Timed) (even
     (draws : List Draw) (done : Done) (w' : WorldState) (acts : Acts event.act then draws done w')
     (at_time : then.time ≡ event.at) (time : w'.time ≡ event.at) (keeps : KeepsTo d made then)
     (after : KeepsTo d (made ++ event ∷ []) w') (start : ℕ) (rest : HasRestedSo (pace_of d.network) start event.at then)
-    (stood : ℕ) (named : IsNamedFrom (pace_of d.network) stood then)
-    (quiet : stood + largest_interval (pace_of d.network) ≤ event.at) (moves : TurnsTreeCalm d.network made event) where
+    (stood arrived : ℕ) (named : IsNamedFrom arrived then)
+    (arrives : HasArrivedBy d.network made stood arrived)
+    (quiet : arrived ≤ event.at) (moves : TurnsTreeCalm d.network made event) where
   abbrev p : SettlingParams
   p = pace_of d.network
 
@@ -131,8 +133,9 @@ module _ (d : DocumentState) (playable : IsPlayable d) (made : List Timed) (even
             (up_so n made then keeps.stands (port_id x.clock x.port)
             (λ place u u_there u_end. (x.used place u u_there u_end).up) came.1.place came.1.channel came.1.is)
             (omega (arith, over, at_time)) rest.ready rest.silent seen (near_so d playable made then keeps x.few)
-            (live_ends d playable made event then draws done w' at_time time keeps after start rest stood named quiet
-            moves.calm moves.off came.1.channel (link x.clock x.port came (IsUsed n.systems made) x.used))
+            (live_ends d playable made event then draws done w' at_time time keeps after start rest stood
+            arrived named arrives quiet moves.calm moves.off came.1.channel
+            (link x.clock x.port came (IsUsed n.systems made) x.used))
             tree x.top x.other last out best base depth is (few x.paths x.few)
             (link x.clock x.port came (λ (u : LinkSpec). ((u.a.clock ≡ x.top) × (u.b.clock ≡ x.other))
             ⊎ ((u.b.clock ≡ x.top) × (u.a.clock ≡ x.other))) x.ends) late rest.sound names)
@@ -141,24 +144,24 @@ module _ (d : DocumentState) (playable : IsPlayable d) (made : List Timed) (even
     where
       seen : IsSettledSeen p then
       seen =
-          seen_then d playable made event then draws done w' at_time time keeps after start rest stood named quiet
-          moves.calm moves.off
+          seen_then d playable made event then draws done w' at_time time keeps after start rest stood
+          arrived named arrives quiet moves.calm moves.off
 
       names : FlightNames says_announce (snapshot_of then) (view then)
       names =
-          names_now d playable made event then draws done w' at_time time keeps after start rest stood named quiet
-          moves.calm moves.off
+          names_now d playable made event then draws done w' at_time time keeps after start rest stood
+          arrived named arrives quiet moves.calm moves.off
 
       late : delay_in w' ≤ w'.time
       late =
-          late_then d playable made event then draws done w' at_time time keeps after start rest stood named quiet
-          moves.calm moves.off
+          late_then d playable made event then draws done w' at_time time keeps after start rest stood
+          arrived named arrives quiet moves.calm moves.off x.delay
 
       few : (sync_paths n more).systems ≤ (sync_paths n made).systems → (sync_paths n made).systems ≤ 255
           → path_bound (snapshot_of w') ≤ 255
       few =
-          few_then d playable made event then draws done w' at_time time keeps after start rest stood named quiet
-          moves.calm moves.off
+          few_then d playable made event then draws done w' at_time time keeps after start rest stood
+          arrived named arrives quiet moves.calm moves.off
 
       link : (owner port : ℕ) (acted : Acts (Changing (LinkDown owner port)) then draws done w')
           (So : LinkSpec → Type 0)
@@ -166,5 +169,5 @@ module _ (d : DocumentState) (playable : IsPlayable d) (made : List Timed) (even
           → IsEnd (port_id owner port) (link_after made v) → So (link_after made v))
           → So (channel_wire acted.1.channel)
       link =
-          at_link d playable made event then draws done w' at_time time keeps after start rest stood named quiet
-          moves.calm moves.off
+          at_link d playable made event then draws done w' at_time time keeps after start rest stood
+          arrived named arrives quiet moves.calm moves.off

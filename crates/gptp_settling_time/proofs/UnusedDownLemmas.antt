@@ -147,28 +147,27 @@ module _ (p : SettlingParams) (silent owner port : ℕ) (w : WorldState) (draws 
 
     -- ---- its lanes are emptied
 
-    module _ (aged : ℕ) where
-      pub alike_then : IsAlike (aging_network p aged silent w) (aging_network p aged silent w')
-      alike_then =
-          let same = same_aging p aged silent taken w' keeps in
-          record {
-            graph = snapshot_now;
-            wiring = record {
-              place = λ v. ap (λ (x : Network). x.place v) same;
-              lane = λ q.
-                  ap (λ (x : Network). x.lane q) same
-                  ∙ lane_set w.net.channels k.place k.channel (lost k.channel) q k.is.here refl refl;
-              log = λ q. ap (λ (x : Network). x.log_of q) same;
-              interval = λ q. ap (λ (x : Network). x.interval_of q) same;
-            };
-            most = delay_now;
-            interval = refl;
-            timeout = refl;
-            start = refl;
-            bare = refl;
-            off = refl;
-            ready = λ q. refl;
-          }
+    pub alike_then : IsAlike (aging_network p silent w) (aging_network p silent w')
+    alike_then =
+        let same = same_aging p silent taken w' keeps in
+        record {
+          graph = snapshot_now;
+          wiring = record {
+            place = λ v. ap (λ (x : Network). x.place v) same;
+            lane = λ q.
+                ap (λ (x : Network). x.lane q) same
+                ∙ lane_set w.net.channels k.place k.channel (lost k.channel) q k.is.here refl refl;
+            log = λ q. ap (λ (x : Network). x.log_of q) same;
+            interval = λ q. ap (λ (x : Network). x.interval_of q) same;
+          };
+          most = delay_now;
+          interval = refl;
+          timeout = refl;
+          start = refl;
+          bare = refl;
+          off = refl;
+          ready = λ q. refl;
+        }
 
     -- the channel that stands where the link did is the one that was lost
     one_lost : (channel : Channel) → slice_get taken.net.channels k.place ≡ Some channel → channel ≡ lost k.channel

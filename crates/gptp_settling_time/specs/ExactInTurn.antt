@@ -1,43 +1,18 @@
 -- How exactly, over runs of documents that settle event by event.
-use Rattle.std.specs.Prelude.{◌<◌, ◌≤◌, ◌+◌, ◌^◌, ℕ, Bool, true, false, List, [], ◌∷◌, Option, Some, None, filter}
+use Rattle.std.specs.Prelude.{◌<◌, ◌≤◌, ◌^◌, ℕ, List, Option}
 use Rattle.gptp_lists.specs.Members.{In}
 use Rattle.gptp_links.specs.declared.bounds.Bounds.{Bounds}
 use Rattle.gptp_scenario.specs.Calm.{last_change}
 use Rattle.gptp_scenario.specs.Network.{pace_of}
-use Rattle.gptp_scenario.specs.declared.change.Act.{Act}
-use Rattle.gptp_scenario.specs.declared.change.Act.TheVariants.{Change as Changing}
-use Rattle.gptp_scenario.specs.declared.change.Change.TheVariants.{LinkSet}
-use Rattle.gptp_scenario.specs.declared.change.Timed.{Timed}
 use Rattle.gptp_model.specs.World.{WorldState}
 use Rattle.gptp_network.specs.Document.{DocumentState}
 use Rattle.gptp_network.specs.Snapshot.{events_by}
 use Rattle.gptp_report.specs.Transitions.{ActTrace, Unfolds}
 use Rattle.gptp_theorem.specs.PlayedLaws.{IsPlayable}
+use Rattle.gptp_settling_time.specs.Arrivals.{arrived_by}
 use Rattle.gptp_settling_time.specs.Exactly.{AreExactFrom}
 use Rattle.gptp_settling_time.specs.Gains.{HasDelaysWithin}
 use Rattle.gptp_settling_time.specs.InTurn.{ChoosesByEvents}
-
--- the act sets the bounds of a link
-abbrev pub sets_link : Act → Bool
-sets_link (Changing (LinkSet number port min max loss)) = true
-sets_link act = false
-
-abbrev pub last_of : List Timed → Option ℕ
-last_of [] = None
-last_of (event ∷ events) = Some (last_change (event ∷ events))
-
--- when the last of these events was that sets a link, if one does
-abbrev pub last_set : List Timed → Option ℕ
-last_set events = last_of (filter (λ (event : Timed). sets_link event.act) events)
-
-abbrev pub after_set : ℕ → Option ℕ → ℕ
-after_set most None = 0
-after_set most (Some time) = time + most
-
--- By when what was in flight as the last of them set a link has arrived: later by what no link takes longer than. Where
--- none does nothing is in flight for longer than the greatest delay of its link.
-abbrev pub arrived_by : ℕ → List Timed → ℕ
-arrived_by most events = after_set most (last_set events)
 
 -- Each act of a run leaves offsets that are exact, once a Sync has had the time to come down a way since the choice
 -- stands by the events up to the act, one after another: from later than the last of them, and no sooner than what was

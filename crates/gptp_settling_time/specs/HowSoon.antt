@@ -13,17 +13,17 @@
 -- - By the one event a link goes down, and no system is moved but such as are cut off. It is 0.
 -- - By the first event a system fails that is the far end of each of its links, and no other comes but links that go
 --   down of which an end has failed. The bound of the choice is 0. Roles stand once the ports beside it aren't capable
---   any more, or at once where no link is up that isn't in use.
+--   any more, or at once where no lost link is silent.
 -- - By the one event a link goes down that so moves one system alone, which isn't cut off. Choice and roles ask for
 --   twice the greatest delay for each system of a path but one.
 -- - By the first event a system fails that others hear, and no other comes but such links. The choice stands once what
 --   they hold of it has aged, or once no port beside it is capable. Roles stand by the latter.
--- - By the one event a link goes down that so cuts a tree off, or turns one to its one way out, an announce interval
---   after the time before has come to rest. Choice and roles ask for twice the greatest delay for each system of a
---   path but one.
--- - By the first event a system fails and so cuts trees off, an announce interval after the time before has come to
---   rest, and no other comes but such links. The choice asks for what others hold of it to age, and then for twice the
---   greatest delay for each system of a path but one. Roles stand then too, once no port beside it is capable.
+-- - By the one event a link goes down that so cuts a tree off, or turns one to its one way out, once what was sent
+--   before the time before had come to rest has arrived. Choice and roles ask for twice the greatest delay for each
+--   system of a path but one.
+-- - By the first event a system fails and so cuts trees off, once that has arrived, and no other comes but such links.
+--   The choice asks for what others hold of it to age, and then for twice the greatest delay for each system of a path
+--   but one. Roles stand then too, once no port beside it is capable.
 -- - By the events anything is taken away, whatever is moved. The choice asks for the longest receipt timeout and the
 --   greatest delay for each system of a path, and then for an announce interval and the greatest delay for each but
 --   one. Roles stand then too, once the ports beside a system that failed aren't capable any more.
@@ -53,9 +53,10 @@ use Rattle.gptp_scenario.specs.declared.sync_wait.SyncPaths.{SyncPaths}
 use Rattle.gptp_model.specs.World.{port_id}
 use Rattle.gptp_network.specs.Document.{DocumentState}
 use Rattle.gptp_network.specs.Snapshot.{events_by}
+use Rattle.gptp_settling_time.specs.Arrivals.{HasArrivedBy}
 use Rattle.gptp_settling_time.specs.Gains.{ChangesNothing, EndHasFailed, LeavesCapable, TakesNothing}
 use Rattle.gptp_settling_time.specs.InTurn.{AddsHeard, BettersClock, FlightIsGone, MakesNothing, NoneUsed, TellsNothing, UsedVaryLittle, WidensLink, turned_echo_span}
-use Rattle.gptp_settling_time.specs.Losses.{AgesWithin, CutsFarEnd, FailsFarEnd, FailsHeard, LeavesChoice, LosesAny, LowersLink, LowersUnused, TurnsLink, UpIsUsed}
+use Rattle.gptp_settling_time.specs.Losses.{AgesWithin, CutsFarEnd, FailsFarEnd, FailsHeard, LeavesChoice, LosesAny, LowersLink, LowersUnused, NoneSilent, TurnsLink, UpIsUsed}
 use Rattle.gptp_settling_time.specs.TreeLosses.{FailsTrees, LowersTree, TurnsTreeLink}
 
 -- ---- times
@@ -231,9 +232,9 @@ FailsEndFirst n made (event ∷ events) =
     FailsFarEnd n made event × EachEvent (LowersUnused n) (made ++ event ∷ []) events
 
 -- how soon the roles stand after them
-abbrev pub RolesAfterFailure : NetworkState → List Timed → ℕ → Type 0
-RolesAfterFailure n events roles =
-    (UpIsUsed n events × (roles ≡ 0)) ⊎ (roles ≡ silence_span (pace_of n))
+abbrev pub RolesAfterFailure : NetworkState → List Timed → List Timed → ℕ → Type 0
+RolesAfterFailure n made now roles =
+    (NoneSilent n made (made ++ now) × (roles ≡ 0)) ⊎ (roles ≡ silence_span (pace_of n))
 
 -- By the first of them a system fails that others hear. By the others links go down that are up, and of which an end
 -- has failed.
@@ -247,11 +248,11 @@ abbrev pub HeldFor : NetworkState → List Timed → List Timed → ℕ → Type
 HeldFor n made now held = (span : ℕ) × AgesWithin n made (made ++ now) (last_change (made ++ now)) span
     × (held ≡ min span (silence_span (pace_of n)))
 
--- How soon the choice and the roles stand after them: at once where each link that is up is in use. Else the choice
--- stands once nothing is held of the failed system.
+-- How soon the choice and the roles stand after them: at once where no lost link is silent. Else the choice stands once
+-- nothing is held of the failed system.
 abbrev pub BoundsAging : NetworkState → List Timed → List Timed → ℕ → ℕ → Type 0
 BoundsAging n made now choice roles =
-    (UpIsUsed n (made ++ now) × (choice ≡ 0) × (roles ≡ 0))
+    (NoneSilent n made (made ++ now) × (choice ≡ 0) × (roles ≡ 0))
     ⊎ (HeldFor n made now choice × (roles ≡ silence_span (pace_of n)))
 
 -- ---- any loss
@@ -301,11 +302,11 @@ BoundsLowered n made now choice roles =
     LowersOneLink n made now × (roles ≡ choice)
     × ((choice ≡ 0) ⊎ (CutsOneEnd n made now × (choice ≡ 2 * way_span (sync_paths n (made ++ now)))))
 
--- After a far end fails the choice stands at once. So do roles where each link that is up then is in use, as where it
--- loses its power; else once too many requests of the ports beside it are lost.
+-- After a far end fails the choice stands at once. So do roles where no lost link is silent, as where it loses its
+-- power; else once too many requests of the ports beside it are lost.
 abbrev pub BoundsFailed : NetworkState → List Timed → List Timed → ℕ → ℕ → Type 0
 BoundsFailed n made now choice roles =
-    FailsEndFirst n made now × (choice ≡ 0) × RolesAfterFailure n (made ++ now) roles
+    FailsEndFirst n made now × (choice ≡ 0) × RolesAfterFailure n made now roles
 
 -- Where one system is moved its neighbours hold what it tells then, and it what they tell, after a way each.
 abbrev pub BoundsTurned : NetworkState → List Timed → List Timed → ℕ → ℕ → Type 0
@@ -347,9 +348,17 @@ LosesNext n events Then last time Asks =
     × ((then : ℕ) × Then then × (last + then < time))
     × Asks (events_by last events) (events_at time events)
 
+-- What was sent until so much later than a time has arrived by another.
+abbrev pub HasArrivedNext : NetworkState → List Timed → ℕ → ℕ → ℕ → Type 0
+HasArrivedNext n events last then time =
+    (arrived : ℕ) × HasArrivedBy n (events_by last events) (suc (last + then)) arrived × (arrived ≤ time)
+
+-- So has what was sent until the time before had come to rest, by one of its bounds.
+abbrev pub ComesAfterRest : NetworkState → List Timed → (ℕ → Type 0) → ℕ → ℕ → Type 0
+ComesAfterRest n events Then last time = (then : ℕ) × Then then × HasArrivedNext n events last then time
+
 -- By the one event of a time a tree is so moved, and all events up to it ask for what `Asks` says. Nothing lapses for
--- want of Sync. The network is calm. The event comes an announce interval after the time before has come to rest, by
--- one of its bounds.
+-- want of Sync. The network is calm. What was sent before the time before had come to rest has arrived.
 abbrev pub TreeNext : NetworkState → (List Timed → Timed → Type 0) → List Timed → (ℕ → Type 0) → ℕ → ℕ
     → (List Timed → Type 0) → Type 0
 TreeNext n Moves events Then last time Asks =
@@ -357,7 +366,7 @@ TreeNext n Moves events Then last time Asks =
     × NoneBetween events last time
     × IsCalm n (events_by time events)
     × NothingLapses n.params
-    × ((then : ℕ) × Then then × (last + then + largest_interval (pace_of n) < time))
+    × ComesAfterRest n events Then last time
     × OneEvent Moves (events_by last events) (events_at time events)
     × Asks (events_by time events)
 
@@ -374,15 +383,14 @@ abbrev pub BoundsTree : NetworkState → ℕ → ℕ → List Timed → Type 0
 BoundsTree n choice roles events = (choice ≡ 2 * way_span (sync_paths n events)) × (roles ≡ choice)
 
 -- By the first event of a time a system fails, which so cuts trees off, and they ask for what `Asks` says. Nothing
--- lapses for want of Sync. The network is calm. They come an announce interval after the time before has come to rest,
--- by one of its bounds.
+-- lapses for want of Sync. The network is calm. What was sent before the time before had come to rest has arrived.
 abbrev pub SplitsNext : NetworkState → List Timed → (ℕ → Type 0) → ℕ → ℕ → (List Timed → List Timed → Type 0) → Type 0
 SplitsNext n events Then last time Asks =
     (last < time)
     × NoneBetween events last time
     × IsCalm n (events_by time events)
     × NothingLapses n.params
-    × ((then : ℕ) × Then then × (last + then + largest_interval (pace_of n) < time))
+    × ComesAfterRest n events Then last time
     × FailsTreesFirst n (events_by last events) (events_at time events)
     × Asks (events_by last events) (events_at time events)
 
@@ -408,15 +416,15 @@ RestsOnceTold n made now rest =
     ≤ rest)))
 
 -- How much later a network has come to rest after a loss by which one system is moved at most, but for such as are cut
--- off. After the loss of a far end what was in flight has to be gone. Where it fails and a link is up then that isn't
--- in use, roles have to stand too. After another link goes down that moves no system right traces have to be told
--- first. Where it so moves one system the network settles before, within two ways.
+-- off. After the loss of a far end what was in flight has to be gone. Where it fails and a lost link is silent, roles
+-- have to stand too. After another link goes down that moves no system right traces have to be told first. Where it so
+-- moves one system the network settles before, within two ways.
 abbrev pub RestsAfterOneLoss : NetworkState → List Timed → List Timed → ℕ → Type 0
 RestsAfterOneLoss n made now rest =
     (CutsOneEnd n made now
     × ((gone : ℕ) × FlightIsGone n (made ++ now) gone × (rest ≡ max (2 * way_span (sync_paths n (made ++ now))) gone)))
     ⊎ ((FailsEndFirst n made now
-    × ((UpIsUsed n (made ++ now) × FlightIsGone n made rest)
+    × ((NoneSilent n made (made ++ now) × FlightIsGone n made rest)
     ⊎ ((gone : ℕ) × FlightIsGone n made gone × (rest ≡ max (silence_span (pace_of n)) gone))))
     ⊎ ((LowersOneLink n made now
     × ((gone : ℕ) × FlightIsGone n (made ++ now) gone

@@ -40,9 +40,9 @@
 --
 -- A settled network is left where a link goes down by which no system is moved but such as are cut off. It is left,
 -- too, where a system fails that is the far end of each of its links. Then roles stand once the ports beside it aren't
--- capable any more, or at once where each link that is up is in use. A network that is left stays so where a link goes
+-- capable any more, or at once where no lost link is silent. A network that is left stays so where a link goes
 -- down of which an end has failed. A tree that a link cuts off falls back where what is in flight names the best: where
--- the choice had stood for an announce interval.
+-- what was sent before the choice stood has arrived.
 use Rattle.std.specs.Prelude.{◌≡◌, ◌<◌, ◌≤◌, ◌⊎◌, ◌+◌, ◌*◌, ℕ, ⊤, min, pred, suc, List, [], ◌∷◌, ◌++◌, Option, Some, slice_get}
 use Rattle.gptp_lists.specs.Members.{In}
 use Rattle.gptp_vector.specs.declared.port.PortId.{PortId}
@@ -64,11 +64,12 @@ use Rattle.gptp_network.specs.Document.{DocumentState}
 use Rattle.gptp_network.specs.Snapshot.{events_by}
 use Rattle.gptp_report.specs.Transitions.{ActTrace, Unfolds}
 use Rattle.gptp_theorem.specs.PlayedLaws.{IsPlayable}
+use Rattle.gptp_settling_time.specs.Arrivals.{HasArrivedBy}
 use Rattle.gptp_settling_time.specs.ChoiceAlone.{ChoiceStandsAs}
 use Rattle.gptp_settling_time.specs.Documents.{IsSettledAs}
 use Rattle.gptp_settling_time.specs.Exactly.{SettlesBy}
 use Rattle.gptp_settling_time.specs.Gains.{AreCapableAnyway, AreCapableNext, AreCapableStill, ChangesNothing, EndHasFailed, HasRested, IsDownAfter, IsNoWorse, JoinsLive, LeavesCapable, TakesNothing, UsesNoLink, exchanged_from}
-use Rattle.gptp_settling_time.specs.Losses.{AgesWithin, AreSilentAfter, CutsFarEnd, FailsFarEnd, FailsHeard, LeavesChoice, LosesAny, LowersLink, LowersUnused, TurnsLink, UpIsUsed}
+use Rattle.gptp_settling_time.specs.Losses.{AgesWithin, AreSilentAfter, CutsFarEnd, FailsFarEnd, FailsHeard, LeavesChoice, LosesAny, LowersLink, LowersUnused, NoneSilent, TurnsLink, UpIsUsed}
 use Rattle.gptp_settling_time.specs.TreeLosses.{FailsTrees, LowersTree, TurnsTreeLink}
 
 -- What a network came from. The numbers are times, but for the second of a loss.
@@ -78,16 +79,16 @@ pub data Past : Type 0 where
   -- from this one on its ports at links are capable; and so for what is heard
   Gained : ℕ → Past
   Heard : ℕ → Past
-  -- from this one on ports without a link aren't capable
-  Left : ℕ → Past
+  -- after the first events the network had settled; from the time on ports without a link aren't capable
+  Left : List Timed → ℕ → Past
   -- from the first on ports without a link aren't capable; at the second a system turned
   Turned : ℕ → ℕ → Past
   -- from the first on ports without a link aren't capable; at the second a tree was cut off, or turned
   Fallen : ℕ → ℕ → Past
   TurnedTree : ℕ → ℕ → Past
-  -- from the first on its ports are capable; from the second on those without a link aren't; from the third on what is
-  -- held is right; and by the fourth what was in flight is gone
-  Cleared : ℕ → ℕ → ℕ → ℕ → Past
+  -- So it is here. From the first time on its ports are capable; from the second on those without a link aren't; from
+  -- the third on what is held is right; and by the fourth what was in flight is gone.
+  Cleared : List Timed → ℕ → ℕ → ℕ → ℕ → Past
   -- from the first on what is held of the failed system is gone; from the second on ports without a link aren't capable
   Aging : List Timed → ℕ → ℕ → Past
   Split : List Timed → ℕ → ℕ → Past
@@ -353,11 +354,11 @@ LeadsToGain n before AnyPast event next =
 LeadsToGain n before Starting event next = ⊥
 LeadsToGain n before (Gained start) event next = AreCapableStill n before start event next
 LeadsToGain n before (Heard start) event next = AreCapableStill n before start event next
-LeadsToGain n before (Left silent) event next = ⊥
+LeadsToGain n before (Left ago silent) event next = ⊥
 LeadsToGain n before (Turned silent time) event next = ⊥
 LeadsToGain n before (Fallen silent time) event next = ⊥
 LeadsToGain n before (TurnedTree silent time) event next = ⊥
-LeadsToGain n before (Cleared since silent right old) event next = ⊥
+LeadsToGain n before (Cleared ago since silent right old) event next = ⊥
 LeadsToGain n before (Aging ago aged silent) event next = ⊥
 LeadsToGain n before (Split ago gone silent) event next = ⊥
 LeadsToGain n before (Lost since most silent) event next = ⊥
@@ -380,33 +381,34 @@ LeadsToHeard n before (Heard start) event next =
     ⊎ ((HasSettledHeard n before start event.at
     × (BettersClock n before event next ⊎ (LeavesSettled n before event next ⊎ WidensFrom n before event start next)))
     ⊎ (MakesNothing n before event start × (next ≡ start)))
-LeadsToHeard n before (Left silent) event next = ⊥
+LeadsToHeard n before (Left ago silent) event next = ⊥
 LeadsToHeard n before (Turned silent time) event next = ⊥
 LeadsToHeard n before (Fallen silent time) event next = ⊥
 LeadsToHeard n before (TurnedTree silent time) event next = ⊥
-LeadsToHeard n before (Cleared since silent right old) event next = ⊥
+LeadsToHeard n before (Cleared ago since silent right old) event next = ⊥
 LeadsToHeard n before (Aging ago aged silent) event next = ⊥
 LeadsToHeard n before (Split ago gone silent) event next = ⊥
 LeadsToHeard n before (Lost since most silent) event next = ⊥
 
 -- a network that had settled is left so
-abbrev pub LeadsToLeft : NetworkState → List Timed → Past → Timed → ℕ → Type 0
-LeadsToLeft n before AnyPast event next =
-    HasSettledAnyhow n before event.at
+abbrev pub LeadsToLeft : NetworkState → List Timed → Past → Timed → List Timed → ℕ → Type 0
+LeadsToLeft n before AnyPast event ago next =
+    HasSettledAnyhow n before event.at × (ago ≡ before)
     × LeavesStanding n before event (last_change before + capability_span (pace_of n)) next
-LeadsToLeft n before Starting event next = ⊥
-LeadsToLeft n before (Gained start) event next =
-    HasSettledSince n before start event.at × LeavesStanding n before event start next
-LeadsToLeft n before (Heard start) event next =
-    HasSettledHeard n before start event.at × LeavesStanding n before event start next
-LeadsToLeft n before (Left silent) event next = LowersUnusedCalm n before event × (next ≡ silent)
-LeadsToLeft n before (Turned silent time) event next = ⊥
-LeadsToLeft n before (Fallen silent time) event next = ⊥
-LeadsToLeft n before (TurnedTree silent time) event next = ⊥
-LeadsToLeft n before (Cleared since silent right old) event next = ⊥
-LeadsToLeft n before (Aging ago aged silent) event next = ⊥
-LeadsToLeft n before (Split ago gone silent) event next = ⊥
-LeadsToLeft n before (Lost since most silent) event next = ⊥
+LeadsToLeft n before Starting event ago next = ⊥
+LeadsToLeft n before (Gained start) event ago next =
+    HasSettledSince n before start event.at × (ago ≡ before) × LeavesStanding n before event start next
+LeadsToLeft n before (Heard start) event ago next =
+    HasSettledHeard n before start event.at × (ago ≡ before) × LeavesStanding n before event start next
+LeadsToLeft n before (Left old silent) event ago next =
+    LowersUnusedCalm n before event × (ago ≡ old) × (next ≡ silent)
+LeadsToLeft n before (Turned silent time) event ago next = ⊥
+LeadsToLeft n before (Fallen silent time) event ago next = ⊥
+LeadsToLeft n before (TurnedTree silent time) event ago next = ⊥
+LeadsToLeft n before (Cleared made since silent right old) event ago next = ⊥
+LeadsToLeft n before (Aging old aged silent) event ago next = ⊥
+LeadsToLeft n before (Split old gone silent) event ago next = ⊥
+LeadsToLeft n before (Lost since most silent) event ago next = ⊥
 
 -- in a network that had settled a system turns by it now
 abbrev pub TurnsNow : NetworkState → List Timed → Timed → ℕ → ℕ → ℕ → Type 0
@@ -421,19 +423,20 @@ LeadsToTurned n before (Gained start) event silent time =
     HasSettledSince n before start event.at × TurnsNow n before event start silent time
 LeadsToTurned n before (Heard start) event silent time =
     HasSettledHeard n before start event.at × TurnsNow n before event start silent time
-LeadsToTurned n before (Left start) event silent time = ⊥
+LeadsToTurned n before (Left ago start) event silent time = ⊥
 LeadsToTurned n before (Turned start now) event silent time = ⊥
 LeadsToTurned n before (Fallen start now) event silent time = ⊥
 LeadsToTurned n before (TurnedTree start now) event silent time = ⊥
-LeadsToTurned n before (Cleared since start right old) event silent time = ⊥
+LeadsToTurned n before (Cleared ago since start right old) event silent time = ⊥
 LeadsToTurned n before (Aging ago aged start) event silent time = ⊥
 LeadsToTurned n before (Split ago gone start) event silent time = ⊥
 LeadsToTurned n before (Lost since most start) event silent time = ⊥
 
--- in a network whose choice had stood for an announce interval a tree is so moved by it now
+-- In a network whose choice stands a tree is so moved by it now. What was sent before the choice stood has arrived.
 abbrev pub TreeNow : NetworkState → List Timed → Timed → Type 0 → ℕ → ℕ → ℕ → ℕ → Type 0
 TreeNow n before event Moves start stood silent time =
-    (last_change before < stood) × (stood + largest_interval (pace_of n) ≤ event.at)
+    (last_change before < stood)
+    × ((arrived : ℕ) × HasArrivedBy n before stood arrived × (arrived ≤ event.at))
     × Moves × (silent ≡ start) × (time ≡ event.at)
 
 abbrev pub LeadsByTree : NetworkState → List Timed → Past → Timed → Type 0 → ℕ → ℕ → Type 0
@@ -448,26 +451,27 @@ LeadsByTree n before past event Moves silent time = ⊥
 
 -- A network that had settled is cleared, and one that is so stays so. One in which something ages is cleared as the
 -- last link goes down of which an end has failed.
-abbrev pub LeadsToCleared : NetworkState → List Timed → Past → Timed → ℕ → ℕ → ℕ → ℕ → Type 0
-LeadsToCleared n before AnyPast event since silent right old =
-    HasSettledAnyhow n before event.at
+abbrev pub LeadsToCleared : NetworkState → List Timed → Past → Timed → List Timed → ℕ → ℕ → ℕ → ℕ → Type 0
+LeadsToCleared n before AnyPast event ago since silent right old =
+    HasSettledAnyhow n before event.at × (ago ≡ before)
     × ClearsBy n before event (last_change before + capability_span (pace_of n)) since silent right old
-LeadsToCleared n before Starting event since silent right old = ⊥
-LeadsToCleared n before (Gained start) event since silent right old =
-    HasSettledSince n before start event.at × ClearsBy n before event start since silent right old
-LeadsToCleared n before (Heard start) event since silent right old =
-    HasSettledHeard n before start event.at × ClearsBy n before event start since silent right old
-LeadsToCleared n before (Left start) event since silent right old = ⊥
-LeadsToCleared n before (Turned start now) event since silent right old = ⊥
-LeadsToCleared n before (Fallen start now) event since silent right old = ⊥
-LeadsToCleared n before (TurnedTree start now) event since silent right old = ⊥
-LeadsToCleared n before (Cleared start dark clean last) event since silent right old =
-    LowersUnusedCalm n before event × (clean ≤ event.at)
+LeadsToCleared n before Starting event ago since silent right old = ⊥
+LeadsToCleared n before (Gained start) event ago since silent right old =
+    HasSettledSince n before start event.at × (ago ≡ before) × ClearsBy n before event start since silent right old
+LeadsToCleared n before (Heard start) event ago since silent right old =
+    HasSettledHeard n before start event.at × (ago ≡ before) × ClearsBy n before event start since silent right old
+LeadsToCleared n before (Left made start) event ago since silent right old = ⊥
+LeadsToCleared n before (Turned start now) event ago since silent right old = ⊥
+LeadsToCleared n before (Fallen start now) event ago since silent right old = ⊥
+LeadsToCleared n before (TurnedTree start now) event ago since silent right old = ⊥
+LeadsToCleared n before (Cleared made start dark clean last) event ago since silent right old =
+    LowersUnusedCalm n before event × (clean ≤ event.at) × (ago ≡ made)
     × ((since ≡ start) × (silent ≡ dark) × (right ≡ clean) × (old ≡ last))
-LeadsToCleared n before (Aging ago aged dark) event since silent right old =
-    LowersUnusedCalm n before event × (silent ≡ dark) × TellsAnew n (before ++ event ∷ []) event.at since right old
-LeadsToCleared n before (Split ago gone dark) event since silent right old = ⊥
-LeadsToCleared n before (Lost start most dark) event since silent right old = ⊥
+LeadsToCleared n before (Aging made aged dark) event ago since silent right old =
+    LowersUnusedCalm n before event × (ago ≡ made) × (silent ≡ dark)
+    × TellsAnew n (before ++ event ∷ []) event.at since right old
+LeadsToCleared n before (Split made gone dark) event ago since silent right old = ⊥
+LeadsToCleared n before (Lost start most dark) event ago since silent right old = ⊥
 
 -- Where a silent link goes down too what came over it is gone. So all has aged sooner by these events, if others were
 -- faster. Ports beside the system are off by a time that says when it failed.
@@ -486,11 +490,11 @@ LeadsToAging n before (Gained start) event ago aged silent =
     HasSettledSince n before start event.at × (ago ≡ before) × FailsNow n before event aged silent
 LeadsToAging n before (Heard start) event ago aged silent =
     HasSettledHeard n before start event.at × (ago ≡ before) × FailsNow n before event aged silent
-LeadsToAging n before (Left start) event ago aged silent = ⊥
+LeadsToAging n before (Left old start) event ago aged silent = ⊥
 LeadsToAging n before (Turned start now) event ago aged silent = ⊥
 LeadsToAging n before (Fallen start now) event ago aged silent = ⊥
 LeadsToAging n before (TurnedTree start now) event ago aged silent = ⊥
-LeadsToAging n before (Cleared since start right old) event ago aged silent = ⊥
+LeadsToAging n before (Cleared made since start right old) event ago aged silent = ⊥
 LeadsToAging n before (Aging old gone start) event ago aged silent =
     LowersUnusedCalm n before event × (ago ≡ old) × (silent ≡ start)
     × ((aged ≡ gone) ⊎ AgesSooner n old (before ++ event ∷ []) aged start)
@@ -520,11 +524,11 @@ LeadsToLost n before (Gained start) event since most silent =
     HasSettledSince n before start event.at × LosesNow n before event since most silent
 LeadsToLost n before (Heard start) event since most silent =
     HasSettledHeard n before start event.at × LosesNow n before event since most silent
-LeadsToLost n before (Left start) event since most silent = ⊥
+LeadsToLost n before (Left ago start) event since most silent = ⊥
 LeadsToLost n before (Turned start now) event since most silent = ⊥
 LeadsToLost n before (Fallen start now) event since most silent = ⊥
 LeadsToLost n before (TurnedTree start now) event since most silent = ⊥
-LeadsToLost n before (Cleared begun start right old) event since most silent = ⊥
+LeadsToLost n before (Cleared ago begun start right old) event since most silent = ⊥
 LeadsToLost n before (Aging ago aged start) event since most silent = ⊥
 LeadsToLost n before (Split ago gone start) event since most silent = ⊥
 LeadsToLost n before (Lost begun delay start) event since most silent =
@@ -536,11 +540,14 @@ abbrev pub IsGoneBy : NetworkState → List Timed → List Timed → ℕ → ℕ
 IsGoneBy n ago events failed gone = (span : ℕ) × AgesWithin n ago events failed span
     × (gone ≡ suc (failed + min span (silence_span (pace_of n))))
 
--- In a network whose choice had stood for an announce interval a system fails now, and so cuts trees off.
+-- In a network whose choice stands a system fails now, and so cuts trees off. What was sent before the choice stood has
+-- arrived.
 pub record SplitsNow (n : NetworkState) (before : List Timed) (event : Timed) (stood gone silent : ℕ) : Type 0 where
   pub fails : FailsTrees n before event
   pub later : last_change before < stood
-  pub quiet : stood + largest_interval (pace_of n) ≤ event.at
+  pub arrived : ℕ
+  pub arrives : HasArrivedBy n before stood arrived
+  pub quiet : arrived ≤ event.at
   pub calm : IsCalm n before
   pub off : NothingLapses n.params
   pub is_gone : IsGoneBy n before (before ++ event ∷ []) event.at gone
@@ -555,11 +562,11 @@ LeadsToSplit n before (Gained start) event ago gone silent =
     (stood : ℕ) × HasSettledSince n before start stood × (ago ≡ before) × SplitsNow n before event stood gone silent
 LeadsToSplit n before (Heard start) event ago gone silent =
     (stood : ℕ) × HasSettledHeard n before start stood × (ago ≡ before) × SplitsNow n before event stood gone silent
-LeadsToSplit n before (Left start) event ago gone silent = ⊥
+LeadsToSplit n before (Left old start) event ago gone silent = ⊥
 LeadsToSplit n before (Turned start now) event ago gone silent = ⊥
 LeadsToSplit n before (Fallen start now) event ago gone silent = ⊥
 LeadsToSplit n before (TurnedTree start now) event ago gone silent = ⊥
-LeadsToSplit n before (Cleared since start right old) event ago gone silent = ⊥
+LeadsToSplit n before (Cleared made since start right old) event ago gone silent = ⊥
 LeadsToSplit n before (Aging old aged start) event ago gone silent = ⊥
 LeadsToSplit n before (Split old was start) event ago gone silent =
     LowersUnusedCalm n before event × (ago ≡ old) × (silent ≡ start)
@@ -574,11 +581,11 @@ StaysFrom AnyPast next = ⊥
 StaysFrom Starting next = ⊥
 StaysFrom (Gained start) next = next ≡ start
 StaysFrom (Heard start) next = next ≡ start
-StaysFrom (Left silent) next = ⊥
+StaysFrom (Left ago silent) next = ⊥
 StaysFrom (Turned silent time) next = ⊥
 StaysFrom (Fallen silent time) next = ⊥
 StaysFrom (TurnedTree silent time) next = ⊥
-StaysFrom (Cleared since silent right old) next = ⊥
+StaysFrom (Cleared ago since silent right old) next = ⊥
 StaysFrom (Aging ago aged silent) next = ⊥
 StaysFrom (Split ago gone silent) next = ⊥
 StaysFrom (Lost since most silent) next = ⊥
@@ -589,11 +596,11 @@ StartsFrom n before AnyPast event next = ⊥
 StartsFrom n before Starting event next = StartsWith n before event next
 StartsFrom n before (Gained start) event next = ⊥
 StartsFrom n before (Heard start) event next = ⊥
-StartsFrom n before (Left silent) event next = ⊥
+StartsFrom n before (Left ago silent) event next = ⊥
 StartsFrom n before (Turned silent time) event next = ⊥
 StartsFrom n before (Fallen silent time) event next = ⊥
 StartsFrom n before (TurnedTree silent time) event next = ⊥
-StartsFrom n before (Cleared since silent right old) event next = ⊥
+StartsFrom n before (Cleared ago since silent right old) event next = ⊥
 StartsFrom n before (Aging ago aged silent) event next = ⊥
 StartsFrom n before (Split ago gone silent) event next = ⊥
 StartsFrom n before (Lost since most silent) event next = ⊥
@@ -604,11 +611,11 @@ StartsStill AnyPast event = ⊥
 StartsStill Starting event = (event.at ≡ 0) × TellsNothing event.act
 StartsStill (Gained start) event = ⊥
 StartsStill (Heard start) event = ⊥
-StartsStill (Left silent) event = ⊥
+StartsStill (Left ago silent) event = ⊥
 StartsStill (Turned silent time) event = ⊥
 StartsStill (Fallen silent time) event = ⊥
 StartsStill (TurnedTree silent time) event = ⊥
-StartsStill (Cleared since silent right old) event = ⊥
+StartsStill (Cleared ago since silent right old) event = ⊥
 StartsStill (Aging ago aged silent) event = ⊥
 StartsStill (Split ago gone silent) event = ⊥
 StartsStill (Lost since most silent) event = ⊥
@@ -620,14 +627,14 @@ EventLeads n before past event (Gained next) =
     (TakesNothing n before event.act × LeadsToGain n before past event next)
     ⊎ ((MakesNothing n before event next × StaysFrom past next) ⊎ StartsFrom n before past event next)
 EventLeads n before past event (Heard next) = LeadsToHeard n before past event next
-EventLeads n before past event (Left next) = LeadsToLeft n before past event next
+EventLeads n before past event (Left ago next) = LeadsToLeft n before past event ago next
 EventLeads n before past event (Turned silent time) = LeadsToTurned n before past event silent time
 EventLeads n before past event (Fallen silent time) =
     LeadsByTree n before past event (FallsCalm n before event) silent time
 EventLeads n before past event (TurnedTree silent time) =
     LeadsByTree n before past event (TurnsTreeCalm n before event) silent time
-EventLeads n before past event (Cleared since silent right old) = LeadsToCleared n before past event since silent right
-    old
+EventLeads n before past event (Cleared ago since silent right old) =
+    LeadsToCleared n before past event ago since silent right old
 EventLeads n before past event (Aging ago aged silent) = LeadsToAging n before past event ago aged silent
 EventLeads n before past event (Split ago gone silent) = LeadsToSplit n before past event ago gone silent
 EventLeads n before past event (Lost since most silent) = LeadsToLost n before past event since most silent
@@ -635,14 +642,14 @@ EventLeads n before past event (Lost since most silent) = LeadsToLost n before p
 -- ---- rest
 
 -- A cleared network has come to rest by a time, as one whose ports are capable from a start on. What was in flight is
--- gone. Ports without a link aren't capable any more, or no link is up that isn't in use. And the greatest delay has
--- passed since the start for each system of a path but one.
-pub record HasCleared (n : NetworkState) (events : List Timed) (since silent old start time : ℕ) : Type 0 where
+-- gone. Ports without a link aren't capable any more, or no lost link is silent. And the greatest delay has passed since
+-- the start for each system of a path but one.
+pub record HasCleared (n : NetworkState) (ago events : List Timed) (since silent old start time : ℕ) : Type 0 where
   pub calm : IsCalm n events
   pub off : NothingLapses n.params
   pub gone : old < time
   pub later : since ≤ start
-  pub unlinked : (silent ≤ time) ⊎ UpIsUsed n events
+  pub unlinked : (silent ≤ time) ⊎ NoneSilent n ago events
   pub over : HasSettledHeard n events start time
 
 -- So much later than a system or a tree turned traces are told anew: the network has settled within two ways, each the
@@ -706,7 +713,7 @@ RestsFrom n events (Turned silent turned) time start = HasToldAnew n events turn
 RestsFrom n events (Fallen silent fallen) time start = HasFallenBack n events fallen start time
 RestsFrom n events (TurnedTree silent turned) time start =
     HasToldAnew n events turned start time × (turned + way_span (sync_paths n events) < start)
-RestsFrom n events (Cleared since silent right old) time start = HasCleared n events since silent old start time
+RestsFrom n events (Cleared ago since silent right old) time start = HasCleared n ago events since silent old start time
 RestsFrom n events (Aging ago aged silent) time start = HasAged n events aged silent start time
 RestsFrom n events (Lost since most silent) time start = HasToldAll n events since most silent start time
 RestsFrom n events past time start = ⊥
@@ -733,11 +740,11 @@ BeginsBy n AnyPast = ⊤
 BeginsBy n Starting = ⊤
 BeginsBy n (Gained start) = AreCapableSoon n [] start
 BeginsBy n (Heard start) = UsedVaryLittle n [] × AreCapableSoon n [] start
-BeginsBy n (Left silent) = ⊥
+BeginsBy n (Left ago silent) = ⊥
 BeginsBy n (Turned silent time) = ⊥
 BeginsBy n (Fallen silent time) = ⊥
 BeginsBy n (TurnedTree silent time) = ⊥
-BeginsBy n (Cleared since silent right old) = ⊥
+BeginsBy n (Cleared ago since silent right old) = ⊥
 BeginsBy n (Aging ago aged silent) = ⊥
 BeginsBy n (Split ago gone silent) = ⊥
 BeginsBy n (Lost since most silent) = ⊥
@@ -745,7 +752,7 @@ BeginsBy n (Lost since most silent) = ⊥
 -- By this time a calm network has settled after these events. From any past the span has to pass, the sharper one where
 -- nothing lapses. Else ports become capable; then an announce interval passes where something may not be heard; and
 -- then the greatest delay for each system of a path but one. In a network that is left the choice stands, and roles do
--- once ports without a link aren't capable; or at once where each link that is up is in use.
+-- once ports without a link aren't capable; or at once where no lost link is silent.
 abbrev pub SettlesAfter : NetworkState → List Timed → Past → ℕ → Type 0
 SettlesAfter n events AnyPast settled =
     (NothingLapses n.params
@@ -757,7 +764,8 @@ SettlesAfter n events (Gained start) settled = SettlesBy (pace_of n) (sync_paths
 SettlesAfter n events (Heard start) settled =
     NothingLapses n.params
     × (start + pred (sync_paths n events).systems * (sync_paths n events).delay ≤ settled)
-SettlesAfter n events (Left silent) settled = NothingLapses n.params × ((silent ≤ settled) ⊎ UpIsUsed n events)
+SettlesAfter n events (Left ago silent) settled =
+    NothingLapses n.params × ((silent ≤ settled) ⊎ NoneSilent n ago events)
 SettlesAfter n events (Turned silent time) settled =
     NothingLapses n.params
     × (time + 1 + way_span (sync_paths n events) ≤ settled)
@@ -767,14 +775,14 @@ SettlesAfter n events (Fallen silent time) settled =
 SettlesAfter n events (TurnedTree silent time) settled =
     NothingLapses n.params
     × (time + 1 + 2 * way_span (sync_paths n events) ≤ settled)
-SettlesAfter n events (Cleared since silent right old) settled = NothingLapses n.params ×
-    ((silent ≤ settled) ⊎ UpIsUsed n events)
+SettlesAfter n events (Cleared ago since silent right old) settled =
+    NothingLapses n.params × ((silent ≤ settled) ⊎ NoneSilent n ago events)
 SettlesAfter n events (Aging ago aged silent) settled =
-    NothingLapses n.params × ((silent ≤ settled) ⊎ UpIsUsed n events)
+    NothingLapses n.params × ((silent ≤ settled) ⊎ NoneSilent n ago events)
 SettlesAfter n events (Split ago gone silent) settled =
     NothingLapses n.params
     × (gone + 2 * way_span (sync_paths n events) ≤ settled)
-    × ((silent ≤ settled) ⊎ UpIsUsed n events)
+    × ((silent ≤ settled) ⊎ NoneSilent n ago events)
 SettlesAfter n events (Lost since most silent) settled =
     NothingLapses n.params
     × (suc (since + loss_span (pace_of n) (sync_paths n events) most) ≤ settled)
@@ -787,13 +795,13 @@ ChoosesAfter n events AnyPast settled = SettlesAfter n events AnyPast settled
 ChoosesAfter n events Starting settled = ⊥
 ChoosesAfter n events (Gained start) settled = SettlesAfter n events (Gained start) settled
 ChoosesAfter n events (Heard start) settled = SettlesAfter n events (Heard start) settled
-ChoosesAfter n events (Left silent) settled = NothingLapses n.params
+ChoosesAfter n events (Left ago silent) settled = NothingLapses n.params
 ChoosesAfter n events (Turned silent time) settled = SettlesAfter n events (Turned silent time) settled
 ChoosesAfter n events (Fallen silent time) settled = SettlesAfter n events (Fallen silent time) settled
 ChoosesAfter n events (TurnedTree silent time) settled = SettlesAfter n events (TurnedTree silent time) settled
-ChoosesAfter n events (Cleared since silent right old) settled = NothingLapses n.params
+ChoosesAfter n events (Cleared ago since silent right old) settled = NothingLapses n.params
 ChoosesAfter n events (Aging ago aged silent) settled =
-    NothingLapses n.params × ((aged ≤ settled) ⊎ ((silent ≤ settled) ⊎ UpIsUsed n events))
+    NothingLapses n.params × ((aged ≤ settled) ⊎ ((silent ≤ settled) ⊎ NoneSilent n ago events))
 ChoosesAfter n events (Split ago gone silent) settled =
     NothingLapses n.params × (gone + 2 * way_span (sync_paths n events) ≤ settled)
 ChoosesAfter n events (Lost since most silent) settled =

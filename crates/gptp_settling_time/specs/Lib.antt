@@ -1,5 +1,6 @@
 pub mod Exactly
 pub mod Gains
+pub mod Arrivals
 pub mod Documents
 pub mod Idle
 pub mod Losses

@@ -139,6 +139,12 @@ IsSilent n made events v failed =
     × IsEnd failed (link_after events v)
     × (IsLive n.systems events failed.clock → ⊥)
 
+-- no such link has a system at its other end that lives
+abbrev pub NoneSilent : NetworkState → List Timed → List Timed → Type 0
+NoneSilent n made events = (place : ℕ) (v : LinkSpec) (failed end : PortId) → slice_get n.links place ≡ Some v
+    → IsSilent n made events v failed → IsEnd end (link_after events v) → IsLive n.systems events end.clock
+    → ⊥
+
 -- the port announces at this interval
 pub record AnnouncesAt (n : NetworkState) (port : PortId) (log : ℤ) : Type 0 where
   pub place : ℕ
@@ -156,11 +162,23 @@ IsHoldSpan n made time port span =
     ⊎ ((last_change made + largest_interval (pace_of n) + longest_span (pace_of n) < time)
     × ((log : ℤ) × AnnouncesAt n port log × (span ≡ n.params.timeout * interval_of log)))
 
--- What came over silent links has aged by so much later than their ends failed at this time: it came within the
--- greatest delay of the link, and is held for such a span.
+-- The far end of the link lives: it was farther from its best than the end that failed, or as far with the higher
+-- clock. The other end, if it lives, tells over the link and takes nothing that comes over it.
+pub record FarEndLives (n : NetworkState) (made events : List Timed) (v : LinkSpec) (failed : PortId) : Type 0 where
+  pub end : PortId
+  pub is_end : IsEnd end (link_after events v)
+  pub lives : IsLive n.systems events end.clock
+  pub before : Snapshot
+  pub stands : StandsAfter n made before
+  pub farther : (near far : ℕ) → IsDistance before failed.clock near → IsDistance before end.clock far
+      → (near < far) ⊎ ((near ≡ far) × (failed.clock < end.clock))
+
+-- What came over silent links whose far end lives has aged by so much later than their other ends failed at this time:
+-- it came within the greatest delay of the link, and is held for such a span.
 abbrev pub AgesWithin : NetworkState → List Timed → List Timed → ℕ → ℕ → Type 0
 AgesWithin n made events time span = (place : ℕ) (v : LinkSpec) (failed : PortId) → slice_get n.links place ≡ Some v
     → IsSilent n made events v failed
+    → FarEndLives n made events v failed
     → (held : ℕ) × IsHoldSpan n made time failed held × ((link_after events v).bounds.max + held ≤ span)
 
 -- From the first snapshot to the second one system is moved alone, from one distance of its best to a greater one. What

@@ -39,7 +39,7 @@ use Rattle.gptp_scenario.specs.Calm.{last_change}
 use Rattle.gptp_scenario.specs.Network.{pace_of}
 use Rattle.gptp_scenario.specs.SyncWait.{sync_paths}
 use Rattle.gptp_scenario.specs.declared.change.Timed.{Timed}
-use Rattle.gptp_settling_time.specs.ExactInTurn.{arrived_by}
+use Rattle.gptp_settling_time.specs.Arrivals.{arrived_by}
 use Rattle.gptp_settling_time.specs.HowSoon.{IsChoiceAloneBound, NoneBetween}
 use Rattle.gptp_settling_time.proofs.ChoiceBoundLemmas.{choice_alone_bounds_hold}
 use Rattle.gptp_settling_time.proofs.CutLemmas.{acts_by}

@@ -8,7 +8,7 @@ loop-place-preserved c =
     let bound = c.held_at.ensures.bound in
     let more = c.max-held.ensures in
     let (so, less) = c.loop-place.invariant in (
-      held_so_far c.args.network.now c.args.own c.args.used_before.now c.args.standings.now c.loop-place.place _
+      held_so_far c.args.network.now c.args.own c.args.heard.now c.args.standings.now c.loop-place.place _
           c.loop-place.held c.held_at.result c.max-held.result _ c.loop-place-test.true more c.held_at.ensures.is so,
       omega (arith, bound, more, less),
     )

@@ -10,15 +10,13 @@ pub returns-clause-is : goal.returns-clause-is
 returns-clause-is c =
     settled_so c.args.network.now c.args.self.now c.args.at c.is_none-first.result c.heard_at_once-followed.result
     c.is_from_rest-from_rest.result c.is_calm.result c.sets_link.result c.leaves_silent.result
-    c.own_intervals-own.result c.held_among.result
     c.in_ok-moves.moves
     c.args.paths
     c.as_slice-told.result.now c.as_slice-standings.result.now c.as_slice-used.result.now c.as_slice-new.result.now
     c.ready-ready.result c.heard.result c.way_span.result c.arrived_by.result c.row_of.result c.times_by.result
     c.up_is_used-all_used.result
-    c.times_by.ensures.is c.leaves_silent.ensures c.held_among.ensures.is
-    c.own_intervals-own.ensures c.row_of.ensures
-    (c.in_ok-moves.ensures
+    c.times_by.ensures.is c.leaves_silent.ensures c.row_of.ensures
+    (c.in_ok-moves.ensures.is
     ∙ ap (λ asked. if asked then moves_seen c.args.network.now c.args.self.now c.args.at else no_moves)
     c.asks_who_is_moved-asked.ensures)
     c.is_from_rest-from_rest.ensures c.way_span.ensures.is c.heard.ensures.is
