@@ -57,6 +57,7 @@ pub mod StaleSettleLemmas
 pub mod ToldStepLemmas
 pub mod StaleOrderLemmas
 pub mod StaleOrderStepLemmas
+pub mod StaleTellLemmas
 pub mod FallRestLemmas
 pub mod FallBeginLemmas
 pub mod FallFailLemmas

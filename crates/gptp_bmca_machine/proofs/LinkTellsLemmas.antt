@@ -1,16 +1,18 @@
 -- The ends of a link of which claims are made at all times, where what its port holds came over it: what both show
 -- keeps the link at its stages.
-use Rattle.std.proofs.Common.{◌≡◌, ◌≢◌, ◌⊎◌, ◌<◌, ◌≤◌, ◌+◌, ℕ, suc, Some, slice_get, sym, subst, ◌∙◌, inl, inr, arith}
+use Rattle.std.proofs.Common.{◌≡◌, ◌≢◌, ◌⊎◌, ◌<◌, ◌≤◌, ◌+◌, ℕ, suc, true, List, Some, length, slice_get, sym, ap, subst, ◌∙◌, inl, inr, arith}
 use Rattle.gptp_lists.specs.Members.{In}
 use Rattle.gptp_graph.specs.Order.{IsLower}
-use Rattle.gptp_graph.specs.Snapshot.{IsWellFormed, Joins, System, clocks, port_of}
+use Rattle.gptp_graph.specs.Snapshot.{IsWellFormed, Joins, PortIdentity, System, clocks, port_of}
 use Rattle.gptp_graph.proofs.LinkLemmas.{Joins-clock, Joins-sym}
-use Rattle.gptp_bmca_machine.specs.Acts.{MachineSteps}
+use Rattle.gptp_bmca_machine.specs.Acts.{LaneStep, MachineSteps}
 use Rattle.gptp_bmca_machine.specs.Calm.{IsCalmPort}
-use Rattle.gptp_bmca_machine.specs.Frame.{AnnounceFrame, Lane, Spelling}
+use Rattle.gptp_bmca_machine.specs.Frame.{Announce, AnnounceFrame, Lane, Send, Spelling}
 use Rattle.gptp_bmca_machine.specs.Link.{Ends, LinkSettles, StandsAt, TellerIsReady, TellerIsSettled, final_vector}
+use Rattle.gptp_bmca_machine.specs.LinkStage.{AllFinal, IsFinal}
 use Rattle.gptp_bmca_machine.specs.LossLaws.{IsAfterLoss}
 use Rattle.gptp_bmca_machine.specs.Network.{Network}
+use Rattle.gptp_bmca_machine.specs.Reacts.{IsMasterAt, IsOwn}
 use Rattle.gptp_bmca_machine.specs.Station.{Held, MachineState, Mine, Port, Received, Reception, Station}
 use Rattle.gptp_bmca_machine.specs.Vectors.{master}
 use Rattle.gptp_bmca_machine.proofs.LinkEndsLemmas.{telling}
@@ -116,3 +118,44 @@ module _ (says : Spelling) (n : Network) (wf : IsWellFormed n.graph) (before d :
       port_on n wf w show.kept u q (port_of v (suc p)) s pu at there back)
       (λ s s' pu pu' since at there at' there' on.
       port_on n wf w' show'.kept u q (port_of v (suc p)) s' pu' at' there' back) step link
+
+  -- what a settled teller says over it is final
+  module _ (w : MachineState) (kept : IsAfterLoss n w) (s : Station)
+      (at : slice_get w.stations (n.place v) ≡ Some s) (pv : Port) (there : slice_get s.ports p ≡ Some pv)
+      (ready : TellerIsReady (telling n before d best v p u q) s pv)
+      (tells : TellerIsSettled (telling n before d best v p u q) s pv) where
+    own_final : (number : ℕ) (a : Announce) → IsOwn s number a → number ≡ suc p
+        → IsFinal (telling n before d best v p u q) a
+    own_final number a own is = record {
+      root = own.root ∙ ready.0.0;
+      steps = own.steps ∙ ready.0.1;
+      source = source;
+      log = own.log p pv is there ∙ is_port.log;
+      qualified = record {
+        foreign = λ same.
+            wf.apart (port_of v (suc p)) (port_of u (suc q)) joins (ap (λ (e : PortIdentity). e.clock) (sym source) ∙
+            same);
+        near = subst (λ k. k < 255) (sym (own.steps ∙ ready.0.1)) tells.near;
+        no_loop = λ names. tells.foreign (subst (In u) own.path names);
+        short = subst (λ (xs : List ℕ). length xs ≤ 255) (sym own.path) tells.short;
+      };
+    }
+      where
+        lives : (s.live ≡ true) × (s.clock ≡ v)
+        lives = lives_at n w kept.calm v known_v s at
+
+        source : a.source ≡ port_of v (suc p)
+        source = own.source ∙ (λ i. port_of (lives.1 i) (is i))
+
+        is_port : IsCalmPort n w.time (port_of v (suc p)) pv
+        is_port =
+            subst (λ c. IsCalmPort n w.time (port_of c (suc p)) pv) lives.1
+            ((kept.calm.stations (n.place v) s at lives.0).ports p pv there)
+
+    pub news_final : (sends : List Send) → ((z : Send) (a : Announce) → In z sends → says z.octets a
+        → IsOwn s z.port a × IsMasterAt s z.port) → (c : ℕ) (l l' : Lane) → l.from ≡ port_of v (suc p)
+        → (laid : LaneStep c sends l l') → AllFinal says (telling n before d best v p u q) laid.news
+    news_final sends reacts c l l' from laid h a among said =
+        let (z, sent, over, octets) = laid.sent h among in
+        let (own, master) = reacts z a sent (subst (λ o. says o a) octets said) in
+        own_final z.port a own (ap (λ (e : PortIdentity). e.port) (sym over ∙ from))

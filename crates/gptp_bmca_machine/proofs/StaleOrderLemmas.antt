@@ -85,6 +85,24 @@ module _ (depth : Side → ℕ → ℕ) where
         let up = strong.back in
         elim strong.first [ inl less ↦ omega (arith, less, up) | inr (same, lower) ↦ omega (arith, same, up) ]
 
+  -- not both ends are the stronger
+  pub not_both : (v u : ℕ) → IsStronger depth v u → IsStronger depth u v → ⊥
+  not_both v u strong turned = by strong.first turned.first
+    where
+      at_v : depth turned.other v ≡ depth strong.side v
+      at_v = ap (λ (x : Side). depth x v) (only_down v u strong turned.other turned.back)
+
+      at_u : depth turned.side u ≡ depth strong.other u
+      at_u = ap (λ (x : Side). depth x u) (only_back v u strong turned.side turned.deeper)
+
+      by : (depth strong.side v < depth strong.other u) ⊎ ((depth strong.side v ≡ depth strong.other u) × (v < u))
+          → (depth turned.side u < depth turned.other v)
+          ⊎ ((depth turned.side u ≡ depth turned.other v) × (u < v)) → ⊥
+      by (inl less) (inl more) = omega (arith, less, more, at_v, at_u)
+      by (inl less) (inr (same, lower)) = omega (arith, less, same, at_v, at_u)
+      by (inr (same, lower)) (inl more) = omega (arith, same, more, at_v, at_u)
+      by (inr (same, lower)) (inr (same', lower')) = omega (arith, lower, lower')
+
   -- one of both ends is the stronger
   pub stronger_one : (v u : ℕ) (x y : Side) → v ≢ u → IsDeeper depth x v u → IsDeeper depth y u v
       → IsStronger depth v u ⊎ IsStronger depth u v
