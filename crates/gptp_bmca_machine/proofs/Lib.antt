@@ -66,6 +66,8 @@ pub mod TurnOutLemmas
 pub mod MovedLevelLemmas
 pub mod TurnLevelLemmas
 pub mod StillEndLemmas
+pub mod StaleLevelLemmas
+pub mod TwoTopsFallLemmas
 pub mod MovedEndLemmas
 pub mod TurnEndLemmas
 pub mod FailureTreesLemmas

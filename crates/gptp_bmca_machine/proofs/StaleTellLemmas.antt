@@ -18,7 +18,6 @@ use Rattle.gptp_bmca_machine.specs.Station.{Disabled, Held, MachineState, Mine, 
 use Rattle.gptp_bmca_machine.specs.TwoTops.{Side, First, Second, IsTreeOfTops}
 use Rattle.gptp_bmca_machine.proofs.FallLeaveLemmas.{TreeAnswers, answers_or_stands}
 use Rattle.gptp_bmca_machine.proofs.FallLemmas.{HasLeft, IsFreeAt, falls_by}
-use Rattle.gptp_bmca_machine.proofs.FallLevelLemmas.{acts_now}
 use Rattle.gptp_bmca_machine.proofs.LinkEndsLemmas.{telling}
 use Rattle.gptp_bmca_machine.proofs.LinkStageLemmas.{begins}
 use Rattle.gptp_bmca_machine.proofs.LinkStepLemmas.{AtLink, lives_at}
@@ -35,12 +34,12 @@ use Rattle.gptp_bmca_machine.proofs.TellsLemmas.{master_announces}
 use Rattle.gptp_bmca_machine.proofs.TwoTopsLemmas.{IsDeeper, Tree, beside}
 
 -- what is less by two than a number that is above one
-two_less : (r x : ℕ) → suc (suc x) ≤ r → x ≤ pred (pred r)
+pub two_less : (r x : ℕ) → suc (suc x) ≤ r → x ≤ pred (pred r)
 two_less zero x none = absurd (omega (arith, none))
 two_less (suc zero) x none = absurd (omega (arith, none))
 two_less (suc (suc r)) x some = omega (arith, some)
 
-two_more : (r x : ℕ) → suc (suc x) ≤ r → suc (suc (pred (pred r))) ≤ r
+pub two_more : (r x : ℕ) → suc (suc x) ≤ r → suc (suc (pred (pred r))) ≤ r
 two_more zero x none = absurd (omega (arith, none))
 two_more (suc zero) x none = absurd (omega (arith, none))
 two_more (suc (suc r)) x some = omega arith
