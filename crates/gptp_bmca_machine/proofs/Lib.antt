@@ -68,6 +68,8 @@ pub mod TurnLevelLemmas
 pub mod StillEndLemmas
 pub mod StaleLevelLemmas
 pub mod TwoTopsFallLemmas
+pub mod TwoTopsWayLemmas
+pub mod TwoTopsBeginLemmas
 pub mod MovedEndLemmas
 pub mod TurnEndLemmas
 pub mod FailureTreesLemmas
