@@ -69,6 +69,7 @@ pub mod StillEndLemmas
 pub mod StaleLevelLemmas
 pub mod TwoTopsFallLemmas
 pub mod TwoTopsWayLemmas
+pub mod LostTopsLemmas
 pub mod TwoTopsBeginLemmas
 pub mod MovedEndLemmas
 pub mod TurnEndLemmas

@@ -80,6 +80,13 @@ module _ (says : Spelling) (n : Network) (next : System) (top : Side → ℕ) (d
       → (IsLinked n.graph (port_of x (suc i)) → ⊥)
       → IsStaleAtTop x r
 
+  -- in a step a port without a link doesn't come to hold something where it held nothing
+  abbrev pub BareDrop : MachineState → MachineState → Type 0
+  BareDrop w w' = (x : ℕ) (s s' : Station) (i : ℕ) (r' : Reception) → Tree n next top depth t x
+      → slice_get w.stations (n.place x) ≡ Some s → slice_get w'.stations (n.place x) ≡ Some s'
+      → (IsLinked n.graph (port_of x (suc i)) → ⊥) → HoldsAt s' i r'
+      → (r : Reception) × HoldsAt s i r
+
   -- what is of what is left has a worse root
   pub whole_worse : (v : ℕ) (a : Announce) → Tree n next top depth t v → Whole n.graph v a → old < a.root
   whole_worse v a in_v whole =

@@ -28,7 +28,7 @@ use Rattle.gptp_bmca_machine.proofs.LinkTellsLemmas.{Shows, tells_on}
 use Rattle.gptp_bmca_machine.proofs.PlaceLemmas.{same_there}
 use Rattle.gptp_bmca_machine.proofs.StaleEndLemmas.{IsLimit, IsStaleState, tells_in_time}
 use Rattle.gptp_bmca_machine.proofs.StaleLeaveLemmas.{free_on, laid_now, new_said}
-use Rattle.gptp_bmca_machine.proofs.StaleLemmas.{BareHoldStale, FollowsStale, HeldOver, follows_stale, stale_held, whole_worse}
+use Rattle.gptp_bmca_machine.proofs.StaleLemmas.{BareDrop, BareHoldStale, FollowsStale, HeldOver, follows_stale, stale_held, whole_worse}
 use Rattle.gptp_bmca_machine.proofs.StaleOrderLemmas.{AllStrong, HoldsOldTold, IsStronger, StrongStage, old_by, old_telling, only_down, ordered_so, other_farther, side_of, stage_holds, unhindered_strong}
 use Rattle.gptp_bmca_machine.proofs.StaleStepLemmas.{AllMixed, IsOrdered, IsTelling}
 use Rattle.gptp_bmca_machine.proofs.StaleToldLemmas.{over_all, shows_stale, stale_root, tells_it, weaker_there}
@@ -41,13 +41,6 @@ use Rattle.gptp_bmca_machine.proofs.TwoTopsLemmas.{IsDeeper, Tree, beside, one_a
 module _ (says : Spelling) (n : Network) (next : System) (top : Side → ℕ) (depth : Side → ℕ → ℕ)
     (t : IsTreeOfTops n next top depth) (old base : ℕ) (worse : old < next.identity)
     (near : (side : Side) (v : ℕ) → Tree n next top depth t v → base + depth side v < 255) (start : ℕ) where
-  -- in a step a port without a link doesn't come to hold something where it held nothing
-  abbrev pub BareDrop : MachineState → MachineState → Type 0
-  BareDrop w w' = (x : ℕ) (s s' : Station) (i : ℕ) (r' : Reception) → Tree n next top depth t x
-      → slice_get w.stations (n.place x) ≡ Some s → slice_get w'.stations (n.place x) ≡ Some s'
-      → (IsLinked n.graph (port_of x (suc i)) → ⊥) → HoldsAt s' i r'
-      → (r : Reception) × HoldsAt s i r
-
   abbrev root_then : System
   root_then = stale_root says n next top depth t old base worse near
 
@@ -146,7 +139,7 @@ module _ (says : Spelling) (n : Network) (next : System) (top : Side → ℕ) (d
   module _ (w w' : MachineState) (m : IsStaleState says n next top depth t old base worse start w)
       (kept' : IsAfterLoss n w') (dark' : BareHoldStale says n next top depth t old base worse w')
       (mixed' : AllMixed says n next top depth t old base worse w') (step : MachineSteps says w w')
-      (drops : BareDrop w w')
+      (drops : BareDrop says n next top depth t old base worse w w')
       (strongs : AllStrong says n next top depth t old base worse near start w) where
     ordered : IsOrdered says n next top depth t old base worse w
     ordered = ordered_so says n next top depth t old base worse near start w m.kept m.dark m.mixed strongs

@@ -26,7 +26,6 @@ use Rattle.gptp_bmca_machine.proofs.PlaceLemmas.{same_there}
 use Rattle.gptp_bmca_machine.proofs.StaleEndLemmas.{IsLimit, IsStaleState, tells_in_time}
 use Rattle.gptp_bmca_machine.proofs.StaleLemmas.{FollowsStale, follows_stale, stale_down}
 use Rattle.gptp_bmca_machine.proofs.StaleOrderLemmas.{AllStrong, HoldsOldTold, IsStronger, StrongStage, not_both, old_telling, only_down, stage_holds, stronger_one, unhindered_weak}
-use Rattle.gptp_bmca_machine.proofs.StaleOrderStepLemmas.{BareDrop, strong_done}
 use Rattle.gptp_bmca_machine.proofs.StaleStepLemmas.{IsTelling}
 use Rattle.gptp_bmca_machine.proofs.StaleToldLemmas.{IsHeard, IsUnhindered, StaleComes, StaleIsHeld, heard_by, over_all, shows_stale, stale_root, tells_it, unhindered}
 use Rattle.gptp_bmca_machine.proofs.StandsLemmas.{lane_is, due_by, port_on, port_stands, stands_there}

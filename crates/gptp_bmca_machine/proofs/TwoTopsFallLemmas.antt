@@ -9,10 +9,10 @@ use Rattle.gptp_bmca_machine.specs.Station.{MachineState}
 use Rattle.gptp_bmca_machine.specs.TwoTops.{Side, IsTreeOfTops}
 use Rattle.gptp_bmca_machine.proofs.FallLemmas.{falls_by}
 use Rattle.gptp_bmca_machine.proofs.StaleEndLemmas.{BareHoldNone, IsStaleState, stale_on}
-use Rattle.gptp_bmca_machine.proofs.StaleLemmas.{BareHoldStale}
+use Rattle.gptp_bmca_machine.proofs.StaleLemmas.{BareDrop, BareHoldStale}
 use Rattle.gptp_bmca_machine.proofs.StaleLevelLemmas.{FallsFromTops, levels_on}
 use Rattle.gptp_bmca_machine.proofs.StaleOrderLemmas.{AllStrong, ordered_so}
-use Rattle.gptp_bmca_machine.proofs.StaleOrderStepLemmas.{BareDrop, strong_on}
+use Rattle.gptp_bmca_machine.proofs.StaleOrderStepLemmas.{strong_on}
 use Rattle.gptp_bmca_machine.proofs.StaleTellLemmas.{AllTell, all_tell_on}
 use Rattle.gptp_bmca_machine.proofs.TwoTopsLemmas.{Tree}
 
@@ -36,7 +36,7 @@ module _ (says : Spelling) (n : Network) (next : System) (top : Side → ℕ) (d
       → FallsFromTops says n next top depth t old base worse near start over long begun room reached before soon grows w
       → IsAfterLoss n w' → BareHoldStale says n next top depth t old base worse w'
       → BareHoldNone says n next top depth t old base worse start w'
-      → BareDrop says n next top depth t old base worse near start w w' → MachineSteps says w w'
+      → BareDrop says n next top depth t old base worse w w' → MachineSteps says w w'
       → FallsFromTops says n next top depth t old base worse near start over long begun room reached before soon grows w'
   falls_from_tops_on w w' is kept' dark' gone' drops step = record {
     stale = stale';
