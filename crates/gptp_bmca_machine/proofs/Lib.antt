@@ -69,7 +69,9 @@ pub mod StillEndLemmas
 pub mod StaleLevelLemmas
 pub mod TwoTopsFallLemmas
 pub mod TwoTopsWayLemmas
+pub mod LostLinkLemmas
 pub mod LostTopsLemmas
+pub mod LostTopsBeginLemmas
 pub mod TwoTopsBeginLemmas
 pub mod MovedEndLemmas
 pub mod TurnEndLemmas

@@ -32,7 +32,7 @@ use Rattle.gptp_bmca_machine.proofs.TwoTopsWayLemmas.{base_is, least_deep, top_f
 module _ (says : Spelling) (g : Snapshot) (n : Network) (lost : ℕ) (top : Side → ℕ) (best next : System) (base : ℕ)
     (depth : Side → ℕ → ℕ) (loses : LosesSystem g n lost) (c : CutsOffTwice g n top best next base depth) where
   -- a link of before at a port that none is at now led from the failed system to a top
-  lost_at : (x : ℕ) (to : PortIdentity) (i : ℕ) → IsBest n.graph x next → Joins g (port_of x (suc i)) to
+  pub lost_at : (x : ℕ) (to : PortIdentity) (i : ℕ) → IsBest n.graph x next → Joins g (port_of x (suc i)) to
       → (IsLinked n.graph (port_of x (suc i)) → ⊥) → ((side : Side) × (x ≡ top side)) × (to.clock ≡ lost)
   lost_at x to i in_x joins bare = elim (loses.others to.clock (Joins-clock g to (port_of x (suc i)) c.left.graph
       (Joins-sym g (port_of x (suc i)) to joins))) [
