@@ -1,24 +1,23 @@
 -- The ends of a link of which claims are made at all times, where what its port holds came over it: what both show
 -- keeps the link at its stages.
-use Rattle.std.proofs.Common.{◌≡◌, ◌≢◌, ◌⊎◌, ◌<◌, ◌≤◌, ◌+◌, ℕ, suc, true, List, Some, length, slice_get, sym, ap, subst, ◌∙◌, inl, inr, arith}
+use Rattle.std.proofs.Common.{◌≡◌, ◌<◌, ◌≤◌, ◌+◌, ℕ, suc, true, List, Some, length, slice_get, sym, ap, subst, ◌∙◌, inl, arith}
 use Rattle.gptp_lists.specs.Members.{In}
 use Rattle.gptp_graph.specs.Order.{IsLower}
 use Rattle.gptp_graph.specs.Snapshot.{IsWellFormed, Joins, PortIdentity, System, clocks, port_of}
 use Rattle.gptp_graph.proofs.LinkLemmas.{Joins-clock, Joins-sym}
 use Rattle.gptp_bmca_machine.specs.Acts.{LaneStep, MachineSteps}
 use Rattle.gptp_bmca_machine.specs.Calm.{IsCalmPort}
-use Rattle.gptp_bmca_machine.specs.Frame.{Announce, AnnounceFrame, Lane, Send, Spelling}
+use Rattle.gptp_bmca_machine.specs.Frame.{Announce, Lane, Send, Spelling}
 use Rattle.gptp_bmca_machine.specs.Link.{Ends, LinkSettles, StandsAt, TellerIsReady, TellerIsSettled, final_vector}
 use Rattle.gptp_bmca_machine.specs.LinkStage.{AllFinal, IsFinal}
 use Rattle.gptp_bmca_machine.specs.LossLaws.{IsAfterLoss}
 use Rattle.gptp_bmca_machine.specs.Network.{Network}
 use Rattle.gptp_bmca_machine.specs.Reacts.{IsMasterAt, IsOwn}
-use Rattle.gptp_bmca_machine.specs.Station.{Held, MachineState, Mine, Port, Received, Reception, Station}
+use Rattle.gptp_bmca_machine.specs.Station.{MachineState, Mine, Port, Received, Reception, Station}
 use Rattle.gptp_bmca_machine.specs.Vectors.{master}
 use Rattle.gptp_bmca_machine.proofs.LinkEndsLemmas.{telling}
 use Rattle.gptp_bmca_machine.proofs.LinkLemmas.{link_kept}
 use Rattle.gptp_bmca_machine.proofs.LinkStepLemmas.{AtLink, lives_at}
-use Rattle.gptp_bmca_machine.proofs.PlaceLemmas.{same_there}
 use Rattle.gptp_bmca_machine.proofs.StandsLemmas.{due_by, lane_is, port_on}
 
 module _ (says : Spelling) (n : Network) (wf : IsWellFormed n.graph) (before d : ℕ) (best : System) (v p u q : ℕ)

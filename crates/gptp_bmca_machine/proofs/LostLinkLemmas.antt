@@ -1,5 +1,5 @@
 -- A system of a network at rest fails: the far end of a link of it holds what it told last.
-use Rattle.std.proofs.Common.{◌≡◌, ◌≢◌, ◌<◌, ◌≤◌, ◌+◌, ℕ, ℤ, suc, pred, true, Some, slice_get, refl, sym, ap, subst, ◌∙◌, inl, inr, arith}
+use Rattle.std.proofs.Common.{◌≡◌, ◌≢◌, ◌<◌, ◌≤◌, ◌+◌, ℕ, ℤ, suc, true, Some, slice_get, refl, sym, ap, subst, ◌∙◌, inl, inr, arith}
 use Rattle.gptp_lists.specs.Members.{In}
 use Rattle.gptp_graph.specs.Best.{IsBest}
 use Rattle.gptp_graph.specs.Distance.{IsDistance}
@@ -13,7 +13,7 @@ use Rattle.gptp_bmca_machine.specs.Levels.{LeadsFarther}
 use Rattle.gptp_bmca_machine.specs.LinkStage.{FinalAnnounceStays}
 use Rattle.gptp_bmca_machine.specs.LossLaws.{IsAfterLoss, IsLoss}
 use Rattle.gptp_bmca_machine.specs.Network.{IsSettlingNetwork, Network}
-use Rattle.gptp_bmca_machine.specs.Station.{Disabled, HoldsAt, MachineState, Port, Received, Reception, Station}
+use Rattle.gptp_bmca_machine.specs.Station.{Disabled, MachineState, Port, Received, Reception, Station}
 use Rattle.gptp_bmca_machine.proofs.EndsLemmas.{clear_at, is_station, station_of}
 use Rattle.gptp_bmca_machine.proofs.LevelLemmas.{port_there}
 use Rattle.gptp_bmca_machine.proofs.LinkStepLemmas.{lives_at}

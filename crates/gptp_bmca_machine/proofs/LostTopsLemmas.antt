@@ -1,11 +1,11 @@
 -- The failure of a system cuts off a tree with one or two tops: what its systems hold that was told over lost links. That
 -- is what the failed system told last, and tops alone hold it.
-use Rattle.std.proofs.Common.{◌≡◌, ◌⊎◌, ◌<◌, ◌≤◌, ◌+◌, ℕ, ℤ, suc, pred, true, Some, length, slice_get, sym, ap, subst, ◌∙◌, inl, inr, arith}
+use Rattle.std.proofs.Common.{◌≡◌, ◌⊎◌, ◌<◌, ◌≤◌, ◌+◌, ℕ, ℤ, suc, pred, true, Some, slice_get, sym, ap, subst, ◌∙◌, inl, inr, arith}
 use Rattle.gptp_lists.specs.Members.{In}
 use Rattle.gptp_lists.proofs.PlaceLemmas.{member_there}
 use Rattle.gptp_graph.specs.Best.{IsBest}
 use Rattle.gptp_graph.specs.Distance.{IsDistance}
-use Rattle.gptp_graph.specs.Snapshot.{Adjacent, IsLinked, Joins, PortIdentity, Snapshot, System, clocks, port_of}
+use Rattle.gptp_graph.specs.Snapshot.{IsLinked, Joins, PortIdentity, Snapshot, System, clocks, port_of}
 use Rattle.gptp_graph.proofs.LinkLemmas.{Adjacent-clock, Joins-clock, Joins-sym}
 use Rattle.gptp_graph.proofs.SystemLemmas.{same_clock}
 use Rattle.gptp_bmca_machine.specs.Acts.{MachineSteps}
@@ -26,7 +26,6 @@ use Rattle.gptp_bmca_machine.proofs.ReactsLemmas.{held_from}
 use Rattle.gptp_bmca_machine.proofs.StaleLemmas.{BareDrop, BareHoldStale, IsStaleAtTop}
 use Rattle.gptp_bmca_machine.proofs.StandsLemmas.{stands_there}
 use Rattle.gptp_bmca_machine.proofs.StillLemmas.{still}
-use Rattle.gptp_bmca_machine.proofs.TwoTopsLemmas.{beside}
 use Rattle.gptp_bmca_machine.proofs.TwoTopsWayLemmas.{base_is, least_deep, top_far}
 
 module _ (says : Spelling) (g : Snapshot) (n : Network) (lost : ℕ) (top : Side → ℕ) (best next : System) (base : ℕ)

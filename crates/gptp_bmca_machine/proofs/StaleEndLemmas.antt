@@ -1,21 +1,20 @@
 -- A tree in which the root of before is still told, until its tops let it go: it is told for a way longer at most, and
 -- then all that the systems of the tree hold is of what is left.
-use Rattle.std.proofs.Common.{◌≡◌, ◌≢◌, ◌⊎◌, ◌<◌, ◌≤◌, ◌+◌, ℕ, zero, suc, Some, slice_get, sym, ap, subst, inl, inr, arith}
+use Rattle.std.proofs.Common.{◌≡◌, ◌≢◌, ◌⊎◌, ◌<◌, ◌≤◌, ℕ, zero, suc, Some, slice_get, sym, subst, inl, inr, arith}
 use native.Mathlib.Decide.{dec_le}
-use Rattle.gptp_lists.specs.Members.{In}
-use Rattle.gptp_graph.specs.Snapshot.{System, PortIdentity, port_of, Joins, IsLinked}
+use Rattle.gptp_graph.specs.Snapshot.{System, port_of, Joins, IsLinked}
 use Rattle.gptp_graph.proofs.LinkLemmas.{Joins-sym}
 use Rattle.gptp_bmca_machine.specs.Acts.{MachineSteps}
-use Rattle.gptp_bmca_machine.specs.Clean.{CameFits, Whole}
-use Rattle.gptp_bmca_machine.specs.Frame.{Announce, AnnounceFrame, Lane, Spelling}
+use Rattle.gptp_bmca_machine.specs.Clean.{CameFits}
+use Rattle.gptp_bmca_machine.specs.Frame.{Lane, Spelling}
 use Rattle.gptp_bmca_machine.specs.LossLaws.{IsAfterLoss}
 use Rattle.gptp_bmca_machine.specs.Network.{Network}
-use Rattle.gptp_bmca_machine.specs.Station.{Held, HoldsAt, MachineState, Port, Received, Reception, Station}
+use Rattle.gptp_bmca_machine.specs.Station.{HoldsAt, MachineState, Port, Reception, Station}
 use Rattle.gptp_bmca_machine.specs.TwoTops.{Side, First, Second, IsTreeOfTops}
-use Rattle.gptp_bmca_machine.proofs.FallLemmas.{IsFree, IsFreeAt, IsNewTold, falls_by}
+use Rattle.gptp_bmca_machine.proofs.FallLemmas.{IsFreeAt, IsNewTold, falls_by}
 use Rattle.gptp_bmca_machine.proofs.NearestLemmas.{came_fits}
 use Rattle.gptp_bmca_machine.proofs.StandsLemmas.{port_stands, stands_there}
-use Rattle.gptp_bmca_machine.proofs.StaleLemmas.{BareHoldStale, FollowsStale, HeldOver, HoldsMixed, IsMixed, IsSaid, IsStale, follows_other, follows_stale, held_over, is_x, stale_down, whole_worse}
+use Rattle.gptp_bmca_machine.proofs.StaleLemmas.{BareHoldStale, FollowsStale, HeldOver, HoldsMixed, follows_other, follows_stale, held_over, is_x, stale_down, whole_worse}
 use Rattle.gptp_bmca_machine.proofs.StaleLeaveLemmas.{stage_kept}
 use Rattle.gptp_bmca_machine.proofs.StaleStepLemmas.{AllMixed, IsOrdered, IsStage, IsTelling, mixed_kept, withdraws_due}
 use Rattle.gptp_bmca_machine.proofs.TwoTopsLemmas.{IsDeeper, Tree, beside}

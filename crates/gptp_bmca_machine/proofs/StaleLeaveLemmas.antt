@@ -1,31 +1,31 @@
 -- A tree in which the root of before is still told: each of its links goes on through its stages, since whoever leaves
 -- that root tells those below it at once.
-use Rattle.std.proofs.Common.{◌≡◌, ◌≢◌, ◌⊎◌, ◌<◌, ◌≤◌, ◌+◌, ◌++◌, ℕ, suc, true, List, [], ◌∷◌, Some, slice_get, refl, sym, ap, subst, ◌∙◌, inl, inr, arith}
+use Rattle.std.proofs.Common.{◌≡◌, ◌≢◌, ◌⊎◌, ◌<◌, ◌≤◌, ◌+◌, ◌++◌, ℕ, suc, true, List, ◌∷◌, Some, slice_get, refl, sym, ap, subst, ◌∙◌, inl, inr, arith}
 use Rattle.std.specs.Bool.{⊤}
-use native.Mathlib.Decide.{dec_le, ℕ_discrete}
+use native.Mathlib.Decide.{ℕ_discrete}
 use Rattle.gptp_lists.specs.Members.{In}
 use Rattle.gptp_lists.proofs.SystemSpecLemmas.{In-right}
-use Rattle.gptp_graph.specs.Snapshot.{System, PortIdentity, port_of, Joins, IsLinked}
+use Rattle.gptp_graph.specs.Snapshot.{System, PortIdentity, port_of, Joins}
 use Rattle.gptp_graph.proofs.LinkLemmas.{Joins-sym}
-use Rattle.gptp_bmca_machine.specs.Acts.{LaneStep, MachineSteps, StationAnswers}
+use Rattle.gptp_bmca_machine.specs.Acts.{LaneStep, MachineSteps}
 use Rattle.gptp_bmca_machine.specs.Clean.{Whole}
 use Rattle.gptp_bmca_machine.specs.Frame.{Announce, AnnounceFrame, Lane, Send, Spelling}
 use Rattle.gptp_bmca_machine.specs.LinkStage.{FrameSaysAnnounce}
 use Rattle.gptp_bmca_machine.specs.LossLaws.{IsAfterLoss}
 use Rattle.gptp_bmca_machine.specs.Network.{Network}
 use Rattle.gptp_bmca_machine.specs.Reacts.{PortStep}
-use Rattle.gptp_bmca_machine.specs.Station.{Aged, Disabled, Held, HoldsAt, MachineState, Mine, Port, Received, Reception, Station}
-use Rattle.gptp_bmca_machine.specs.Touch.{Hear, HeldInTouch, IsUsable, Replaces, StationTouch}
+use Rattle.gptp_bmca_machine.specs.Station.{Aged, Disabled, Held, MachineState, Mine, Port, Received, Reception, Station}
+use Rattle.gptp_bmca_machine.specs.Touch.{Hear, HeldInTouch, IsUsable, Replaces}
 use Rattle.gptp_bmca_machine.specs.TwoTops.{Side, IsTreeOfTops}
-use Rattle.gptp_bmca_machine.proofs.FallLemmas.{IsFree, IsFreeAt, IsNewTold, falls_by}
+use Rattle.gptp_bmca_machine.proofs.FallLemmas.{IsFree, IsFreeAt, IsNewTold}
 use Rattle.gptp_bmca_machine.proofs.FallLeaveLemmas.{TreeAnswers, answers_or_stands}
 use Rattle.gptp_bmca_machine.proofs.FallStepLemmas.{free_answers, free_hears, holds_after}
 use Rattle.gptp_bmca_machine.proofs.LinkStepLemmas.{AtLink, StandsAtEnd, link_steps, lives_at}
 use Rattle.gptp_bmca_machine.proofs.PlaceLemmas.{same_there}
 use Rattle.gptp_bmca_machine.proofs.ReactsLemmas.{JustHeard}
 use Rattle.gptp_bmca_machine.proofs.StandsLemmas.{at_either, due_by, lane_is, port_on, port_stands, stands_there}
-use Rattle.gptp_bmca_machine.proofs.StaleLemmas.{BareHoldStale, FollowsStale, HeldOver, HoldsMixed, IsMixed, IsMixedAt, IsSaid, IsStale, follows_other, follows_stale, stale_down, tells_new, whole_worse}
-use Rattle.gptp_bmca_machine.proofs.StaleStepLemmas.{AllMixed, IsOrdered, IsStage, IsTelling, SaysSo, Withdraws, announces_root, is_on, number, over', said_at, said_port, stays_master, withdraws_due, withdraws_more, withdraws_now}
+use Rattle.gptp_bmca_machine.proofs.StaleLemmas.{BareHoldStale, IsMixed, tells_new, whole_worse}
+use Rattle.gptp_bmca_machine.proofs.StaleStepLemmas.{AllMixed, IsOrdered, IsStage, IsTelling, SaysSo, Withdraws, announces_root, is_on, number, over', said_at, said_port, stays_master, withdraws_more, withdraws_now}
 use Rattle.gptp_bmca_machine.proofs.ToldLemmas.{AllSay, all_more}
 use Rattle.gptp_bmca_machine.proofs.TwoTopsLemmas.{IsDeeper, Tree, beside}
 

@@ -5,22 +5,20 @@ use Rattle.std.proofs.Common.{◌≡◌, ◌≢◌, ◌⊎◌, ◌<◌, ◌≤�
 use native.Mathlib.Decide.{dec_le, ℕ_discrete}
 use Rattle.gptp_lists.specs.Members.{In}
 use Rattle.gptp_lists.proofs.SystemSpecLemmas.{In-parts}
-use Rattle.gptp_graph.specs.Best.{IsBest}
 use Rattle.gptp_graph.specs.Order.{IsLower}
 use Rattle.gptp_graph.specs.Path.{Reaches}
 use Rattle.gptp_graph.specs.Snapshot.{System, PortIdentity, port_of, Joins, IsLinked}
 use Rattle.gptp_graph.proofs.LinkDecisions.{IsLinked-dec}
-use Rattle.gptp_graph.proofs.LinkLemmas.{Adjacent-sym, Joins-sym}
+use Rattle.gptp_graph.proofs.LinkLemmas.{Joins-sym}
 use Rattle.gptp_graph.proofs.PathLemmas.{Reaches-self}
 use Rattle.gptp_bmca_machine.specs.AtRest.{StationIsAtRest}
 use Rattle.gptp_bmca_machine.specs.Clean.{CameFits, Whole}
 use Rattle.gptp_bmca_machine.specs.Facts.{FollowsItself, FollowsPort, IsLiveStationState, station_system}
-use Rattle.gptp_bmca_machine.specs.Frame.{Announce, AnnounceFrame, Lane, Spelling}
+use Rattle.gptp_bmca_machine.specs.Frame.{Announce, AnnounceFrame, Spelling}
 use Rattle.gptp_bmca_machine.specs.LossLaws.{IsAfterLoss}
 use Rattle.gptp_bmca_machine.specs.Network.{Network, network_setting}
-use Rattle.gptp_bmca_machine.specs.Reacts.{IsMasterAt, IsOwn}
-use Rattle.gptp_bmca_machine.specs.Station.{Disabled, Aged, Held, HoldsAt, MachineState, Mine, Port, Received, Reception, Station}
-use Rattle.gptp_bmca_machine.specs.Touch.{IsUsable}
+use Rattle.gptp_bmca_machine.specs.Reacts.{IsOwn}
+use Rattle.gptp_bmca_machine.specs.Station.{Held, HoldsAt, MachineState, Mine, Port, Received, Reception, Station}
 use Rattle.gptp_bmca_machine.specs.TwoTops.{Side, IsTreeOfTops}
 use Rattle.gptp_bmca_machine.specs.Vectors.{path_vector}
 use Rattle.gptp_bmca_machine.proofs.FallLemmas.{IsNewTold}
@@ -31,7 +29,7 @@ use Rattle.gptp_bmca_machine.proofs.PlaceLemmas.{same_there}
 use Rattle.gptp_bmca_machine.proofs.RestLemmas.{IsClear, bounded}
 use Rattle.gptp_bmca_machine.proofs.ToldLemmas.{AllSay}
 use Rattle.gptp_bmca_machine.proofs.TraceLemmas.{whole_on, whole_own}
-use Rattle.gptp_bmca_machine.proofs.TwoTopsLemmas.{IsDeeper, Tree, beside, names_none, one_above, one_down}
+use Rattle.gptp_bmca_machine.proofs.TwoTopsLemmas.{IsDeeper, Tree, beside, names_none, one_down}
 
 module _ (says : Spelling) (n : Network) (next : System) (top : Side → ℕ) (depth : Side → ℕ → ℕ)
     (t : IsTreeOfTops n next top depth) (old base : ℕ) (worse : old < next.identity) where

@@ -1,10 +1,10 @@
 -- A tree with one or two tops that lost what was above it settles: once the root of before is told no more its systems
 -- choose their best by their new distances, from its best on.
-use Rattle.std.proofs.Common.{◌≡◌, ◌≢◌, ◌⊎◌, ◌<◌, ◌≤◌, ◌+◌, ℕ, zero, suc, pred, true, Some, slice_get, refl, sym, ap, subst, ◌∙◌, inl, inr, arith}
+use Rattle.std.proofs.Common.{◌≡◌, ◌⊎◌, ◌<◌, ◌≤◌, ◌+◌, ℕ, zero, suc, pred, true, Some, slice_get, refl, sym, ap, subst, ◌∙◌, inl, inr, arith}
 use native.Mathlib.Decide.{dec_le, dec_lt}
 use Rattle.gptp_graph.specs.Best.{IsBest}
 use Rattle.gptp_graph.specs.Distance.{IsDistance}
-use Rattle.gptp_graph.specs.Snapshot.{Adjacent, IsLinked, Joins, PortIdentity, System, port_of}
+use Rattle.gptp_graph.specs.Snapshot.{Adjacent, Joins, System, port_of}
 use Rattle.gptp_graph.proofs.BestLemmas.{IsBest-unique}
 use Rattle.gptp_graph.proofs.DistanceLemmas.{nearer_neighbour}
 use Rattle.gptp_graph.proofs.LinkLemmas.{Joins-sym}
@@ -14,10 +14,9 @@ use Rattle.gptp_bmca_machine.specs.Clean.{CameFits}
 use Rattle.gptp_bmca_machine.specs.Frame.{Spelling}
 use Rattle.gptp_bmca_machine.specs.Levels.{LeadsFarther}
 use Rattle.gptp_bmca_machine.specs.Link.{LinkSettles}
-use Rattle.gptp_bmca_machine.specs.LossLaws.{IsAfterLoss}
 use Rattle.gptp_bmca_machine.specs.Network.{Network}
 use Rattle.gptp_bmca_machine.specs.Station.{HoldsAt, MachineState, Port, Reception, Station}
-use Rattle.gptp_bmca_machine.specs.TwoTops.{Side, First, Second, IsTreeOfTops}
+use Rattle.gptp_bmca_machine.specs.TwoTops.{Side, First, IsTreeOfTops}
 use Rattle.gptp_bmca_machine.proofs.FallLemmas.{IsFreeAt, falls_by}
 use Rattle.gptp_bmca_machine.proofs.LevelLemmas.{places_of}
 use Rattle.gptp_bmca_machine.proofs.LinkEndsLemmas.{telling}
@@ -25,7 +24,6 @@ use Rattle.gptp_bmca_machine.proofs.LinkLemmas.{link_settled}
 use Rattle.gptp_bmca_machine.proofs.LinkStepLemmas.{lives_at}
 use Rattle.gptp_bmca_machine.proofs.LinkTellsLemmas.{ends_so}
 use Rattle.gptp_bmca_machine.proofs.NearestLemmas.{came_fits, equal_within}
-use Rattle.gptp_bmca_machine.proofs.PlaceLemmas.{same_there}
 use Rattle.gptp_bmca_machine.proofs.RestLemmas.{Chooses, IsClear, bounded, suc_settles, zero_settles}
 use Rattle.gptp_bmca_machine.proofs.StaleEndLemmas.{IsLimit, IsStaleState, free_then, tells_in_time}
 use Rattle.gptp_bmca_machine.proofs.StaleLemmas.{HeldBare, HeldOver, held_over, whole_worse}
@@ -36,7 +34,7 @@ use Rattle.gptp_bmca_machine.proofs.StaleTellLemmas.{AllTell, heard_so, two_less
 use Rattle.gptp_bmca_machine.proofs.StaleToldLemmas.{over_all}
 use Rattle.gptp_bmca_machine.proofs.StandsLemmas.{port_on, port_stands, stands_there}
 use Rattle.gptp_bmca_machine.proofs.StillEndLemmas.{Follows, Hears, there}
-use Rattle.gptp_bmca_machine.proofs.TwoTopsLemmas.{IsDeeper, Tree, beside}
+use Rattle.gptp_bmca_machine.proofs.TwoTopsLemmas.{Tree, beside}
 
 two_cover : (r : ℕ) → r ≤ suc (suc (pred (pred r)))
 two_cover zero = omega arith

@@ -1,28 +1,26 @@
 -- A tree with two tops: of each link on the way between them one end is stronger, since what it tells by the top on its
 -- side is lower than what the other tells by the top on its own. The weaker tells nothing stale before the stronger has
 -- left what is stale for good.
-use Rattle.std.proofs.Common.{◌≡◌, ◌≢◌, ◌⊎◌, ◌<◌, ◌≤◌, ◌+◌, ℕ, suc, true, List, [], ◌∷◌, Some, None, slice_get, refl, sym, ap, subst, ◌∙◌, inl, inr, arith}
+use Rattle.std.proofs.Common.{◌≡◌, ◌≢◌, ◌⊎◌, ◌<◌, ◌≤◌, ◌+◌, ℕ, suc, true, [], ◌∷◌, Some, None, slice_get, refl, sym, ap, subst, ◌∙◌, inl, inr, arith}
 use native.Mathlib.Decide.{dec_lt}
-use Rattle.gptp_lists.specs.Members.{In}
 use Rattle.gptp_graph.specs.Order.{IsLower}
-use Rattle.gptp_graph.specs.Snapshot.{Adjacent, System, PortIdentity, port_of, Joins}
+use Rattle.gptp_graph.specs.Snapshot.{System, PortIdentity, port_of, Joins}
 use Rattle.gptp_graph.proofs.LinkLemmas.{Joins-sym}
 use Rattle.gptp_bmca_machine.specs.AtRest.{StationIsAtRest}
-use Rattle.gptp_bmca_machine.specs.Frame.{Announce, AnnounceFrame, Lane, Spelling}
+use Rattle.gptp_bmca_machine.specs.Frame.{Spelling}
 use Rattle.gptp_bmca_machine.specs.Link.{final_vector}
-use Rattle.gptp_bmca_machine.specs.LinkStage.{IsFinal, Wiring}
 use Rattle.gptp_bmca_machine.specs.LossLaws.{IsAfterLoss}
 use Rattle.gptp_bmca_machine.specs.Network.{Network}
 use Rattle.gptp_bmca_machine.specs.Station.{HoldsAt, MachineState, Mine, Port, Received, Reception, Station}
 use Rattle.gptp_bmca_machine.specs.Touch.{Replaces}
 use Rattle.gptp_bmca_machine.specs.TwoTops.{Side, First, Second, IsTreeOfTops}
-use Rattle.gptp_bmca_machine.specs.Vectors.{master, message, path_vector}
-use Rattle.gptp_bmca_machine.proofs.FallLemmas.{DownStage, HasChoice, HasLeft, IsFreeAt, IsLed, IsLeft, IsOld, falls_by}
+use Rattle.gptp_bmca_machine.specs.Vectors.{master, path_vector}
+use Rattle.gptp_bmca_machine.proofs.FallLemmas.{DownStage, HasChoice, HasLeft, IsFreeAt, falls_by}
 use Rattle.gptp_bmca_machine.proofs.LinkEndsLemmas.{telling}
 use Rattle.gptp_bmca_machine.proofs.LinkStepLemmas.{lives_at}
-use Rattle.gptp_bmca_machine.proofs.PlaceLemmas.{same_holds, same_place, same_there}
+use Rattle.gptp_bmca_machine.proofs.PlaceLemmas.{same_holds, same_place}
 use Rattle.gptp_bmca_machine.proofs.StaleLemmas.{BareHoldStale, FollowsStale, IsStale, follows_stale, stale_down, stale_held, whole_worse}
-use Rattle.gptp_bmca_machine.proofs.StaleStepLemmas.{AllMixed, IsOrdered, IsTelling}
+use Rattle.gptp_bmca_machine.proofs.StaleStepLemmas.{AllMixed, IsOrdered}
 use Rattle.gptp_bmca_machine.proofs.StaleToldLemmas.{IsUnhindered, over_all, stale_root}
 use Rattle.gptp_bmca_machine.proofs.StandsLemmas.{port_stands, stands_there}
 use Rattle.gptp_bmca_machine.proofs.TwoTopsLemmas.{IsDeeper, Tree, beside}

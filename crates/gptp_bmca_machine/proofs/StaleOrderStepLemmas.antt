@@ -1,25 +1,20 @@
 -- A tree with two tops: every step keeps the stages of links between them, seen from their stronger ends. Who has left
 -- what is stale there doesn't come back to it.
-use Rattle.std.proofs.Common.{◌≡◌, ◌≢◌, ◌⊎◌, ◌<◌, ◌≤◌, ◌+◌, ℕ, zero, suc, true, List, ◌∷◌, Some, slice_get, refl, sym, ap, subst, ◌∙◌, inl, inr, arith}
+use Rattle.std.proofs.Common.{◌≡◌, ◌⊎◌, ◌<◌, ◌≤◌, ◌+◌, ℕ, zero, suc, true, Some, slice_get, sym, ap, subst, ◌∙◌, inl, inr, arith}
 use Rattle.std.specs.Bool.{⊤}
-use native.Mathlib.Decide.{dec_lt}
-use Rattle.gptp_lists.specs.Members.{In}
-use Rattle.gptp_graph.specs.Order.{IsLower}
-use Rattle.gptp_graph.specs.Snapshot.{System, PortIdentity, port_of, Joins, IsLinked}
-use Rattle.gptp_graph.proofs.LinkLemmas.{Adjacent-sym, Joins-sym}
+use Rattle.gptp_graph.specs.Snapshot.{System, port_of, Joins, IsLinked}
+use Rattle.gptp_graph.proofs.LinkLemmas.{Joins-sym}
 use Rattle.gptp_bmca_machine.specs.Acts.{LaneStep, MachineSteps}
-use Rattle.gptp_bmca_machine.specs.AtRest.{StationIsAtRest}
 use Rattle.gptp_bmca_machine.specs.Calm.{IsCalmPort}
-use Rattle.gptp_bmca_machine.specs.Frame.{Announce, AnnounceFrame, Lane, Spelling}
+use Rattle.gptp_bmca_machine.specs.Frame.{Lane, Spelling}
 use Rattle.gptp_bmca_machine.specs.Link.{HearsSettled, LinkSettles, TellerIsReady}
 use Rattle.gptp_bmca_machine.specs.LinkStage.{FinalAnnounceStays, Wiring}
 use Rattle.gptp_bmca_machine.specs.LossLaws.{IsAfterLoss}
 use Rattle.gptp_bmca_machine.specs.Network.{Network}
 use Rattle.gptp_bmca_machine.specs.Reacts.{PortStep}
 use Rattle.gptp_bmca_machine.specs.RestLaws.{LinkStays}
-use Rattle.gptp_bmca_machine.specs.Station.{Disabled, HoldsAt, MachineState, Mine, Port, Received, Reception, Station}
+use Rattle.gptp_bmca_machine.specs.Station.{HoldsAt, MachineState, Mine, Port, Received, Reception, Station}
 use Rattle.gptp_bmca_machine.specs.TwoTops.{Side, IsTreeOfTops}
-use Rattle.gptp_bmca_machine.specs.Vectors.{path_vector}
 use Rattle.gptp_bmca_machine.proofs.FallLeaveLemmas.{TreeAnswers, answers_or_stands}
 use Rattle.gptp_bmca_machine.proofs.FallLemmas.{HasChoice, HasLeft, IsFreeAt, IsLed, IsLeft, IsNewTold, IsOld, choice_dec, falls_by}
 use Rattle.gptp_bmca_machine.proofs.LinkStageLemmas.{settled}
@@ -28,7 +23,7 @@ use Rattle.gptp_bmca_machine.proofs.LinkTellsLemmas.{Shows, tells_on}
 use Rattle.gptp_bmca_machine.proofs.PlaceLemmas.{same_there}
 use Rattle.gptp_bmca_machine.proofs.StaleEndLemmas.{IsLimit, IsStaleState, tells_in_time}
 use Rattle.gptp_bmca_machine.proofs.StaleLeaveLemmas.{free_on, laid_now, new_said}
-use Rattle.gptp_bmca_machine.proofs.StaleLemmas.{BareDrop, BareHoldStale, FollowsStale, HeldOver, follows_stale, stale_held, whole_worse}
+use Rattle.gptp_bmca_machine.proofs.StaleLemmas.{BareDrop, BareHoldStale, FollowsStale, HeldOver, follows_stale, whole_worse}
 use Rattle.gptp_bmca_machine.proofs.StaleOrderLemmas.{AllStrong, HoldsOldTold, IsStronger, StrongStage, old_by, old_telling, only_down, ordered_so, other_farther, side_of, stage_holds, unhindered_strong}
 use Rattle.gptp_bmca_machine.proofs.StaleStepLemmas.{AllMixed, IsOrdered, IsTelling}
 use Rattle.gptp_bmca_machine.proofs.StaleToldLemmas.{over_all, shows_stale, stale_root, tells_it, weaker_there}

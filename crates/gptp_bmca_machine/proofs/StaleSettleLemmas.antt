@@ -1,25 +1,23 @@
 -- A tree in which the root of before is still told: meanwhile each link that leads farther from the best of the tree is
 -- at its stage as soon as the system that tells has settled, or what is stale is on its way to that.
-use Rattle.std.proofs.Common.{◌≡◌, ◌≢◌, ◌⊎◌, ◌<◌, ◌≤◌, ◌+◌, ◌++◌, ℕ, suc, true, List, [], ◌∷◌, Some, length, slice_get, refl, sym, ap, subst, ◌∙◌, inl, inr, arith}
+use Rattle.std.proofs.Common.{◌≡◌, ◌≢◌, ◌⊎◌, ◌<◌, ◌≤◌, ◌+◌, ℕ, suc, true, List, ◌∷◌, Some, slice_get, refl, sym, ap, subst, ◌∙◌, inl, inr, arith}
 use Rattle.std.specs.Bool.{⊤}
 use native.Mathlib.Decide.{dec_lt, ℕ_discrete}
 use Rattle.gptp_lists.specs.Members.{In}
 use Rattle.gptp_lists.proofs.SystemSpecLemmas.{In-left}
-use Rattle.gptp_graph.specs.Best.{IsBest}
 use Rattle.gptp_graph.specs.Order.{IsLower}
 use Rattle.gptp_graph.specs.Snapshot.{System, PortIdentity, port_of, Joins}
 use Rattle.gptp_graph.proofs.LinkLemmas.{Joins-sym}
 use Rattle.gptp_bmca_machine.specs.Acts.{LaneStep, MachineSteps}
-use Rattle.gptp_bmca_machine.specs.AtRest.{StationIsAtRest}
 use Rattle.gptp_bmca_machine.specs.Calm.{HasLane}
 use Rattle.gptp_bmca_machine.specs.Frame.{Announce, AnnounceFrame, Lane, Send, Spelling}
 use Rattle.gptp_bmca_machine.specs.Levels.{LeadsFarther}
-use Rattle.gptp_bmca_machine.specs.Link.{LinkSettles, TellerIsReady, final_vector}
+use Rattle.gptp_bmca_machine.specs.Link.{LinkSettles, TellerIsReady}
 use Rattle.gptp_bmca_machine.specs.LinkStage.{FrameSaysAnnounce, Wiring}
 use Rattle.gptp_bmca_machine.specs.LossLaws.{IsAfterLoss}
 use Rattle.gptp_bmca_machine.specs.Network.{Network}
 use Rattle.gptp_bmca_machine.specs.Reacts.{PortStep}
-use Rattle.gptp_bmca_machine.specs.Station.{Aged, Disabled, Held, HoldsAt, MachineState, Mine, Port, Received, Reception, Station}
+use Rattle.gptp_bmca_machine.specs.Station.{Aged, Disabled, Held, MachineState, Mine, Port, Received, Reception, Station}
 use Rattle.gptp_bmca_machine.specs.Touch.{Hear, HeldInTouch, IsUsable, Replaces}
 use Rattle.gptp_bmca_machine.specs.TwoTops.{Side, IsTreeOfTops}
 use Rattle.gptp_bmca_machine.specs.Vectors.{master, message}
@@ -35,7 +33,7 @@ use Rattle.gptp_bmca_machine.proofs.StaleLeaveLemmas.{telling_dec}
 use Rattle.gptp_bmca_machine.proofs.StaleStepLemmas.{AllMixed, IsTelling}
 use Rattle.gptp_bmca_machine.proofs.StaleToldLemmas.{IsHeard, StaleComes, StaleIsHeld, over_all}
 use Rattle.gptp_bmca_machine.proofs.StandsLemmas.{at_either, port_on, port_stands, stands_there}
-use Rattle.gptp_bmca_machine.proofs.TwoTopsLemmas.{IsDeeper, Tree, beside}
+use Rattle.gptp_bmca_machine.proofs.TwoTopsLemmas.{Tree, beside}
 
 module _ (says : Spelling) (n : Network) (next : System) (top : Side → ℕ) (depth : Side → ℕ → ℕ)
     (t : IsTreeOfTops n next top depth) (old base : ℕ) (worse : old < next.identity)

@@ -1,35 +1,29 @@
 -- A tree in which the root of before is still told: what a step makes of each of its links. Whoever leaves that root
 -- tells those below it at once.
-use Rattle.std.proofs.Common.{◌≡◌, ◌≢◌, ◌⊎◌, ◌<◌, ◌≤◌, ◌+◌, ◌++◌, ℕ, suc, true, List, [], ◌∷◌, Some, length, slice_get, refl, sym, ap, subst, ◌∙◌, inl, inr, arith}
+use Rattle.std.proofs.Common.{◌≡◌, ◌≢◌, ◌⊎◌, ◌<◌, ◌≤◌, ◌+◌, ◌++◌, ℕ, suc, List, [], ◌∷◌, Some, slice_get, refl, sym, ap, subst, ◌∙◌, inl, inr, arith}
 use Rattle.std.specs.Bool.{⊤}
-use native.Mathlib.Decide.{ℕ_discrete}
 use Rattle.gptp_lists.specs.Members.{In}
-use Rattle.gptp_lists.proofs.PlaceLemmas.{member_there}
-use Rattle.gptp_lists.proofs.SystemSpecLemmas.{In-parts, In-right}
-use Rattle.gptp_graph.specs.Snapshot.{System, PortIdentity, clocks, port_of, Joins, IsLinked}
-use Rattle.gptp_graph.proofs.LinkLemmas.{Joins-clock, Joins-sym}
-use Rattle.gptp_graph.proofs.SystemLemmas.{same_clock, system_of}
-use Rattle.gptp_bmca_machine.specs.Acts.{LaneStep, MachineSteps, StationAnswers}
-use Rattle.gptp_bmca_machine.specs.Facts.{station_system}
+use Rattle.gptp_graph.specs.Snapshot.{System, PortIdentity, port_of, Joins}
+use Rattle.gptp_graph.proofs.LinkLemmas.{Joins-sym}
+use Rattle.gptp_bmca_machine.specs.Acts.{MachineSteps, StationAnswers}
 use Rattle.gptp_bmca_machine.specs.Frame.{Announce, AnnounceFrame, Lane, Send, Spelling}
 use Rattle.gptp_bmca_machine.specs.LinkStage.{FrameSaysAnnounce}
 use Rattle.gptp_bmca_machine.specs.LossLaws.{IsAfterLoss}
 use Rattle.gptp_bmca_machine.specs.Network.{Network}
-use Rattle.gptp_bmca_machine.specs.Reacts.{BecomesMaster, IsMasterAt, IsOwn, KeepsHeld, PortStep}
-use Rattle.gptp_bmca_machine.specs.Station.{Aged, Disabled, Held, HoldsAt, MachineState, Mine, Port, Received, Reception, Station}
-use Rattle.gptp_bmca_machine.specs.Touch.{Hear, HeldInTouch, IsUsable, Replaces, StationTouch}
+use Rattle.gptp_bmca_machine.specs.Reacts.{BecomesMaster, IsMasterAt, KeepsHeld, PortStep}
+use Rattle.gptp_bmca_machine.specs.Station.{Aged, Disabled, Held, MachineState, Mine, Port, Received, Reception, Station}
+use Rattle.gptp_bmca_machine.specs.Touch.{Hear, IsUsable, Replaces, StationTouch}
 use Rattle.gptp_bmca_machine.specs.TwoTops.{Side, IsTreeOfTops}
-use Rattle.gptp_bmca_machine.proofs.FallLemmas.{IsFree, IsFreeAt, IsNewTold}
-use Rattle.gptp_bmca_machine.proofs.FallLeaveLemmas.{TreeAnswers, answers_or_stands}
-use Rattle.gptp_bmca_machine.proofs.FallStepLemmas.{free_answers, free_hears, holds_after}
+use Rattle.gptp_bmca_machine.proofs.FallLemmas.{IsFreeAt, IsNewTold}
+use Rattle.gptp_bmca_machine.proofs.FallStepLemmas.{holds_after}
 use Rattle.gptp_bmca_machine.proofs.HearingLemmas.{mid_mine}
 use Rattle.gptp_bmca_machine.proofs.LinkStepLemmas.{AtLink, StandsAtEnd, link_steps, lives_at}
-use Rattle.gptp_bmca_machine.proofs.PlaceLemmas.{same_mine, same_there}
+use Rattle.gptp_bmca_machine.proofs.PlaceLemmas.{same_mine}
 use Rattle.gptp_bmca_machine.proofs.ReactsLemmas.{mid_heard}
 use Rattle.gptp_bmca_machine.proofs.StandsLemmas.{port_on}
-use Rattle.gptp_bmca_machine.proofs.StaleLemmas.{BareHoldStale, HoldsMixed, IsMixed, IsMixedAt, IsSaid, IsStale, says_so, tells_new, whole_worse}
+use Rattle.gptp_bmca_machine.proofs.StaleLemmas.{BareHoldStale, HoldsMixed, IsMixed, IsMixedAt, IsSaid, IsStale, says_so}
 use Rattle.gptp_bmca_machine.proofs.ToldLemmas.{AllSay, all_more}
-use Rattle.gptp_bmca_machine.proofs.TwoTopsLemmas.{IsDeeper, Tree, beside}
+use Rattle.gptp_bmca_machine.proofs.TwoTopsLemmas.{Tree, beside}
 
 -- ---- what is on its way
 

@@ -1,34 +1,32 @@
 -- A tree with one or two tops in which the root of before is still told: each link over which it may be told is at its
 -- stages, so that whoever tells it is heard.
-use Rattle.std.proofs.Common.{◌≡◌, ◌≢◌, ◌⊎◌, ◌<◌, ◌≤◌, ◌+◌, ℕ, zero, suc, pred, true, List, Some, slice_get, refl, sym, ap, subst, ◌∙◌, inl, inr, arith}
+use Rattle.std.proofs.Common.{◌≡◌, ◌≢◌, ◌⊎◌, ◌<◌, ◌≤◌, ◌+◌, ℕ, zero, suc, pred, Some, slice_get, sym, ap, subst, ◌∙◌, inl, inr, arith}
 use Rattle.std.specs.Bool.{⊤}
-use native.Mathlib.Decide.{dec_le}
 use Rattle.gptp_lists.specs.Members.{In}
 use Rattle.gptp_lists.proofs.SystemSpecLemmas.{In-right}
-use Rattle.gptp_graph.specs.Snapshot.{Adjacent, System, PortIdentity, port_of, Joins}
+use Rattle.gptp_graph.specs.Snapshot.{Adjacent, System, port_of, Joins}
 use Rattle.gptp_graph.proofs.LinkLemmas.{Joins-sym}
-use Rattle.gptp_bmca_machine.specs.Acts.{LaneStep, MachineSteps, StationActs}
-use Rattle.gptp_bmca_machine.specs.Frame.{Announce, AnnounceFrame, Lane, Spelling}
+use Rattle.gptp_bmca_machine.specs.Acts.{LaneStep, MachineSteps}
+use Rattle.gptp_bmca_machine.specs.Frame.{Lane, Spelling}
 use Rattle.gptp_bmca_machine.specs.Link.{LinkSettles, TellerIsReady}
 use Rattle.gptp_bmca_machine.specs.LinkStage.{LinkStage, Wiring}
-use Rattle.gptp_bmca_machine.specs.LossLaws.{IsAfterLoss}
 use Rattle.gptp_bmca_machine.specs.Network.{Network}
 use Rattle.gptp_bmca_machine.specs.Reacts.{PortStep}
-use Rattle.gptp_bmca_machine.specs.Station.{Disabled, Held, MachineState, Mine, Port, Received, Reception, Station}
+use Rattle.gptp_bmca_machine.specs.Station.{MachineState, Mine, Port, Received, Reception, Station}
 use Rattle.gptp_bmca_machine.specs.TwoTops.{Side, First, Second, IsTreeOfTops}
 use Rattle.gptp_bmca_machine.proofs.FallLeaveLemmas.{TreeAnswers, answers_or_stands}
 use Rattle.gptp_bmca_machine.proofs.FallLemmas.{HasLeft, IsFreeAt, falls_by}
 use Rattle.gptp_bmca_machine.proofs.LinkEndsLemmas.{telling}
 use Rattle.gptp_bmca_machine.proofs.LinkStageLemmas.{begins}
-use Rattle.gptp_bmca_machine.proofs.LinkStepLemmas.{AtLink, lives_at}
+use Rattle.gptp_bmca_machine.proofs.LinkStepLemmas.{lives_at}
 use Rattle.gptp_bmca_machine.proofs.LinkTellsLemmas.{Shows, news_final, tells_on}
 use Rattle.gptp_bmca_machine.proofs.PlaceLemmas.{same_there}
 use Rattle.gptp_bmca_machine.proofs.StaleEndLemmas.{IsLimit, IsStaleState, tells_in_time}
 use Rattle.gptp_bmca_machine.proofs.StaleLemmas.{FollowsStale, follows_stale, stale_down}
-use Rattle.gptp_bmca_machine.proofs.StaleOrderLemmas.{AllStrong, HoldsOldTold, IsStronger, StrongStage, not_both, old_telling, only_down, stage_holds, stronger_one, unhindered_weak}
+use Rattle.gptp_bmca_machine.proofs.StaleOrderLemmas.{AllStrong, IsStronger, not_both, old_telling, only_down, stage_holds, stronger_one, unhindered_weak}
 use Rattle.gptp_bmca_machine.proofs.StaleStepLemmas.{IsTelling}
 use Rattle.gptp_bmca_machine.proofs.StaleToldLemmas.{IsHeard, IsUnhindered, StaleComes, StaleIsHeld, heard_by, over_all, shows_stale, stale_root, tells_it, unhindered}
-use Rattle.gptp_bmca_machine.proofs.StandsLemmas.{lane_is, due_by, port_on, port_stands, stands_there}
+use Rattle.gptp_bmca_machine.proofs.StandsLemmas.{lane_is, due_by, port_stands, stands_there}
 use Rattle.gptp_bmca_machine.proofs.TellsLemmas.{master_announces}
 use Rattle.gptp_bmca_machine.proofs.TwoTopsLemmas.{IsDeeper, Tree, beside}
 

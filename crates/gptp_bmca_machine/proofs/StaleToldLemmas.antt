@@ -1,14 +1,14 @@
 -- A tree in which the root of before is still told: whoever tells it is heard, and who is below holds it meanwhile.
-use Rattle.std.proofs.Common.{◌≡◌, ◌≢◌, ◌⊎◌, ◌<◌, ◌≤◌, ◌+◌, ℕ, suc, true, List, [], ◌∷◌, Some, None, length, slice_get, refl, sym, ap, subst, ◌∙◌, inl, inr, arith}
+use Rattle.std.proofs.Common.{◌≡◌, ◌≢◌, ◌⊎◌, ◌<◌, ◌≤◌, ◌+◌, ℕ, suc, true, List, [], ◌∷◌, Some, None, slice_get, refl, sym, subst, ◌∙◌, inl, inr, arith}
 use native.Mathlib.Decide.{dec_lt, ℕ_discrete}
 use Rattle.gptp_lists.specs.Members.{In}
 use Rattle.gptp_graph.specs.Order.{IsLower}
-use Rattle.gptp_graph.specs.Snapshot.{System, PortIdentity, port_of, Joins}
+use Rattle.gptp_graph.specs.Snapshot.{System, port_of, Joins}
 use Rattle.gptp_graph.proofs.LinkLemmas.{Joins-sym}
 use Rattle.gptp_bmca_machine.specs.AtRest.{StationIsAtRest}
-use Rattle.gptp_bmca_machine.specs.Frame.{Announce, AnnounceFrame, Lane, Spelling}
+use Rattle.gptp_bmca_machine.specs.Frame.{Announce, AnnounceFrame, Spelling}
 use Rattle.gptp_bmca_machine.specs.Link.{LinkSettles, TellerIsReady, TellerIsSettled, final_vector}
-use Rattle.gptp_bmca_machine.specs.LinkStage.{AllFinal, FinalTail, FrameSaysAnnounce, IsFinal, LinkStage, Wiring}
+use Rattle.gptp_bmca_machine.specs.LinkStage.{FinalTail, FrameSaysAnnounce, IsFinal, LinkStage, Wiring}
 use Rattle.gptp_bmca_machine.specs.LossLaws.{IsAfterLoss}
 use Rattle.gptp_bmca_machine.specs.Network.{Network}
 use Rattle.gptp_bmca_machine.specs.Station.{Aged, Disabled, Held, HoldsAt, MachineState, Mine, Port, Received, Reception, Station}
@@ -17,10 +17,10 @@ use Rattle.gptp_bmca_machine.specs.Vectors.{master}
 use Rattle.gptp_bmca_machine.proofs.LinkEndsLemmas.{telling}
 use Rattle.gptp_bmca_machine.proofs.LinkStepLemmas.{AtLink, lives_at}
 use Rattle.gptp_bmca_machine.proofs.LinkTellsLemmas.{Shows}
-use Rattle.gptp_bmca_machine.proofs.PlaceLemmas.{same_holds, same_place, same_there}
-use Rattle.gptp_bmca_machine.proofs.StaleLemmas.{BareHoldStale, FollowsStale, HoldsMixed, IsStale, follows_stale, root_floor, stale_down, whole_worse}
+use Rattle.gptp_bmca_machine.proofs.PlaceLemmas.{same_holds, same_place}
+use Rattle.gptp_bmca_machine.proofs.StaleLemmas.{BareHoldStale, HoldsMixed, IsStale, follows_stale, root_floor, stale_down, whole_worse}
 use Rattle.gptp_bmca_machine.proofs.StaleStepLemmas.{AllMixed, IsTelling}
-use Rattle.gptp_bmca_machine.proofs.StandsLemmas.{port_on, port_stands, stands_there}
+use Rattle.gptp_bmca_machine.proofs.StandsLemmas.{port_on}
 use Rattle.gptp_bmca_machine.proofs.TwoTopsLemmas.{IsDeeper, Tree, beside}
 
 module _ (says : Spelling) (n : Network) (next : System) (top : Side → ℕ) (depth : Side → ℕ → ℕ)

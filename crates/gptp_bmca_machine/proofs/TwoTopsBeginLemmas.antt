@@ -5,7 +5,7 @@ use Rattle.gptp_lists.specs.Members.{In}
 use Rattle.gptp_graph.specs.Best.{IsBest}
 use Rattle.gptp_graph.specs.Distance.{IsDistance}
 use Rattle.gptp_graph.specs.Path.{Route}
-use Rattle.gptp_graph.specs.Snapshot.{IsLinked, Joins, PortIdentity, Snapshot, System, clocks, port_of}
+use Rattle.gptp_graph.specs.Snapshot.{Joins, PortIdentity, Snapshot, System, port_of}
 use Rattle.gptp_graph.proofs.LinkLemmas.{Joins-sym}
 use Rattle.gptp_graph.proofs.PathBoundLemmas.{IsDistance-within}
 use Rattle.gptp_graph.proofs.SystemLemmas.{same_identity}
@@ -24,7 +24,7 @@ use Rattle.gptp_bmca_machine.proofs.FallLemmas.{IsFreeAt, falls_by}
 use Rattle.gptp_bmca_machine.proofs.LinkEndsLemmas.{telling}
 use Rattle.gptp_bmca_machine.proofs.LinkStepLemmas.{lives_at}
 use Rattle.gptp_bmca_machine.proofs.NearestLemmas.{on_way, path_length}
-use Rattle.gptp_bmca_machine.proofs.PlaceLemmas.{received_injective, same_there}
+use Rattle.gptp_bmca_machine.proofs.PlaceLemmas.{received_injective}
 use Rattle.gptp_bmca_machine.proofs.RestLemmas.{Chooses, is_master}
 use Rattle.gptp_bmca_machine.proofs.RestingLemmas.{all_choose, by_then_at, links_stay, stays_so}
 use Rattle.gptp_bmca_machine.proofs.StaleEndLemmas.{IsStaleState}
@@ -35,7 +35,7 @@ use Rattle.gptp_bmca_machine.proofs.StaleStepLemmas.{AllMixed, IsTelling}
 use Rattle.gptp_bmca_machine.proofs.StaleTellLemmas.{AllTell, back_dec}
 use Rattle.gptp_bmca_machine.proofs.StandsLemmas.{lane_is, port_on, port_stands, stands_there}
 use Rattle.gptp_bmca_machine.proofs.StillLemmas.{live_before, still, still_stays}
-use Rattle.gptp_bmca_machine.proofs.TwoTopsLemmas.{IsDeeper, beside}
+use Rattle.gptp_bmca_machine.proofs.TwoTopsLemmas.{beside}
 use Rattle.gptp_bmca_machine.proofs.TwoTopsWayLemmas.{LeadsOver, down_leads, least_deep, least_most, leads_down, leads_one, not_both_lead, short_names, strong_least, strong_leads}
 
 -- what is on its way over a link leads to a system that is farther, or as far with the higher clock

@@ -17,7 +17,7 @@ use Rattle.gptp_bmca_machine.specs.Network.{Network}
 use Rattle.gptp_bmca_machine.specs.TwoTops.{Side, First, Second, CutsOffTwice}
 use Rattle.gptp_bmca_machine.proofs.NearestLemmas.{route_from}
 use Rattle.gptp_bmca_machine.proofs.StaleOrderLemmas.{IsStronger, other_farther, side_of}
-use Rattle.gptp_bmca_machine.proofs.TwoTopsLemmas.{IsDeeper, Tree, beside}
+use Rattle.gptp_bmca_machine.proofs.TwoTopsLemmas.{IsDeeper, beside}
 
 -- how many links lead to a system from the nearer top
 abbrev pub least_deep : (Side → ℕ → ℕ) → ℕ → ℕ
