@@ -383,7 +383,7 @@ module _ (says : Spelling) (n : Network) (next : System) (top : Side → ℕ) (d
                   lower (inl nearer) = inl (omega (arith, nearer, steps, steps_r))
                   lower (inr (as_near, less)) =
                       let clock = live.1 in
-                      let from = ap (λ (e : PortIdentity). e.clock) source in
+                      let from : r.said.source.clock ≡ u = ap (λ (e : PortIdentity). e.clock) source in
                       inr (omega (arith, as_near, steps, steps_r), inl (omega (arith, less, clock, from)))
 
                   by_slave : s.slave ≡ Some (suc p) → ⊥

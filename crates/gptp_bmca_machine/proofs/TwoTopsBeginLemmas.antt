@@ -151,8 +151,8 @@ module _ (says : Spelling) (n0 n : Network) (net0 : IsSettlingNetwork n0) (w w' 
               ⊎ ((base + least v ≡ base + least u) × (l.from.clock < l.to.clock)) → LeadsOver depth v u
           by (inl less) = inl (omega (arith, less))
           by (inr (same, lower)) =
-              let is_from = ap (λ (k : PortIdentity). k.clock) from in
-              let is_to = ap (λ (k : PortIdentity). k.clock) to in
+              let is_from : l.from.clock ≡ v = ap (λ (k : PortIdentity). k.clock) from in
+              let is_to : l.to.clock ≡ u = ap (λ (k : PortIdentity). k.clock) to in
               inr (omega (arith, same), omega (arith, lower, is_from, is_to))
 
     module _ (leads : LeadsOver depth v u) where
