@@ -1,5 +1,5 @@
--- The failure of a system cuts off a tree with one or two tops: what its systems hold that was told over lost links. That
--- is what the failed system told last, and tops alone hold it.
+-- The failure of a system cuts off a tree with one or two tops: what its systems hold that was told over lost links.
+-- That is what the failed system told last, and tops alone hold it.
 use Rattle.std.proofs.Common.{◌≡◌, ◌⊎◌, ◌<◌, ◌≤◌, ◌+◌, ℕ, ℤ, suc, pred, true, Some, slice_get, sym, ap, subst, ◌∙◌, inl, inr, arith}
 use Rattle.gptp_lists.specs.Members.{In}
 use Rattle.gptp_lists.proofs.PlaceLemmas.{member_there}

@@ -1,5 +1,5 @@
--- A system of a network at rest fails, which cuts off a tree with one or two tops: it begins to fall back. Nobody answers
--- yet.
+-- A system of a network at rest fails, which cuts off a tree with one or two tops: it begins to fall back. Nobody
+-- answers yet.
 use Rattle.std.proofs.Common.{◌≡◌, ◌≢◌, ◌⊎◌, ◌<◌, ◌≤◌, ◌+◌, ℕ, suc, true, List, ◌∷◌, Some, slice_get, refl, sym, ap, subst, ◌∙◌, inl, inr, arith}
 use Rattle.gptp_lists.specs.Members.{In}
 use Rattle.gptp_graph.specs.Best.{IsBest}

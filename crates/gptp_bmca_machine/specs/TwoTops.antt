@@ -20,7 +20,8 @@ pub record IsTreeOfTops (n : Network) (next : System) (top : Side → ℕ) (dept
   pub steps : (side : Side) (v u : ℕ) → IsBest n.graph v next → Adjacent n.graph v u
       → (depth side u ≡ suc (depth side v)) ⊎ (depth side v ≡ suc (depth side u))
   pub single : (side : Side) (v p q : ℕ) (t u : PortIdentity) → IsBest n.graph v next → Joins n.graph (port_of v p) t
-      → Joins n.graph (port_of v q) u → depth side v ≡ suc (depth side t.clock) → depth side v ≡ suc (depth side u.clock)
+      → Joins n.graph (port_of v q) u → depth side v ≡ suc (depth side t.clock)
+      → depth side v ≡ suc (depth side u.clock)
       → p ≡ q
   pub paths : BoundsPaths n.graph n.reach
   pub few : n.reach ≤ 255
@@ -36,4 +37,5 @@ pub record CutsOffTwice (g : Snapshot) (n : Network) (top : Side → ℕ) (best 
   pub was_best : (v : ℕ) → IsBest n.graph v next → IsBest g v best
   pub was : (v : ℕ) → IsBest n.graph v next → IsDistance g v (base + min (depth First v) (depth Second v))
   pub near : (side : Side) (v : ℕ) → IsBest n.graph v next → base + depth side v < 255
-  pub lost : (v u : ℕ) → IsBest n.graph v next → Adjacent g v u → Adjacent n.graph v u ⊎ ((side : Side) × (v ≡ top side))
+  pub lost : (v u : ℕ) → IsBest n.graph v next → Adjacent g v u
+      → Adjacent n.graph v u ⊎ ((side : Side) × (v ≡ top side))
