@@ -1,6 +1,6 @@
 -- In a network that is left another link goes down by which no system is moved but such as are cut off, once ports
 -- without a link aren't capable: what is claimed of it stays, where all lived before the loss that do.
-use Rattle.std.proofs.Common.{◌≡◌, ◌≤◌, ◌*◌, ℕ, suc, pred, true, List, map, sym, subst, inl, inr, arith}
+use Rattle.std.proofs.Common.{◌≡◌, ◌≤◌, ◌*◌, ℕ, pred, true, List, map, sym, subst, inl, inr, arith}
 use Rattle.gptp_lists.specs.Members.{In}
 use Rattle.gptp_graph.specs.PathBound.{path_bound}
 use Rattle.gptp_graph.specs.Snapshot.{IsWellFormed, Snapshot, System, clocks}

@@ -65,6 +65,7 @@ module _ (says : Spelling) (g : Snapshot) (n n' : Network) (well' : IsWellFormed
   pub taken_emptied : IsTakenSeen says g n' w'
   taken_emptied = record {
     fits = fits';
-    still = still_emptied says g n n' well' same links (λ v is. unmoved_between g n n' well' first_systems first_links systems links v is)
+    still = still_emptied says g n n' well' same links
+        (λ v is. unmoved_between g n n' well' first_systems first_links systems links v is)
         less_left w w' emptied late after' fits' seen.still;
   }
