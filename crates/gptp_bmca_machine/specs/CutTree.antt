@@ -1,0 +1,75 @@
+-- A tree of systems that the loss of a link cuts off from the best of before.
+use Rattle.std.specs.Prelude.{◌≡◌, ◌⊎◌, ◌<◌, ◌≤◌, ◌+◌, ℕ, suc}
+use Rattle.gptp_lists.specs.Members.{In}
+use Rattle.gptp_graph.specs.Snapshot.{System, PortIdentity, Snapshot, clocks, port_of, Joins, Adjacent, IsWellFormed}
+use Rattle.gptp_graph.specs.Best.{IsBest}
+use Rattle.gptp_graph.specs.Distance.{IsDistance}
+use Rattle.gptp_graph.specs.PathBound.{BoundsPaths}
+use Rattle.gptp_bmca_machine.specs.Network.{Network}
+use Rattle.gptp_bmca_machine.specs.LossLaws.{IsWhatIsLeft, Unmoved}
+
+-- Of what is left of a snapshot the systems whose best is `next` are cut off, a tree, and all others are unmoved. The
+-- best of those systems was another before, with the lower identity. Each was as far from it as the depth says, from
+-- `base` on: the one at the top had its link to a nearer system, and each other has one link to one that was nearer by
+-- one. No link leads to a system that was as far.
+pub record CutsTree (g : Snapshot) (n : Network) (top : ℕ) (best next : System) (base : ℕ) (depth : ℕ → ℕ)
+    : Type 0 where
+  pub well : IsWellFormed n.graph
+  pub left : IsWhatIsLeft g n
+  pub others : (v : ℕ) → In v (clocks n.graph) → (IsBest n.graph v next → ⊥) → Unmoved g n v
+  pub worse : best.identity < next.identity
+  pub was_best : (v : ℕ) → IsBest n.graph v next → IsBest g v best
+  pub was : (v : ℕ) → IsBest n.graph v next → IsDistance g v (base + depth v)
+  pub near : (v : ℕ) → IsBest n.graph v next → base + depth v < 255
+  pub deep : (v : ℕ) → IsBest n.graph v next → depth v < n.reach
+  pub first : depth top ≡ 0
+  pub lost : (v u : ℕ) → IsBest n.graph v next → Adjacent g v u → Adjacent n.graph v u ⊎ (v ≡ top)
+  pub steps : (v u : ℕ) → IsBest n.graph v next → Adjacent n.graph v u
+      → (depth u ≡ suc (depth v)) ⊎ (depth v ≡ suc (depth u))
+  pub single : (v p q : ℕ) (t u : PortIdentity) → Joins n.graph (port_of v p) t → Joins n.graph (port_of v q) u
+      → depth v ≡ suc (depth t.clock) → depth v ≡ suc (depth u.clock)
+      → p ≡ q
+  pub paths : BoundsPaths n.graph n.reach
+  pub few : n.reach ≤ 255
+
+-- Of what is left of a snapshot the systems whose best is `next` are such a tree, whatever becomes of others.
+pub record CutsOff (g : Snapshot) (n : Network) (top : ℕ) (best next : System) (base : ℕ) (depth : ℕ → ℕ)
+    : Type 0 where
+  pub well : IsWellFormed n.graph
+  pub left : IsWhatIsLeft g n
+  pub worse : best.identity < next.identity
+  pub was_best : (v : ℕ) → IsBest n.graph v next → IsBest g v best
+  pub was : (v : ℕ) → IsBest n.graph v next → IsDistance g v (base + depth v)
+  pub near : (v : ℕ) → IsBest n.graph v next → base + depth v < 255
+  pub deep : (v : ℕ) → IsBest n.graph v next → depth v < n.reach
+  pub first : depth top ≡ 0
+  pub lost : (v u : ℕ) → IsBest n.graph v next → Adjacent g v u → Adjacent n.graph v u ⊎ (v ≡ top)
+  pub steps : (v u : ℕ) → IsBest n.graph v next → Adjacent n.graph v u
+      → (depth u ≡ suc (depth v)) ⊎ (depth v ≡ suc (depth u))
+  pub single : (v p q : ℕ) (t u : PortIdentity) → Joins n.graph (port_of v p) t → Joins n.graph (port_of v q) u
+      → depth v ≡ suc (depth t.clock) → depth v ≡ suc (depth u.clock)
+      → p ≡ q
+  pub paths : BoundsPaths n.graph n.reach
+  pub few : n.reach ≤ 255
+
+-- such a tree: its top, its best, how far its top was from the best of before, and how much farther each system was
+pub record Tree : Type 0 where
+  pub top : ℕ
+  pub next : System
+  pub base : ℕ
+  pub depth : ℕ → ℕ
+
+-- Each system that is left is unmoved, or one of a tree that is cut off.
+pub record CutsTrees (g : Snapshot) (n : Network) (best : System) (IsCut : Tree → Type 0) : Type 0 where
+  pub well : IsWellFormed n.graph
+  pub left : IsWhatIsLeft g n
+  pub each : (t : Tree) → IsCut t → CutsOff g n t.top best t.next t.base t.depth
+  pub tops : (t : Tree) → IsCut t → IsBest n.graph t.top t.next
+  pub all : (v : ℕ) → In v (clocks n.graph) → Unmoved g n v ⊎ ((t : Tree) × IsCut t × IsBest n.graph v t.next)
+
+-- The snapshot loses one system, and no link between two others.
+pub record LosesSystem (g : Snapshot) (n : Network) (lost : ℕ) : Type 0 where
+  pub dead : In lost (clocks n.graph) → ⊥
+  pub others : (v : ℕ) → In v (clocks g) → In v (clocks n.graph) ⊎ (v ≡ lost)
+  pub links : (p q : PortIdentity) → Joins g p q → In p.clock (clocks n.graph) → In q.clock (clocks n.graph)
+      → Joins n.graph p q

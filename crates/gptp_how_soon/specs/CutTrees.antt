@@ -1,0 +1,74 @@
+-- Whether events cut off trees of systems, each by links that its top loses (profile).
+use Rattle.std.specs.Prelude.{ℕ, ◌==◌, ◌&&◌, ◌||◌, not, Bool, if◌then◌else◌, List, length, slice_get}
+use Rattle.std.specs.List.{list_all, list_any, range_with_len}
+use Rattle.gptp_scenario.specs.Network.{NetworkState}
+use Rattle.gptp_scenario.specs.declared.change.Timed.{Timed}
+use Rattle.gptp_topology.specs.After.{systems_after}
+use Rattle.gptp_topology.specs.declared.nodes.System.{System}
+use Rattle.gptp_how_soon.specs.Chosen.{chosen_after, is_moved_at, lost_ends, used_ends}
+use Rattle.gptp_how_soon.specs.Tree.{has_better_root, has_same_root, is_below}
+use Rattle.gptp_how_soon.specs.declared.chosen.Chosen.{Chosen}
+use Rattle.gptp_how_soon.specs.declared.chosen.Ends.{Ends}
+
+-- ---- a tree
+
+-- the system at a place is one of the tree below the top, which is moved, to a worse root
+abbrev pub is_under : List System → List Ends → List Chosen → List Chosen → ℕ → ℕ → Bool
+is_under systems links before now place top =
+    is_moved_at systems before now top
+    && has_better_root (slice_get before top) (slice_get now top)
+    && is_below links before now top place
+
+-- an end of a link is such a top
+abbrev pub is_under_end : List System → List Ends → List Chosen → List Chosen → ℕ → Ends → Bool
+is_under_end systems links before now place e =
+    is_under systems links before now place e.a || is_under systems links before now place e.b
+
+-- an end of a link is moved, and has the root of the system at a place
+abbrev pub shares_root : List System → List Chosen → List Chosen → ℕ → ℕ → Bool
+shares_root systems before now place top =
+    is_moved_at systems before now top && has_same_root (slice_get now top) (slice_get now place)
+
+abbrev pub shares_root_end : List System → List Chosen → List Chosen → ℕ → Ends → Bool
+shares_root_end systems before now place e =
+    shares_root systems before now place e.a || shares_root systems before now place e.b
+
+-- one that is moved is in a tree, and no other has the root of one
+abbrev pub is_in_or_apart : List System → List Ends → List Ends → List Chosen → List Chosen → ℕ → Bool
+is_in_or_apart systems lost links before now place =
+    if is_moved_at systems before now place then list_any (is_under_end systems links before now place) lost
+    else not (list_any (shares_root_end systems before now place) lost)
+
+-- ---- tops
+
+-- Two systems that are moved had one root. They are the same system if they have one now.
+abbrev pub are_tops : List System → List Chosen → List Chosen → ℕ → ℕ → Bool
+are_tops systems before now one other =
+    not (is_moved_at systems before now one && is_moved_at systems before now other)
+    || (has_same_root (slice_get before one) (slice_get before other)
+    && (not (has_same_root (slice_get now one) (slice_get now other)) || (one == other)))
+
+-- so it is of the ends of two links
+abbrev pub ends_are_tops : List System → List Chosen → List Chosen → Ends → Ends → Bool
+ends_are_tops systems before now e f =
+    are_tops systems before now e.a f.a
+    && are_tops systems before now e.a f.b
+    && are_tops systems before now e.b f.a
+    && are_tops systems before now e.b f.b
+
+abbrev pub agrees_with : List System → List Ends → List Chosen → List Chosen → Ends → Bool
+agrees_with systems lost before now e = list_all (ends_are_tops systems before now e) lost
+
+-- ---- trees
+
+-- Each system that is moved is in a tree below an end of a link that is lost, which alone of the ends of such is in it.
+abbrev pub cuts_trees : List System → List Ends → List Ends → List Chosen → List Chosen → Bool
+cuts_trees systems lost links before now =
+    list_all (agrees_with systems lost before now) lost
+    && list_all (is_in_or_apart systems lost links before now) (range_with_len 0 (length systems))
+
+-- between these events and more of them
+abbrev pub cuts_trees_after : NetworkState → List Timed → List Timed → Bool
+cuts_trees_after n made events =
+    cuts_trees (systems_after n events) (lost_ends n made events) (used_ends n events) (chosen_after n made)
+    (chosen_after n events)

@@ -1,0 +1,514 @@
+-- What is told of each time of a document is so: its choice and roles are choice bounds or loss bounds. The network has
+-- come to rest by a rest bound.
+use Rattle.std.proofs.Common.{◌≡◌, ◌<◌, ◌≤◌, ◌⊎◌, inl, inr, ◌+◌, ◌*◌, max, ℕ, Bool, true, false, cond, List, [], ◌∷◌, ◌++◌, Some, None, refl, sym, ap, subst, ◌∙◌, arith}
+use Rattle.std.specs.Prelude.{◌==◌, min, nat_le, nat_lt}
+use Rattle.std.specs.List.{AllByRecursion}
+use Rattle.std.proofs.lemmas.Bool.{eqb-false, eqb-true}
+use Rattle.std.proofs.lemmas.Bool.Decides.{nat_tests}
+use Rattle.gptp_lists.specs.Members.{In}
+use Rattle.gptp_lists.proofs.SystemSpecLemmas.{In-left, In-parts}
+use Rattle.gptp_setup.specs.SettlingParams.{largest_interval, longest_span}
+use Rattle.gptp_scenario.specs.Calm.{IsCalm, NothingLapses, last_change}
+use Rattle.gptp_scenario.specs.Network.{NetworkState, pace_of}
+use Rattle.gptp_scenario.specs.SettlingTime.{echo_span, silence_span, way_span, window_span}
+use Rattle.gptp_scenario.specs.SyncWait.{sync_paths}
+use Rattle.gptp_scenario.specs.declared.change.Timed.{Timed}
+use Rattle.gptp_network.specs.Document.{DocumentState}
+use Rattle.gptp_network.specs.Snapshot.{events_by}
+use Rattle.gptp_network.proofs.SnapshotLemmas.{from_filter}
+use Rattle.gptp_theorem.specs.PlayedLaws.{IsPlayable}
+use Rattle.gptp_how_soon.specs.Bounds.{aged_echo_span, any_loss_span, arrived_by, choice_by, choice_of_row, gone_by, roles_of_row, sound_by}
+use Rattle.gptp_how_soon.specs.Links.{longest_delay}
+use Rattle.gptp_how_soon.specs.Silent.{own_intervals}
+use Rattle.gptp_how_soon.specs.Times.{View, events_at, gained_at, last_set, loss_at, ready_at, row_at, settling_time, settling_times, settling_times_from, time_at, view_at}
+use Rattle.gptp_how_soon.specs.declared.bounds.Loss.{Loss}
+use Rattle.gptp_how_soon.specs.declared.bounds.Row.{Row}
+use Rattle.gptp_how_soon.specs.declared.bounds.Row.TheVariants.{AnyLosses, AnyPast, CutOff, FailedEnd, FailedHeard, FailureCutsOff, FailureCutsTrees, Gained, LostEnd, LostPower, Lowered, OneTurned, PowerCutsOff, PowerCutsTrees, TreeCutOff, TreeTurned, Unchanged}
+use Rattle.gptp_how_soon.specs.declared.bounds.Settling.{Settling}
+use Rattle.gptp_how_soon.specs.declared.bounds.SettlingTime.{SettlingTime}
+use Rattle.gptp_settling_time.specs.HowSoon.{BoundsAging, BoundsAnyLoss, BoundsChoice, BoundsEvents, BoundsLoss, BoundsSplit, BoundsStart, BoundsTree, FailsHeardFirst, FailsTreesFirst, HeldFor, IsChoiceBoundAfter, IsLossBoundAfter, IsRestBoundAfter, NoneBetween, RestsAfterLoss, RestsTree, TreeNext}
+use Rattle.gptp_settling_time.specs.InTurn.{FlightIsGone, turned_echo_span}
+use Rattle.gptp_settling_time.specs.TreeLosses.{LowersTree, TurnsTreeLink}
+use Rattle.gptp_settling_time.proofs.MomentLemmas.{all_at, last_by, parted}
+use Rattle.gptp_settling_time.proofs.WellFormedLemmas.{after_well}
+use Rattle.gptp_how_soon_laws.specs.Choice.{SettlingsAreChoiceBounds}
+use Rattle.gptp_how_soon_laws.proofs.RowBoundLemmas.{HasOwnBounds, IsSoundSooner, IsTelling, bounds_choice, choice_or_own, past_row, sound_or_sooner, tells}
+use Rattle.gptp_how_soon_laws.proofs.RowLemmas.{ComesLate, CutsLate, FailsLate, any_losses, cut_off, failed, failure_cuts, gained, heard, lost_end, lost_power, lowered, power_cuts, tree_cut, tree_turned, turned, unchanged}
+use Rattle.gptp_how_soon_laws.proofs.RowTestLemmas.{HasComeToRest}
+use Rattle.gptp_how_soon_laws.proofs.SilentLemmas.{held_for, last_now}
+use Rattle.gptp_how_soon_laws.proofs.StartRowLemmas.{first_past, first_roles, first_sound, never_unchanged, started}
+use Rattle.gptp_how_soon_laws.proofs.UnmovedLemmas.{AreWell}
+use Rattle.gptp_how_soon_laws.proofs.TimesLemmas.{AreTimes, later_times, times_after, times_parts}
+
+-- the events up to time 0 are those at it
+begin_at : (events : List Timed) → events_by 0 events ≡ events_at 0 events
+begin_at [] = refl
+begin_at (event ∷ events) = by (nat_le event.at 0) (event.at == 0) refl refl (begin_at events)
+  where
+    by : (soon now : Bool) → nat_le event.at 0 ≡ soon → (event.at == 0) ≡ now → events_by 0 events ≡ events_at 0 events
+        → cond soon (event ∷ events_by 0 events) (events_by 0 events)
+        ≡ cond now (event ∷ events_at 0 events) (events_at 0 events)
+    by true true f g rest = ap (λ es. event ∷ es) rest
+    by true false f g rest =
+        let apart = eqb-false event.at 0 g in
+        let early : event.at ≤ 0 = grind (arith, nat_tests) in
+        absurd (apart (omega (arith, early)))
+    by false true f g rest =
+        let is = eqb-true event.at 0 g in
+        let behind : 0 < event.at = grind (arith, nat_tests) in
+        absurd (omega (arith, is, behind))
+    by false false f g rest = rest
+
+lesser : (choice roles a b : ℕ) → choice ≡ min a b → roles ≡ b → choice ≤ roles
+lesser choice roles a b is same = omega (arith, is, same)
+
+below : (a b : ℕ) → nat_lt a b ≡ true → a < b
+below a b is = grind (arith, nat_tests)
+
+greater : (choice roles a : ℕ) → roles ≡ max choice a → choice ≤ roles
+greater choice roles a same = omega (arith, same)
+
+module _ (d : DocumentState) (playable : IsPlayable d) where
+  abbrev n : NetworkState
+  n = d.network
+
+  abbrev all : List Timed
+  all = d.events
+
+  -- what is told of a time is so, by the times before it
+  pub record IsSo (earlier : List ℕ) (at : ℕ) (s : Settling) : Type 0 where
+    pub bounds : IsChoiceBoundAfter n all earlier at s.roles
+        ⊎ ((alone : ℕ) × IsLossBoundAfter n all earlier at alone s.roles)
+    pub choice : IsChoiceBoundAfter n all earlier at s.choice
+        ⊎ ((roles : ℕ) × IsLossBoundAfter n all earlier at s.choice roles)
+    pub sooner : s.choice ≤ s.roles
+    pub sound : IsRestBoundAfter n all earlier at s.sound
+    pub rest : s.sound ≤ s.rest
+    pub exact : max (at + s.choice) (arrived_by (longest_delay n (events_by at all)) (last_set (events_by at all)))
+        + window_span n.params + (sync_paths n (events_by at all)).systems * (n.params.threshold + n.params.residence)
+        ≤ s.exact_from
+
+  abbrev pub TellsSo : List ℕ → SettlingTime → Type 0
+  TellsSo earlier t = (s : Settling) → t.settling ≡ Some s → IsSo earlier t.at s
+
+  first_so : TellsSo [] (time_at d None 0)
+  first_so s is =
+      let now : List Timed = events_at 0 all in
+      let v : View = view_at n [] now None 0 in
+      let it = tells n v s is in
+      let bound =
+      bounds_choice n (λ choice. BoundsStart n now choice) (loss_at v) now (row_at v) (gained_at n v) it.calm
+      (λ row. absurd (never_unchanged n now row)) (λ row off. started n now row) in
+      let same : s.choice ≡ choice_by n (loss_at v) v.paths (past_row (row_at v)) (gained_at n v) =
+      it.choice ∙ ap (λ row. choice_by n (loss_at v) v.paths row (gained_at n v)) (first_past n now) in
+      let chosen : IsChoiceBoundAfter n all [] 0 s.choice = (
+        refl,
+        subst (λ es. BoundsChoice n (BoundsStart n es s.choice) es s.choice) (sym (begin_at all))
+            (subst (λ choice. BoundsChoice n (BoundsStart n now choice) now choice) (sym same) bound),
+      ) in
+      let sound_same : s.choice ≡ s.sound =
+      it.choice ∙ sym (first_sound n now (loss_at v) v.paths (gained_at n v)) ∙ sym it.sound in
+      let roles_same : s.choice ≡ s.roles =
+      it.choice ∙ sym (first_roles n now (loss_at v) v.paths (gained_at n v))
+      ∙ sym it.roles in
+      record {
+        bounds = inl (subst (IsChoiceBoundAfter n all [] 0) roles_same chosen);
+        choice = inl chosen;
+        sooner = omega (arith, roles_same);
+        sound = subst (IsChoiceBoundAfter n all [] 0) sound_same chosen;
+        rest = it.rest;
+        exact = subst (λ es. max (0 + s.choice) (arrived_by (longest_delay n es) (last_set es)) + window_span n.params
+            + (sync_paths n es).systems * (n.params.threshold + n.params.residence)
+            ≤ s.exact_from) (sym (begin_at all)) it.exact;
+      }
+
+  module _ (b : SettlingTime) (earlier : List ℕ) (at : ℕ) (late : b.at < at) (between : NoneBetween all b.at at)
+      (so : TellsSo earlier b) where
+    abbrev made : List Timed
+    made = events_by b.at all
+
+    abbrev now : List Timed
+    now = events_at at all
+
+    abbrev v : View
+    v = view_at n made now (Some b) at
+
+    abbrev loss : Loss
+    loss = loss_at v
+
+    abbrev Sharp : ℕ → Type 0
+    Sharp choice = (choice_then : ℕ) × IsRestBoundAfter n all earlier b.at choice_then × (b.at + choice_then < at)
+        × BoundsEvents n made now (b.at + choice_then) at choice
+
+    -- all that was held at the time before is sound
+    sound_before : (rest : HasComeToRest b at)
+        → IsRestBoundAfter n all earlier b.at rest.settling.sound × (b.at + rest.settling.sound < at)
+    sound_before rest =
+        let then = so rest.settling rest.is in
+        let less = then.rest in
+        let passed = rest.passed in
+        (then.sound, omega (arith, less, passed))
+
+    sharp : (choice : ℕ) → (rest : HasComeToRest b at)
+        → BoundsEvents n made now (b.at + rest.settling.sound) at choice → Sharp choice
+    sharp choice rest bounds =
+        let (bound, past) = sound_before rest in (rest.settling.sound, bound, past, bounds)
+
+    made_or_now : (t : Timed) → In t (made ++ now) → In t all
+    made_or_now t member = elim (In-parts t made now member) [
+      | inl early ↦ (from_filter (λ (u : Timed). nat_le u.at b.at) t all early).0
+      | inr here ↦ (from_filter (λ (u : Timed). u.at == at) t all here).0
+    ]
+
+    well : AreWell n (made ++ now)
+    well events left are =
+        after_well d playable events
+        (λ t member. made_or_now t (subst (In t) are (In-left t events left member)))
+
+    -- it settles by this, whatever it loses
+    abbrev settled_by : ℕ
+    settled_by = choice_by n (loss_at v) v.paths (past_row (row_at v)) (gained_at n v)
+
+    settles_so : (s : Settling) → (settling_time n v).settling ≡ Some s
+        → IsChoiceBoundAfter n all (b.at ∷ earlier) at settled_by
+    settles_so s is =
+        let it = tells n v s is in
+        let bound =
+        bounds_choice n Sharp loss (made ++ now) (row_at v) (gained_at n v) it.calm
+        (λ row. let (rest, still) = unchanged n playable.network all b at late well row in
+        sharp 0 rest (elim still [ inl each ↦ inl (each, refl) | inr wider ↦ inr (inl (wider, refl)) ]))
+        (λ row off. let (rest, gains) = gained n playable.network all b at late row off in
+        sharp (gained_at n v) rest (inr (inr (ready_at n v, gains)))) in (
+          late,
+          between,
+          subst (λ es. BoundsChoice n (Sharp settled_by) es settled_by)
+              (sym (parted all b.at at playable.events.in_order late between)) bound,
+        )
+
+    -- what others hold of a system that fails has aged so much later
+    held : (now ≡ [] → ⊥) → HeldFor n made now v.moves.held
+    held some = held_for n playable.network made now (well made now refl) (own_intervals n (Some b) at)
+        (late_so now some (all_at at all))
+      where
+        late_so : (events : List Timed) → (events ≡ [] → ⊥)
+            → AllByRecursion (λ (t : Timed). t.at ≡ at) events → own_intervals n (Some b) at ≡ true
+            → last_change made + largest_interval (pace_of n) + longest_span (pace_of n)
+            < last_change (made ++ events)
+        late_so [] none at_all own = absurd (none refl)
+        late_so (event ∷ events) some at_all own =
+            let last = last_by b.at all in
+            let moment = last_now at made event events at_all in
+            let passed = below (b.at + largest_interval (pace_of n) + longest_span (pace_of n)) at own in
+            omega (arith, last, moment, passed)
+
+    -- it has an event where this isn't so of none
+    some_now : (Are : List Timed → Type 0) → (Are [] → ⊥) → Are now → now ≡ [] → ⊥
+    some_now Are none are same = none (subst Are same are)
+
+    held_heard : FailsHeardFirst n made now → HeldFor n made now v.moves.held
+    held_heard fails = held (some_now (FailsHeardFirst n made) (λ none. none) fails)
+
+    held_trees : FailsTreesFirst n made now → HeldFor n made now v.moves.held
+    held_trees fails = held (some_now (FailsTreesFirst n made) (λ none. none) fails)
+
+    -- an event of this kind comes an announce interval after the time before has come to rest, and all ask for this
+    tree_next : (Is : List Timed → Timed → Type 0) (Asks : List Timed → Type 0) → IsCalm n (events_by at all)
+        → NothingLapses n.params → (rest : HasComeToRest b at) → ComesLate n playable.network all b at late Is rest
+        → Asks (made ++ now)
+        → TreeNext n Is all (λ then. IsRestBoundAfter n all earlier b.at then) b.at at Asks
+    tree_next Is Asks calm off rest tree asks =
+        let bound = (sound_before rest).0 in
+        let then = so rest.settling rest.is in
+        let less = then.rest in
+        let passed = tree.longer in (
+          late,
+          between,
+          calm,
+          off,
+          (rest.settling.sound, bound, omega (arith, less, passed)),
+          tree.lowers,
+          subst Asks (sym (parted all b.at at playable.events.in_order late between)) asks,
+        )
+
+    -- it comes to rest so after a loss, after a tree is cut off, or after one turns
+    abbrev Rests : ℕ → Type 0
+    Rests sound =
+        (HasComeToRest b at × RestsAfterLoss n made now sound)
+        ⊎ (((rest : HasComeToRest b at) × CutsLate n playable.network all b at late rest
+        × (sound ≡ max (2 * way_span v.paths) (gone_by n v.paths v.used_before)))
+        ⊎ ((rest : HasComeToRest b at) × ComesLate n playable.network all b at late (TurnsTreeLink n) rest
+        × (sound ≡ turned_echo_span n (made ++ now))))
+
+    rests : (sound : ℕ) → IsCalm n (events_by at all) → NothingLapses n.params → Rests sound
+        → IsRestBoundAfter n all (b.at ∷ earlier) at sound
+    rests sound calm off (inl (rest, loses)) =
+        let (bound, past) = sound_before rest in
+        inr (inl (late, between, calm, off, (rest.settling.sound, bound, past), loses))
+    rests sound calm off (inr (inl (rest, tree, is))) =
+        inr (inr (inl (tree_next (LowersTree n) (RestsTree n sound) calm off rest tree.comes
+        (gone_by n v.paths v.used_before, tree.flight, is))))
+    rests sound calm off (inr (inr (rest, tree, is))) =
+        inr (inr (inr (tree_next (TurnsTreeLink n) (λ events. sound ≡ turned_echo_span n events) calm off rest tree
+        is)))
+
+    -- it has come to rest by what the row of this loss says
+    rests_by : (sound : ℕ) → sound ≡ sound_by n loss v.paths (row_at v) (gained_at n v)
+        → IsSoundSooner n loss v.paths (row_at v) (sound_by n loss v.paths (row_at v) (gained_at n v)) → Rests sound
+    rests_by sound told (inl (row, is)) =
+        let x = lost_end n playable.network all b at late well row in
+        let flight = subst (FlightIsGone n made) (sym (told ∙ is)) x.flight in
+        inl (x.rested, inl (inr (inl (x.fails, inl (x.used, flight)))))
+    rests_by sound told (inr (inl (row, is))) =
+        let (rest, fails, flight) = failed n playable.network all b at late well row in
+        inl (rest, inl (inr (inl (fails, inr (gone_by n v.paths_before v.used_before, flight, told ∙ is)))))
+    rests_by sound told (inr (inr (inl (row, is)))) =
+        let (rest, lowers, flight) = lowered n playable.network all b at late well row in
+        inl (rest, inl (inr (inr (inl (lowers, (gone_by n v.paths v.used_before, flight, told ∙ is))))))
+    rests_by sound told (inr (inr (inr (inl (row, is))))) =
+        let x = cut_off n playable.network all b at late well row in
+        inl (x.rested, inl (inl (x.cuts, (gone_by n v.paths v.used_before, x.flight, told ∙ is))))
+    rests_by sound told (inr (inr (inr (inr (inl (inr row, is)))))) =
+        let (rest, tree) = tree_turned n playable.network all b at late well row in
+        inr (inr (rest, tree, told ∙ is))
+    rests_by sound told (inr (inr (inr (inr (inl (inl row, is)))))) =
+        let (rest, turns) = turned n playable.network all b at late well row in
+        inl (rest, inl (inr (inr (inr (inl (turns, told ∙ is))))))
+    rests_by sound told (inr (inr (inr (inr (inr (inl (row, long))))))) =
+        let (rest, fails, used) = lost_power n playable.network all b at late well row in
+        let late : max (echo_span (pace_of n) v.paths) v.paths.delay ≤ sound =
+        subst (λ t. max (echo_span (pace_of n) v.paths) v.paths.delay ≤ t) (sym told) long in
+        inl (rest, inl (inr (inr (inr (inr (fails, inl (used, late)))))))
+    rests_by sound told (inr (inr (inr (inr (inr (inr (inl (row, long)))))))) =
+        let (rest, fails) = heard n playable.network all b at late well row in
+        let late : aged_echo_span n loss v.paths ≤ sound =
+        subst (λ t. aged_echo_span n loss v.paths ≤ t) (sym told) long in
+        inl (
+          rest,
+          inl (inr (inr (inr (inr (
+            fails,
+            inr (largest_interval (pace_of n), inr refl, (v.moves.held, held_heard fails, late)),
+          ))))),
+        )
+    rests_by sound told (inr (inr (inr (inr (inr (inr (inr (inl (row, is))))))))) =
+        let (rest, loses, roles) = any_losses n playable.network all b at late row in
+        inl (
+          rest,
+          inr (
+            any_loss_span n loss v.paths,
+            subst (λ t. BoundsAnyLoss n made now (any_loss_span n loss v.paths) t) (sym (told ∙ is))
+                (loses, refl, roles (any_loss_span n loss v.paths)),
+          ),
+        )
+    rests_by sound told (inr (inr (inr (inr (inr (inr (inr (inr (row, is))))))))) =
+        let (rest, tree) = tree_cut n playable.network all b at late well row in inr (inl (rest, tree, told ∙ is))
+
+    -- it has come to rest as soon as it settles from any past, or sooner after a loss
+    rest_so : (s : Settling) → IsTelling n v s → IsChoiceBoundAfter n all (b.at ∷ earlier) at settled_by
+        → IsRestBoundAfter n all (b.at ∷ earlier) at s.sound
+    rest_so s it settles =
+        elim (sound_or_sooner n loss v.paths (row_at v) (gained_at n v)) [
+          | inl same ↦ inl (subst (IsChoiceBoundAfter n all (b.at ∷ earlier) at) (sym (it.sound ∙ same)) settles)
+          | inr (off, which) ↦ rests s.sound settles.2.0 off (rests_by s.sound it.sound which)
+        ]
+
+    -- the choice and the roles stand by then, or sooner after a loss
+    record IsSooner (s : Settling) : Type 0 where
+      bounds : IsChoiceBoundAfter n all (b.at ∷ earlier) at s.roles
+          ⊎ ((alone : ℕ) × IsLossBoundAfter n all (b.at ∷ earlier) at alone s.roles)
+      choice : IsChoiceBoundAfter n all (b.at ∷ earlier) at s.choice
+          ⊎ ((roles : ℕ) × IsLossBoundAfter n all (b.at ∷ earlier) at s.choice roles)
+      sooner : s.choice ≤ s.roles
+
+    -- What a loss asks for from rest, or a tree that falls off or turns an announce interval later, or a failure that
+    -- cuts trees off.
+    abbrev Asks : ℕ → ℕ → Type 0
+    Asks choice roles =
+        (HasComeToRest b at × BoundsLoss n made now choice roles)
+        ⊎ ((((rest : HasComeToRest b at)
+        × (CutsLate n playable.network all b at late rest
+        ⊎ ComesLate n playable.network all b at late (TurnsTreeLink n) rest))
+        × (choice ≡ 2 * way_span v.paths) × (roles ≡ choice))
+        ⊎ (FailsLate n playable.network all b at late × BoundsSplit n choice roles made now))
+
+    lost : (s : Settling) → IsChoiceBoundAfter n all (b.at ∷ earlier) at settled_by → NothingLapses n.params
+        → Asks s.choice s.roles
+        → IsLossBoundAfter n all (b.at ∷ earlier) at s.choice s.roles
+    lost s settles off (inl (rest, loses)) =
+        let (bound, past) = sound_before rest in
+        inl (late, between, settles.2.0, off, (rest.settling.sound, bound, past), loses)
+    lost s settles off (inr (inl ((rest, inl tree), choice, roles))) =
+        inr (inl (tree_next (LowersTree n) (BoundsTree n s.choice s.roles) settles.2.0 off rest tree.comes
+        (choice, roles)))
+    lost s settles off (inr (inl ((rest, inr tree), choice, roles))) =
+        inr (inr (inl (tree_next (TurnsTreeLink n) (BoundsTree n s.choice s.roles) settles.2.0 off rest tree
+        (choice, roles))))
+    lost s settles off (inr (inr (x, splits))) =
+        let then = so x.rest.settling x.rest.is in
+        let less = then.rest in
+        let passed = x.longer in
+        inr (inr (inr (
+          late,
+          between,
+          settles.2.0,
+          off,
+          (x.rest.settling.sound, then.sound, omega (arith, less, passed)),
+          x.fails,
+          splits,
+        )))
+
+    -- what ages does no later than ports beside a failed system are off
+    ages_first : (aged quiet : ℕ) → BoundsAging n made now aged quiet → aged ≤ quiet
+    ages_first aged quiet (inl (used, none, no_roles)) = omega (arith, none)
+    ages_first aged quiet (inr ((span, within, is), is_roles)) =
+        lesser aged quiet span (silence_span (pace_of n)) is is_roles
+
+    no_later : (choice roles : ℕ) → BoundsLoss n made now choice roles → choice ≤ roles
+    no_later choice roles (inl (lowers, same, which)) = omega (arith, same)
+    no_later choice roles (inr (inl (fails, none, which))) = omega (arith, none)
+    no_later choice roles (inr (inr (inl (turns, is, same)))) = omega (arith, same)
+    no_later choice roles (inr (inr (inr (inl (fails, (aged, quiet, aging, inl (same, roles_same))))))) =
+        let first = ages_first aged quiet aging in omega (arith, same, roles_same, first)
+    no_later choice roles (inr (inr (inr (inl (fails, (aged, quiet, aging, inr (is, later))))))) =
+        greater choice roles quiet later
+    no_later choice roles (inr (inr (inr (inr (loses, is, inl (quiet, same)))))) = omega (arith, same)
+    no_later choice roles (inr (inr (inr (inr (loses, is, inr later))))) =
+        greater choice roles (silence_span (pace_of n)) later
+
+    asked_later : (choice roles : ℕ) → Asks choice roles → choice ≤ roles
+    asked_later choice roles (inl (rest, loses)) = no_later choice roles loses
+    asked_later choice roles (inr (inl (tree, is, same))) = omega (arith, same)
+    asked_later choice roles (inr (inr (x, (aged, quiet, aging, is, later)))) = greater choice roles quiet later
+
+    -- what is lost at this time asks for what its row says
+    asks_by : (r : Row) → row_at v ≡ r → HasOwnBounds r
+        → Asks (choice_of_row n loss v.paths r (gained_at n v))
+        (roles_of_row n loss v.paths r (gained_at n v))
+    asks_by AnyPast row own = absurd own
+    asks_by Unchanged row own = absurd own
+    asks_by Gained row own = absurd own
+    asks_by Lowered row own =
+        let (rest, lowers, flight) = lowered n playable.network all b at late well row in
+        inl (rest, inl (lowers, refl, inl refl))
+    asks_by CutOff row own =
+        let x = cut_off n playable.network all b at late well row in
+        inl (x.rested, inl (x.lowers, refl, inr (x.cuts, refl)))
+    asks_by LostEnd row own =
+        let x = lost_end n playable.network all b at late well row in
+        inl (x.rested, inr (inl (x.fails, refl, inl (x.used, refl))))
+    asks_by FailedEnd row own =
+        let (rest, fails, flight) = failed n playable.network all b at late well row in
+        inl (rest, inr (inl (fails, refl, inr refl)))
+    asks_by LostPower row own =
+        let (rest, fails, used) = lost_power n playable.network all b at late well (inl row) in
+        inl (rest, inr (inr (inr (inl (fails, (0, 0, inl (used, refl, refl), inl (refl, refl)))))))
+    asks_by PowerCutsOff row own =
+        let (rest, fails, used) = lost_power n playable.network all b at late well (inr row) in
+        inl (rest, inr (inr (inr (inl (fails, (0, 0, inl (used, refl, refl), inr (omega arith, omega arith)))))))
+    asks_by OneTurned row own =
+        let (rest, turns) = turned n playable.network all b at late well row in
+        inl (rest, inr (inr (inl (turns, refl, refl))))
+    asks_by TreeCutOff row own =
+        let (rest, tree) = tree_cut n playable.network all b at late well row in
+        inr (inl ((rest, inl tree), refl, refl))
+    asks_by TreeTurned row own =
+        let (rest, tree) = tree_turned n playable.network all b at late well row in
+        inr (inl ((rest, inr tree), refl, refl))
+    asks_by FailedHeard row own =
+        let (rest, fails) = heard n playable.network all b at late well (inl row) in
+        inl (
+          rest,
+          inr (inr (inr (inl (
+            fails,
+            (v.moves.held, silence_span (pace_of n), inr (held_heard fails, refl), inl (refl, refl)),
+          )))),
+        )
+    asks_by FailureCutsOff row own =
+        let (rest, fails) = heard n playable.network all b at late well (inr row) in
+        inl (
+          rest,
+          inr (inr (inr (inl (
+            fails,
+            (v.moves.held, silence_span (pace_of n), inr (held_heard fails, refl), inr (refl, refl)),
+          )))),
+        )
+    asks_by PowerCutsTrees row own =
+        let (x, used) = power_cuts n playable.network all b at late well row in
+        inr (inr (x, (0, 0, inl (used, refl, refl), omega arith, omega arith)))
+    asks_by FailureCutsTrees row own =
+        let x = failure_cuts n playable.network all b at late well row in
+        inr (inr (
+          x,
+          (v.moves.held, silence_span (pace_of n), inr (held_trees x.fails, refl), refl, refl),
+        ))
+    asks_by AnyLosses row own =
+        let (rest, loses, roles) = any_losses n playable.network all b at late row in
+        inl (rest, inr (inr (inr (inr (loses, refl, roles (any_loss_span n loss v.paths))))))
+
+    sooner_so : (s : Settling) → IsTelling n v s → IsChoiceBoundAfter n all (b.at ∷ earlier) at settled_by → IsSooner s
+    sooner_so s it settles = elim (choice_or_own n loss v.paths (row_at v) (gained_at n v)) [
+      | inl (choice_same, roles_same) ↦
+          let choice : settled_by ≡ s.choice = sym choice_same ∙ sym it.choice in
+          let roles : settled_by ≡ s.roles = sym roles_same ∙ sym it.roles in
+          record {
+            bounds = inl (subst (IsChoiceBoundAfter n all (b.at ∷ earlier) at) roles settles);
+            choice = inl (subst (IsChoiceBoundAfter n all (b.at ∷ earlier) at) choice settles);
+            sooner = omega (arith, choice, roles);
+          }
+      | inr (off, own, choice_is, roles_is) ↦
+          let asks =
+          subst (λ roles. Asks s.choice roles) (sym (it.roles ∙ roles_is))
+          (subst (λ choice. Asks choice
+          (roles_of_row n loss v.paths (row_at v) (gained_at n v))) (sym (it.choice ∙ choice_is))
+          (asks_by (row_at v) refl own)) in
+          let bound = lost s settles off asks in
+          record {
+            bounds = inr (s.choice, bound);
+            choice = inr (s.roles, bound);
+            sooner = asked_later s.choice s.roles asks;
+          }
+    ]
+
+    later_so : TellsSo (b.at ∷ earlier) (time_at d (Some b) at)
+    later_so s is =
+        let it = tells n v s is in
+        let settles = settles_so s is in
+        let x = sooner_so s it settles in
+        record {
+          bounds = x.bounds;
+          choice = x.choice;
+          sooner = x.sooner;
+          sound = rest_so s it settles;
+          rest = it.rest;
+          exact = subst (λ es. max (at + s.choice) (arrived_by (longest_delay n es) (last_set es))
+              + window_span n.params + (sync_paths n es).systems * (n.params.threshold + n.params.residence)
+              ≤ s.exact_from) (sym (parted all b.at at playable.events.in_order late between)) it.exact;
+        }
+
+  -- so it is of each time after one
+  each_so : (b : SettlingTime) (earlier ats : List ℕ) → AreTimes all b.at ats → TellsSo earlier b
+      → (t : SettlingTime) → In t (settling_times_from d (Some b) ats) → (before : List ℕ) × TellsSo before t
+  each_so b earlier [] times so t member = absurd member
+  each_so b earlier (at ∷ ats) (late, between, times) so t (inl same) =
+      (b.at ∷ earlier, subst (TellsSo (b.at ∷ earlier)) (sym same) (later_so b earlier at late between so))
+  each_so b earlier (at ∷ ats) (late, between, times) so t (inr member) =
+      each_so (time_at d (Some b) at) (b.at ∷ earlier) ats times (later_so b earlier at late between so) t member
+
+  all_so : (t : SettlingTime) → In t (settling_times_from d None (0 ∷ later_times 0 all))
+      → (before : List ℕ) × TellsSo before t
+  all_so t (inl same) = ([], subst (TellsSo []) (sym same) first_so)
+  all_so t (inr member) =
+      each_so (time_at d None 0) [] (later_times 0 all)
+      (times_after all 0 all playable.events.in_order (λ event among. omega arith) (λ event among behind. among))
+      first_so t member
+
+  pub time_so : (t : SettlingTime) (s : Settling) → In t (settling_times d) → t.settling ≡ Some s
+      → (before : List ℕ) × IsSo before t.at s
+  time_so t s member is =
+      let (before, so) =
+      all_so t (subst (λ ats. In t (settling_times_from d None ats)) (times_parts 0 all) member) in
+      (before, so s is)
+
+pub settlings_are_choice_bounds : SettlingsAreChoiceBounds
+settlings_are_choice_bounds d t s playable member is =
+    let (before, so) = time_so d playable t s member is in
+    ((before, so.bounds), (before, so.choice), so.sooner)

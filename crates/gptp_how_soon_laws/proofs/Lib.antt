@@ -1,0 +1,36 @@
+mod TimesLemmas
+mod NamedLemmas
+mod KindLemmas
+mod ToldLemmas
+mod MoreLemmas
+mod ReadyLemmas
+mod GainLemmas
+mod GainedLemmas
+mod WorseningLemmas
+mod UnmovedLemmas
+mod LoweredLemmas
+mod FailedLemmas
+mod CutOffLemmas
+mod LivesOnLemmas
+mod LostLinkLemmas
+mod OneLostLemmas
+mod TreeTestLemmas
+mod TreeBelowLemmas
+mod TreeLemmas
+mod CutTreesLemmas
+mod TurnedTreeTestLemmas
+mod TurnedTreeLemmas
+mod TreeEventLemmas
+mod TurnedLemmas
+mod SilentLemmas
+mod RowBoundLemmas
+mod RowReasonLemmas
+mod StartRowLemmas
+mod RowTestLemmas
+mod RowLemmas
+mod AnyLossLemmas
+pub mod ChoiceLemmas
+pub mod StepLemmas
+mod SettledLemmas
+pub mod EndLemmas
+pub mod ExactLemmas

@@ -1,0 +1,526 @@
+-- What is told of a time after the first one, by its row, is so by its events.
+use Rattle.std.proofs.Common.{◌≡◌, ◌<◌, ◌≤◌, ◌⊎◌, inl, inr, ◌+◌, ◌*◌, ℕ, Bool, true, false, cond, List, [], ◌∷◌, ◌++◌, Option, Some, None, refl, sym, ap, subst, ◌∙◌, arith}
+use Rattle.std.specs.Prelude.{◌&&◌, ◌||◌, not, if◌then◌else◌, nat_le, nat_lt, max}
+use Rattle.std.specs.List.{list_all, list_any}
+use Rattle.std.proofs.lemmas.Bool.{and_parts, not-true, or_cases, or_parts}
+use Rattle.std.proofs.lemmas.Bool.Decides.{nat_tests}
+use Rattle.gptp_lists.proofs.MappedLemmas.{some_same}
+use Rattle.gptp_setup.specs.SettlingParams.{largest_interval}
+use Rattle.gptp_scenario.specs.Calm.{NothingLapses}
+use Rattle.gptp_scenario.specs.Network.{IsNetwork, NetworkState, pace_of}
+use Rattle.gptp_scenario.specs.SettlingTime.{silence_span, way_span}
+use Rattle.gptp_scenario.specs.SyncWait.{sync_paths}
+use Rattle.gptp_scenario.specs.declared.change.Timed.{Timed}
+use Rattle.gptp_network.specs.Snapshot.{events_by}
+use Rattle.gptp_how_soon.specs.Bounds.{is_hard_to_hear, gone_by}
+use Rattle.gptp_how_soon.specs.Chosen.{moves_joined}
+use Rattle.gptp_how_soon.specs.CutTrees.{cuts_trees_after}
+use Rattle.gptp_how_soon.specs.Kinds.{are_heard, brings_nothing, fails_and_recovers, fails_first, is_better, is_failing, is_gain, is_idle, is_loss, is_other, is_recovery, leaves_links, lowers_one, lowers_unused, makes_nothing, recovers, takes_one, begins_wider, first_wider_by, is_wider}
+use Rattle.gptp_how_soon.specs.Rest.{are_events_followed, are_losses_followed, are_recoveries_followed, are_turns_followed, has_rested_for, heard_at_once, is_failing_followed, is_from_rest, is_lowering_followed, keeps_paths, leaves_silent, rested, is_wider_followed, settles_wider_by}
+use Rattle.gptp_how_soon.specs.Times.{View, events_at, gained_at, ready_at, row_at, view_at}
+use Rattle.gptp_how_soon.specs.Tree.{cuts_tree_after}
+use Rattle.gptp_how_soon.specs.TurnedTree.{turns_tree_after}
+use Rattle.gptp_how_soon.specs.declared.bounds.Row.{Row}
+use Rattle.gptp_how_soon.specs.declared.bounds.Row.TheVariants.{AnyLosses, CutOff, FailedEnd, FailedHeard, FailureCutsOff, FailureCutsTrees, Gained, LostEnd, LostPower, Lowered, OneTurned, PowerCutsOff, PowerCutsTrees, TreeCutOff, TreeTurned, Unchanged}
+use Rattle.gptp_how_soon.specs.declared.bounds.Settling.{Settling}
+use Rattle.gptp_how_soon.specs.declared.bounds.SettlingTime.{SettlingTime}
+use Rattle.gptp_how_soon.specs.declared.kinds.Told.{Told}
+use Rattle.gptp_settling_time.specs.HowSoon.{AreWiderEvents, BoundsGains, CutsOneEnd, EachEvent, FailsEndFirst, FailsHeardFirst, FailsTreesFirst, IsStillEvent, LosesEvents, LowersOneLink, OneEvent, RolesAfterLoss, TurnsOneLink}
+use Rattle.gptp_settling_time.specs.InTurn.{FlightIsGone}
+use Rattle.gptp_settling_time.specs.Losses.{LowersLink, UpIsUsed}
+use Rattle.gptp_settling_time.specs.TreeLosses.{LowersTree, TurnsTreeLink}
+use Rattle.gptp_settling_time.proofs.CutLemmas.{all_by}
+use Rattle.gptp_settling_time.proofs.LeadOnLemmas.{all_still}
+use Rattle.gptp_settling_time.proofs.MomentLemmas.{all_at}
+use Rattle.gptp_how_soon_laws.proofs.AnyLossLemmas.{all_losses, none_fails}
+use Rattle.gptp_how_soon_laws.proofs.GainLemmas.{AreFollowed, AreTurnsFollowed}
+use Rattle.gptp_how_soon_laws.proofs.GainedLemmas.{all_gained, all_heard, all_idle, all_wider}
+use Rattle.gptp_how_soon_laws.proofs.FailedLemmas.{fails_end_first, fails_heard_first, used_up}
+use Rattle.gptp_how_soon_laws.proofs.CutOffLemmas.{cuts_one_end}
+use Rattle.gptp_how_soon_laws.proofs.CutTreesLemmas.{fails_trees_first}
+use Rattle.gptp_how_soon_laws.proofs.LoweredLemmas.{GoesDown, lowers_one_link, one_as, used_on}
+use Rattle.gptp_how_soon_laws.proofs.TreeEventLemmas.{lowers_tree, turns_tree_by}
+use Rattle.gptp_how_soon_laws.proofs.TurnedLemmas.{turns_one_link}
+use Rattle.gptp_how_soon_laws.proofs.UnmovedLemmas.{AreWell, all_still_unmoved}
+use Rattle.gptp_how_soon_laws.proofs.RowReasonLemmas.{ReasonOf, Tests, reason_of}
+use Rattle.gptp_how_soon_laws.proofs.RowTestLemmas.{HasComeToRest, at_most, counts_all, counts_joined, failing_takes, leaves_all, longest_within, lowering_takes, not_both, over_before, rested_for_so, rested_so}
+
+module _ (n : NetworkState) (network : IsNetwork n) (events : List Timed) (b : SettlingTime) (at : ℕ)
+    (late : b.at < at) where
+  abbrev made : List Timed
+  made = events_by b.at events
+
+  abbrev now : List Timed
+  now = events_at at events
+
+  abbrev v : View
+  v = view_at n made now (Some b) at
+
+  abbrev tests : Tests
+  tests = record {
+    rest = is_from_rest v.longest at v.paths_before v.paths v.told (Some b);
+    idle = list_all makes_nothing v.told || begins_wider v.told;
+    left = are_losses_followed v.paths_before v.told && not v.moves.moved;
+    lowers = is_lowering_followed v.paths_before v.paths v.told && not v.moves.moved;
+    cut = v.moves.cut;
+    turns = is_lowering_followed v.paths_before v.paths v.told && v.moves.turned;
+    falls = is_lowering_followed v.paths_before v.paths v.told && v.moves.falls;
+    branch = is_lowering_followed v.paths_before v.paths v.told && v.moves.tree_turns;
+    fails = is_failing_followed v.paths_before v.paths v.told && not v.moves.moved;
+    far = v.moves.far;
+    any = v.moves.any;
+    trees = is_failing_followed v.paths_before v.paths v.told && v.moves.trees_fall;
+    used = v.used;
+    loss = list_any is_loss v.told;
+    only = list_all brings_nothing v.told;
+  }
+
+  why : (row : Row) → row_at v ≡ row → ReasonOf tests row
+  why row is = reason_of tests row is
+
+  -- it is from rest
+  record IsFromRest : Type 0 where
+    pub rested : HasComeToRest b at
+    pub others : list_any is_other v.told ≡ false
+    pub turns : AreTurnsFollowed n network at made now
+    pub followed : list_any is_recovery v.told ≡ true
+        → are_recoveries_followed v.longest b.at at v.told ≡ true
+    pub wider : list_any is_wider v.told ≡ true → is_wider_followed b at v.paths_before v.paths v.told ≡ true
+
+  turns_so : are_turns_followed v.told ≡ true → AreTurnsFollowed n network at made now
+  turns_so is =
+      not_both (list_any lowers_unused v.told) (list_any is_gain v.told)
+      (not-true (list_any lowers_unused v.told && list_any is_gain v.told) is)
+
+  from_rest : is_from_rest v.longest at v.paths_before v.paths v.told (Some b) ≡ true → IsFromRest
+  from_rest is =
+      let (four, fourth) =
+      and_parts
+      (rested b at && are_events_followed v.told && are_turns_followed v.told
+      && (not (list_any is_recovery v.told) || are_recoveries_followed v.longest b.at at v.told))
+      (not (list_any is_wider v.told) || is_wider_followed b at v.paths_before v.paths v.told) is in
+      let (three, third) =
+      and_parts (rested b at && are_events_followed v.told && are_turns_followed v.told)
+      (not (list_any is_recovery v.told) || are_recoveries_followed v.longest b.at at v.told) four in
+      let (two, turns_are) =
+      and_parts (rested b at && are_events_followed v.told) (are_turns_followed v.told) three in
+      let (rest, events_are) = and_parts (rested b at) (are_events_followed v.told) two in
+      let (known, apart) =
+      and_parts (not (list_any is_other v.told)) (not (fails_and_recovers v.told)) events_are in
+      record {
+        rested = rested_so b at b.settling refl rest;
+        others = not-true (list_any is_other v.told) known;
+        turns = turns_so turns_are;
+        followed = λ recovers. elim (or_cases (not (list_any is_recovery v.told))
+            (are_recoveries_followed v.longest b.at at v.told) third) [
+              | inl none ↦
+                  let no : true ≡ false = sym recovers ∙ not-true (list_any is_recovery v.told) none in absurd cc
+              | inr are ↦ are
+            ];
+        wider = λ some. elim (or_cases (not (list_any is_wider v.told))
+            (is_wider_followed b at v.paths_before v.paths v.told) fourth) [
+              | inl none ↦ let no : true ≡ false = sym some ∙ not-true (list_any is_wider v.told) none in absurd cc
+              | inr is_followed ↦ is_followed
+            ];
+      }
+
+  recoveries : are_recoveries_followed v.longest b.at at v.told ≡ true → AreFollowed n network at made now
+  recoveries is =
+      let past_test : Bool = nat_lt (b.at + v.longest) at in
+      let (past, turns) = and_parts past_test (not (list_any lowers_unused v.told)) is in
+      let over : b.at + v.longest < at = grind (arith, nat_tests) in
+      record {
+        most = v.longest;
+        within = longest_within n made now;
+        past = over_before b.at v.longest at made over (all_by b.at events);
+        turns = not-true (list_any lowers_unused v.told) turns;
+      }
+
+  -- where a link gets wider by the first event one gets wider
+  begins_some : (es : List Told) → begins_wider es ≡ true → list_any is_wider es ≡ true
+  begins_some [] is = absurd cc
+  begins_some (e ∷ es) is =
+      let (wider, still) = and_parts (is_wider e) (list_all is_idle es) is in
+      ap (λ test. test || list_any is_wider es) wider
+
+  settles_so : (s : Settling) (o : Option Settling) → o ≡ Some s
+      → settles_wider_by b at v.paths_before v.paths (first_wider_by v.told) o ≡ true
+      → b.at + s.sound + 2 * first_wider_by v.told + way_span v.paths < at + way_span v.paths_before
+  settles_so s None same is = absurd cc
+  settles_so s (Some t) same is =
+      let one : t ≡ s = some_same t s same in
+      subst (λ (x : Settling). b.at + x.sound + 2 * first_wider_by v.told + way_span v.paths
+      < at + way_span v.paths_before) one
+      (below (b.at + t.sound + 2 * first_wider_by v.told + way_span v.paths) (at + way_span v.paths_before) is)
+    where
+      below : (x y : ℕ) → nat_lt x y ≡ true → x < y
+      below x y test = grind (arith, nat_tests)
+
+  -- what stands is left, as no system is moved
+  unmoved : AreWell n (made ++ now) → (are_losses_followed v.paths_before v.told && not v.moves.moved) ≡ true
+      → EachEvent (IsStillEvent n) made now
+  unmoved well left =
+      let (followed, none) = and_parts (are_losses_followed v.paths_before v.told) (not v.moves.moved) left in
+      let (few, leaves) =
+      and_parts (nat_le v.paths_before.systems 255) (list_all leaves_links v.told) followed in
+      all_still_unmoved n network made now well (at_most v.paths_before.systems 255 few)
+      (counts_all (takes_one v.told) n made (made ++ now) (leaves_all v.told leaves) (not-true v.moves.moved none))
+      leaves
+
+  pub unchanged : AreWell n (made ++ now) → row_at v ≡ Unchanged
+      → (rest : HasComeToRest b at)
+      × (EachEvent (IsStillEvent n) made now ⊎ AreWiderEvents n (b.at + rest.settling.sound) at made now)
+  unchanged well row =
+      let (from, which) = why Unchanged row in
+      let facts = from_rest from in (
+        facts.rested,
+        elim which [
+          | inl nothing ↦ elim (or_cases (list_all makes_nothing v.told) (begins_wider v.told) nothing) [
+            | inl idle ↦
+                inl (all_still n made now (all_idle n network at made now facts.turns (all_at at events) idle))
+            | inr begins ↦
+                let settles =
+                (and_parts (begins_wider v.told)
+                (settles_wider_by b at v.paths_before v.paths (first_wider_by v.told) b.settling)
+                (facts.wider (begins_some v.told begins))).1 in
+                inr (all_wider n network at made now (b.at + facts.rested.settling.sound) made now begins
+                (settles_so facts.rested.settling b.settling facts.rested.is settles))
+          ]
+          | inr left ↦ inl (unmoved well left)
+        ],
+      )
+
+  -- where that isn't so none gets wider
+  none_wider : IsFromRest → begins_wider v.told ≡ false → list_any is_wider v.told ≡ false
+  none_wider facts none = by (list_any is_wider v.told) refl
+    where
+      by : (some : Bool) → list_any is_wider v.told ≡ some → list_any is_wider v.told ≡ false
+      by false is = is
+      by true is =
+          let begins =
+          (and_parts (begins_wider v.told)
+          (settles_wider_by b at v.paths_before v.paths (first_wider_by v.told) b.settling) (facts.wider is)).0 in
+          let no : true ≡ false = sym begins ∙ none in
+          absurd cc
+
+  pub gained : row_at v ≡ Gained → NothingLapses n.params
+      → HasComeToRest b at × BoundsGains n made now at (ready_at n v) (gained_at n v)
+  gained row off =
+      let (from, none, which) = why Gained row in
+      let facts = from_rest from in
+      let (some, narrow) = or_parts (list_all makes_nothing v.told) (begins_wider v.told) which in (
+        facts.rested,
+        by facts none (none_wider facts narrow) some (heard_at_once false v.paths_before v.told)
+            (list_any (is_hard_to_hear v.told) v.new) refl refl,
+      )
+    where
+      followed : IsFromRest → list_any is_recovery v.told ≡ true → AreFollowed n network at made now
+      followed facts recovers = recoveries (facts.followed recovers)
+
+      few_before : (nat_le v.paths_before.systems 255 || not (list_any is_better v.told)) ≡ true
+          → list_any is_better v.told ≡ true → (sync_paths n made).systems ≤ 255
+      few_before is better = elim (or_cases (nat_le v.paths_before.systems 255) (not (list_any is_better v.told)) is) [
+        | inl few ↦ grind (arith, nat_tests)
+        | inr none ↦ let no : true ≡ false = sym better ∙ not-true (list_any is_better v.told) none in absurd cc
+      ]
+
+      by : IsFromRest → list_any is_loss v.told ≡ false → list_any is_wider v.told ≡ false
+          → list_all makes_nothing v.told ≡ false → (heard hard : Bool)
+          → heard_at_once false v.paths_before v.told ≡ heard
+          → list_any (is_hard_to_hear v.told) v.new ≡ hard
+          → BoundsGains n made now at (ready_at n v)
+          (ready_at n v + cond (heard && not hard) 0 (largest_interval (pace_of n)) + way_span v.paths)
+      by facts none narrow some true false is soft =
+          let (heard, few) =
+          and_parts (are_heard false v.told)
+          (nat_le v.paths_before.systems 255 || not (list_any is_better v.told)) is in
+          inl (
+            all_heard n network at made now (all_at at events) off facts.turns (followed facts) (omega (arith, late))
+                none narrow facts.others soft (few_before few) heard,
+            omega arith,
+          )
+      by facts none narrow some true true is hard = inr (
+        all_gained n network at made now (all_at at events) off facts.turns (followed facts) (omega (arith, late)) none
+            narrow facts.others some,
+        refl,
+      )
+      by facts none narrow some false hard is soft = inr (
+        all_gained n network at made now (all_at at events) off facts.turns (followed facts) (omega (arith, late)) none
+            narrow facts.others some,
+        refl,
+      )
+
+  -- the greatest delay of a link in use gets no greater, no path gets longer, and none had more than 255 systems
+  record KeepsPaths : Type 0 where
+    pub delay : (sync_paths n (made ++ now)).delay ≤ (sync_paths n made).delay
+    pub paths : (sync_paths n (made ++ now)).systems ≤ (sync_paths n made).systems
+    pub few : (sync_paths n made).systems ≤ 255
+
+  keeps_so : keeps_paths v.paths_before v.paths ≡ true → KeepsPaths
+  keeps_so keeps =
+      let few_test : Bool = nat_le v.paths_before.systems 255 in
+      let delay_test : Bool = nat_le v.paths.delay v.paths_before.delay in
+      let paths_test : Bool = nat_le v.paths.systems v.paths_before.systems in
+      let (two, paths) = and_parts (few_test && delay_test) paths_test keeps in
+      let (few, delay) = and_parts few_test delay_test two in
+      record {
+        delay = at_most v.paths.delay v.paths_before.delay delay;
+        paths = at_most v.paths.systems v.paths_before.systems paths;
+        few = at_most v.paths_before.systems 255 few;
+      }
+
+  -- a loss of this kind comes, by which no system is moved but such as are cut off
+  record TakesOne (kind : List Told → Bool) : Type 0 where
+    pub one : kind v.told ≡ true
+    pub unmoved : moves_joined n made (made ++ now) ≡ false
+    pub keeps : KeepsPaths
+
+  takes_so : (kind : List Told → Bool) → ((es : List Told) → kind es ≡ true → takes_one es ≡ true)
+      → (keeps_paths v.paths_before v.paths && kind v.told && not v.moves.moved) ≡ true → TakesOne kind
+  takes_so kind takes is =
+      let (followed, none) = and_parts (keeps_paths v.paths_before v.paths && kind v.told) (not v.moves.moved) is in
+      let (keeps, one) = and_parts (keeps_paths v.paths_before v.paths) (kind v.told) followed in
+      record {
+        one = one;
+        unmoved = counts_joined (takes_one v.told) n made (made ++ now) (takes v.told one)
+            (not-true v.moves.moved none);
+        keeps = keeps_so keeps;
+      }
+
+  -- a system fails by the first event
+  fails_so : (is_failing_followed v.paths_before v.paths v.told && not v.moves.moved) ≡ true → TakesOne fails_first
+  fails_so = takes_so fails_first failing_takes
+
+  failing_heard : AreWell n (made ++ now)
+      → (is_failing_followed v.paths_before v.paths v.told && not v.moves.moved) ≡ true → FailsHeardFirst n made now
+  failing_heard well fails =
+      let x = fails_so fails in
+      fails_heard_first n network made now well x.unmoved x.keeps.delay x.keeps.paths x.keeps.few x.one
+
+  -- which is a far end
+  failing_end : AreWell n (made ++ now)
+      → (is_failing_followed v.paths_before v.paths v.told && not v.moves.moved) ≡ true → v.moves.far ≡ true
+      → FailsEndFirst n made now
+  failing_end well fails far =
+      let x = fails_so fails in
+      fails_end_first n network made now well x.unmoved x.keeps.delay x.keeps.paths x.keeps.few x.one far
+
+  -- a link goes down by the one event
+  goes_down : (is_lowering_followed v.paths_before v.paths v.told && not v.moves.moved) ≡ true → TakesOne lowers_one
+  goes_down = takes_so lowers_one lowering_takes
+
+  lowers_so : AreWell n (made ++ now) → (is_lowering_followed v.paths_before v.paths v.told && not v.moves.moved) ≡ true
+      → LowersOneLink n made now
+  lowers_so well lowers =
+      let x = goes_down lowers in
+      lowers_one_link n network made now well x.unmoved x.keeps.delay x.keeps.paths x.keeps.few x.one
+
+  -- and it cuts off a far end
+  cuts_so : AreWell n (made ++ now) → (is_lowering_followed v.paths_before v.paths v.told && not v.moves.moved) ≡ true
+      → v.moves.cut ≡ true → CutsOneEnd n made now
+  cuts_so well lowers cut =
+      let x = goes_down lowers in
+      cuts_one_end n network made now well x.unmoved cut x.keeps.delay x.keeps.paths x.keeps.few x.one
+
+  -- what was in flight is gone by then
+  flight_so : FlightIsGone n made (gone_by n v.paths_before v.used_before)
+  flight_so = by v.used_before refl
+    where
+      by : (used : Bool) → v.used_before ≡ used → FlightIsGone n made (gone_by n v.paths_before used)
+      by true is = inl (used_up n network made is, refl)
+      by false is = inr refl
+
+  -- so it is after a link goes down
+  flight_on : OneEvent GoesDown made now → FlightIsGone n (made ++ now) (gone_by n v.paths v.used_before)
+  flight_on down = by v.used_before refl
+    where
+      by : (used : Bool) → v.used_before ≡ used → FlightIsGone n (made ++ now) (gone_by n v.paths used)
+      by true is = inl (used_on n made now down (used_up n network made is), refl)
+      by false is = inr refl
+
+  flight_lowered : LowersOneLink n made now → FlightIsGone n (made ++ now) (gone_by n v.paths v.used_before)
+  flight_lowered lowers =
+      flight_on (one_as (LowersLink n) GoesDown made now (λ event l. (l.clock, l.port, l.act)) lowers)
+
+  -- what stands goes on, as a link goes down by the one event and no system is moved
+  pub lowered : AreWell n (made ++ now) → row_at v ≡ Lowered
+      → HasComeToRest b at × LowersOneLink n made now × FlightIsGone n (made ++ now) (gone_by n v.paths v.used_before)
+  lowered well row =
+      let (from, lowers) = why Lowered row in
+      let one = lowers_so well lowers in
+      ((from_rest from).rested, one, flight_lowered one)
+
+  -- or a system loses its power that others heard
+  pub lost_power : AreWell n (made ++ now) → (row_at v ≡ LostPower) ⊎ (row_at v ≡ PowerCutsOff)
+      → HasComeToRest b at × FailsHeardFirst n made now × UpIsUsed n (made ++ now)
+  lost_power well which =
+      let (from, fails, used) = by which in
+      ((from_rest from).rested, failing_heard well fails, used_up n network (made ++ now) used)
+    where
+      by : (row_at v ≡ LostPower) ⊎ (row_at v ≡ PowerCutsOff) → ReasonOf tests LostPower
+      by (inl row) = why LostPower row
+      by (inr row) = why PowerCutsOff row
+
+  -- or it cuts off its far end
+  pub record CutsEnd : Type 0 where
+    pub rested : HasComeToRest b at
+    pub cuts : CutsOneEnd n made now
+    pub lowers : LowersOneLink n made now
+    pub flight : FlightIsGone n (made ++ now) (gone_by n v.paths v.used_before)
+
+  pub cut_off : AreWell n (made ++ now) → row_at v ≡ CutOff → CutsEnd
+  cut_off well row =
+      let (from, lowers, cut) = why CutOff row in
+      let one = lowers_so well lowers in
+      record {
+        rested = (from_rest from).rested;
+        cuts = cuts_so well lowers cut;
+        lowers = one;
+        flight = flight_lowered one;
+      }
+
+  -- or a far end loses its power
+  pub record LosesEnd : Type 0 where
+    pub rested : HasComeToRest b at
+    pub fails : FailsEndFirst n made now
+    pub used : UpIsUsed n (made ++ now)
+    pub flight : FlightIsGone n made (gone_by n v.paths_before v.used_before)
+
+  pub lost_end : AreWell n (made ++ now) → row_at v ≡ LostEnd → LosesEnd
+  lost_end well row =
+      let (from, fails, far, used) = why LostEnd row in record {
+        rested = (from_rest from).rested;
+        fails = failing_end well fails far;
+        used = used_up n network (made ++ now) used;
+        flight = flight_so;
+      }
+
+  -- or one system turns
+  pub turned : AreWell n (made ++ now) → row_at v ≡ OneTurned
+      → HasComeToRest b at × TurnsOneLink n made now
+  turned well row =
+      let (from, turns) = why OneTurned row in
+      let (followed, one) = and_parts (is_lowering_followed v.paths_before v.paths v.told) v.moves.turned turns in
+      let (keeps, lowers) = and_parts (keeps_paths v.paths_before v.paths) (lowers_one v.told) followed in
+      let x = keeps_so keeps in
+      ((from_rest from).rested, turns_one_link n network made now well one x.delay x.paths x.few lowers)
+
+  -- an event of this kind comes an announce interval after all came to rest
+  pub record ComesLate (Is : List Timed → Timed → Type 0) (rest : HasComeToRest b at) : Type 0 where
+    pub lowers : OneEvent Is made now
+    pub longer : b.at + (rest.settling.rest + largest_interval (pace_of n)) < at
+
+  -- by which a tree is cut off
+  pub record CutsLate (rest : HasComeToRest b at) : Type 0 where
+    pub comes : ComesLate (LowersTree n) rest
+    pub flight : FlightIsGone n (made ++ now) (gone_by n v.paths v.used_before)
+
+  -- an event of this kind comes an announce interval after all came to rest, and paths get no longer
+  late_by : (kind : List Told → Bool) (test : Bool) → (keeps_paths v.paths_before v.paths && kind v.told
+      && (has_rested_for (largest_interval (pace_of n)) (Some b) at && test)) ≡ true
+      → KeepsPaths × (kind v.told ≡ true) × (test ≡ true)
+      × ((rest : HasComeToRest b at) → b.at + (rest.settling.rest + largest_interval (pace_of n)) < at)
+  late_by kind test is =
+      let late_test : Bool = has_rested_for (largest_interval (pace_of n)) (Some b) at in
+      let (followed, both) =
+      and_parts (keeps_paths v.paths_before v.paths && kind v.told) (late_test && test) is in
+      let (keeps, one) = and_parts (keeps_paths v.paths_before v.paths) (kind v.told) followed in
+      let (late_is, so) = and_parts late_test test both in (
+        keeps_so keeps,
+        one,
+        so,
+        λ rest. rested_for_so (largest_interval (pace_of n)) b at rest.settling rest.is late_is,
+      )
+
+  pub tree_cut : AreWell n (made ++ now) → row_at v ≡ TreeCutOff → (rest : HasComeToRest b at) × CutsLate rest
+  tree_cut well row =
+      let (from, falls) = why TreeCutOff row in
+      let (x, lowers, tree, longer) = late_by lowers_one (cuts_tree_after n made (made ++ now)) falls in
+      let rest = (from_rest from).rested in
+      let one = lowers_tree n network made now well x.delay x.paths x.few lowers tree in (
+        rest,
+        record {
+          comes = record { lowers = one; longer = longer rest };
+          flight = flight_on (one_as (LowersTree n) GoesDown made now (λ event l. (l.clock, l.port, l.act)) one);
+        },
+      )
+
+  -- or a tree turns
+  pub tree_turned : AreWell n (made ++ now) → row_at v ≡ TreeTurned
+      → (rest : HasComeToRest b at) × ComesLate (TurnsTreeLink n) rest
+  tree_turned well row =
+      let (from, turns) = why TreeTurned row in
+      let (x, lowers, tree, longer) = late_by lowers_one (turns_tree_after n made (made ++ now)) turns in
+      let rest = (from_rest from).rested in (
+        rest,
+        record {
+          lowers = turns_tree_by n network made now well x.delay x.paths x.few lowers tree;
+          longer = longer rest;
+        },
+      )
+
+  -- or a system fails and cuts trees off
+  pub record FailsLate : Type 0 where
+    pub rest : HasComeToRest b at
+    pub longer : b.at + (rest.settling.rest + largest_interval (pace_of n)) < at
+    pub fails : FailsTreesFirst n made now
+
+  fails_late : is_from_rest v.longest at v.paths_before v.paths v.told (Some b) ≡ true → AreWell n (made ++ now)
+      → (is_failing_followed v.paths_before v.paths v.told && v.moves.trees_fall) ≡ true → FailsLate
+  fails_late from well trees =
+      let (x, one, cut, longer) = late_by fails_first (cuts_trees_after n made (made ++ now)) trees in
+      let rest = (from_rest from).rested in
+      record {
+        rest = rest;
+        longer = longer rest;
+        fails = fails_trees_first n network made now well cut x.delay x.paths x.few one;
+      }
+
+  -- and loses its power
+  pub power_cuts : AreWell n (made ++ now) → row_at v ≡ PowerCutsTrees → FailsLate × UpIsUsed n (made ++ now)
+  power_cuts well row =
+      let (from, trees, used) = why PowerCutsTrees row in
+      (fails_late from well trees, used_up n network (made ++ now) used)
+
+  -- or hangs
+  pub failure_cuts : AreWell n (made ++ now) → row_at v ≡ FailureCutsTrees → FailsLate
+  failure_cuts well row = let (from, trees) = why FailureCutsTrees row in fails_late from well trees
+
+  -- or a far end hangs
+  pub failed : AreWell n (made ++ now) → row_at v ≡ FailedEnd
+      → HasComeToRest b at × FailsEndFirst n made now × FlightIsGone n made (gone_by n v.paths_before v.used_before)
+  failed well row =
+      let (from, fails, far) = why FailedEnd row in
+      ((from_rest from).rested, failing_end well fails far, flight_so)
+
+  -- or a system that others heard
+  pub heard : AreWell n (made ++ now) → (row_at v ≡ FailedHeard) ⊎ (row_at v ≡ FailureCutsOff)
+      → HasComeToRest b at × FailsHeardFirst n made now
+  heard well which =
+      let (from, fails) = by which in
+      ((from_rest from).rested, failing_heard well fails)
+    where
+      by : (row_at v ≡ FailedHeard) ⊎ (row_at v ≡ FailureCutsOff) → ReasonOf tests FailedHeard
+      by (inl row) = why FailedHeard row
+      by (inr row) = why FailureCutsOff row
+
+  -- Or there are losses, and nothing is brought. Then roles stand with the choice; or no sooner than no port beside a
+  -- system that fails is left capable.
+  pub any_losses : row_at v ≡ AnyLosses
+      → HasComeToRest b at × LosesEvents n made now
+      × ((choice : ℕ) → RolesAfterLoss n made now choice
+      (if leaves_silent v.used v.told then max choice (silence_span (pace_of n)) else choice))
+  any_losses row =
+      let (from, loss, only) = why AnyLosses row in (
+        (from_rest from).rested,
+        all_losses n network made now only loss,
+        by only v.used (list_any is_failing v.told) refl refl,
+      )
+    where
+      by : list_all brings_nothing v.told ≡ true → (used failing : Bool) → v.used ≡ used
+          → list_any is_failing v.told ≡ failing → (choice : ℕ)
+          → RolesAfterLoss n made now choice
+          (if not used && failing then max choice (silence_span (pace_of n)) else choice)
+      by only true failing used none choice = inl (inr (used_up n network (made ++ now) used), refl)
+      by only false false used none choice = inl (inl (none_fails n network made now only none), refl)
+      by only false true used none choice = inr refl

@@ -1,0 +1,397 @@
+-- What came over silent links has aged, or the ports beside them aren't capable, by so much later as is computed.
+use Rattle.std.proofs.Common.{◌≡◌, ◌<◌, ◌≤◌, inl, inr, ◌-◌, ◌+◌, max, ℕ, ℤ, zero, suc, Bool, true, false, List, [], ◌∷◌, ◌++◌, map, Option, Some, None, slice_get, refl, sym, ap, ap₂, subst, ◌∙◌, arith}
+use Rattle.std.specs.Prelude.{◌⊎◌, ◌==◌, ◌&&◌, ◌||◌, min, nat_lt, if◌then◌else◌}
+use Rattle.std.specs.List.{AllByRecursion}
+use Rattle.std.specs.Option.{option_or}
+use Rattle.std.proofs.lemmas.Bool.{and_from, eq-eqb, eqb-true, false_from_ne_true}
+use Rattle.std.proofs.lemmas.Bool.Decides.{nat_tests}
+use Rattle.std.proofs.lemmas.Option.{same_Some}
+use Rattle.gptp_lists.specs.Members.{In}
+use Rattle.gptp_lists.proofs.MappedLemmas.{mapped_there, same_there}
+use Rattle.gptp_graph.specs.Distance.{IsDistance}
+use Rattle.gptp_graph.specs.Snapshot.{IsWellFormed, Snapshot, clocks}
+use Rattle.gptp_graph.proofs.SystemLemmas.{In-clocks}
+use Rattle.gptp_network.specs.Snapshot.{StandsAfter}
+use Rattle.gptp_network.proofs.InUseLemmas.{live_there}
+use Rattle.gptp_network.proofs.SnapshotLemmas.{with_clock}
+use Rattle.gptp_vector.specs.declared.port.PortId.{PortId}
+use Rattle.gptp_setup.specs.SettlingParams.{largest_interval, longest_span}
+use Rattle.gptp_roles.specs.Selection.{clock_of}
+use Rattle.gptp_scenario.specs.Calm.{IsLive, last_change}
+use Rattle.gptp_scenario.specs.Change.{link_after, system_after}
+use Rattle.gptp_scenario.specs.InUse.{lives}
+use Rattle.gptp_scenario.specs.Network.{IsEnd, IsNetwork, IsPort, IsWire, NetworkState, pace_of}
+use Rattle.gptp_scenario.specs.SettlingTime.{silence_span}
+use Rattle.gptp_scenario.specs.declared.change.Timed.{Timed}
+use Rattle.gptp_scenario.specs.declared.network.LinkSpec.{LinkSpec}
+use Rattle.gptp_scenario.specs.declared.network.SystemSpec.{SystemSpec}
+use Rattle.gptp_scenario.proofs.AfterLemmas.{KeepsEnds, after_keeps}
+use Rattle.gptp_system.specs.State.{number}
+use Rattle.gptp_topology.specs.After.{standing_then, standings_after, system_then, systems_after}
+use Rattle.gptp_topology.specs.Course.{cable_is_used}
+use Rattle.gptp_topology.specs.declared.course.Standing.{Standing}
+use Rattle.gptp_topology.specs.declared.nodes.System as ours
+use Rattle.gptp_topology.proofs.RestLemmas.{lives_from, lives_to, used_cable}
+use Rattle.gptp_how_soon.specs.Chosen.{chosen_after, ends_of, place_of}
+use Rattle.gptp_how_soon.specs.Far.{has_lower_clock, is_nearer, is_nearer_at}
+use Rattle.gptp_how_soon.specs.Silent.{hears, hears_over, held_after, held_among, held_end, held_one, held_over, hold_span, is_heard_link, is_live, log_from, log_if, timeout_of}
+use Rattle.gptp_how_soon.specs.declared.chosen.Chosen.{Chosen}
+use Rattle.gptp_how_soon.proofs.ChosenLemmas.{IsAt, at_port, chosen_there, settled_choice}
+use Rattle.gptp_settling_time.specs.HowSoon.{HeldFor}
+use Rattle.gptp_settling_time.specs.Losses.{AgesWithin, AnnouncesAt, FarEndLives, IsHoldSpan, IsSilent}
+
+-- ---- the interval of a port
+
+-- a system has such a port, with this interval
+record Found (p : PortId) (systems : List SystemSpec) (log : ℤ) : Type 0 where
+  place : ℕ
+  system : SystemSpec
+  there : slice_get systems place ≡ Some system
+  clock : clock_of system.identity ≡ p.clock
+  interval : slice_get system.intervals.items (p.port - 1) ≡ Some log
+
+found : (p : PortId) (systems : List SystemSpec) (log : ℤ) → log_from p systems ≡ Some log → Found p systems log
+found p [] log none = absurd cc
+found p (m ∷ ms) log is =
+    by (clock_of m.identity == p.clock) refl (slice_get m.intervals.items (p.port - 1)) refl (found p ms log)
+  where
+    behind : (log_from p ms ≡ Some log → Found p ms log) → log_if p m ≡ None → Found p (m ∷ ms) log
+    behind rest none =
+        let x = rest (sym (ap (λ o. option_or o (log_from p ms)) none) ∙ is) in
+        record { place = suc x.place; system = x.system; there = x.there; clock = x.clock; interval = x.interval }
+
+    by : (named : Bool) → (clock_of m.identity == p.clock) ≡ named → (o : Option ℤ)
+        → slice_get m.intervals.items (p.port - 1) ≡ o → (log_from p ms ≡ Some log → Found p ms log)
+        → Found p (m ∷ ms) log
+    by true named (Some l) here rest =
+        let this : log_if p m ≡ Some l =
+        ap (λ b. if b then slice_get m.intervals.items (p.port - 1) else None) named ∙ here in
+        record {
+          place = 0;
+          system = m;
+          there = refl;
+          clock = eqb-true (clock_of m.identity) p.clock named;
+          interval = here ∙ sym (ap (λ o. option_or o (log_from p ms)) this) ∙ is;
+        }
+    by true named None here rest =
+        behind rest (ap (λ b. if b then slice_get m.intervals.items (p.port - 1) else None) named ∙ here)
+    by false named o here rest =
+        behind rest (ap (λ b. if b then slice_get m.intervals.items (p.port - 1) else None) named)
+
+numbered : (logs : List ℤ) (port : ℕ) → 1 ≤ port → number logs port ≡ slice_get logs (port - 1)
+numbered logs zero first = absurd (omega (arith, first))
+numbered logs (suc i) first = let same : i ≡ suc i - 1 = omega arith in ap (slice_get logs) same
+
+-- what a port of the network told is held for so long
+module _ (n : NetworkState) (made : List Timed) (time : ℕ) (own : Bool)
+    (late : own ≡ true → last_change made + largest_interval (pace_of n) + longest_span (pace_of n) < time)
+    (p : PortId) (first : 1 ≤ p.port) where
+  holds : IsHoldSpan n made time p (hold_span n own p)
+  holds = by own refl (log_from p n.systems) refl
+    where
+      by : (test : Bool) → own ≡ test → (o : Option ℤ) → log_from p n.systems ≡ o
+          → IsHoldSpan n made time p (if test then timeout_of n o else longest_span (pace_of n))
+      by true is (Some log) there =
+          let x = found p n.systems log there in
+          let announces : AnnouncesAt n p log = record {
+            place = x.place;
+            system = x.system;
+            there = x.there;
+            clock = x.clock;
+            interval = numbered x.system.intervals.items p.port first ∙ x.interval;
+          } in
+          inr (late is, (log, announces, refl))
+      by true is None there = inl refl
+      by false is o there = inl refl
+
+-- ---- how long what came over links is held
+
+-- by when that has aged that a system told over a link, if it has failed
+abbrev aged_end : NetworkState → Bool → ℕ → PortId → Bool → ℕ
+aged_end n own delay p lives_then = if lives_then then 0 else hold_span n own p + delay
+
+abbrev aged_over : NetworkState → Bool → Standing → ℕ
+aged_over n own s =
+    max (aged_end n own s.cable.bounds.max s.cable.a s.a_lives) (aged_end n own s.cable.bounds.max s.cable.b s.b_lives)
+
+held_until : (n : NetworkState) (own : Bool) (delay : ℕ) (p : PortId) (lives_then : Bool)
+    → held_end n own delay p lives_then ≡ min (aged_end n own delay p lives_then) (silence_span (pace_of n))
+held_until n own delay p true = omega arith
+held_until n own delay p false = refl
+
+over_until : (n : NetworkState) (own : Bool) (s : Standing)
+    → held_over n own s ≡ min (aged_over n own s) (silence_span (pace_of n))
+over_until n own s =
+    let a = held_until n own s.cable.bounds.max s.cable.a s.a_lives in
+    let b = held_until n own s.cable.bounds.max s.cable.b s.b_lives in
+    omega (arith, a, b)
+
+-- what came over each silent link has aged within the span, and it counts for that, or until ports beside it are off
+record Ages (n : NetworkState) (own : Bool) (used : List Bool) (standings : List Standing) : Type 0 where
+  span : ℕ
+  each : (place : ℕ) (u : Bool) (s : Standing) → slice_get used place ≡ Some u → slice_get standings place ≡ Some s
+      → (u && s.cable.up) ≡ true → aged_over n own s ≤ span
+  held : held_among n own used standings ≡ min span (silence_span (pace_of n))
+
+ages : (n : NetworkState) (own : Bool) (used : List Bool) (standings : List Standing) → Ages n own used standings
+ages n own [] ss = record { span = 0; each = λ place u s here. absurd cc; held = omega arith }
+ages n own (u ∷ us) [] = record { span = 0; each = λ place v s here there. absurd cc; held = omega arith }
+ages n own (u ∷ us) (s ∷ ss) = by (u && s.cable.up) refl (ages n own us ss)
+  where
+    by : (silent : Bool) → (u && s.cable.up) ≡ silent → Ages n own us ss → Ages n own (u ∷ us) (s ∷ ss)
+    by true silent rest = record {
+      span = max (aged_over n own s) rest.span;
+      each = one;
+      held =
+          let is : held_one n own u s ≡ held_over n own s = ap (λ test. if test then held_over n own s else 0) silent in
+          let here = over_until n own s in
+          let others = rest.held in
+          omega (arith, is, here, others);
+    }
+      where
+        one : (place : ℕ) (v : Bool) (t : Standing) → slice_get (u ∷ us) place ≡ Some v
+            → slice_get (s ∷ ss) place ≡ Some t → (v && t.cable.up) ≡ true
+            → aged_over n own t ≤ max (aged_over n own s) rest.span
+        one zero v t here there is =
+            subst (λ (x : Standing). aged_over n own x ≤ max (aged_over n own s) rest.span) (same_Some s t there)
+            (omega arith)
+        one (suc place) v t here there is =
+            let less = rest.each place v t here there is in omega (arith, less)
+    by false silent rest = record {
+      span = rest.span;
+      each = others;
+      held =
+          let is : held_one n own u s ≡ 0 = ap (λ test. if test then held_over n own s else 0) silent in
+          let others_held = rest.held in
+          omega (arith, is, others_held);
+    }
+      where
+        others : (place : ℕ) (v : Bool) (t : Standing) → slice_get (u ∷ us) place ≡ Some v
+            → slice_get (s ∷ ss) place ≡ Some t → (v && t.cable.up) ≡ true → aged_over n own t ≤ rest.span
+        others zero v t here there is =
+            let none =
+            sym is ∙ sym (ap₂ (λ x (y : Standing). x && y.cable.up) (same_Some u v here) (same_Some s t there))
+            ∙ silent in
+            absurd cc
+        others (suc place) v t here there is = rest.each place v t here there is
+
+-- ---- far ends that live
+
+-- the system of the second port is farther from its best than that of the first, or as far with the higher clock
+abbrev IsBeyond : Snapshot → PortId → PortId → Type 0
+IsBeyond g other one = (near far : ℕ) → IsDistance g other.clock near → IsDistance g one.clock far
+    → (near < far) ⊎ ((near ≡ far) × (other.clock < one.clock))
+
+or_right : (x y : Bool) → y ≡ true → (x || y) ≡ true
+or_right true y is = refl
+or_right false y is = is
+
+or_left : (x y : Bool) → x ≡ true → (x || y) ≡ true
+or_left x y is = ap (λ b. b || y) is
+
+-- what the test of steps and clocks says
+nearer_so : (e c : Chosen) (lower higher : ℕ) → (e.steps < c.steps) ⊎ ((e.steps ≡ c.steps) × (lower < higher))
+    → (nat_lt e.steps c.steps || ((e.steps == c.steps) && nat_lt lower higher)) ≡ true
+nearer_so e c lower higher (inl less) =
+    or_left (nat_lt e.steps c.steps) ((e.steps == c.steps) && nat_lt lower higher) (grind (arith, nat_tests))
+nearer_so e c lower higher (inr (same, below)) =
+    or_right (nat_lt e.steps c.steps) ((e.steps == c.steps) && nat_lt lower higher)
+    (and_from (e.steps == c.steps) (nat_lt lower higher) (eq-eqb e.steps c.steps same) (grind (arith, nat_tests)))
+
+module _ (n : NetworkState) (network : IsNetwork n) (made after : List Timed) (g : Snapshot)
+    (stands : StandsAfter n made g) (well : IsWellFormed g) where
+  -- who lived before is in its snapshot
+  known : (clock : ℕ) → IsLive n.systems made clock → In clock (clocks g)
+  known clock live =
+      let (s, member, same) = with_clock g.systems clock
+      (live_there n network made g stands clock (lives_from n made clock live)) in
+      subst (λ c. In c (clocks g)) same (In-clocks g s member)
+
+  abbrev place : PortId → ℕ
+  place p = place_of (systems_after n []) p.clock
+
+  -- the one end lives, and was farther from its best than the other, or as far with the higher clock
+  hears_so : (one other : PortId) → IsPort n.systems one → IsPort n.systems other → IsLive n.systems made one.clock
+      → IsLive n.systems made other.clock → IsLive n.systems after one.clock → IsBeyond g other one
+      → hears (systems_after n after) (chosen_after n made) (place one) (place other) ≡ true
+  hears_so one other one_port other_port one_was other_was one_lives farther =
+      and_from (is_live (slice_get systems (place one))) (is_nearer_at systems cs (place other) (place one))
+      (ap is_live there_one ∙ lives_on)
+      ((λ k. is_nearer (e_there k) (c_there k) (has_lower_clock (there_other k) (there_one k)))
+      ∙ nearer_so e c (clock_of at_other.system.identity) (clock_of at_one.system.identity) told)
+    where
+      abbrev systems : List ours.System
+      systems = systems_after n after
+
+      abbrev cs : List Chosen
+      cs = chosen_after n made
+
+      at_one : IsAt n (place one) one.clock
+      at_one = at_port n network made g stands well one one_port
+
+      at_other : IsAt n (place other) other.clock
+      at_other = at_port n network made g stands well other other_port
+
+      there_one : slice_get systems (place one) ≡ Some (system_then after at_one.system)
+      there_one = mapped_there (system_then after) n.systems (place one) at_one.system at_one.there
+
+      there_other : slice_get systems (place other) ≡ Some (system_then after at_other.system)
+      there_other = mapped_there (system_then after) n.systems (place other) at_other.system at_other.there
+
+      lives_on : (system_after after at_one.system).live ≡ true
+      lives_on =
+          let x = one_lives in
+          let same = network.clocks (place one) x.place at_one.system x.system at_one.there x.there
+          (at_one.clock ∙ sym x.clock) in
+          let alike = same_there n.systems (place one) at_one.system x.system at_one.there
+          (ap (slice_get n.systems) same ∙ x.there) in
+          ap (λ (m : SystemSpec). (system_after after m).live) alike ∙ x.live
+
+      e : Chosen
+      e = (chosen_there n network made g stands well (place other) other.clock at_other).0
+
+      e_there : slice_get cs (place other) ≡ Some e
+      e_there = (chosen_there n network made g stands well (place other) other.clock at_other).1
+
+      c : Chosen
+      c = (chosen_there n network made g stands well (place one) one.clock at_one).0
+
+      c_there : slice_get cs (place one) ≡ Some c
+      c_there = (chosen_there n network made g stands well (place one) one.clock at_one).1
+
+      told : (e.steps < c.steps)
+          ⊎ ((e.steps ≡ c.steps) × (clock_of at_other.system.identity < clock_of at_one.system.identity))
+      told =
+          let chose_other = settled_choice n network made g stands well (place other) other.clock at_other
+          (known other.clock other_was) e e_there in
+          let chose_one = settled_choice n network made g stands well (place one) one.clock at_one
+          (known one.clock one_was) c c_there in
+          let clock_one = at_one.clock in
+          let clock_other = at_other.clock in
+          elim (farther e.steps c.steps chose_other.far chose_one.far) [
+            | inl less ↦ inl less
+            | inr (same, lower) ↦ inr (same, omega (arith, lower, clock_one, clock_other))
+          ]
+
+-- after these events and more of them
+module _ (n : NetworkState) (network : IsNetwork n) (made now : List Timed)
+    (well : (g : Snapshot) → StandsAfter n made g → IsWellFormed g) (own : Bool)
+    (late : own ≡ true
+    → last_change made + largest_interval (pace_of n) + longest_span (pace_of n) < last_change (made ++ now)) where
+  abbrev after : List Timed
+  after = made ++ now
+
+  each_ages : Ages n own (map (is_heard_link n made after) n.links) (standings_after n after)
+  each_ages = ages n own (map (is_heard_link n made after) n.links) (standings_after n after)
+
+  -- a link in use before whose far end lives is one that counts
+  heard : (place : ℕ) (v : LinkSpec) (failed : PortId) → slice_get n.links place ≡ Some v
+      → IsSilent n made after v failed → FarEndLives n made after v failed → is_heard_link n made after v ≡ true
+  heard place v failed there (used, up, end, none) far =
+      and_from (cable_is_used (standing_then n made v))
+      (hears_over (systems_after n after) (chosen_after n made) (Some (ends_of n v))) (used_cable n made v used)
+      (by far.is_end end)
+    where
+      abbrev g : Snapshot
+      g = far.before
+
+      wire : IsWire n place v
+      wire = network.links place v there
+
+      keeps : KeepsEnds (link_after after v) v
+      keeps = after_keeps after v
+
+      was : KeepsEnds (link_after made v) v
+      was = after_keeps made v
+
+      a_was : IsLive n.systems made v.a.clock
+      a_was = subst (λ (p : PortId). IsLive n.systems made p.clock) was.a used.a
+
+      b_was : IsLive n.systems made v.b.clock
+      b_was = subst (λ (p : PortId). IsLive n.systems made p.clock) was.b used.b
+
+      first : Bool
+      first = hears (systems_after n after) (chosen_after n made) (ends_of n v).a (ends_of n v).b
+
+      second : Bool
+      second = hears (systems_after n after) (chosen_after n made) (ends_of n v).b (ends_of n v).a
+
+      -- so it is of the ends by their names
+      farther_so : (one other : PortId) → one ≡ far.end → other ≡ failed → IsBeyond g other one
+      farther_so one other is_one is_other =
+          subst (λ (p : PortId). IsBeyond g p one) (sym is_other)
+          (subst (λ (p : PortId). IsBeyond g failed p) (sym is_one) far.farther)
+
+      lives_so : (one : PortId) → one ≡ far.end → IsLive n.systems after one.clock
+      lives_so one is = subst (λ (p : PortId). IsLive n.systems after p.clock) (sym is) far.lives
+
+      apart : far.end ≡ failed → ⊥
+      apart same = none (subst (λ (p : PortId). IsLive n.systems after p.clock) same far.lives)
+
+      by : IsEnd far.end (link_after after v) → IsEnd failed (link_after after v) → (first || second) ≡ true
+      by (inl one) (inl other) = absurd (apart (sym one ∙ other))
+      by (inr one) (inr other) = absurd (apart (sym one ∙ other))
+      by (inl one) (inr other) =
+          let is_one = sym keeps.a ∙ one in
+          or_left first second
+          (hears_so n network made after g far.stands (well g far.stands) v.a v.b wire.a wire.b a_was b_was
+          (lives_so v.a is_one) (farther_so v.a v.b is_one (sym keeps.b ∙ other)))
+      by (inr one) (inl other) =
+          let is_one = sym keeps.b ∙ one in
+          or_right first second
+          (hears_so n network made after g far.stands (well g far.stands) v.b v.a wire.b wire.a b_was a_was
+          (lives_so v.b is_one) (farther_so v.b v.a is_one (sym keeps.a ∙ other)))
+
+  dead : (clock : ℕ) (failed : PortId) → clock ≡ failed.clock → (IsLive n.systems after failed.clock → ⊥)
+      → lives n.systems after clock ≡ false
+  dead clock failed same none =
+      false_from_ne_true (lives n.systems after clock) (λ is.
+      none (subst (IsLive n.systems after) same (lives_to n after clock is)))
+
+  -- what the failed end told
+  aged : (v : LinkSpec) (p failed : PortId) (lives_then : Bool) → p ≡ failed → lives_then ≡ false
+      → aged_end n own (link_after after v).bounds.max p lives_then
+      ≡ hold_span n own failed + (link_after after v).bounds.max
+  aged v p failed lives_then same none =
+      ap (λ b. if b then 0 else hold_span n own p + (link_after after v).bounds.max) none
+      ∙ ap (λ q. hold_span n own q + (link_after after v).bounds.max) same
+
+  within : AgesWithin n made after (last_change after) each_ages.span
+  within place v failed there (used, up, end, none) far =
+      let wire = network.links place v there in
+      let keeps = after_keeps after v in
+      let less =
+      each_ages.each place (is_heard_link n made after v) (standing_then n after v)
+      (mapped_there (is_heard_link n made after) n.links place v there)
+      (mapped_there (standing_then n after) n.links place v there)
+      (and_from (is_heard_link n made after v) (link_after after v).up
+      (heard place v failed there (used, up, end, none) far) up) in
+      elim end [
+        | inl same ↦
+            let port : v.a ≡ failed = sym keeps.a ∙ same in
+            let is = aged v (link_after after v).a failed (lives n.systems after v.a.clock) same
+            (dead v.a.clock failed (ap (λ (p : PortId). p.clock) port) none) in (
+              hold_span n own failed,
+              holds n made (last_change after) own late failed (subst (λ (p : PortId). 1 ≤ p.port) port wire.a.first),
+              omega (arith, less, is),
+            )
+        | inr same ↦
+            let port : v.b ≡ failed = sym keeps.b ∙ same in
+            let is = aged v (link_after after v).b failed (lives n.systems after v.b.clock) same
+            (dead v.b.clock failed (ap (λ (p : PortId). p.clock) port) none) in (
+              hold_span n own failed,
+              holds n made (last_change after) own late failed (subst (λ (p : PortId). 1 ≤ p.port) port wire.b.first),
+              omega (arith, less, is),
+            )
+      ]
+
+  pub held_for : HeldFor n made now (held_after n own made after)
+  held_for = (each_ages.span, within, each_ages.held)
+
+-- the last change is that of these events, if there is one
+pub last_now : (time : ℕ) (made : List Timed) (event : Timed) (events : List Timed)
+    → AllByRecursion (λ (t : Timed). t.at ≡ time) (event ∷ events) → last_change (made ++ event ∷ events) ≡ time
+last_now time [] event [] at = at.0
+last_now time [] event (other ∷ events) at = last_now time [] other events at.1
+last_now time (t ∷ []) event events at = last_now time [] event events at
+last_now time (t ∷ u ∷ us) event events at = last_now time (u ∷ us) event events at

@@ -1,0 +1,17 @@
+mod DocumentLemmas
+mod ExactLemmas
+mod ReadingLemmas
+mod HeardLemmas
+mod PairLemmas
+mod SoonLemmas
+mod BetterLemmas
+mod BackLemmas
+mod EarlyLemmas
+mod RingLemmas
+mod FarLemmas
+mod PowerLemmas
+mod HeardRingLemmas
+mod RootlessRingLemmas
+mod TurnedRingLemmas
+mod CutLineLemmas
+mod AgeLemmas

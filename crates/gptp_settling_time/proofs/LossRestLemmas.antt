@@ -1,0 +1,597 @@
+-- After a loss by which one system is moved at most, but for such as are cut off, a network comes to rest.
+use Rattle.std.proofs.Common.{List, [], ap, append_assoc, arith, inl, inr, max, min, pred, refl, subst, suc, sym, zero, ℕ, ◌*◌, ◌++◌, ◌+◌, ◌∙◌, ◌∷◌, ◌≡◌, ◌≤◌, ◌⊎◌}
+use Rattle.std.specs.List.{AllByRecursion}
+use Rattle.std.proofs.Math.Nat.{le-max_left, le-max_right, mul-le-mul_left}
+use Rattle.gptp_setup.specs.SettlingParams.{largest_interval, longest_span}
+use native.Mathlib.Decide.{dec_le}
+use Rattle.gptp_scenario.specs.Calm.{IsCalm, NothingLapses, last_change}
+use Rattle.gptp_scenario.specs.Network.{NetworkState, pace_of}
+use Rattle.gptp_scenario.specs.SettlingTime.{aging_span, capability_span, echo_span, silence_span, way_span}
+use Rattle.gptp_scenario.specs.SyncWait.{sync_paths}
+use Rattle.gptp_scenario.specs.declared.change.Timed.{Timed}
+use Rattle.gptp_scenario.specs.declared.sync_wait.SyncPaths.{SyncPaths}
+use Rattle.gptp_theorem.proofs.EventLemmas.{last_behind}
+use Rattle.gptp_settling_time.specs.HowSoon.{CutsOneEnd, EachEvent, FailsEndFirst, FailsHeardFirst, LowersOneLink, RestsAfterOneLoss, RestsOnceTold, TurnsOneLink}
+use Rattle.gptp_settling_time.specs.InTurn.{Aging, AnyPast, Cleared, CutsCalm, EventLeads, FailsCalm, FailsNow, Fallen, FlightIsGone, Gained, Heard, LeadOn, Left, Lost, LowersCalm, Past, Split, Starting, Turned, TurnedTree, nearer_echo_span, turned_echo_span}
+use Rattle.gptp_settling_time.specs.Losses.{AgesWithin, CutsFarEnd, FailsFarEnd, FailsHeard, LowersLink, LowersUnused, NoneSilent, TurnsLink, UpIsUsed}
+use Rattle.gptp_settling_time.proofs.CalmLessLemmas.{failure_calm, fails_calm, lowers_calm}
+use Rattle.gptp_settling_time.proofs.LeftToLemmas.{less_way}
+use Rattle.gptp_settling_time.proofs.LeadOnLemmas.{HasSettled, IsLed}
+use Rattle.gptp_settling_time.proofs.SilentSpanLemmas.{failure_within, up_none_silent}
+use Rattle.gptp_settling_time.proofs.LossLeadLemmas.{ages_leads, dead_clear, dead_paths, heard_lead, turn_leads}
+
+-- after the loss of a far end it is cleared
+module _ (n : NetworkState) (made : List Timed) (event : Timed) (gone : ℕ) where
+  record IsClearedBy (past : Past) (by : ℕ) : Type 0 where
+    since : ℕ
+    silent : ℕ
+    leads : EventLeads n made past event (Cleared made since silent 0 (event.at + gone))
+    early : since + way_span (sync_paths n made) ≤ event.at
+    over : silent ≤ by
+
+  -- by a link that cuts it off, as ports without a link were off
+  cut_leads : FlightIsGone n (made ++ event ∷ []) gone → (past : Past) → HasSettled n made past event.at
+      → CutsCalm n made event → IsClearedBy past event.at
+  cut_leads flight AnyPast settled cuts =
+      let passed = settled.passed in
+      let over = le-max_left (capability_span (pace_of n)) (2 * largest_interval (pace_of n)
+      + (sync_paths n made).systems * (longest_span (pace_of n) + (sync_paths n made).delay)) in
+      record {
+        since = last_change made + capability_span (pace_of n);
+        silent = last_change made + capability_span (pace_of n);
+        leads = (settled, refl, inl (refl, inl (refl, inl (cuts, refl, (gone, flight, refl)))));
+        early = omega (arith, passed, over);
+        over = omega (arith, passed, over);
+      }
+  cut_leads flight Starting settled cuts = absurd settled
+  cut_leads flight (Gained start) settled cuts = record {
+    since = start;
+    silent = start;
+    leads = (settled, refl, inl (refl, inl (refl, inl (cuts, refl, (gone, flight, refl)))));
+    early = omega (arith, settled);
+    over = omega (arith, settled);
+  }
+  cut_leads flight (Heard start) settled cuts = record {
+    since = start;
+    silent = start;
+    leads = (settled, refl, inl (refl, inl (refl, inl (cuts, refl, (gone, flight, refl)))));
+    early = omega (arith, settled);
+    over = omega (arith, settled);
+  }
+  cut_leads flight (Left ago silent) settled cuts = absurd settled
+  cut_leads flight (Turned silent now) settled cuts = absurd settled
+  cut_leads flight (Fallen silent now) settled cuts = absurd settled
+  cut_leads flight (TurnedTree silent now) settled cuts = absurd settled
+  cut_leads flight (Cleared ago begun silent right last) settled cuts = absurd settled
+  cut_leads flight (Aging ago aged silent) settled cuts = absurd settled
+  cut_leads flight (Split ago aged silent) settled cuts = absurd settled
+  cut_leads flight (Lost since most silent) settled cuts = absurd settled
+
+  -- or as it fails, once the ports beside it have been unanswered for long enough
+  fail_leads : FlightIsGone n made gone → (past : Past) → HasSettled n made past event.at → FailsCalm n made event
+      → IsClearedBy past (suc (event.at + silence_span (pace_of n)))
+  fail_leads flight AnyPast settled fails =
+      let passed = settled.passed in
+      let over = le-max_left (capability_span (pace_of n)) (2 * largest_interval (pace_of n)
+      + (sync_paths n made).systems * (longest_span (pace_of n) + (sync_paths n made).delay)) in
+      record {
+        since = last_change made + capability_span (pace_of n);
+        silent = suc (event.at + silence_span (pace_of n));
+        leads = (settled, refl, inl (refl, inl (refl, inr (fails, refl, (gone, flight, refl)))));
+        early = omega (arith, passed, over);
+        over = omega arith;
+      }
+  fail_leads flight Starting settled fails = absurd settled
+  fail_leads flight (Gained start) settled fails = record {
+    since = start;
+    silent = suc (event.at + silence_span (pace_of n));
+    leads = (settled, refl, inl (refl, inl (refl, inr (fails, refl, (gone, flight, refl)))));
+    early = omega (arith, settled);
+    over = omega arith;
+  }
+  fail_leads flight (Heard start) settled fails = record {
+    since = start;
+    silent = suc (event.at + silence_span (pace_of n));
+    leads = (settled, refl, inl (refl, inl (refl, inr (fails, refl, (gone, flight, refl)))));
+    early = omega (arith, settled);
+    over = omega arith;
+  }
+  fail_leads flight (Left ago silent) settled fails = absurd settled
+  fail_leads flight (Turned silent now) settled fails = absurd settled
+  fail_leads flight (Fallen silent now) settled fails = absurd settled
+  fail_leads flight (TurnedTree silent now) settled fails = absurd settled
+  fail_leads flight (Cleared ago begun silent right last) settled fails = absurd settled
+  fail_leads flight (Aging ago aged silent) settled fails = absurd settled
+  fail_leads flight (Split ago aged silent) settled fails = absurd settled
+  fail_leads flight (Lost since most silent) settled fails = absurd settled
+
+-- after another such link goes down it is, once right traces are told
+module _ (n : NetworkState) (made : List Timed) (event : Timed) (gone : ℕ)
+    (flight : FlightIsGone n (made ++ event ∷ []) gone) where
+  abbrev echo : ℕ
+  echo = nearer_echo_span n (made ++ event ∷ [])
+
+  record IsRightedBy (past : Past) : Type 0 where
+    since : ℕ
+    leads : EventLeads n made past event (Cleared made since since (event.at + 1 + echo) (event.at + echo + gone))
+    early : since + way_span (sync_paths n made) ≤ event.at
+
+  right_leads : (past : Past) → HasSettled n made past event.at → LowersCalm n made event → IsRightedBy past
+  right_leads AnyPast settled lowers =
+      let passed = settled.passed in
+      let over = le-max_left (capability_span (pace_of n)) (2 * largest_interval (pace_of n)
+      + (sync_paths n made).systems * (longest_span (pace_of n) + (sync_paths n made).delay)) in
+      record {
+        since = last_change made + capability_span (pace_of n);
+        leads = (settled, refl, inl (refl, inr (lowers, refl, refl, (gone, flight, refl))));
+        early = omega (arith, passed, over);
+      }
+  right_leads Starting settled lowers = absurd settled
+  right_leads (Gained start) settled lowers = record {
+    since = start;
+    leads = (settled, refl, inl (refl, inr (lowers, refl, refl, (gone, flight, refl))));
+    early = omega (arith, settled);
+  }
+  right_leads (Heard start) settled lowers = record {
+    since = start;
+    leads = (settled, refl, inl (refl, inr (lowers, refl, refl, (gone, flight, refl))));
+    early = omega (arith, settled);
+  }
+  right_leads (Left ago silent) settled lowers = absurd settled
+  right_leads (Turned silent now) settled lowers = absurd settled
+  right_leads (Fallen silent now) settled lowers = absurd settled
+  right_leads (TurnedTree silent now) settled lowers = absurd settled
+  right_leads (Cleared ago begun silent right last) settled lowers = absurd settled
+  right_leads (Aging ago aged silent) settled lowers = absurd settled
+  right_leads (Split ago aged silent) settled lowers = absurd settled
+  right_leads (Lost since most silent) settled lowers = absurd settled
+
+-- as a system fails that others hear it is, where each link that is up then is in use
+module _ (n : NetworkState) (made : List Timed) (event : Timed) (aged silent : ℕ)
+    (now : FailsNow n made event aged silent) (used : UpIsUsed n (made ++ event ∷ [])) where
+  abbrev EchoesPower : Past → Type 0
+  EchoesPower past = EventLeads n made past event
+      (Cleared made event.at silent (event.at + 1 + nearer_echo_span n (made ++ event ∷ []))
+      (event.at + nearer_echo_span n (made ++ event ∷ []) + (sync_paths n (made ++ event ∷ [])).delay))
+
+  power_leads : (past : Past) → HasSettled n made past event.at → EchoesPower past
+  power_leads AnyPast settled = (settled, refl, inr (aged, now, (used, refl, refl, refl)))
+  power_leads Starting settled = absurd settled
+  power_leads (Gained start) settled = (settled, refl, inr (aged, now, (used, refl, refl, refl)))
+  power_leads (Heard start) settled = (settled, refl, inr (aged, now, (used, refl, refl, refl)))
+  power_leads (Left ago start) settled = absurd settled
+  power_leads (Turned start was) settled = absurd settled
+  power_leads (Fallen start was) settled = absurd settled
+  power_leads (TurnedTree start was) settled = absurd settled
+  power_leads (Cleared ago begun start right last) settled = absurd settled
+  power_leads (Aging ago gone start) settled = absurd settled
+  power_leads (Split ago gone start) settled = absurd settled
+  power_leads (Lost since most start) settled = absurd settled
+
+-- Else it goes on to age until the last link goes down of which an end has failed, at this time.
+power_lead : (n : NetworkState) (ago made now : List Timed) (other : Timed) (time aged silent : ℕ)
+    → NothingLapses n.params
+    → IsCalm n made → AllByRecursion (λ (t : Timed). t.at ≡ time) (other ∷ now)
+    → EachEvent (LowersUnused n) made (other ∷ now) → UpIsUsed n (made ++ other ∷ now)
+    → LeadOn n made (Aging ago aged silent) (other ∷ now)
+    (Cleared ago time silent (time + 1 + nearer_echo_span n (made ++ other ∷ now))
+    (time + nearer_echo_span n (made ++ other ∷ now) + (sync_paths n (made ++ other ∷ now)).delay))
+power_lead n ago made [] other time aged silent off calm (at, none) (lowers, others) used =
+    let last = Cleared ago time silent (time + 1 + nearer_echo_span n (made ++ other ∷ []))
+    (time + nearer_echo_span n (made ++ other ∷ []) + (sync_paths n (made ++ other ∷ [])).delay) in (
+      Aging ago aged silent,
+      inl refl,
+      last,
+      (
+        record { lowers = lowers; calm = calm; off = off },
+        refl,
+        refl,
+        (
+          used,
+          sym at,
+          ap (λ t. t + 1 + nearer_echo_span n (made ++ other ∷ [])) (sym at),
+          ap (λ t. t + nearer_echo_span n (made ++ other ∷ []) + (sync_paths n (made ++ other ∷ [])).delay) (sym at),
+        ),
+      ),
+      refl,
+    )
+power_lead n ago made (event ∷ now) other time aged silent off calm (at, later) (lowers, others) used =
+    let all : (made ++ other ∷ []) ++ event ∷ now ≡ made ++ other ∷ event ∷ now =
+    append_assoc made (other ∷ []) (event ∷ now) in (
+      Aging ago aged silent,
+      inl refl,
+      Aging ago aged silent,
+      (record { lowers = lowers; calm = calm; off = off }, refl, refl, inl refl),
+      subst (λ es. LeadOn n (made ++ other ∷ []) (Aging ago aged silent) (event ∷ now)
+          (Cleared ago time silent (time + 1 + nearer_echo_span n es)
+          (time + nearer_echo_span n es + (sync_paths n es).delay))) all
+          (power_lead n ago (made ++ other ∷ []) now event time aged silent off
+          (lowers_calm n made other off calm lowers) later others (subst (UpIsUsed n) (sym all) used)),
+    )
+
+-- the last of events of one time is of that time
+pub last_at : (made : List Timed) (event : Timed) (now : List Timed) (time : ℕ)
+    → AllByRecursion (λ (t : Timed). t.at ≡ time) (event ∷ now) → last_change (made ++ event ∷ now) ≡ time
+last_at made event [] time (here, at) = last_behind made event ∙ here
+last_at made event (next ∷ now) time (here, at) =
+    ap last_change (sym (append_assoc made (event ∷ []) (next ∷ now))) ∙ last_at (made ++ event ∷ []) next now time at
+
+-- What was in flight as all but the neighbours of the best tell what is right is gone once they do too.
+nearer_within : (systems hop gone : ℕ) → gone ≤ hop → pred (pred systems) * hop + gone ≤ max (pred systems * hop) gone
+nearer_within zero hop gone soon = let least = le-max_right (0 * hop) gone in omega (arith, least)
+nearer_within (suc zero) hop gone soon = let least = le-max_right (0 * hop) gone in omega (arith, least)
+nearer_within (suc (suc k)) hop gone soon =
+    let most = le-max_left (suc k * hop) gone in omega (arith, most, soon)
+
+-- it has come to rest by so much later
+module _ (n : NetworkState) (off : NothingLapses n.params) (time : ℕ) (made now : List Timed) (past : Past) (rest : ℕ)
+    (at : AllByRecursion (λ (t : Timed). t.at ≡ time) now) (calm_then : IsCalm n made) (calm : IsCalm n (made ++ now))
+    (settled : HasSettled n made past time) where
+  -- the event that loses the end is the first of them
+  module _ (event : Timed) (others : List Timed) (same : now ≡ event ∷ others) where
+    here : event.at ≡ time
+    here = (subst (AllByRecursion (λ (t : Timed). t.at ≡ time)) same at).0
+
+    settled_then : HasSettled n made past event.at
+    settled_then = subst (HasSettled n made past) (sym here) settled
+
+    -- it is cleared, and taken as heard from when its ports were capable
+    led : (since silent right old : ℕ) → EventLeads n made past event (Cleared made since silent right old)
+        → LeadOn n (made ++ event ∷ []) (Cleared made since silent right old) others
+        (Cleared made since silent right old)
+        → old ≤ time + rest → (silent ≤ suc (time + rest)) ⊎ NoneSilent n made (made ++ now)
+        → since + way_span (sync_paths n (made ++ now)) ≤ suc (time + rest)
+        → IsLed n made now past (suc (time + rest))
+    led since silent right old leads lead less unlinked over = record {
+      last = Cleared made since silent right old;
+      lead = subst (λ es. LeadOn n made past es (Cleared made since silent right old)) (sym same)
+          (past, inl refl, Cleared made since silent right old, leads, lead);
+      settles = (
+        Heard since,
+        inr (
+          since,
+          refl,
+          record {
+            calm = calm;
+            off = off;
+            gone = omega (arith, less);
+            later = omega arith;
+            unlinked = unlinked;
+            over = over;
+          },
+        ),
+        over,
+      );
+    }
+
+    -- the way that is left is no longer
+    module _ (others_lower : EachEvent (LowersUnused n) (made ++ event ∷ []) others)
+        (delay : (sync_paths n (made ++ event ∷ [])).delay ≤ (sync_paths n made).delay)
+        (fewer : (sync_paths n (made ++ event ∷ [])).systems ≤ (sync_paths n made).systems) where
+      way_then : way_span (sync_paths n (made ++ now)) ≤ way_span (sync_paths n made)
+      way_then =
+          let parts : made ++ now ≡ (made ++ event ∷ []) ++ others =
+          ap (λ es. made ++ es) same ∙ sym (append_assoc made (event ∷ []) others) in
+          let paths : sync_paths n (made ++ now) ≡ sync_paths n (made ++ event ∷ []) =
+          ap (sync_paths n) parts ∙ dead_paths n (made ++ event ∷ []) others others_lower in
+          subst (λ (x : SyncPaths). way_span x ≤ way_span (sync_paths n made)) (sym paths)
+          (less_way (sync_paths n made).systems (sync_paths n (made ++ event ∷ [])).systems (sync_paths n made).delay
+          (sync_paths n (made ++ event ∷ [])).delay fewer delay)
+
+    cut_led : CutsFarEnd n made event → others ≡ [] → (gone : ℕ) → FlightIsGone n (made ++ now) gone
+        → rest ≡ max (2 * way_span (sync_paths n (made ++ now))) gone → IsLed n made now past (suc (time + rest))
+    cut_led cuts alone gone flight is =
+        let one : made ++ now ≡ made ++ event ∷ [] =
+        ap (λ es. made ++ es) (same ∙ ap (λ es. event ∷ es) alone) in
+        let x = cut_leads n made event gone (subst (λ es. FlightIsGone n es gone) one flight) past settled_then
+        (record { cuts = cuts; calm = calm_then; off = off }) in
+        let l = cuts.lowers in
+        let less = way_then (subst (EachEvent (LowersUnused n) (made ++ event ∷ [])) (sym alone) tt) l.delay l.paths in
+        let before = here in
+        let early = x.early in
+        let over = x.over in
+        let gone_most = le-max_right (2 * way_span (sync_paths n (made ++ now))) gone in
+        led x.since x.silent 0 (event.at + gone) x.leads
+        (subst (λ es. LeadOn n (made ++ event ∷ []) (Cleared made x.since x.silent 0 (event.at + gone)) es
+        (Cleared made x.since x.silent 0 (event.at + gone))) (sym alone) refl) (omega (arith, before, is, gone_most))
+        (inl (omega (arith, over, before))) (omega (arith, early, before, less))
+
+    -- what was in flight is gone as right traces are told
+    gone_within : (gone : ℕ) → FlightIsGone n (made ++ now) gone
+        → nearer_echo_span n (made ++ now) + gone ≤ max (echo_span (pace_of n) (sync_paths n (made ++ now))) gone
+    gone_within gone flight =
+        nearer_within (sync_paths n (made ++ now)).systems
+        (largest_interval (pace_of n) + (sync_paths n (made ++ now)).delay) gone (soon flight)
+      where
+        soon : FlightIsGone n (made ++ now) gone
+            → gone ≤ largest_interval (pace_of n) + (sync_paths n (made ++ now)).delay
+        soon (inl (used, delay)) = omega (arith, delay)
+        soon (inr interval) = omega (arith, interval)
+
+    -- the way is part of what they take
+    way_short : way_span (sync_paths n (made ++ now)) ≤ echo_span (pace_of n) (sync_paths n (made ++ now))
+    way_short = mul-le-mul_left (pred (sync_paths n (made ++ now)).systems) (omega arith)
+
+    -- another such link goes down
+    right_led : LowersLink n made event → others ≡ [] → (gone : ℕ) → FlightIsGone n (made ++ now) gone
+        → rest ≡ max (echo_span (pace_of n) (sync_paths n (made ++ now))) gone
+        → IsLed n made now past (suc (time + rest))
+    right_led lowers alone gone flight is =
+        let one : made ++ now ≡ made ++ event ∷ [] =
+        ap (λ es. made ++ es) (same ∙ ap (λ es. event ∷ es) alone) in
+        let x = right_leads n made event gone (subst (λ es. FlightIsGone n es gone) one flight) past settled_then
+        (record { lowers = lowers; calm = calm_then; off = off }) in
+        let less = way_then (subst (EachEvent (LowersUnused n) (made ++ event ∷ [])) (sym alone) tt) lowers.delay
+        lowers.paths in
+        let last : Past = Cleared made x.since x.since (event.at + 1 + nearer_echo_span n (made ++ event ∷ []))
+        (event.at + nearer_echo_span n (made ++ event ∷ []) + gone) in
+        let echo = echo_span (pace_of n) (sync_paths n (made ++ now)) in
+        let within : nearer_echo_span n (made ++ event ∷ []) + gone ≤ max echo gone =
+        subst (λ es. nearer_echo_span n es + gone ≤ max echo gone) one (gone_within gone flight) in
+        let before = here in
+        let early = x.early in
+        led x.since x.since (event.at + 1 + nearer_echo_span n (made ++ event ∷ []))
+        (event.at + nearer_echo_span n (made ++ event ∷ []) + gone) x.leads
+        (subst (λ es. LeadOn n (made ++ event ∷ []) last es last) (sym alone) refl)
+        (omega (arith, before, is, within)) (inl (omega (arith, early, before)))
+        (omega (arith, early, before, less))
+
+    fail_led : FailsFarEnd n made event → EachEvent (LowersUnused n) (made ++ event ∷ []) others
+        → (NoneSilent n made (made ++ now) × FlightIsGone n made rest)
+        ⊎ ((gone : ℕ) × FlightIsGone n made gone × (rest ≡ max (silence_span (pace_of n)) gone))
+        → IsLed n made now past (suc (time + rest))
+    fail_led fails lowers (inl (none, flight)) =
+        let x = fail_leads n made event rest flight past settled_then
+        (record { fails = fails; calm = calm_then; off = off }) in
+        let less = way_then lowers fails.delay fails.paths in
+        let before = here in
+        let early = x.early in
+        led x.since x.silent 0 (event.at + rest) x.leads
+        (dead_clear n made (made ++ event ∷ []) others x.since x.silent (event.at + rest) off
+        (fails_calm n made event off calm_then fails) lowers) (omega (arith, before)) (inr none)
+        (omega (arith, early, before, less))
+    fail_led fails lowers (inr (gone, flight, is)) =
+        let x = fail_leads n made event gone flight past settled_then
+        (record { fails = fails; calm = calm_then; off = off }) in
+        let less = way_then lowers fails.delay fails.paths in
+        let before = here in
+        let early = x.early in
+        let over = x.over in
+        let silent_most = le-max_left (silence_span (pace_of n)) gone in
+        let gone_most = le-max_right (silence_span (pace_of n)) gone in
+        led x.since x.silent 0 (event.at + gone) x.leads
+        (dead_clear n made (made ++ event ∷ []) others x.since x.silent (event.at + gone) off
+        (fails_calm n made event off calm_then fails) lowers) (omega (arith, is, gone_most, before))
+        (inl (omega (arith, over, before, is, silent_most))) (omega (arith, early, before, less))
+
+    -- one system turns, and it is taken as heard from now on
+    turned_led : TurnsLink n made event → others ≡ [] → rest ≡ turned_echo_span n (made ++ now)
+        → IsLed n made now past (suc (time + rest))
+    turned_led turns alone is =
+        let (silent, leads) = turn_leads n made event past settled_then
+        (record { turns = turns; calm = calm_then; off = off }) in
+        let last : Past = Turned silent event.at in
+        let before = here in
+        let over : suc event.at + way_span (sync_paths n (made ++ now)) ≤ suc (time + rest) =
+        omega (arith, before, is) in
+        record {
+          last = last;
+          lead = subst (λ es. LeadOn n made past es last) (sym (same ∙ ap (λ es. event ∷ es) alone))
+              (past, inl refl, last, leads, refl);
+          settles = (
+            Heard (suc event.at),
+            inr (
+              suc event.at,
+              refl,
+              record {
+                calm = calm;
+                off = off;
+                told = omega (arith, before, is);
+                later = omega arith;
+                over = over;
+              },
+            ),
+            over,
+          );
+        }
+
+    -- a system fails that others hear
+    power_led : FailsHeard n made event → EachEvent (LowersUnused n) (made ++ event ∷ []) others
+        → UpIsUsed n (made ++ now)
+        → max (echo_span (pace_of n) (sync_paths n (made ++ now))) (sync_paths n (made ++ now)).delay ≤ rest
+        → IsLed n made now past (suc (time + rest))
+    power_led fails lowers used long = by others refl
+      where
+        aged : ℕ
+        aged = suc (event.at + aging_span (pace_of n) (sync_paths n made))
+
+        silent : ℕ
+        silent = suc (event.at + silence_span (pace_of n))
+
+        falls : FailsNow n made event aged silent
+        falls = record {
+          fails = fails;
+          calm = calm_then;
+          off = off;
+          span = aging_span (pace_of n) (sync_paths n made);
+          within = failure_within n made event fails;
+          gone = refl;
+          unanswered = refl;
+        }
+
+        less : way_span (sync_paths n (made ++ now)) ≤ way_span (sync_paths n made)
+        less = way_then lowers fails.delay fails.paths
+
+        old : ℕ
+        old = time + nearer_echo_span n (made ++ now) + (sync_paths n (made ++ now)).delay
+
+        right : ℕ
+        right = time + 1 + nearer_echo_span n (made ++ now)
+
+        within : nearer_echo_span n (made ++ now) + (sync_paths n (made ++ now)).delay ≤ rest
+        within =
+            let most = gone_within (sync_paths n (made ++ now)).delay (inl (used, refl)) in omega (arith, long, most)
+
+        ends : LeadOn n made past now (Cleared made time silent right old) → IsLed n made now past (suc (time + rest))
+        ends lead =
+            let way = way_short in
+            let over : time + way_span (sync_paths n (made ++ now)) ≤ suc (time + rest) = omega (arith, way, long) in
+            record {
+              last = Cleared made time silent right old;
+              lead = lead;
+              settles = (
+                Heard time,
+                inr (
+                  time,
+                  refl,
+                  record {
+                    calm = calm;
+                    off = off;
+                    gone = omega (arith, within);
+                    later = omega arith;
+                    unlinked = inr (up_none_silent n made (made ++ now) used);
+                    over = over;
+                  },
+                ),
+                over,
+              );
+            }
+
+        by : (es : List Timed) → others ≡ es → IsLed n made now past (suc (time + rest))
+        by [] alone =
+            let one : made ++ now ≡ made ++ event ∷ [] =
+            ap (λ es. made ++ es) (same ∙ ap (λ es. event ∷ es) alone) in
+            let leads = power_leads n made event aged silent falls (subst (UpIsUsed n) one used) past settled_then in
+            let last : Past = Cleared made time silent right old in
+            ends (subst (λ es. LeadOn n made past es last) (sym (same ∙ ap (λ es. event ∷ es) alone)) (
+              past,
+              inl refl,
+              last,
+              subst (λ t. EventLeads n made past event (Cleared made t silent (t + 1 + nearer_echo_span n (made ++ now))
+                  (t + nearer_echo_span n (made ++ now) + (sync_paths n (made ++ now)).delay))) here
+                  (subst (λ es. EventLeads n made past event
+                  (Cleared made event.at silent (event.at + 1 + nearer_echo_span n es)
+                  (event.at + nearer_echo_span n es + (sync_paths n es).delay))) (sym one) leads),
+              refl,
+            ))
+        by (other ∷ more) alone =
+            let all : made ++ now ≡ (made ++ event ∷ []) ++ other ∷ more =
+            ap (λ es. made ++ es) (same ∙ ap (λ es. event ∷ es) alone) ∙ sym (append_assoc made (event ∷ [])
+            (other ∷ more)) in
+            let last : Past = Cleared made time silent right old in
+            let at_then = (subst (AllByRecursion (λ (t : Timed). t.at ≡ time)) same at).1 in
+            ends (subst (λ es. LeadOn n made past es last) (sym (same ∙ ap (λ es. event ∷ es) alone)) (
+              past,
+              inl refl,
+              Aging made aged silent,
+              ages_leads n made event past aged silent settled_then falls,
+              subst (λ es. LeadOn n (made ++ event ∷ []) (Aging made aged silent) (other ∷ more)
+                  (Cleared made time silent (time + 1 + nearer_echo_span n es)
+                  (time + nearer_echo_span n es + (sync_paths n es).delay))) (sym all)
+                  (power_lead n made (made ++ event ∷ []) more other time aged silent off
+                  (failure_calm n made event off calm_then fails.clock fails.act)
+                  (subst (AllByRecursion (λ (t : Timed). t.at ≡ time)) alone at_then)
+                  (subst (EachEvent (LowersUnused n) (made ++ event ∷ [])) alone lowers)
+                  (subst (UpIsUsed n) all used)),
+            ))
+
+    -- else it is taken as heard from now on once right traces are told since what is held of it has aged
+    heard_led : FailsHeard n made event → EachEvent (LowersUnused n) (made ++ event ∷ []) others
+        → RestsOnceTold n made now rest → IsLed n made now past (suc (time + rest))
+    heard_led fails lowers (inl (used, long)) = power_led fails lowers used long
+    heard_led fails lowers (inr (gone, flight, (held, (span, within, is), long))) = record {
+      last = Aging made aged silent;
+      lead = subst (λ es. LeadOn n made past es (Aging made aged silent)) (sym same)
+          (heard_lead n made event others past span off calm_then settled_then fails lowers
+          (subst (λ es. AgesWithin n made (made ++ es) event.at span) same
+          (subst (λ t. AgesWithin n made (made ++ now) t span) (last ∙ sym before) within)));
+      settles = (
+        Heard (suc (time + min span b)),
+        inr (
+          suc (time + min span b),
+          refl,
+          record {
+            calm = calm;
+            off = off;
+            by = suc (time + min span b);
+            since = omega (arith, last);
+            gone = elim (dec_le span b) [
+              | yes less ↦ inl (omega (arith, before, less))
+              | no over ↦ inr (omega (arith, before, over))
+            ];
+            flight = gone;
+            is_gone = flight;
+            told = let within = gone_within gone flight in omega (arith, long, within, told_most, is);
+            later = omega arith;
+            unlinked = omega (arith, before, long, silent_most);
+            over = over_way;
+          },
+        ),
+        over_way,
+      );
+    }
+      where
+        b : ℕ
+        b = silence_span (pace_of n)
+
+        aged : ℕ
+        aged = suc (event.at + span)
+
+        silent : ℕ
+        silent = suc (event.at + b)
+
+        before : event.at ≡ time
+        before = here
+
+        last : last_change (made ++ now) ≡ time
+        last =
+            ap (λ es. last_change (made ++ es)) same
+            ∙ last_at made event others time (subst (AllByRecursion (λ (t : Timed). t.at ≡ time)) same at)
+
+        more : ℕ
+        more = held + 1 + max (echo_span (pace_of n) (sync_paths n (made ++ now))) gone
+
+        silent_most : b ≤ max b more
+        silent_most = le-max_left b more
+
+        told_most : more ≤ max b more
+        told_most = le-max_right b more
+
+        over_way : suc (time + min span b) + way_span (sync_paths n (made ++ now)) ≤ suc (time + rest)
+        over_way =
+            let way = way_short in
+            let echo = le-max_left (echo_span (pace_of n) (sync_paths n (made ++ now))) gone in
+            let most = told_most in
+            omega (arith, way, echo, most, long, is)
+
+  lost_led : (es : List Timed) → now ≡ es
+      → (CutsOneEnd n made es
+      × ((gone : ℕ) × FlightIsGone n (made ++ now) gone
+      × (rest ≡ max (2 * way_span (sync_paths n (made ++ now))) gone)))
+      ⊎ ((FailsEndFirst n made es
+      × ((NoneSilent n made (made ++ now) × FlightIsGone n made rest)
+      ⊎ ((gone : ℕ) × FlightIsGone n made gone × (rest ≡ max (silence_span (pace_of n)) gone))))
+      ⊎ ((LowersOneLink n made es
+      × ((gone : ℕ) × FlightIsGone n (made ++ now) gone
+      × (rest ≡ max (echo_span (pace_of n) (sync_paths n (made ++ now))) gone)))
+      ⊎ ((TurnsOneLink n made es × (rest ≡ turned_echo_span n (made ++ now)))
+      ⊎ (FailsHeardFirst n made es × RestsOnceTold n made now rest))))
+      → IsLed n made now past (suc (time + rest))
+  lost_led [] same (inl (none, flight)) = absurd none
+  lost_led [] same (inr (inl (none, after))) = absurd none
+  lost_led [] same (inr (inr (inl (none, after)))) = absurd none
+  lost_led [] same (inr (inr (inr (inl (none, after))))) = absurd none
+  lost_led [] same (inr (inr (inr (inr (none, by))))) = absurd none
+  lost_led (event ∷ other ∷ others) same (inl (none, flight)) = absurd none
+  lost_led (event ∷ other ∷ others) same (inr (inr (inl (none, after)))) = absurd none
+  lost_led (event ∷ other ∷ others) same (inr (inr (inr (inl (none, after))))) = absurd none
+  lost_led (event ∷ []) same (inl (cuts, (gone, flight, is))) = cut_led event [] same cuts refl gone flight is
+  lost_led (event ∷ []) same (inr (inr (inl (lowers, (gone, flight, is))))) =
+      right_led event [] same lowers refl gone flight is
+  lost_led (event ∷ []) same (inr (inr (inr (inl (turns, is))))) = turned_led event [] same turns refl is
+  lost_led (event ∷ others) same (inr (inl ((fails, lowers), by))) = fail_led event others same fails lowers by
+  lost_led (event ∷ others) same (inr (inr (inr (inr ((fails, lowers), by))))) =
+      heard_led event others same fails lowers by
+
+  pub cleared_led : RestsAfterOneLoss n made now rest → IsLed n made now past (suc (time + rest))
+  cleared_led loses = lost_led now refl loses

@@ -1,0 +1,342 @@
+-- A system fails that others hear, and so cuts trees off: they begin to fall back, though nobody answers yet.
+use Rattle.std.proofs.Common.{◌≡◌, ◌⊎◌, ◌<◌, ◌≤◌, ◌+◌, ◌*◌, ℕ, suc, pred, true, List, Some, slice_get, refl, sym, ap, subst, ◌∙◌, inl, inr, arith}
+use Rattle.gptp_lists.specs.Members.{In}
+use Rattle.gptp_graph.specs.PathBound.{path_bound}
+use Rattle.gptp_graph.specs.Snapshot.{IsWellFormed, Joins, PortIdentity, Snapshot, System, clocks, port_of}
+use Rattle.gptp_graph.proofs.DistanceLemmas.{IsDistance-clock, IsDistance-unique}
+use Rattle.gptp_graph.proofs.ExistenceLemmas.{best_exists}
+use Rattle.gptp_graph.proofs.LinkLemmas.{Joins-clock}
+use Rattle.gptp_graph.proofs.SystemLemmas.{In-clocks}
+use Rattle.gptp_links.specs.Fate.{Draw}
+use Rattle.gptp_scenario.specs.Calm.{NothingLapses}
+use Rattle.gptp_scenario.specs.Params.{KeepPace}
+use Rattle.gptp_scenario.specs.SettlingTime.{silence_span}
+use Rattle.gptp_scenario.specs.declared.change.Act.TheVariants.{Change as Changing}
+use Rattle.gptp_scenario.specs.declared.change.Change.TheVariants.{Fail}
+use Rattle.gptp_setup.specs.SettlingParams.{SettlingParams}
+use Rattle.gptp_model.specs.Acts.{Acts}
+use Rattle.gptp_model.specs.World.{WorldState}
+use Rattle.gptp_model.specs.declared.done.Done.{Done}
+use Rattle.gptp_bmca_machine.specs.Calm.{Calm}
+use Rattle.gptp_bmca_machine.specs.Clean.{Whole}
+use Rattle.gptp_bmca_machine.specs.CutTree.{CutsTrees, LosesSystem, Tree}
+use Rattle.gptp_bmca_machine.specs.Facts.{station_system}
+use Rattle.gptp_bmca_machine.specs.Frame.{Announce, AnnounceFrame, Lane}
+use Rattle.gptp_bmca_machine.specs.Levels.{Invariant}
+use Rattle.gptp_bmca_machine.specs.LossLaws.{EverythingFits, IsAfterLoss, IsLoss, IsWhatIsLeft}
+use Rattle.gptp_bmca_machine.specs.Network.{IsSettlingNetwork, Network, settled_from}
+use Rattle.gptp_bmca_machine.specs.RestLaws.{IsResting, SameWiring}
+use Rattle.gptp_bmca_machine.specs.SoundLaws.{AllAreNear}
+use Rattle.gptp_bmca_machine.proofs.FailsBackLemmas.{HoldsAtTop, dark_by}
+use Rattle.gptp_bmca_machine.proofs.FallFailLemmas.{failing_settles, fails_back}
+use Rattle.gptp_bmca_machine.proofs.FallLemmas.{IsAftermath}
+use Rattle.gptp_bmca_machine.proofs.LossLemmas.{loss_fits}
+use Rattle.gptp_bmca_machine.proofs.LostBeginLemmas.{top_begins}
+use Rattle.gptp_bmca_machine.proofs.SettledLemmas.{network_whole}
+use Rattle.gptp_invariants.specs.ChoiceCalm.{HaveQuietLinks, delay_in, log_of}
+use Rattle.gptp_invariants.specs.ChoiceSettlesAsMachine.{IsWorld}
+use Rattle.gptp_invariants.specs.ChoiceView.{says_announce, view}
+use Rattle.gptp_invariants.specs.DelayMeasured.{LinkIsMeasured}
+use Rattle.gptp_invariants.specs.WorldNews.{AreReadyBy, AreSilentBy}
+use Rattle.gptp_invariants.specs.WorldSound.{IsSoundWorld}
+use Rattle.gptp_invariants.specs.WorldStanding.{snapshot_of}
+use Rattle.gptp_invariants.proofs.ChoiceSettlesAsMachineLemmas.{paths_bound}
+use Rattle.gptp_invariants.proofs.WorldGreatestDelayLemmas.{receipts_stay}
+use Rattle.gptp_invariants.proofs.WorldLogLemmas.{linked_log}
+use Rattle.gptp_invariants.proofs.WorldStandsLemmas.{stands_well}
+use Rattle.gptp_invariants.proofs.WorldWayLemmas.{way_of}
+use Rattle.gptp_settling_time.specs.TreeLosses.{IsTreeCutOff, IsUnmovedOrInTree}
+use Rattle.gptp_settling_time.proofs.AgesByWorldLemmas.{WorldAgesBy}
+use Rattle.gptp_settling_time.proofs.AgingClaimedLemmas.{named_in, stay_of}
+use Rattle.gptp_settling_time.proofs.AlwaysClaimedLemmas.{IsStanding, start_calm, start_net, start_network}
+use Rattle.gptp_settling_time.proofs.CutDeepLemmas.{deep_by}
+use Rattle.gptp_settling_time.proofs.FailedAgesLemmas.{heard, lived_before}
+use Rattle.gptp_settling_time.proofs.FailedAloneLemmas as alone
+use Rattle.gptp_settling_time.proofs.FallAlwaysLemmas.{settles_by}
+use Rattle.gptp_settling_time.proofs.FallDownLemmas.{FlightNames}
+use Rattle.gptp_settling_time.proofs.LeftClaimedLemmas.{HaveAskedLong}
+use Rattle.gptp_settling_time.proofs.LinkBetweenLemmas.{IsLinkBetween, between_alike, lane_between, way_between}
+use Rattle.gptp_settling_time.proofs.OffForGoodLemmas.{good_fails}
+use Rattle.gptp_settling_time.proofs.SettledSeenLemmas.{IsSettledSeen, always_seen, sound_fits}
+use Rattle.gptp_settling_time.proofs.SplitAlwaysLemmas.{GoesUntil, IsSplitAlways, MayStart, split_after, split_network}
+use Rattle.gptp_settling_time.proofs.SplitLemmas.{IsSplit, SplitSettles, SplitState, SplitsBack}
+
+module _ (p : SettlingParams) (number : ℕ) (w : WorldState) (draws : List Draw) (done : Done) (w' : WorldState)
+    (is : IsWorld p w) (is' : IsWorld p w') (acts : Acts (Changing (Fail number)) w draws done w')
+    (lives : acts.1.station.live ≡ true) (seen : IsSettledSeen p w) (sound : IsSoundWorld w) (next : ℕ)
+    (pace : KeepPace p) (measured : LinkIsMeasured w) (past : next ≤ w.time) (ready : AreReadyBy p next w)
+    (quiet : HaveQuietLinks p.params w) (silent_before : AreSilentBy p next w) (near : AllAreNear (snapshot_of w))
+    (over : next + pred (path_bound (snapshot_of w)) * delay_in w ≤ w.time)
+    (named : FlightNames says_announce (snapshot_of w) (view w)) where
+  abbrev g : Snapshot
+  g = snapshot_of w
+
+  abbrev g' : Snapshot
+  g' = snapshot_of w'
+
+  well : IsWellFormed g
+  well = stands_well w is.sound is.between is.encodable
+
+  well' : IsWellFormed g'
+  well' = stands_well w' is'.sound is'.between is'.encodable
+
+  time_now : w'.time ≡ w.time
+  time_now = alone.time_now p number w draws done w' is is' acts lives
+
+  -- ---- the world of before, as the machine sees it at rest
+
+  abbrev n0 : Network
+  n0 = start_network p (path_bound g) next w
+
+  net0 : IsSettlingNetwork n0
+  net0 = start_net p (path_bound g) next w is (paths_bound p w is)
+
+  stood_then : IsStanding p next w
+  stood_then = record { pace = pace; world = is; measured = measured; silent = silent_before }
+
+  calm0 : Calm n0 (view w)
+  calm0 =
+      start_calm p next w stood_then
+      (heard p number w draws done w' is is' acts lives seen sound next pace measured past ready quiet silent_before)
+      quiet (path_bound g)
+
+  invariant0 : Invariant says_announce n0 (view w)
+  invariant0 = always_seen p (path_bound g) next w is sound seen (paths_bound p w is)
+
+  late0 : settled_from n0 ≤ w.time
+  late0 = omega (arith, over)
+
+  -- what is in flight on a link is wholly clean
+  whole0 : (j : ℕ) (l : Lane) (f : AnnounceFrame) (a : Announce) → slice_get (view w).lanes j ≡ Some l → In f l.frames
+      → says_announce f.octets a → Joins g l.from l.to → Whole g l.from.clock a
+  whole0 j l f a at among said joins =
+      let (b, is_b) = best_exists g l.from.clock well (Joins-clock g l.from l.to well joins) in
+      let root = named j l f a b at among said joins is_b in
+      elim (sound.lanes j l at f a among said).sound [
+        | inl worse ↦ absurd (let above = worse b is_b in omega (arith, above, root))
+        | inr whole ↦ whole
+      ]
+
+  rests : IsResting says_announce n0 (view w)
+  rests = record {
+    near = near;
+    calm = calm0;
+    invariant = invariant0;
+    late = late0;
+    whole = record {
+      lanes = λ j l f a at among said joins. record {
+        source = (sound.lanes j l at f a among said).source;
+        whole = whole0 j l f a at among said joins;
+      };
+      stations = λ i s place r at live holds.
+          network_whole says_announce n0 (view w) i s net0 calm0 invariant0 at live
+          (near s.clock (In-clocks g (station_system s) (calm0.facts.stations i s at live).known)) late0
+          (omega (arith, past)) place r (sound.stations i s at live place r holds) holds;
+    };
+  }
+
+  seen0 : IsSettledSeen p w
+  seen0 = record {
+    n = n0;
+    net = net0;
+    calm = calm0;
+    invariant = invariant0;
+    late = late0;
+    graph = refl;
+    same = record { place = λ v. refl; lane = λ q. refl; log = λ q. refl; interval = λ q. refl };
+    most = refl;
+  }
+
+  fits0 : EverythingFits says_announce g n0 (view w)
+  unfolding seen0
+  fits0 = sound_fits p w seen0 sound
+
+  -- ---- what fails
+
+  lane_still : (j : ℕ) (l : Lane) → slice_get (view w').lanes j ≡ Some l → slice_get (view w).lanes j ≡ Some l
+  lane_still j l at =
+      ap (λ ls. slice_get ls j) (sym (alone.lanes_now p number w draws done w' is is' acts lives)) ∙ at
+
+  links' : (a b : PortIdentity) → Joins g a b → IsLinkBetween w' a b
+  links' a b joins =
+      between_alike w w' (alone.channels_now p number w draws done w' is is' acts lives) a b
+      (way_between w a b (way_of w a b joins))
+
+  module _ (silent : ℕ) where
+    abbrev n' : Network
+    n' = split_network p silent w'
+
+    left' : IsWhatIsLeft g n'
+    left' = record {
+      graph = well;
+      systems = alone.systems_before p number w draws done w' is is' acts lives;
+      links = alone.links_before p number w draws done w' is is' acts lives;
+    }
+
+    same : SameWiring n0 n'
+    unfolding seen0
+    same = alone.wires p number w draws done w' is is' acts lives seen0 n' refl
+
+    loses : LosesSystem g n' number
+    loses = alone.loses_it p number w draws done w' is is' acts lives n' refl
+
+    loss : IsLoss says_announce n0 n' (view w) (view w')
+    loss = record {
+      rests = rests;
+      left = left';
+      same = same;
+      stations = alone.stood_seen p number w draws done w' is is' acts lives;
+      lanes = λ a b l joins at. lane_still (n0.lane a) l at;
+      flight = λ j l f a at among said known. (
+        lane_still j l at,
+        (fits0.lanes j l f a (lane_still j l at) among said
+            (lived_before p number w draws done w' is is' acts lives seen sound next pace measured past ready quiet
+            silent_before l.to.clock known)).joins,
+      );
+    }
+
+    -- what it told is held for longer than an interval and a delay
+    stays_long : (a b : PortIdentity) → Joins g a b → n'.interval_of a + n0.most < stay_of p (n'.log_of a)
+    stays_long a b joins =
+        let more : n0.interval_of a + n0.most < stay_of p (n0.log_of a) =
+        receipts_stay p w pace.params.ranges.params is.known (log_of w.stations a)
+        (linked_log p w is.sound is.known.set a (b, joins)) in
+        let interval = same.interval a in
+        subst (λ log. n'.interval_of a + n0.most < stay_of p log) (sym (same.log a)) (omega (arith, more, interval))
+
+    module _ (best : System) (each : (v : ℕ) → In v (clocks g') → IsUnmovedOrInTree g g' best v)
+        (few : path_bound g' ≤ 255) (shorter : delay_in w' ≤ delay_in w) where
+      abbrev cuts : CutsTrees g n' best (IsTreeCutOff g g' best)
+      cuts = record {
+        well = well';
+        left = left';
+        each = λ t cut. record {
+          well = well';
+          left = left';
+          worse = cut.worse;
+          was_best = cut.was_best;
+          was = cut.was;
+          near = λ v in_v.
+              let was = cut.was v in_v in
+              let (far, there, close) = near v (IsDistance-clock g v (t.base + t.depth v) well was) in
+              let one = IsDistance-unique g v (t.base + t.depth v) far well was there in
+              omega (arith, one, close);
+          deep = λ v in_v.
+              deep_by g g' well well' t.top t.next t.base t.depth cut.first cut.was cut.lost n'.reach
+              (paths_bound p w' is') v in_v;
+          first = cut.first;
+          lost = cut.lost;
+          steps = cut.steps;
+          single = cut.single;
+          paths = paths_bound p w' is';
+          few = few;
+        };
+        tops = λ t cut. cut.in_top;
+        all = λ v known. elim (each v known) [
+          | inl unmoved ↦ inl (record { live = known; best = unmoved.best; far = unmoved.far })
+          | inr in_tree ↦ inr in_tree
+        ];
+      }
+
+      abbrev split : IsSplit p g
+      split = record {
+        n = n';
+        lost = number;
+        best = best;
+        cuts = cuts;
+        loses = loses;
+        near = near;
+        since = w.time;
+        delay = n0.most;
+        shorter = shorter;
+        long = λ t cut q i joins. stays_long (port_of number (suc q)) (port_of t.top (suc i)) joins;
+      }
+
+      -- ---- the claim
+
+      module _ (By : PortIdentity → ℕ → Type 0) (gone : ℕ) (measured' : LinkIsMeasured w')
+          (long : w.time + silence_span p < silent) (by : WorldAgesBy p By w')
+          (is_gone : GoesUntil g By gone ⊎ (silent ≤ gone)) (later : w.time < gone) (late' : delay_in w' ≤ w'.time) where
+        standing' : IsStanding p silent w'
+        standing' =
+            alone.standing_then p number w draws done w' is is' acts lives next silent pace measured measured' past
+            ready quiet silent_before long
+
+        asked' : HaveAskedLong w'
+        asked' =
+            alone.asked_then p number w draws done w' is is' acts lives next silent pace measured measured' past ready
+            quiet silent_before long
+
+        module _ (quiet' : HaveQuietLinks p.params w') (off : NothingLapses p.params) (start : ℕ)
+            (now : w'.time ≤ start) where
+          kept' : IsAfterLoss n' (view w')
+          kept' = split_after p silent w' standing' asked' quiet' off late'
+
+          state' : SplitState p g split start (view w')
+          state' = record {
+            lanes = λ t cut q i joins.
+                let x = lane_between p w' (port_of number (suc q)) (port_of t.top (suc i)) is'
+                (links' (port_of number (suc q)) (port_of t.top (suc i)) joins) in
+                record { lane = x.lane; there = x.there; from = x.from_is; to = x.to_is };
+            named = named_in p w' is';
+            later = let time = time_now in omega (arith, time);
+          }
+
+          fits' : EverythingFits says_announce g n' (view w')
+          fits' = loss_fits says_announce n0 n' (view w) (view w') net0 loss
+
+          tops' : (t : Tree) → (cut : IsTreeCutOff g g' best t)
+              → HoldsAtTop says_announce g n' number best (IsTreeCutOff g g' best) cuts loses start (stay_of p) w.time
+              n0.most shorter split.long t cut (view w')
+          tops' t cut =
+              top_begins says_announce n0 n' net0 (view w) (view w') loss kept' number t.top best t.next t.base t.depth
+              loses (cuts.each t cut) cut.in_top
+              (λ q i joins l at. subst (λ k. slice_get (view w).lanes k ≡ Some l) refl
+              (lane_still (n'.lane (port_of number (suc q))) l at)) (stay_of p) (named_in p w is) shorter
+              (λ q i joins. stays_long (port_of number (suc q)) (port_of t.top (suc i)) joins)
+
+          after' : IsAftermath says_announce g n' (view w')
+          after' = record {
+            kept = kept';
+            fits = fits';
+            dark = dark_by says_announce g n' number best (IsTreeCutOff g g' best) cuts loses start (stay_of p) w.time
+                n0.most shorter split.long (view w') kept' fits' state' tops';
+          }
+
+          back' : SplitsBack p g split start (view w')
+          back' = record {
+            state = state';
+            back = fails_back says_announce n0 n' net0 (view w) (view w') loss after' best (IsTreeCutOff g g' best) cuts
+                start now;
+            tops = tops';
+          }
+
+          settles' : SplitSettles p g split start (view w')
+          settles' = inl (
+            omega (arith, now),
+            (λ t cut.
+                failing_settles says_announce n0 n' net0 (view w) (view w') loss after' t.top best t.next t.base t.depth
+                (cuts.each t cut) start (settles_by n' start) (λ f. omega arith)),
+          )
+
+        started : (start : ℕ) → MayStart gone w.time start w' → w'.time ≤ start
+        started start (inl soon) = let time = time_now in omega (arith, soon, later, time)
+        started start (inr (since, now)) = let time = time_now in omega (arith, since, time)
+
+        pub split_begins : IsSplitAlways p g By w.time gone silent w'
+        split_begins = record {
+          standing = standing';
+          asked = asked';
+          good = good_fails p number w draws done w' is is' acts lives next past ready quiet silent_before;
+          split = split;
+          at = refl;
+          same = refl;
+          by = by;
+          is_gone = is_gone;
+          begun = let time = time_now in omega (arith, time);
+          late = late';
+          links = links';
+          seen = λ quiet' off start may.
+              let now = started start may in
+              (back' quiet' off start now, settles' quiet' off start now);
+        }

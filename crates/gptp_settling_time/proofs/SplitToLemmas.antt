@@ -1,0 +1,166 @@
+-- Worlds of documents since a system failed that others hear, and so cut trees off.
+use Rattle.std.proofs.Common.{◌≡◌, ◌⊎◌, ◌<◌, ◌≤◌, ◌+◌, ◌*◌, ℕ, pred, suc, zero, refl, Option, List, inl, inr, arith}
+use native.Mathlib.Decide.{dec_le}
+use Rattle.gptp_graph.specs.PathBound.{path_bound}
+use Rattle.gptp_graph.specs.Snapshot.{PortIdentity, Snapshot}
+use Rattle.gptp_links.specs.declared.bounds.Bounds.{Bounds}
+use Rattle.gptp_setup.specs.SettlingParams.{SettlingParams}
+use Rattle.gptp_scenario.specs.Calm.{IsCalm, NothingLapses}
+use Rattle.gptp_scenario.specs.Network.{NetworkState, pace_of}
+use Rattle.gptp_scenario.specs.SettlingTime.{silence_span}
+use Rattle.gptp_scenario.specs.declared.change.Timed.{Timed}
+use Rattle.gptp_model.specs.Acts.{at}
+use Rattle.gptp_model.specs.Course.{WasDone}
+use Rattle.gptp_model.specs.Pending.{NothingBefore}
+use Rattle.gptp_model.specs.Views.{IsNextAct}
+use Rattle.gptp_model.specs.World.{WorldState}
+use Rattle.gptp_world.specs.Transitions.{ActTrace}
+use Rattle.gptp_world.proofs.SettlingInvariantLemmas.{next_octet}
+use Rattle.gptp_network.specs.Document.{DocumentState}
+use Rattle.gptp_invariants.specs.ChoiceCalm.{HaveQuietLinks, delay_in}
+use Rattle.gptp_invariants.specs.ChoiceSettled.{ChoiceStands, Settled}
+use Rattle.gptp_invariants.specs.WorldBounded.{IsBoundedWorld}
+use Rattle.gptp_invariants.specs.WorldStanding.{snapshot_of}
+use Rattle.gptp_theorem.specs.PlayedLaws.{IsPlayable}
+use Rattle.gptp_theorem.proofs.CalmLemmas.{quiet_stands}
+use Rattle.gptp_theorem.proofs.CalmKeptLemmas.{no_change}
+use Rattle.gptp_settling_time.specs.Losses.{NoneSilent}
+use Rattle.gptp_settling_time.proofs.AgesByWorldLemmas.{WorldAgesBy}
+use Rattle.gptp_settling_time.proofs.AgingLemmas.{HeardNearer}
+use Rattle.gptp_settling_time.proofs.KeptToLemmas.{KeepsTo, keeps_act, keeps_later}
+use Rattle.gptp_settling_time.proofs.WereSilentLemmas.{WereSilent, none_silent_from, were_act, were_later}
+use Rattle.gptp_settling_time.proofs.SilentLinksLemmas.{AgesOver}
+use Rattle.gptp_settling_time.proofs.SplitAlwaysLemmas.{GoesUntil, IsSplitAlways, MayStart, split_acts, split_later}
+use Rattle.gptp_settling_time.proofs.SplitSettlesLemmas.{split_chooses, split_settles}
+
+-- What came over a silent link ages so. At ports that heard a nearer system it has aged by the time from which on it is
+-- gone, or ports without a link aren't capable from then on.
+abbrev pub GoesOver : NetworkState → Snapshot → List Timed → List Timed → ℕ → ℕ → ℕ → PortIdentity → ℕ → Type 0
+GoesOver n before ago events failed gone silent port until =
+    AgesOver n before ago events failed port until × (HeardNearer before port → (until ≤ gone) ⊎ (silent ≤ gone))
+
+-- so it is gone by then
+pub over_gone : (n : NetworkState) (before : Snapshot) (ago events : List Timed) (failed gone silent : ℕ)
+    → GoesUntil before (GoesOver n before ago events failed gone silent) gone ⊎ (silent ≤ gone)
+over_gone n before ago events failed gone silent = elim (dec_le silent gone) [
+  | yes soon ↦ inr soon
+  | no later ↦ inl (λ port until heard is. elim (is.1 heard) [ inl less ↦ less | inr soon ↦ absurd (later soon) ])
+]
+
+-- A world may be taken as one in which what is held goes by other times of ports: if it isn't gone sooner, or if no
+-- time has passed since the system failed.
+pub split_by : (p : SettlingParams) (g : Snapshot) (By : PortIdentity → ℕ → Type 0) (failed gone silent : ℕ)
+    (w : WorldState) → IsSplitAlways p g By failed gone silent w → (By' : PortIdentity → ℕ → Type 0) (gone' : ℕ)
+    → WorldAgesBy p By' w
+    → GoesUntil g By' gone' ⊎ (silent ≤ gone') → (gone ≤ gone') ⊎ ((failed < gone') × (w.time ≤ failed))
+    → IsSplitAlways p g By' failed gone' silent w
+split_by p g By failed gone silent w is By' gone' by' is_gone' which = record {
+  standing = is.standing;
+  asked = is.asked;
+  good = is.good;
+  split = is.split;
+  at = is.at;
+  same = is.same;
+  by = by';
+  is_gone = is_gone';
+  begun = is.begun;
+  late = is.late;
+  links = is.links;
+  seen = λ quiet off start may. is.seen quiet off start (may_so start may);
+}
+  where
+    may_so : (start : ℕ) → MayStart gone' is.split.since start w → MayStart gone is.split.since start w
+    may_so start (inr now) = inr now
+    may_so start (inl soon) = elim which [
+      | inl later ↦ inl (omega (arith, soon, later))
+      | inr (some, now) ↦
+          let since = is.at in inr (omega (arith, soon, some, since), omega (arith, now, since))
+    ]
+
+-- A world of a document after these events, by which trees were cut off as a system failed: what others hold of it is
+-- gone from a time on, and from another on ports without a link aren't capable.
+pub record IsSplitTo (d : DocumentState) (ago events : List Timed) (gone silent : ℕ) (w : WorldState) : Type 0 where
+  pub keeps : KeepsTo d events w
+  pub before : Snapshot
+  pub failed : ℕ
+  pub since : IsSplitAlways (pace_of d.network) before (GoesOver d.network before ago events failed gone silent) failed
+      gone silent w
+  pub were : WereSilent d.network ago w
+  pub some : failed < gone
+  pub unanswered : silent ≡ suc (failed + silence_span (pace_of d.network))
+
+-- what is later than some time is 1 ns later than another
+one_before : (gone failed : ℕ) → failed < gone → suc (pred gone) ≡ gone
+one_before zero failed less = absurd (omega (arith, less))
+one_before (suc now) failed less = refl
+
+module _ (d : DocumentState) (ago events : List Timed) (gone silent : ℕ) where
+  pub split_to_later : (w : WorldState) (time : ℕ) → w.time ≤ time → NothingBefore time w.net.pending
+      → IsSplitTo d ago events gone silent w → IsSplitTo d ago events gone silent (at time w)
+  split_to_later w time later first so = record {
+    keeps = keeps_later d events w time later first so.keeps;
+    before = so.before;
+    failed = so.failed;
+    since = split_later (pace_of d.network) so.before (GoesOver d.network so.before ago events so.failed gone silent)
+        so.failed gone silent time w later first so.since;
+    were = were_later d.network ago w time later so.were;
+    some = so.some;
+    unanswered = so.unanswered;
+  }
+
+  pub split_to_act : {F : Type 0} (answers : Bounds → ℕ → F → Option ℕ → F → Type 0) (t : ActTrace) (fate drawn : F)
+      (w : WorldState) → IsNextAct w t.told.timed → WasDone answers t.told.timed fate drawn w t.after t.told.done
+      → IsSplitTo d ago events gone silent w → IsSplitTo d ago events gone silent t.after
+  split_to_act answers t fate drawn w next was so =
+      let timed = t.told.timed in
+      let p = pace_of d.network in
+      let By = GoesOver d.network so.before ago events so.failed gone silent in
+      let then = split_later p so.before By so.failed gone silent timed.at w was.ready.timely.now was.ready.timely.first
+      so.since in
+      record {
+        keeps = keeps_act d events answers t fate drawn w next was so.keeps;
+        before = so.before;
+        failed = so.failed;
+        since = split_acts p so.before By so.failed gone silent timed.act (at timed.at w) was.draws t.told.done t.after
+            (no_change next.item timed.act w next.act) (next_octet next.item timed.act w next.act) was.acts then;
+        were = were_act d ago events answers t fate drawn w next was so.keeps so.were;
+        some = so.some;
+        unanswered = so.unanswered;
+      }
+
+  module _ (w : WorldState) (so : IsSplitTo d ago events gone silent w) (playable : IsPlayable d)
+      (calm : IsCalm d.network events) (off : NothingLapses d.network.params)
+      (late : gone + 2 * (pred (path_bound (snapshot_of w)) * delay_in w) ≤ w.time) where
+    abbrev p : SettlingParams
+    p = pace_of d.network
+
+    abbrev By : PortIdentity → ℕ → Type 0
+    By = GoesOver d.network so.before ago events so.failed gone silent
+
+    quiet : HaveQuietLinks p.params w
+    quiet = (quiet_stands d.network events w playable.network so.keeps.stands so.keeps.claim.world.sound calm).links
+
+    abbrev start : ℕ
+    start = pred gone
+
+    one : suc start ≡ gone
+    one = one_before gone so.failed so.some
+
+    may : gone ≤ suc start
+    may = let same = one in omega (arith, same)
+
+    late_now : start + 1 + 2 * (pred (path_bound (snapshot_of w)) * delay_in w) ≤ w.time
+    late_now = let same = one in omega (arith, same, late)
+
+    -- its choice stands
+    pub split_to_chooses : ChoiceStands w
+    split_to_chooses = split_chooses p so.before By so.failed gone silent w so.since quiet off start may late_now
+
+    -- it has settled
+    pub split_to_settled : (silent ≤ w.time) ⊎ NoneSilent d.network ago events → Settled w × IsBoundedWorld w
+    split_to_settled (inl now) =
+        split_settles p so.before By so.failed gone silent w so.since quiet off start may late_now silent
+        so.since.standing.silent now
+    split_to_settled (inr none) =
+        split_settles p so.before By so.failed gone silent w so.since quiet off start may late_now w.time
+        (none_silent_from d ago events w so.keeps so.were none w.time) (omega arith)

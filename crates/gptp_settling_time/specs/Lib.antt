@@ -1,0 +1,14 @@
+pub mod Exactly
+pub mod Gains
+pub mod Arrivals
+pub mod Documents
+pub mod Idle
+pub mod Losses
+pub mod TreeLosses
+pub mod Starts
+pub mod InTurn
+pub mod ExactInTurn
+pub mod Unchanged
+pub mod ChoiceAlone
+pub mod HowSoon
+pub mod ChoiceBounds
