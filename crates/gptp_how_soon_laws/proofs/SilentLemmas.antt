@@ -220,10 +220,10 @@ module _ (n : NetworkState) (network : IsNetwork n) (made after : List Timed) (g
       ((λ k. is_nearer (e_there k) (c_there k) (has_lower_clock (there_other k) (there_one k)))
       ∙ nearer_so e c (clock_of at_other.system.identity) (clock_of at_one.system.identity) told)
     where
-      abbrev systems : List ours.System
+      systems : List ours.System
       systems = systems_after n after
 
-      abbrev cs : List Chosen
+      cs : List Chosen
       cs = chosen_after n made
 
       at_one : IsAt n (place one) one.clock
@@ -292,7 +292,7 @@ module _ (n : NetworkState) (network : IsNetwork n) (made now : List Timed)
       (hears_over (systems_after n after) (chosen_after n made) (Some (ends_of n v))) (used_cable n made v used)
       (by far.is_end end)
     where
-      abbrev g : Snapshot
+      g : Snapshot
       g = far.before
 
       wire : IsWire n place v
