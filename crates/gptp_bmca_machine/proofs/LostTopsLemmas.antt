@@ -98,7 +98,7 @@ module _ (says : Spelling) (g : Snapshot) (n : Network) (lost : ℕ) (top : Side
 
     module _ (x p i : ℕ) (in_x : IsBest n.graph x next) (joins : Joins g (port_of lost (suc p)) (port_of x (suc i)))
         (bare : IsLinked n.graph (port_of x (suc i)) → ⊥) where
-      is_top : (side : Side) × (x ≡ top side)
+      pub is_top : (side : Side) × (x ≡ top side)
       is_top = (lost_at x (port_of lost (suc p)) i in_x (Joins-sym g (port_of lost (suc p)) (port_of x (suc i)) joins)
           bare).0
 

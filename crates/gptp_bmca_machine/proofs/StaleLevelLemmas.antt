@@ -21,7 +21,7 @@ use Rattle.gptp_bmca_machine.proofs.FallLemmas.{IsFreeAt, falls_by}
 use Rattle.gptp_bmca_machine.proofs.LevelLemmas.{places_of}
 use Rattle.gptp_bmca_machine.proofs.LinkEndsLemmas.{telling}
 use Rattle.gptp_bmca_machine.proofs.LinkLemmas.{link_settled}
-use Rattle.gptp_bmca_machine.proofs.LinkStepLemmas.{lives_at}
+use Rattle.gptp_bmca_machine.proofs.LinkStepLemmas.{AtLink, lives_at}
 use Rattle.gptp_bmca_machine.proofs.LinkTellsLemmas.{ends_so}
 use Rattle.gptp_bmca_machine.proofs.NearestLemmas.{came_fits, equal_within}
 use Rattle.gptp_bmca_machine.proofs.RestLemmas.{Chooses, IsClear, bounded, suc_settles, zero_settles}
@@ -31,7 +31,7 @@ use Rattle.gptp_bmca_machine.proofs.StaleOrderLemmas.{AllStrong}
 use Rattle.gptp_bmca_machine.proofs.StaleSettleLemmas.{HasTime, IsHeardState, SettlesOrHears, settles_on, shows_new}
 use Rattle.gptp_bmca_machine.proofs.StaleStepLemmas.{IsTelling}
 use Rattle.gptp_bmca_machine.proofs.StaleTellLemmas.{AllTell, heard_so, two_less, two_more}
-use Rattle.gptp_bmca_machine.proofs.StaleToldLemmas.{over_all}
+use Rattle.gptp_bmca_machine.proofs.StaleToldLemmas.{StaleComes, over_all}
 use Rattle.gptp_bmca_machine.proofs.StandsLemmas.{port_on, port_stands, stands_there}
 use Rattle.gptp_bmca_machine.proofs.StillEndLemmas.{Follows, Hears, there}
 use Rattle.gptp_bmca_machine.proofs.TwoTopsLemmas.{Tree, beside}
@@ -47,7 +47,7 @@ module _ (says : Spelling) (n : Network) (next : System) (top : Side → ℕ) (d
     (start over long : ℕ) (begun : start ≤ over) (room : over + n.most < long)
     (reached : (d : ℕ) → suc (suc d) ≤ n.reach → falls_by n start (suc d) ≤ over) (before : ℕ → ℕ)
     (soon : (e : ℕ) → over + n.most < before e) (grows : (e : ℕ) → before e + n.most ≤ before (suc e)) where
-  delay : (e : ℕ) → n.most ≤ before e
+  pub delay : (e : ℕ) → n.most ≤ before e
   delay e = let more = soon e in omega (arith, more)
 
   -- links from systems at one distance are at their stages, or what is stale is on its way to them
@@ -152,7 +152,7 @@ module _ (says : Spelling) (n : Network) (next : System) (top : Side → ℕ) (d
           → LinkSettles says (telling n (before f) f next v p u q) w
       settles_now f v p u q known close in_v leads = elim (settles f known v p u q close in_v leads) [
         | inl link ↦ link
-        | inr comes ↦ absurd (none (stands_there n t.well w stale.kept v in_v.reached.1.begins))
+        | inr comes ↦ absurd (none comes (stands_there n t.well w stale.kept v in_v.reached.1.begins))
       ]
         where
           in_u : Tree n next top depth t u
@@ -161,8 +161,9 @@ module _ (says : Spelling) (n : Network) (next : System) (top : Side → ℕ) (d
           back : Joins n.graph (port_of u (suc q)) (port_of v (suc p))
           back = Joins-sym n.graph (port_of v (suc p)) (port_of u (suc q)) leads.joins
 
-          none : ((s : Station) × (slice_get w.stations (n.place v) ≡ Some s)) → ⊥
-          none (s, at) =
+          none : AtLink says n u q v p (λ held fs. StaleComes says n next top depth t old base worse near u v fs) w
+              → ((s : Station) × (slice_get w.stations (n.place v) ≡ Some s)) → ⊥
+          none comes (s, at) =
               let (pv, there_p) = port_stands n t.well w stale.kept v p (port_of u (suc q)) s at leads.joins in
               let has = stale.kept.calm.lanes (port_of u (suc q)) (port_of v (suc p)) back in
               let (g, among, (a, said), stale) = comes s pv has.lane at there_p has.there in
@@ -352,8 +353,9 @@ module _ (says : Spelling) (n : Network) (next : System) (top : Side → ℕ) (d
               suc q,
               Joins-sym n.graph (port_of u (suc q)) (port_of s.clock (suc p)) leads.joins,
             ) in
-            let (r, holds, root, steps, source) = told_level past e
-            (choose e (IsDistance-within n.graph n.reach u e t.paths leads.here)) (in_time e u q s.clock p here.best leads)
+            let within = IsDistance-within n.graph n.reach u e t.paths leads.here in
+            let (r, holds, root, steps, source) = told_level past e (omega (arith, within, all))
+            (choose e within) (in_time e u q s.clock p here.best leads)
             u q s.clock p close_e in_u of_next s at_place in
             (r, holds, root ∙ ap (λ (b : System). b.identity) one, steps, source)
 

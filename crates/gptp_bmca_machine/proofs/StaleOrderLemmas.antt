@@ -427,7 +427,7 @@ module _ (says : Spelling) (n : Network) (next : System) (top : Side → ℕ) (d
 
               by : (depth strong.side v < depth strong.other u)
                   ⊎ ((depth strong.side v ≡ depth strong.other u) × (v < u))
-                  → IsLower (base + depth strong.side v ∷ v ∷ suc p ∷ suc q ∷ []) (steps ∷ u ∷ suc q ∷ suc q ∷ [])
+                  → IsLower ((base + depth strong.side v) ∷ v ∷ suc p ∷ suc q ∷ []) (steps ∷ u ∷ suc q ∷ suc q ∷ [])
               by (inl nearer) = inl (omega (arith, nearer, steps_u))
               by (inr (as_near, less)) = inr (omega (arith, as_near, steps_u), inl less)
 

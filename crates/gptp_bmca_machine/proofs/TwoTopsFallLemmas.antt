@@ -8,6 +8,7 @@ use Rattle.gptp_bmca_machine.specs.Network.{Network}
 use Rattle.gptp_bmca_machine.specs.Station.{MachineState}
 use Rattle.gptp_bmca_machine.specs.TwoTops.{Side, IsTreeOfTops}
 use Rattle.gptp_bmca_machine.proofs.FallLemmas.{falls_by}
+use Rattle.gptp_bmca_machine.proofs.LevelLemmas.{steps_on}
 use Rattle.gptp_bmca_machine.proofs.StaleEndLemmas.{BareHoldNone, IsStaleState, stale_on}
 use Rattle.gptp_bmca_machine.proofs.StaleLemmas.{BareDrop, BareHoldStale}
 use Rattle.gptp_bmca_machine.proofs.StaleLevelLemmas.{FallsFromTops, levels_on}
@@ -15,16 +16,6 @@ use Rattle.gptp_bmca_machine.proofs.StaleOrderLemmas.{AllStrong, ordered_so}
 use Rattle.gptp_bmca_machine.proofs.StaleOrderStepLemmas.{strong_on}
 use Rattle.gptp_bmca_machine.proofs.StaleTellLemmas.{AllTell, all_tell_on}
 use Rattle.gptp_bmca_machine.proofs.TwoTopsLemmas.{Tree}
-
--- no step goes back in time
-time_grows : (says : Spelling) (w w' : MachineState) → MachineSteps says w w' → w.time ≤ w'.time
-time_grows says w w' (inl wait) =
-    let more = wait.later in
-    let is = (λ i. (wait.is i).time) in
-    omega (arith, more, is)
-time_grows says w w' (inr (inl act)) = let is = act.call.time ∙ act.pops.time in omega (arith, is)
-time_grows says w w' (inr (inr (inl act))) = let is = act.pops.time in omega (arith, is)
-time_grows says w w' (inr (inr (inr act))) = let is = act.call.time in omega (arith, is)
 
 module _ (says : Spelling) (n : Network) (next : System) (top : Side → ℕ) (depth : Side → ℕ → ℕ)
     (t : IsTreeOfTops n next top depth) (old base : ℕ) (worse : old < next.identity)
@@ -60,4 +51,4 @@ module _ (says : Spelling) (n : Network) (next : System) (top : Side → ℕ) (d
       tells' : AllTell says n next top depth t old base worse near start over long room reached w'
       tells' =
           all_tell_on says n next top depth t old base worse near start over long room reached w w' is.stale stale' step
-          is.strong (time_grows says w w' step) is.tells
+          is.strong (steps_on says w w' step) is.tells
