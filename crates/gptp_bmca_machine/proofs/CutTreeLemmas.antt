@@ -1,5 +1,5 @@
 -- A tree that the loss of a link cuts off is moved by it, without a way out.
-use Rattle.std.proofs.Common.{◌≡◌, ◌⊎◌, ℕ, suc, ap, subst, inl}
+use Rattle.std.proofs.Common.{◌≡◌, ◌⊎◌, ℕ, suc, ap, subst, inl, inr}
 use native.Mathlib.Decide.{ℕ_discrete}
 use Rattle.gptp_lists.specs.Members.{In}
 use Rattle.gptp_graph.specs.Best.{IsBest}
@@ -48,6 +48,10 @@ module _ (g : Snapshot) (n : Network) (top : ℕ) (best next : System) (base : �
   moves_off = record {
     well = t.well;
     left = t.left;
+    stand = λ s member. elim (t.stand s member) [
+      | inl stood ↦ inl stood
+      | inr is_top ↦ inr (is_top, λ v u none. none)
+    ];
     lives = λ v in_v. in_v.reached.1.begins;
     within = off_dec;
     was_best = t.was_best;
@@ -83,6 +87,7 @@ module _ (g : Snapshot) (n : Network) (top : ℕ) (best next : System) (base : �
   cuts_off = record {
     well = t.well;
     left = t.left;
+    stand = t.stand;
     worse = t.worse;
     was_best = t.was_best;
     was = t.was;

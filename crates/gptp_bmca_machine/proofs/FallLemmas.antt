@@ -30,7 +30,7 @@ use Rattle.gptp_bmca_machine.proofs.MovedTreeLemmas.{IsBeyond, LeadsDown, MovesT
 use Rattle.gptp_bmca_machine.proofs.LinkStepLemmas.{AtLink, lives_at}
 use Rattle.gptp_bmca_machine.proofs.NearestLemmas.{came_fits, path_length, root_not_better, steps_not_fewer}
 use Rattle.gptp_bmca_machine.proofs.PlaceLemmas.{same_there}
-use Rattle.gptp_bmca_machine.proofs.RestLemmas.{IsClear, bounded, root_above, steps_above}
+use Rattle.gptp_bmca_machine.proofs.RestLemmas.{IsClear, bounded, root_above, steps_above, was_itself}
 use Rattle.gptp_bmca_machine.proofs.StillLemmas.{clear_at, still}
 use Rattle.gptp_bmca_machine.proofs.ToldLemmas.{AllSay, HoldsTold}
 use Rattle.gptp_bmca_machine.proofs.TraceLemmas.{whole_on, whole_own}
@@ -386,7 +386,7 @@ module _ (says : Spelling) (g : Snapshot) (n : Network) (Tree : ℕ → Type 0) 
         pub free_clear : (HasChoice s best (base + depth x) → ⊥) → IsClear n.graph s
         free_clear not = record {
           rest = rest;
-          known = known;
+          known = was_itself n.graph (station_system s) known;
           held = λ i r holds. bounded n.graph s.clock (suc i) r (free_fits not i r holds);
         }
 

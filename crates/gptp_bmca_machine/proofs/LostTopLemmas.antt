@@ -42,7 +42,7 @@ module _ (says : Spelling) (g : Snapshot) (n : Network) (lost top : ℕ) (best n
   not_zero none =
       let clock = best_at_zero g top best t.left.graph (t.was_best top in_top) (top_far 0 none) in
       let (s, live, named) = system_of n.graph top known in
-      let one = same_clock g s best t.left.graph (t.left.systems s live) (t.was_best top in_top).live
+      let one = same_clock g s best t.left.graph (loses.systems s live) (t.was_best top in_top).live
       (named ∙ sym clock) in
       let least = in_top.least s live (subst (Reaches n.graph top) (sym named) (Reaches-self n.graph top known)) in
       let identity = ap (λ (b : System). b.identity) one in
@@ -141,7 +141,7 @@ module _ (says : Spelling) (g : Snapshot) (n : Network) (lost top : ℕ) (best n
             (Joins-sym g (port_of lost (suc p)) (port_of top (suc i)) joins) in
             let same : y ≡ station_system s =
             same_clock g y (station_system s) t.left.graph in_y
-            (t.left.systems (station_system s) (m.kept.calm.facts.stations (n.place top) s at live).known)
+            (loses.systems (station_system s) (m.kept.calm.facts.stations (n.place top) s at live).known)
             (is_port.clock ∙ sym clock) in
             let (pu, there) = member_there s.ports i (subst (λ (z : System). suc i ≤ z.ports) same is_port.last) in
             record { s = s; at = at; pu = pu; there = there }

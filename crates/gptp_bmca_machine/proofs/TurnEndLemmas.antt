@@ -30,7 +30,7 @@ use Rattle.gptp_bmca_machine.proofs.LinkEndsLemmas.{hearer_on}
 use Rattle.gptp_bmca_machine.proofs.MovedTreeLemmas.{MovesTree}
 use Rattle.gptp_bmca_machine.proofs.NearestLemmas.{equal_within}
 use Rattle.gptp_bmca_machine.proofs.PortsSettledLemmas as by
-use Rattle.gptp_bmca_machine.proofs.RestLemmas.{CameBounded, Chooses, IsClear, is_master}
+use Rattle.gptp_bmca_machine.proofs.RestLemmas.{CameBounded, Chooses, IsClear, is_master, was_itself}
 use Rattle.gptp_bmca_machine.proofs.StillLemmas.{LeadsOn, best_was, chooses_still, clear_at, far_was, told}
 use Rattle.gptp_bmca_machine.proofs.TurnLemmas.{OutIsAt, TurnsBack, out_chooses, out_is, out_is_at}
 use Rattle.gptp_bmca_machine.proofs.TurnLevelLemmas.{Times, TreeChooses, TurnSettles, choose_by, has_left, told_in, told_level, way_leads}
@@ -266,7 +266,7 @@ module _ (says : Spelling) (g : Snapshot) (n : Network) (tree : List ℕ) (top o
       still_clear : IsClear n.graph s
       still_clear = record {
         rest = (is.back.after.kept.calm.stations i s at live).at_rest;
-        known = (is.back.after.kept.calm.facts.stations i s at live).known;
+        known = was_itself n.graph (station_system s) (is.back.after.kept.calm.facts.stations i s at live).known;
         held = bounded_now;
       }
         where

@@ -50,6 +50,7 @@ module _ (g : Snapshot) (n : Network) (tree : List ℕ) (top other last out : �
   turns_moves = record {
     well = t.well;
     left = t.left;
+    stand = λ s member. inl (t.stand s member);
     lives = t.lives;
     within = λ v known. in_dec v tree;
     was_best = t.was_best;
@@ -129,7 +130,7 @@ module _ (g : Snapshot) (n : Network) (tree : List ℕ) (top other last out : �
   pub out_whole : (a : Announce) → Whole g out a → a.root ≡ best.identity → Whole n.graph out a ⊎ In last a.path
   out_whole a whole root = elim (in_dec last (out ∷ whole.others)) [
     | yes names ↦ inr (named g out a whole last names)
-    | no past ↦ inl (whole_left g n t.well t.left out a whole out_lives
+    | no past ↦ inl (whole_left g n t.well t.left out a whole (λ s member same. t.stand s member) out_lives
         (subst (λ c. Route n.graph out c whole.others) (sym clock)
         (way_left out whole.others t.outside (subst (λ c. Route g out c whole.others) clock whole.way.route)
         whole.way.different past)))

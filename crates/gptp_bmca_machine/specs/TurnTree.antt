@@ -16,6 +16,7 @@ pub record TurnsTree (g : Snapshot) (n : Network) (tree : List ℕ) (top other l
     (depth : ℕ → ℕ) : Type 0 where
   pub well : IsWellFormed n.graph
   pub left : IsWhatIsLeft g n
+  pub stand : (s : System) → In s n.graph.systems → In s g.systems
   pub lives : (v : ℕ) → In v tree → In v (clocks n.graph)
   pub others : (v : ℕ) → In v (clocks n.graph) → (In v tree → ⊥) → Unmoved g n v
   pub was_best : (v : ℕ) → In v tree → IsBest g v best

@@ -39,33 +39,33 @@ module _ {F : Type 0} (answers : Bounds → ℕ → F → Option ℕ → F → T
     (playable : IsPlayable d) (k : Unfolds answers d until fate first ts w) (member : In t ts) where
   module _ (none : NoneBetween d.events time next) (late : time < t.told.timed.at) (early : t.told.timed.at < next)
     where
-    abbrev now : ℕ
-    now = t.told.timed.at
+      abbrev now : ℕ
+      now = t.told.timed.at
 
-    same : events_by now d.events ≡ events_by time d.events
-    same = none_later d.events time now next (omega (arith, late)) early none
+      same : events_by now d.events ≡ events_by time d.events
+      same = none_later d.events time now next (omega (arith, late)) early none
 
-    -- where the document settles, or its choice stands
-    kept_by : (So : NetworkState → List Timed → Past → ℕ → Type 0) (settled : ℕ) → ComesByEvents So d now settled
-        → IsKept d (events_by time d.events) t
-    kept_by So settled is =
-        let events : List Timed = events_by now d.events in
-        let last = last_by time d.events in
-        let later : last_change events < now =
-        subst (λ es. last_change es < now) (sym same) (omega (arith, last, late)) in
-        let run = run_to answers d until fate first w ts t playable k member in
-        let steps = passed_in_turn answers So d now settled fate first run.w run.ts playable run.unfolds is in
-        let step = steps.each t run.member later in
-        let network =
-        acts_keep t.told.timed.act (at now t.before) step.was.draws t.told.done t.after step.none step.was.acts in
-        subst (λ es. IsKept d es t) same (record {
-          before = after_keeps d events is.last t.before step.before;
-          after = after_keeps d events is.last t.after step.after;
-          draws = step.was.draws;
-          acts = step.was.acts;
-          network = network;
-          same = same_snapshot (at now t.before) t.after network;
-        })
+      -- where the document settles, or its choice stands
+      kept_by : (So : NetworkState → List Timed → Past → ℕ → Type 0) (settled : ℕ) → ComesByEvents So d now settled
+          → IsKept d (events_by time d.events) t
+      kept_by So settled is =
+          let events : List Timed = events_by now d.events in
+          let last = last_by time d.events in
+          let later : last_change events < now =
+          subst (λ es. last_change es < now) (sym same) (omega (arith, last, late)) in
+          let run = run_to answers d until fate first w ts t playable k member in
+          let steps = passed_in_turn answers So d now settled fate first run.w run.ts playable run.unfolds is in
+          let step = steps.each t run.member later in
+          let network =
+          acts_keep t.told.timed.act (at now t.before) step.was.draws t.told.done t.after step.none step.was.acts in
+          subst (λ es. IsKept d es t) same (record {
+            before = after_keeps d events is.last t.before step.before;
+            after = after_keeps d events is.last t.after step.after;
+            draws = step.was.draws;
+            acts = step.was.acts;
+            network = network;
+            same = same_snapshot (at now t.before) t.after network;
+          })
 
   -- by a choice bound of the time
   pub kept : IsChoiceBound d time choice → NoneBetween d.events time next → time < t.told.timed.at

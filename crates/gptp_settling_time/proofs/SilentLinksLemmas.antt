@@ -154,10 +154,10 @@ module _ (n : NetworkState) (made : List Timed) (event : Timed) (number : ℕ)
           ),
           (end, is_end, sym way.to),
           (λ heard.
-          far_lives v begin end is_end end_lives
-          (heard_nearer (snapshot_of w) well (port_identity_number begin) (port_identity_number end)
-          (used_joins w way.link way.direction channel way.here way.used)
-          (subst (HeardNearer (snapshot_of w)) (sym way.to) heard))),
+              far_lives v begin end is_end end_lives
+              (heard_nearer (snapshot_of w) well (port_identity_number begin) (port_identity_number end)
+              (used_joins w way.link way.direction channel way.here way.used)
+              (subst (HeardNearer (snapshot_of w)) (sym way.to) heard))),
           λ held may.
               let less = short begin span held (subst (λ q. Stays q span) (sym way.from) stays) may in
               omega (arith, is, most_now, less),

@@ -33,6 +33,7 @@ use Rattle.gptp_bmca_machine.proofs.FallLemmas.{IsAftermath}
 use Rattle.gptp_bmca_machine.proofs.LossLemmas.{loss_fits}
 use Rattle.gptp_bmca_machine.proofs.LostBeginLemmas.{top_begins}
 use Rattle.gptp_bmca_machine.proofs.SettledLemmas.{network_whole}
+use Rattle.gptp_bmca_machine.proofs.RestLemmas.{left_of}
 use Rattle.gptp_invariants.specs.ChoiceCalm.{HaveQuietLinks, delay_in, log_of}
 use Rattle.gptp_invariants.specs.ChoiceSettlesAsMachine.{IsWorld}
 use Rattle.gptp_invariants.specs.ChoiceView.{says_announce, view}
@@ -56,10 +57,12 @@ use Rattle.gptp_settling_time.proofs.FallAlwaysLemmas.{settles_by}
 use Rattle.gptp_settling_time.proofs.FallDownLemmas.{FlightNames}
 use Rattle.gptp_settling_time.proofs.LeftClaimedLemmas.{HaveAskedLong}
 use Rattle.gptp_settling_time.proofs.LinkBetweenLemmas.{IsLinkBetween, between_alike, lane_between, way_between}
+use Rattle.gptp_settling_time.proofs.NamesItselfLemmas.{whole_alone}
 use Rattle.gptp_settling_time.proofs.OffForGoodLemmas.{good_fails}
 use Rattle.gptp_settling_time.proofs.SettledSeenLemmas.{IsSettledSeen, always_seen, sound_fits}
 use Rattle.gptp_settling_time.proofs.SplitAlwaysLemmas.{GoesUntil, IsSplitAlways, MayStart, split_after, split_network}
 use Rattle.gptp_settling_time.proofs.SplitLemmas.{IsSplit, SplitSettles, SplitState, SplitsBack}
+use Rattle.gptp_settling_time.proofs.SplitRestLemmas.{IsSplitAnew, SplitNamesAlone, split_anew_begins}
 
 module _ (p : SettlingParams) (number : ℕ) (w : WorldState) (draws : List Draw) (done : Done) (w' : WorldState)
     (is : IsWorld p w) (is' : IsWorld p w') (acts : Acts (Changing (Fail number)) w draws done w')
@@ -167,11 +170,9 @@ module _ (p : SettlingParams) (number : ℕ) (w : WorldState) (draws : List Draw
     n' = split_network p silent w'
 
     left' : IsWhatIsLeft g n'
-    left' = record {
-      graph = well;
-      systems = alone.systems_before p number w draws done w' is is' acts lives;
-      links = alone.links_before p number w draws done w' is is' acts lives;
-    }
+    left' =
+        left_of g n' well (alone.systems_before p number w draws done w' is is' acts lives)
+        (alone.links_before p number w draws done w' is is' acts lives)
 
     same : SameWiring n0 n'
     unfolding seen0
@@ -195,6 +196,21 @@ module _ (p : SettlingParams) (number : ℕ) (w : WorldState) (draws : List Draw
       );
     }
 
+    -- what has no steps names its sender alone
+    names_alone : SplitNamesAlone p silent w'
+    names_alone quiet' off = record {
+      lanes = λ j l f a at among said known.
+          let stood = lane_still j l at in
+          let lived = lived_before p number w draws done w' is is' acts lives seen sound next pace measured past ready
+          quiet silent_before l.to.clock known in
+          whole_alone g l.from a (sound.lanes j l stood f a among said).source
+          (whole0 j l f a stood among said (fits0.lanes j l f a stood among said lived).joins);
+      stations = λ i s at live place r holds.
+          let stood = alone.stood_seen p number w draws done w' is is' acts lives i s at live in
+          let came = rests.whole.stations i s place r stood live holds in
+          whole_alone g came.from r.said came.source came.whole;
+    }
+
     -- what it told is held for longer than an interval and a delay
     stays_long : (a b : PortIdentity) → Joins g a b → n'.interval_of a + n0.most < stay_of p (n'.log_of a)
     stays_long a b joins =
@@ -213,6 +229,7 @@ module _ (p : SettlingParams) (number : ℕ) (w : WorldState) (draws : List Draw
         each = λ t cut. record {
           well = well';
           left = left';
+          stand = λ s member. inl (loses.systems s member);
           worse = cut.worse;
           was_best = cut.was_best;
           was = cut.was;
@@ -256,7 +273,8 @@ module _ (p : SettlingParams) (number : ℕ) (w : WorldState) (draws : List Draw
 
       module _ (By : PortIdentity → ℕ → Type 0) (gone : ℕ) (measured' : LinkIsMeasured w')
           (long : w.time + silence_span p < silent) (by : WorldAgesBy p By w')
-          (is_gone : GoesUntil g By gone ⊎ (silent ≤ gone)) (later : w.time < gone) (late' : delay_in w' ≤ w'.time) where
+          (is_gone : GoesUntil g By gone ⊎ (silent ≤ gone)) (later : w.time < gone)
+          (late' : delay_in w' ≤ w'.time) where
         standing' : IsStanding p silent w'
         standing' =
             alone.standing_then p number w draws done w' is is' acts lives next silent pace measured measured' past
@@ -323,7 +341,7 @@ module _ (p : SettlingParams) (number : ℕ) (w : WorldState) (draws : List Draw
         started start (inl soon) = let time = time_now in omega (arith, soon, later, time)
         started start (inr (since, now)) = let time = time_now in omega (arith, since, time)
 
-        pub split_begins : IsSplitAlways p g By w.time gone silent w'
+        split_begins : IsSplitAlways p g By w.time gone silent w'
         split_begins = record {
           standing = standing';
           asked = asked';
@@ -340,3 +358,7 @@ module _ (p : SettlingParams) (number : ℕ) (w : WorldState) (draws : List Draw
               let now = started start may in
               (back' quiet' off start now, settles' quiet' off start now);
         }
+
+        -- and traces are told anew later
+        pub anew_begins : w'.last_change ≡ w'.time → IsSplitAnew p g By w.time gone silent w'
+        anew_begins = split_anew_begins p g By w.time gone silent w' split_begins later names_alone

@@ -10,6 +10,7 @@ use Rattle.gptp_model.specs.World.{WorldState}
 use Rattle.gptp_bmca_machine.specs.Calm.{Calm}
 use Rattle.gptp_bmca_machine.specs.Levels.{Invariant}
 use Rattle.gptp_bmca_machine.specs.Network.{IsSettlingNetwork, Network, settled_from}
+use Rattle.gptp_bmca_machine.specs.SoundLaws.{AllAreNear}
 use Rattle.gptp_bmca_machine.proofs.SettledLemmas.{systems_bounded}
 use Rattle.gptp_invariants.specs.ChoiceCalm.{HaveQuietLinks, delay_in}
 use Rattle.gptp_invariants.specs.ChoiceSettled.{ChoiceStands, Settled}
@@ -24,11 +25,13 @@ use Rattle.gptp_invariants.proofs.WorldBoundedLemmas.{bounded_by}
 use Rattle.gptp_settling_time.proofs.AlwaysClaimedLemmas.{IsStanding, calm_timed}
 use Rattle.gptp_settling_time.proofs.EmptiedLemmas.{older_calm}
 use Rattle.gptp_settling_time.proofs.FallAlwaysLemmas.{fallen_by}
-use Rattle.gptp_settling_time.proofs.LeftClaimedLemmas.{asked_ready, left_calm, left_network}
+use Rattle.gptp_settling_time.proofs.LeftClaimedLemmas.{asked_ready, left_calm, left_net, left_network}
 use Rattle.gptp_settling_time.proofs.NewsMeasuredLemmas.{ready_measures}
 use Rattle.gptp_settling_time.proofs.SeenSettledLemmas.{seen_chooses, seen_settles}
+use Rattle.gptp_settling_time.proofs.SettledSeenLemmas.{IsSettledSeen, settled_in, stage_settled}
 use Rattle.gptp_settling_time.proofs.SplitAlwaysLemmas.{IsSplitAlways, none_now, timed_net, timed_now, timed_world}
 use Rattle.gptp_settling_time.proofs.SplitLemmas.{SplitSettles, SplitsBack}
+use Rattle.gptp_settling_time.proofs.TellsRightLemmas.{IsSettledState, settled_state}
 
 module _ (p : SettlingParams) (g : Snapshot) (By : PortIdentity → ℕ → Type 0) (failed gone silent : ℕ) (w : WorldState)
     (is : IsSplitAlways p g By failed gone silent w) (quiet : HaveQuietLinks p.params w) (off : NothingLapses p.params)
@@ -71,6 +74,27 @@ module _ (p : SettlingParams) (g : Snapshot) (By : PortIdentity → ℕ → Type
   -- its choice stands
   pub split_chooses : ChoiceStands w
   split_chooses = seen_chooses p timed w world refl net calm invariant settled_by_now (omega arith) (omega arith)
+
+  -- each link that leads farther is at rest
+  split_seen : IsSettledSeen p w
+  split_seen = settled_in p w timed refl net calm invariant settled_by_now
+
+  pub split_state : AllAreNear (snapshot_of w) → IsSettledState says_announce (left_network p silent w) (view w)
+  split_state near =
+      let n = left_network p silent w in
+      let none = none_now p g By failed gone silent w is quiet start seen.0 gone_now in
+      settled_state says_announce n (left_net p silent w world) near (view w)
+      (left_calm p silent w is.standing is.asked quiet none)
+      (record {
+        sound = λ now. invariant.sound (omega arith);
+        levels = λ d best v pp u q close leads.
+            stage_settled p w split_seen n split_seen.graph (record {
+              place = split_seen.same.place;
+              lane = split_seen.same.lane;
+              log = split_seen.same.log;
+              interval = split_seen.same.interval;
+            }) d best v pp u q close leads;
+      }) (omega (arith, late)) none
 
   -- it has settled once ports without a link aren't capable
   module _ (from : ℕ) (none : AreSilentBy p from w) (now : from ≤ w.time) where

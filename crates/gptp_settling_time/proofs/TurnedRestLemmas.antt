@@ -218,8 +218,8 @@ module _ (says : Spelling) (g : Snapshot) (n : Network) (tree : List ℕ) (top o
       let known_v = t.lives v in_v in
       absurd (not (
         (chose.root, chose.steps),
-        capable_at g n t.well t.left w is.back.after.kept is.back.after.fits.stations v p (port_of u (suc q)) s pv known_v
-            leads.joins at there,
+        capable_at g n t.well t.left w is.back.after.kept is.back.after.fits.stations v p (port_of u (suc q)) s pv
+            known_v leads.joins at there,
       )))
       (inr (has_left says g n tree top other last out best base depth t start over before times w is u d in_u by_now))))
       (settles.levels d v p u q close in_v in_u leads) by_now
