@@ -20,7 +20,11 @@ use Rattle.gptp_bmca_machine.specs.Clean.{IsWorse, Whole, CameSound}
 use Rattle.gptp_bmca_machine.specs.Facts.{station_system, FollowsPort, IsLiveStationState}
 use Rattle.gptp_bmca_machine.specs.Network.{Network, IsSettlingNetwork, network_setting}
 use Rattle.gptp_bmca_machine.specs.Calm.{HasLane, Calm}
+<<<<<<< HEAD
 use Rattle.gptp_bmca_machine.specs.LossLaws.{IsWhatIsLeft, WasSystem}
+=======
+use Rattle.gptp_bmca_machine.specs.LossLaws.{EverythingFits, FlightFits, IsWhatIsLeft}
+>>>>>>> w_line
 use Rattle.gptp_bmca_machine.specs.SoundLaws.{IsSoundFrom, IsSoundOnLinks, UnlinkedAreOff, HasNews, AllIsWhole}
 use Rattle.gptp_bmca_machine.specs.Sound.{ReceivedFits}
 use Rattle.gptp_bmca_machine.proofs.NearestLemmas.{came_fits}
@@ -224,6 +228,32 @@ module _ (says : Spelling) (g : Snapshot) (n : Network) (left : IsWhatIsLeft g n
           from_is : act.l.from ≡ from
           from_is = ap (λ (l : Lane). l.from) (sym lane_is) ∙ has.from
 
+  -- and so did all that is on its way to a live system, where that fits
+  arrived_so : (w w' : MachineState) (act : Arrives says w w') → Calm n w → EverythingFits says g n w
+      → IsSoundOnLinks says g w → HeardIsSound act.call.s act.touch
+  unfolding HeardIsSound
+  arrived_so w w' act calm fits all i q a touched at on = (
+    act.l.from,
+    subst (Joins g act.l.from) to came.joins,
+    all.lanes act.j act.l act.f a act.pops.here among (act.heard (suc i) a touched).1 came.joins,
+  )
+    where
+      to : act.l.to ≡ port_of act.call.s.clock (suc i)
+      to = λ j. port_of (sym act.owner j) (sym (act.heard (suc i) a touched).0 j)
+
+      among : In act.f act.l.frames
+      among = subst (In act.f) (sym act.pops.frames) (inl (λ j. act.f))
+
+      known : In act.l.to.clock (clocks n.graph)
+      known =
+          subst (λ c. In c (clocks n.graph)) act.owner
+          (In-clocks n.graph (station_system act.call.s)
+          (calm.facts.stations act.call.place act.call.s
+          (act.pops.stations act.call.place act.call.s act.call.here) act.call.live).known)
+
+      came : FlightFits g act.l a
+      came = fits.lanes act.j act.l act.f a act.pops.here among (act.heard (suc i) a touched).1 known
+
   -- nothing is heard
   heard_none : (s : Station) (touch : StationTouch) → ((m : ℕ) (a : Announce) → touch ≡ Hear m a → ⊥)
       → HeardIsSound s touch
@@ -241,6 +271,19 @@ module _ (says : Spelling) (g : Snapshot) (n : Network) (left : IsWhatIsLeft g n
       (arrived w w' act calm off all)
   left_sound_kept w w' calm calm' off (inr (inr (inl act))) all = popped act.j act.l act.f act.fs w w' act.pops all
   left_sound_kept w w' calm calm' off (inr (inr (inr act))) all =
+      called act.touch w w' act.call calm' all (heard_none act.call.s act.touch act.deaf)
+
+  -- and so where all that is on its way to live systems fits
+  pub fits_sound_kept : (w w' : MachineState) → Calm n w → Calm n w' → EverythingFits says g n w
+      → MachineSteps says w w' → IsSoundOnLinks says g w → IsSoundOnLinks says g w'
+  fits_sound_kept w w' calm calm' fits (inl wait) all =
+      subst (IsSoundOnLinks says g) (sym wait.is) (record { lanes = all.lanes; stations = all.stations })
+  fits_sound_kept w w' calm calm' fits (inr (inl act)) all =
+      called act.touch act.mid w' act.call calm' (popped act.j act.l act.f act.fs w act.mid act.pops all)
+      (arrived_so w w' act calm fits all)
+  fits_sound_kept w w' calm calm' fits (inr (inr (inl act))) all =
+      popped act.j act.l act.f act.fs w w' act.pops all
+  fits_sound_kept w w' calm calm' fits (inr (inr (inr act))) all =
       called act.touch w w' act.call calm' all (heard_none act.call.s act.touch act.deaf)
 
 module _ (says : Spelling) (n : Network) (net : IsSettlingNetwork n) where

@@ -96,7 +96,7 @@ module _ (g : Snapshot) (n : Network) (wf : IsWellFormed n.graph) (left : IsWhat
       subst (IsDistance g v) (IsDistance-unique n.graph v f far wf (u.far f was) is) was
 
   -- no system was farther before
-  nearer_before : (d x e : ℕ) (best : System) → IsBest g x best → IsBest n.graph x best → IsDistance n.graph x d
+  pub nearer_before : (d x e : ℕ) (best : System) → IsBest g x best → IsBest n.graph x best → IsDistance n.graph x d
       → IsDistance g x e → e ≤ d
   nearer_before zero x e best was is here there =
       let clock : best.clock ≡ x = best_at_zero n.graph x best wf is here in

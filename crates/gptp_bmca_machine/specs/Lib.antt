@@ -33,6 +33,7 @@ pub mod ReactionLaws
 pub mod LossLaws
 pub mod CutTree
 pub mod TurnTree
+pub mod FailureTrees
 pub mod SyncLaws
 pub mod Example
 pub mod ExampleLaws

@@ -5,7 +5,7 @@ pub mod Far
 pub mod Turned
 pub mod Tree
 pub mod TurnedTree
-pub mod CutTrees
+pub mod MovedTrees
 pub mod Silent
 pub mod Bounds
 pub mod Rest

@@ -11,10 +11,10 @@ use Rattle.gptp_topology.specs.Tables.{TablesActed, are_calm, cables_of, has_clo
 use Rattle.gptp_topology.specs.declared.nodes.System.{System}
 use Rattle.gptp_how_soon.specs.Bounds.{arrived_by}
 use Rattle.gptp_how_soon.specs.Chosen.{any_counted, any_moved, chosen_over, ends_among, ends_in_use}
-use Rattle.gptp_how_soon.specs.CutTrees.{cuts_trees}
 use Rattle.gptp_how_soon.specs.Far.{all_cut_far_ends, are_far, up_is_used}
 use Rattle.gptp_how_soon.specs.Kinds.{sets_bounds, takes_one, told_by}
 use Rattle.gptp_how_soon.specs.Links.{delay_set, longest_among, lost_among, new_among}
+use Rattle.gptp_how_soon.specs.MovedTrees.{moves_trees}
 use Rattle.gptp_how_soon.specs.Rest.{has_come}
 use Rattle.gptp_how_soon.specs.Silent.{any_silent, heard_links, held_among, own_intervals}
 use Rattle.gptp_how_soon.specs.Times.{View, settling_time}
@@ -120,7 +120,7 @@ moves_seen n w at = record {
       && turns_tree (systems_in w.tables.nodes.items) (lost_seen w) (ends_in_use w.ends.items (used_now w))
       (chosen_before w) (chosen_now w);
   trees_fall = has_come_seen n w at
-      && cuts_trees (systems_in w.tables.nodes.items) (lost_seen w) (ends_in_use w.ends.items (used_now w))
+      && moves_trees (systems_in w.tables.nodes.items) (lost_seen w) (ends_in_use w.ends.items (used_now w))
       (chosen_before w) (chosen_now w);
   far = are_far w.systems_before.items (chosen_before w) (ends_in_use w.ends.items w.used_before.items) w.told.items;
   held = held_among n (own_intervals n w.before at) (heard_seen w) w.tables.standings.items;

@@ -101,13 +101,13 @@ fn what_is_held_ages_by_the_interval_of_its_port(rt: HostRuntime) -> Result<(), 
 }
 
 #[test]
-fn what_a_failure_cuts_off_costs_two_ways(rt: HostRuntime) -> Result<(), Fail> {
+fn what_a_failure_cuts_off_or_turns_costs_two_ways(rt: HostRuntime) -> Result<(), Fail> {
     const HANGS: &str =
         "[[event]]\nat = 30000000000\nkind = \"fail\"\nclock = \"000000000000000b\"\n";
     const DOWN: &str =
         "[[event]]\nat = 30000000000\nkind = \"link_down\"\nclock = \"000000000000000b\"\nport = ";
-    // In each row b fails, or loses its power and so many links. The second moves another that isn't cut off, the last
-    // two that are joined beside it.
+    // In each row b fails, or loses its power and so many links. The next three move others that keep their root and get
+    // it by one link; after them one gets it by two. The last moves two that are joined beside b.
     for (case, ports, links, hang, power) in [
         (
             "one is cut off",
@@ -121,7 +121,7 @@ fn what_a_failure_cuts_off_costs_two_ways(rt: HostRuntime) -> Result<(), Fail> {
             (820, 820),
         ),
         (
-            "one goes over another",
+            "one turns to another",
             2,
             &[
                 ("a", "1", "b", "1"),
@@ -130,8 +130,51 @@ fn what_a_failure_cuts_off_costs_two_ways(rt: HostRuntime) -> Result<(), Fail> {
                 ("d", "2", "e", "1"),
                 ("e", "2", "c", "2"),
             ] as &[(&str, &str, &str, &str)],
-            (13_000_002_870, 13_000_002_870),
-            (13_000_002_870, 13_000_002_870),
+            (3_000_002_870, 11_000_000_000),
+            (2_460, 2_460),
+        ),
+        (
+            "two turn to another",
+            2,
+            &[
+                ("a", "1", "b", "1"),
+                ("b", "2", "c", "1"),
+                ("c", "2", "d", "1"),
+                ("c", "3", "e", "1"),
+                ("e", "2", "f", "1"),
+                ("f", "2", "a", "2"),
+            ] as &[(&str, &str, &str, &str)],
+            (3_000_003_690, 11_000_000_000),
+            (3_280, 3_280),
+        ),
+        (
+            "one turns to another, and one is cut off",
+            3,
+            &[
+                ("a", "1", "b", "1"),
+                ("b", "2", "c", "1"),
+                ("a", "2", "d", "1"),
+                ("d", "2", "e", "1"),
+                ("e", "2", "c", "2"),
+                ("b", "3", "f", "1"),
+            ] as &[(&str, &str, &str, &str)],
+            (3_000_002_870, 11_000_000_000),
+            (2_460, 2_460),
+        ),
+        (
+            "one has two ways to others",
+            2,
+            &[
+                ("a", "1", "b", "1"),
+                ("b", "2", "c", "1"),
+                ("a", "2", "d", "1"),
+                ("d", "2", "e", "1"),
+                ("d", "3", "f", "1"),
+                ("e", "2", "c", "2"),
+                ("f", "2", "c", "3"),
+            ] as &[(&str, &str, &str, &str)],
+            (16_000_003_690, 16_000_003_690),
+            (16_000_003_690, 16_000_003_690),
         ),
         (
             "a line and an end station",
@@ -159,7 +202,7 @@ fn what_a_failure_cuts_off_costs_two_ways(rt: HostRuntime) -> Result<(), Fail> {
             (7_000_001_230, 7_000_001_230),
         ),
     ] {
-        let clocks = &["a", "b", "c", "d", "e"];
+        let clocks = &["a", "b", "c", "d", "e", "f"];
         let hangs = joined(rt.alloc(), clocks, links, HANGS)?;
         assert_eq!(rt; bounds(&hangs, 30_000_000_000), Some(hang), "{case}");
         let mut off = String::new(rt.alloc());

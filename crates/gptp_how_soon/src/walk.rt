@@ -14,10 +14,10 @@ use crate::bounds::{
 use crate::chosen::{
     Chosen, Ends, any_counted, any_moved, choose, copy_systems, ends_in_use, ends_of,
 };
-use crate::cut_trees::cuts_trees;
 use crate::far::{all_cut_far_ends, are_far, up_is_used};
 use crate::kinds::{Told, sets_bounds, sets_link, takes_one, tell};
 use crate::links::{delay_set, longest_among, lost_among, mark_used, new_links};
+use crate::moved_trees::moves_trees;
 use crate::rest::{Moves, asks_who_is_moved, has_come, heard_at_once, is_from_rest, row_of};
 use crate::silent::{any_silent, heard_links, held_among, own_intervals};
 use crate::tree::cuts_tree;
@@ -145,7 +145,7 @@ impl Walk {
             turned,
             falls: come && cuts_tree(&systems, &lost, &links, &before, &now),
             tree_turns: come && turns_tree(&systems, &lost, &links, &before, &now),
-            trees_fall: come && cuts_trees(&systems, &lost, &links, &before, &now),
+            trees_fall: come && moves_trees(&systems, &lost, &links, &before, &now),
             far: are_far(&self.systems_before, &before, &links_before, &self.told),
             held: held_among(network, own, &heard, &self.tables.standings),
         })

@@ -18,9 +18,11 @@ mod OneLostLemmas
 mod TreeTestLemmas
 mod TreeBelowLemmas
 mod TreeLemmas
-mod CutTreesLemmas
 mod TurnedTreeTestLemmas
+mod TurnsBelowLemmas
 mod TurnedTreeLemmas
+mod MovedTreesTestLemmas
+mod MovedTreesLemmas
 mod TreeEventLemmas
 mod TurnedLemmas
 mod LiveEndsLemmas

@@ -170,11 +170,109 @@ ages n own (u ∷ us) (s ∷ ss) = by (u && s.cable.up) refl (ages n own us ss)
 
 -- ---- who has failed
 
+<<<<<<< HEAD
 dead : (n : NetworkState) (events : List Timed) (clock : ℕ) (failed : PortId) → clock ≡ failed.clock
     → (IsLive n.systems events failed.clock → ⊥) → lives n.systems events clock ≡ false
 dead n events clock failed same none =
     false_from_ne_true (lives n.systems events clock) (λ is.
     none (subst (IsLive n.systems events) same (lives_to n events clock is)))
+=======
+-- the system of the second port is farther from its best than that of the first, or as far with the higher clock
+abbrev IsBeyond : Snapshot → PortId → PortId → Type 0
+IsBeyond g other one = (near far : ℕ) → IsDistance g other.clock near → IsDistance g one.clock far
+    → (near < far) ⊎ ((near ≡ far) × (other.clock < one.clock))
+
+or_right : (x y : Bool) → y ≡ true → (x || y) ≡ true
+or_right true y is = refl
+or_right false y is = is
+
+or_left : (x y : Bool) → x ≡ true → (x || y) ≡ true
+or_left x y is = ap (λ b. b || y) is
+
+-- what the test of steps and clocks says
+nearer_so : (e c : Chosen) (lower higher : ℕ) → (e.steps < c.steps) ⊎ ((e.steps ≡ c.steps) × (lower < higher))
+    → (nat_lt e.steps c.steps || ((e.steps == c.steps) && nat_lt lower higher)) ≡ true
+nearer_so e c lower higher (inl less) =
+    or_left (nat_lt e.steps c.steps) ((e.steps == c.steps) && nat_lt lower higher) (grind (arith, nat_tests))
+nearer_so e c lower higher (inr (same, below)) =
+    or_right (nat_lt e.steps c.steps) ((e.steps == c.steps) && nat_lt lower higher)
+    (and_from (e.steps == c.steps) (nat_lt lower higher) (eq-eqb e.steps c.steps same) (grind (arith, nat_tests)))
+
+module _ (n : NetworkState) (network : IsNetwork n) (made after : List Timed) (g : Snapshot)
+    (stands : StandsAfter n made g) (well : IsWellFormed g) where
+  -- who lived before is in its snapshot
+  known : (clock : ℕ) → IsLive n.systems made clock → In clock (clocks g)
+  known clock live =
+      let (s, member, same) = with_clock g.systems clock
+      (live_there n network made g stands clock (lives_from n made clock live)) in
+      subst (λ c. In c (clocks g)) same (In-clocks g s member)
+
+  abbrev place : PortId → ℕ
+  place p = place_of (systems_after n []) p.clock
+
+  -- the one end lives, and was farther from its best than the other, or as far with the higher clock
+  hears_so : (one other : PortId) → IsPort n.systems one → IsPort n.systems other → IsLive n.systems made one.clock
+      → IsLive n.systems made other.clock → IsLive n.systems after one.clock → IsBeyond g other one
+      → hears (systems_after n after) (chosen_after n made) (place one) (place other) ≡ true
+  hears_so one other one_port other_port one_was other_was one_lives farther =
+      and_from (is_live (slice_get systems (place one))) (is_nearer_at systems cs (place other) (place one))
+      (ap is_live there_one ∙ lives_on)
+      ((λ k. is_nearer (e_there k) (c_there k) (has_lower_clock (there_other k) (there_one k)))
+      ∙ nearer_so e c (clock_of at_other.system.identity) (clock_of at_one.system.identity) told)
+    where
+      systems : List ours.System
+      systems = systems_after n after
+
+      cs : List Chosen
+      cs = chosen_after n made
+
+      at_one : IsAt n (place one) one.clock
+      at_one = at_port n network made g stands well one one_port
+
+      at_other : IsAt n (place other) other.clock
+      at_other = at_port n network made g stands well other other_port
+
+      there_one : slice_get systems (place one) ≡ Some (system_then after at_one.system)
+      there_one = mapped_there (system_then after) n.systems (place one) at_one.system at_one.there
+
+      there_other : slice_get systems (place other) ≡ Some (system_then after at_other.system)
+      there_other = mapped_there (system_then after) n.systems (place other) at_other.system at_other.there
+
+      lives_on : (system_after after at_one.system).live ≡ true
+      lives_on =
+          let x = one_lives in
+          let same = network.clocks (place one) x.place at_one.system x.system at_one.there x.there
+          (at_one.clock ∙ sym x.clock) in
+          let alike = same_there n.systems (place one) at_one.system x.system at_one.there
+          (ap (slice_get n.systems) same ∙ x.there) in
+          ap (λ (m : SystemSpec). (system_after after m).live) alike ∙ x.live
+
+      e : Chosen
+      e = (chosen_there n network made g stands well (place other) other.clock at_other).0
+
+      e_there : slice_get cs (place other) ≡ Some e
+      e_there = (chosen_there n network made g stands well (place other) other.clock at_other).1
+
+      c : Chosen
+      c = (chosen_there n network made g stands well (place one) one.clock at_one).0
+
+      c_there : slice_get cs (place one) ≡ Some c
+      c_there = (chosen_there n network made g stands well (place one) one.clock at_one).1
+
+      told : (e.steps < c.steps)
+          ⊎ ((e.steps ≡ c.steps) × (clock_of at_other.system.identity < clock_of at_one.system.identity))
+      told =
+          let chose_other = settled_choice n network made g stands well (place other) other.clock at_other
+          (known other.clock other_was) e e_there in
+          let chose_one = settled_choice n network made g stands well (place one) one.clock at_one
+          (known one.clock one_was) c c_there in
+          let clock_one = at_one.clock in
+          let clock_other = at_other.clock in
+          elim (farther e.steps c.steps chose_other.far chose_one.far) [
+            | inl less ↦ inl less
+            | inr (same, lower) ↦ inr (same, omega (arith, lower, clock_one, clock_other))
+          ]
+>>>>>>> w_line
 
 -- after these events and more of them
 module _ (n : NetworkState) (network : IsNetwork n) (made now : List Timed) (own : Bool)
@@ -187,6 +285,73 @@ module _ (n : NetworkState) (network : IsNetwork n) (made now : List Timed) (own
   each_ages : Ages n own (map (is_heard_link n made after) n.links) (standings_after n after)
   each_ages = ages n own (map (is_heard_link n made after) n.links) (standings_after n after)
 
+<<<<<<< HEAD
+=======
+  -- a link in use before whose far end lives is one that counts
+  heard : (place : ℕ) (v : LinkSpec) (failed : PortId) → slice_get n.links place ≡ Some v
+      → IsSilent n made after v failed → FarEndLives n made after v failed → is_heard_link n made after v ≡ true
+  heard place v failed there (used, up, end, none) far =
+      and_from (cable_is_used (standing_then n made v))
+      (hears_over (systems_after n after) (chosen_after n made) (Some (ends_of n v))) (used_cable n made v used)
+      (by far.is_end end)
+    where
+      g : Snapshot
+      g = far.before
+
+      wire : IsWire n place v
+      wire = network.links place v there
+
+      keeps : KeepsEnds (link_after after v) v
+      keeps = after_keeps after v
+
+      was : KeepsEnds (link_after made v) v
+      was = after_keeps made v
+
+      a_was : IsLive n.systems made v.a.clock
+      a_was = subst (λ (p : PortId). IsLive n.systems made p.clock) was.a used.a
+
+      b_was : IsLive n.systems made v.b.clock
+      b_was = subst (λ (p : PortId). IsLive n.systems made p.clock) was.b used.b
+
+      first : Bool
+      first = hears (systems_after n after) (chosen_after n made) (ends_of n v).a (ends_of n v).b
+
+      second : Bool
+      second = hears (systems_after n after) (chosen_after n made) (ends_of n v).b (ends_of n v).a
+
+      -- so it is of the ends by their names
+      farther_so : (one other : PortId) → one ≡ far.end → other ≡ failed → IsBeyond g other one
+      farther_so one other is_one is_other =
+          subst (λ (p : PortId). IsBeyond g p one) (sym is_other)
+          (subst (λ (p : PortId). IsBeyond g failed p) (sym is_one) far.farther)
+
+      lives_so : (one : PortId) → one ≡ far.end → IsLive n.systems after one.clock
+      lives_so one is = subst (λ (p : PortId). IsLive n.systems after p.clock) (sym is) far.lives
+
+      apart : far.end ≡ failed → ⊥
+      apart same = none (subst (λ (p : PortId). IsLive n.systems after p.clock) same far.lives)
+
+      by : IsEnd far.end (link_after after v) → IsEnd failed (link_after after v) → (first || second) ≡ true
+      by (inl one) (inl other) = absurd (apart (sym one ∙ other))
+      by (inr one) (inr other) = absurd (apart (sym one ∙ other))
+      by (inl one) (inr other) =
+          let is_one = sym keeps.a ∙ one in
+          or_left first second
+          (hears_so n network made after g far.stands (well g far.stands) v.a v.b wire.a wire.b a_was b_was
+          (lives_so v.a is_one) (farther_so v.a v.b is_one (sym keeps.b ∙ other)))
+      by (inr one) (inl other) =
+          let is_one = sym keeps.b ∙ one in
+          or_right first second
+          (hears_so n network made after g far.stands (well g far.stands) v.b v.a wire.b wire.a b_was a_was
+          (lives_so v.b is_one) (farther_so v.b v.a is_one (sym keeps.a ∙ other)))
+
+  dead : (clock : ℕ) (failed : PortId) → clock ≡ failed.clock → (IsLive n.systems after failed.clock → ⊥)
+      → lives n.systems after clock ≡ false
+  dead clock failed same none =
+      false_from_ne_true (lives n.systems after clock) (λ is.
+      none (subst (IsLive n.systems after) same (lives_to n after clock is)))
+
+>>>>>>> w_line
   -- what the failed end told
   aged : (v : LinkSpec) (p failed : PortId) (lives_then : Bool) → p ≡ failed → lives_then ≡ false
       → aged_end n own (link_after after v).bounds.max p lives_then

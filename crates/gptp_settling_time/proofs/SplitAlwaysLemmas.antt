@@ -1,9 +1,10 @@
--- A world since a system failed that others hear, and so cut trees off. What they hold of it goes until a time, and
--- then each tree has left the root of before within a way. They settle once each distance has had its time.
+-- A world since a system failed that others hear, and so moved trees. What they hold of it goes until a time, and then
+-- each tree has left its old choice within a way. They settle once each distance has had its time.
 use Rattle.std.proofs.Common.{◌≡◌, ◌⊎◌, ◌<◌, ◌≤◌, ℕ, suc, List, Some, slice_get, refl, sym, ap, subst, ◌∙◌, inl, inr, arith}
 use Rattle.gptp_lists.specs.Members.{In}
 use Rattle.gptp_graph.specs.Snapshot.{IsLinked, Joins, PortIdentity, Snapshot, clocks, port_of}
 use Rattle.gptp_graph.proofs.DistanceLemmas.{IsDistance-clock, IsDistance-unique}
+use Rattle.gptp_graph.proofs.LinkLemmas.{Joins-clock, Joins-sym}
 use Rattle.gptp_graph.proofs.SystemLemmas.{In-clocks}
 use Rattle.gptp_links.specs.Fate.{Draw}
 use Rattle.gptp_scenario.specs.Calm.{NothingLapses}
@@ -16,16 +17,13 @@ use Rattle.gptp_model.specs.Pending.{NothingBefore}
 use Rattle.gptp_model.specs.World.{WorldState}
 use Rattle.gptp_model.specs.declared.done.Done.{Done}
 use Rattle.gptp_bmca_machine.specs.Acts.{MachineSteps}
-use Rattle.gptp_bmca_machine.specs.Calm.{Calm}
 use Rattle.gptp_bmca_machine.specs.Frame.{Lane}
-use Rattle.gptp_bmca_machine.specs.EarlyPorts.{ClaimsWhenReady}
 use Rattle.gptp_bmca_machine.specs.Facts.{StationFacts, station_system}
 use Rattle.gptp_bmca_machine.specs.LossLaws.{IsAfterLoss, Unmoved}
-use Rattle.gptp_bmca_machine.specs.Network.{IsSettlingNetwork, Network, network_setting, since}
+use Rattle.gptp_bmca_machine.specs.Network.{Network, network_setting}
 use Rattle.gptp_bmca_machine.specs.Station.{MachineState}
 use Rattle.gptp_bmca_machine.proofs.FallLemmas.{UnlinkedHoldNone}
 use Rattle.gptp_bmca_machine.proofs.LinkStepLemmas.{lives_at}
-use Rattle.gptp_bmca_machine.proofs.TimesLemmas.{times_fit}
 use Rattle.gptp_invariants.specs.ChoiceCalm.{HaveQuietLinks, delay_in}
 use Rattle.gptp_invariants.specs.ChoiceSeenLaws.{IsNoChange}
 use Rattle.gptp_invariants.specs.ChoiceView.{says_announce, view}
@@ -33,23 +31,21 @@ use Rattle.gptp_invariants.specs.WorldEncodableLaws.{SetsAnOctet}
 use Rattle.gptp_invariants.specs.WorldStanding.{snapshot_of}
 use Rattle.gptp_invariants.proofs.ChoiceCalmKeptLemmas.{KeepsNetwork, acts_keep, delay_kept, links_quiet, same_snapshot}
 use Rattle.gptp_invariants.proofs.ChoiceSeenActLemmas.{acts_seen}
-use Rattle.gptp_invariants.proofs.ChoiceSettlesAsMachineLemmas.{kept_back, paths_bound}
+use Rattle.gptp_invariants.proofs.ChoiceSettlesAsMachineLemmas.{kept_back}
 use Rattle.gptp_invariants.proofs.WorldNewsCourseLemmas.{later_keeps}
 use Rattle.gptp_invariants.proofs.WorldOutlineLemmas.{acts_time}
-use Rattle.gptp_invariants.proofs.WorldStandsLemmas.{stands_well}
 use Rattle.gptp_settling_time.proofs.AgesByLemmas.{UnlinkedAgeBy, by_all, by_kept}
 use Rattle.gptp_settling_time.proofs.AgesByWorldLemmas.{WorldAgesBy}
 use Rattle.gptp_settling_time.proofs.AgingLemmas.{HeardNearer, HearersHoldNothing, aged_gone}
 use Rattle.gptp_settling_time.proofs.AgingClaimedLemmas.{aging_after, aging_facts, aging_network, named_in, off_none, same_aging, stay_of}
-use Rattle.gptp_settling_time.proofs.AlwaysClaimedLemmas.{IsStanding, calm_timed}
-use Rattle.gptp_settling_time.proofs.EmptiedLemmas.{older_after, older_calm}
-use Rattle.gptp_settling_time.proofs.FallAlwaysLemmas.{fallen_by, settles_by}
+use Rattle.gptp_settling_time.proofs.AlwaysClaimedLemmas.{IsStanding}
+use Rattle.gptp_settling_time.proofs.EmptiedLemmas.{older_after}
 use Rattle.gptp_settling_time.proofs.FitsLemmas.{UnlinkedHoldNothing}
-use Rattle.gptp_settling_time.proofs.LeftClaimedLemmas.{HaveAskedBy, HaveAskedLong, asked_acts, asked_later, left_calm, left_network, standing_acts, standing_later}
+use Rattle.gptp_settling_time.proofs.LeftClaimedLemmas.{HaveAskedBy, HaveAskedLong, asked_acts, asked_later, standing_acts, standing_later}
 use Rattle.gptp_settling_time.proofs.NearEndLemmas.{near_ends_hold_none, near_ends_stay}
 use Rattle.gptp_settling_time.proofs.LinkBetweenLemmas.{IsLinkBetween, SameSenders, between_kept, lane_between, senders_kept}
 use Rattle.gptp_settling_time.proofs.OffForGoodLemmas.{AreOffForGood, GoOnOff, good_acts, good_later, stays_disabled}
-use Rattle.gptp_settling_time.proofs.SplitLemmas.{IsSplit, SplitSettles, SplitState, SplitStaysOff, SplitsBack, split_settles_on, splits_on, timed_split}
+use Rattle.gptp_settling_time.proofs.SplitLemmas.{IsSplit, SplitSettles, SplitState, SplitStaysOff, SplitsBack, split_settles_on, splits_on}
 
 -- a request is answered before the next one, so that an interval between them is some time
 pub some_pdelay : (p : SettlingParams) → KeepPace p → 0 < interval_of p.params.pdelay
@@ -110,42 +106,17 @@ module _ (p : SettlingParams) (silent : ℕ) (w : WorldState) (standing : IsStan
       → UnlinkedHoldNothing (snapshot_of w) (view w)
   none_held g s same start splits none =
       subst (λ h. UnlinkedHoldNothing h (view w)) (sym graph)
-      (near_ends_hold_none says_announce g s.n s.cuts.well s.cuts.left (view w) splits.back.after.kept
+      (near_ends_hold_none says_announce g s.n s.moves.well s.moves.left (view w) splits.back.after.kept
       splits.back.after.fits.stations splits.back.still
-      (near_ends_stay g s.n s.lost s.cuts.well s.cuts.left s.loses)
+      (near_ends_stay g s.n s.lost s.moves.well s.moves.left s.moves.loses)
       (λ v d unmoved here.
-      let (far, there, close) = s.near v (IsDistance-clock g v d s.cuts.left.graph here) in
-      let one = IsDistance-unique g v far d s.cuts.left.graph there here in
+      let (far, there, close) = s.near v (IsDistance-clock g v d s.moves.left.graph here) in
+      let one = IsDistance-unique g v far d s.moves.left.graph there here in
       omega (arith, one, close))
       (subst (λ h. HearersHoldNothing g h (view w)) graph none))
     where
       graph : snapshot_of w ≡ s.n.graph
       graph = ap (λ (z : Network). z.graph) same
-
-  -- the network with the times of what falls back, once nothing is received at ports without a link
-  abbrev pub timed_world : ℕ → Network
-  timed_world start =
-      record (left_network p silent w) { gone = 0; slack = suc (fallen_by (left_network p silent w) start) }
-
-  pub timed_net : (start : ℕ) → IsSettlingNetwork (timed_world start)
-  timed_net start =
-      let world = standing.world in
-      times_fit (timed_world start) (stands_well w world.sound world.between world.encodable) (paths_bound p w world)
-      (omega arith)
-      (inr (record {
-        begun = refl;
-        sound = refl;
-        step = omega arith;
-        ready = λ port linked. omega arith;
-        link = λ d port linked. inl (refl, refl);
-      }))
-
-  pub timed_calm : (start : ℕ) → UnlinkedHoldNothing (snapshot_of w) (view w) → Calm (timed_world start) (view w)
-  timed_calm start none =
-      let n = record (left_network p silent w) { gone = 0 } in
-      let c : Calm n (view w) =
-      older_calm (left_network p silent w) 0 (view w) (left_calm p silent w standing asked quiet none) in
-      calm_timed n n.start n.sound (suc (fallen_by n start)) n.claimed n.until (view w) c.facts c
 
 -- so it is of a world of which that is claimed
 module _ (p : SettlingParams) (g : Snapshot) (By : PortIdentity → ℕ → Type 0) (failed gone silent : ℕ) (w : WorldState)
@@ -155,9 +126,6 @@ module _ (p : SettlingParams) (g : Snapshot) (By : PortIdentity → ℕ → Type
   none_now =
       none_held p silent w is.standing is.asked quiet g is.split is.same start splits
       (hearers_none p silent w is.standing is.asked quiet g By gone is.by is.is_gone now)
-
-  pub timed_now : Calm (timed_world p silent w is.standing is.asked quiet start) (view w)
-  timed_now = timed_calm p silent w is.standing is.asked quiet start none_now
 
 -- ---- what comes of it
 
@@ -182,12 +150,6 @@ module _ (p : SettlingParams) (g : Snapshot) (By : PortIdentity → ℕ → Type
     | inr (later, now) ↦ inr (later, omega (arith, now, on))
   ]
 
-  -- once all have left the root of before what was held is gone
-  pub over_gone : (start : ℕ) (x : WorldState) → MayStart gone s.since start x → fallen_by n start < x.time → gone ≤
-      x.time
-  over_gone start x (inl soon) over = omega (arith, soon, over)
-  over_gone start x (inr (later, now)) over = absurd (omega (arith, later, now, over))
-
   pub split_then : (HaveQuietLinks p.params w' → NothingLapses p.params → (start : ℕ) → MayStart gone s.since start w'
       → SplitsBack p g s start (view w') × SplitSettles p g s start (view w'))
       → IsSplitAlways p g By failed gone silent w'
@@ -211,7 +173,6 @@ module _ (p : SettlingParams) (g : Snapshot) (By : PortIdentity → ℕ → Type
       (start : ℕ) (may : MayStart gone s.since start w') (lanes : List Lane)
       (was : SplitsBack p g s start (record (view w) { lanes = lanes })
       × SplitSettles p g s start (record (view w) { lanes = lanes }))
-      (calm_n : fallen_by n start < w.time → Calm (timed_split p g s start) (record (view w) { lanes = lanes }))
       (step : MachineSteps says_announce (record (view w) { lanes = lanes }) (view w')) where
     abbrev x : MachineState
     x = record (view w) { lanes = lanes }
@@ -223,9 +184,9 @@ module _ (p : SettlingParams) (g : Snapshot) (By : PortIdentity → ℕ → Type
     -- the lanes of lost links stand
     state' : SplitState p g s start (view w')
     state' = record {
-      lanes = λ t cut q i joins.
-          let l = lane_between p w' (port_of s.lost (suc q)) (port_of t.top (suc i)) standing'.world
-          (links' (port_of s.lost (suc q)) (port_of t.top (suc i)) joins) in
+      lanes = λ c q i joins.
+          let l = lane_between p w' (port_of s.lost (suc q)) (port_of c (suc i)) standing'.world
+          (links' (port_of s.lost (suc q)) (port_of c (suc i)) joins) in
           record {
             lane = l.lane;
             there = subst (λ (z : Network). slice_get (view w').lanes (z.lane (port_of s.lost (suc q))) ≡ Some l.lane)
@@ -237,13 +198,22 @@ module _ (p : SettlingParams) (g : Snapshot) (By : PortIdentity → ℕ → Type
       later = let begun = is.begun in omega (arith, begun, on);
     }
 
+    -- who stood at the other end of such a link lives
+    other_lives : (c q i : ℕ) → Joins g (port_of s.lost (suc q)) (port_of c (suc i)) → In c (clocks n.graph)
+    other_lives c q i joins = elim (s.moves.loses.others c (Joins-clock g (port_of c (suc i)) (port_of s.lost (suc q))
+        s.moves.left.graph (Joins-sym g (port_of s.lost (suc q)) (port_of c (suc i)) joins))) [
+          | inl live ↦ live
+          | inr is_lost ↦
+              absurd (s.moves.left.graph.apart (port_of s.lost (suc q)) (port_of c (suc i)) joins (sym is_lost))
+        ]
+
     -- ports that aren't capable stay so
     stays_off : SplitStaysOff p g s start x (view w')
-    stays_off t cut q i joins bare u u' pu pu' at there at' there' held =
-        let known = cut.in_top.reached.1.begins in
-        let (live, clock) = lives_at n x was.0.back.after.kept.calm t.top known u at in
-        let (live', clock') = lives_at n (view w') kept'.calm t.top known u' at' in
-        stays_disabled p w w' is.standing.world standing'.world goes same_sends (n.place t.top) i u u' pu
+    stays_off c q i joins bare u u' pu pu' at there at' there' held =
+        let known = other_lives c q i joins in
+        let (live, clock) = lives_at n x was.0.back.after.kept.calm c known u at in
+        let (live', clock') = lives_at n (view w') kept'.calm c known u' at' in
+        stays_disabled p w w' is.standing.world standing'.world goes same_sends (n.place c) i u u' pu
         pu' at there at' there' live live'
         (λ linked. bare (subst (λ c. IsLinked n.graph (port_of c (suc i))) clock'
         (subst (λ h. IsLinked h (port_of u'.clock (suc i))) graph' linked))) held
@@ -268,44 +238,16 @@ module _ (p : SettlingParams) (g : Snapshot) (By : PortIdentity → ℕ → Type
 
         heard : HeardNearer g (port_of u.clock (suc place))
         heard from joins farther =
-            let is = near_ends_stay g n s.lost s.cuts.well s.cuts.left s.loses from (port_of u.clock (suc place)) joins
+            let is = near_ends_stay g n s.lost s.moves.well s.moves.left s.moves.loses from (port_of u.clock (suc
+            place)) joins
             known bare_there farther in
             moved (subst (Unmoved g n) clock (record { live = known; best = is.best; far = is.far }))
 
     back' : SplitsBack p g s start (view w')
     back' = splits_on p g s start x (view w') was.0 kept' state' stays_off none' step
 
-    abbrev timed_n : Network
-    timed_n = timed_split p g s start
-
-    -- the times of the network are those of the world
-    in_time : (f : ℕ) → settles_by n start f ≤ since timed_n (suc f)
-    in_time =
-        subst (λ (z : Network). (f : ℕ) → settles_by z start f
-        ≤ since (record z { bare = 0; slack = suc (fallen_by z start) }) (suc f)) same'
-        (λ f. omega arith)
-
-    net_n : IsSettlingNetwork timed_n
-    net_n =
-        subst (λ (z : Network). IsSettlingNetwork (record z { bare = 0; slack = suc (fallen_by z start) })) same'
-        (timed_net p silent w' standing' asked' quiet' start)
-
-    claims_n : ClaimsWhenReady timed_n
-    claims_n d from to joins =
-        subst (λ (z : Network). (d : ℕ) (from to : PortIdentity) → z.ready to ≤ z.claimed d from) same'
-        (λ d from to. omega arith) d from to
-
     pub seen_then : SplitsBack p g s start (view w') × SplitSettles p g s start (view w')
-    seen_then = (
-      back',
-      split_settles_on p g s start x (view w') was.0 kept' state' stays_off none' step on in_time net_n claims_n calm_n
-          (λ over.
-          subst (λ (z : Network). Calm (record z { bare = 0; slack = suc (fallen_by z start) }) (view w')) same'
-          (timed_calm p silent w' standing' asked' quiet' start
-          (none_held p silent w' standing' asked' quiet' g s same' start back'
-          (hearers_none p silent w' standing' asked' quiet' g By gone by' is.is_gone (over_gone start w' may over)))))
-          was.1,
-    )
+    seen_then = (back', split_settles_on p g s start x (view w') was.0 kept' state' stays_off none' step was.1)
 
 -- ---- every step keeps it
 
@@ -346,12 +288,7 @@ module _ (p : SettlingParams) (g : Snapshot) (By : PortIdentity → ℕ → Type
       let before = may_before p g By failed gone silent w w' is standing' asked' goes (senders_kept w w' keeps)
       same_then links_then by_then late_then on start may in
       seen_then p g By failed gone silent w w' is standing' asked' goes (senders_kept w w' keeps) same_then links_then
-      by_then late_then on quiet quiet' off start may (view w).lanes (is.seen quiet off start before)
-      (λ over.
-      subst (λ (z : Network). Calm (record z { bare = 0; slack = suc (fallen_by z start) }) (view w)) is.same
-      (timed_now p g By failed gone silent w is quiet start (is.seen quiet off start before).0
-      (over_gone p g By failed gone silent w w' is standing' asked' goes (senders_kept w w' keeps) same_then links_then
-      by_then late_then on start w before over))) step
+      by_then late_then on quiet quiet' off start may (view w).lanes (is.seen quiet off start before) step
 
   split_step : IsSplitAlways p g By failed gone silent w'
   split_step =

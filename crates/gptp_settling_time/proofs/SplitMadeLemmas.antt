@@ -1,5 +1,10 @@
+<<<<<<< HEAD
 -- A system fails that others hear, in a world of a document whose choice had stood, and so cuts trees off: they fall
 -- back. Behind that links go down of which an end has failed.
+=======
+-- A system fails that others hear, in a world of a document whose choice had stood, and so moves trees: they fall back.
+-- Behind that links go down of which an end has failed.
+>>>>>>> w_line
 use Rattle.std.proofs.Common.{◌≡◌, ◌<◌, ◌≤◌, ◌+◌, ◌∷◌, ◌++◌, ℕ, suc, List, [], sym, ap, subst, inl, inr, arith}
 use native.Mathlib.Decide.{dec_le}
 use Rattle.gptp_lists.specs.Members.{In}
@@ -22,6 +27,7 @@ use Rattle.gptp_model.specs.declared.done.Done.{Done}
 use Rattle.gptp_network.specs.Document.{DocumentState}
 use Rattle.gptp_network.proofs.ExistenceLemmas.{stands_after}
 use Rattle.gptp_bmca_machine.specs.CutTree.{Tree}
+use Rattle.gptp_bmca_machine.specs.FailureTrees.{Turning}
 use Rattle.gptp_invariants.specs.ChoiceCalm.{HaveQuietLinks, delay_in, sync_paths_of}
 use Rattle.gptp_invariants.specs.ChoiceSettlesAsMachine.{IsWorld}
 use Rattle.gptp_invariants.specs.ChoiceView.{says_announce, view}
@@ -35,7 +41,7 @@ use Rattle.gptp_theorem.proofs.SyncPathLemmas.{paths_stand}
 use Rattle.gptp_settling_time.specs.Arrivals.{HasArrivedBy}
 use Rattle.gptp_settling_time.specs.InTurn.{IsGoneBy, LowersUnusedCalm, SplitsNow}
 use Rattle.gptp_settling_time.specs.Losses.{LowersUnused}
-use Rattle.gptp_settling_time.specs.TreeLosses.{FailsTrees, IsTreeCutOff, IsUnmovedOrInTree}
+use Rattle.gptp_settling_time.specs.TreeLosses.{FailsTrees, IsTreeCutOff, IsTreeTurned, IsUnmovedOrInTree}
 use Rattle.gptp_settling_time.proofs.AgesByLemmas.{by_map}
 use Rattle.gptp_settling_time.proofs.AgesByWorldLemmas.{WorldAgesBy}
 use Rattle.gptp_settling_time.proofs.AgingClaimedLemmas.{stay_of}
@@ -82,11 +88,48 @@ cut_off_alike g h g' h' before now best t cut = record {
     to_h : (v : ℕ) → IsBest g' v t.next → IsBest h' v t.next
     to_h v is = alike_best g' h' now v t.next is
 
+-- and so is one that turns
+turned_alike : (g h g' h' : Snapshot) → AreAlike g h → AreAlike g' h' → (best : System) (t : Turning)
+    → IsTreeTurned h h' best t → IsTreeTurned g g' best t
+turned_alike g h g' h' before now best t is = record {
+  in_top = is.in_top;
+  lives = λ v in_v. clock_among h' g' (turned g' h' now) v (is.lives v in_v);
+  was_best = λ v in_v. alike_best h g back v best (is.was_best v in_v);
+  is_best = λ v in_v. alike_best h' g' then v best (is.is_best v in_v);
+  was = λ v in_v. alike_distance h g back v (t.base + t.depth v) (is.was v in_v);
+  farther = λ v far in_v there. is.farther v far in_v (alike_distance g' h' now v far there);
+  first = is.first;
+  lost = λ v u in_v joined. elim (is.lost v u in_v (adjacent_alike g h before v u joined)) [
+    | inl left ↦ inl (adjacent_alike h' g' then v u left)
+    | inr at_top ↦ inr at_top
+  ];
+  steps = λ v u in_v in_u joined. is.steps v u in_v in_u (adjacent_alike g' h' now v u joined);
+  single = λ v p q a b in_v in_a in_b one two.
+      is.single v p q a b in_v in_a in_b (joins_alike g' h' now (port_of v p) a one)
+      (joins_alike g' h' now (port_of v q) b two);
+  leaves = λ v u in_v joined. is.leaves v u in_v (adjacent_alike g' h' now v u joined);
+  in_last = is.in_last;
+  outside = is.outside;
+  unmoved = unmoved_alike g h g' h' before now t.out is.unmoved;
+  joined = adjacent_alike h' g' then t.last t.out is.joined;
+  one_way = λ p q k m one two.
+      is.one_way p q k m (joins_alike g' h' now (port_of t.last p) (port_of t.out k) one)
+      (joins_alike g' h' now (port_of t.last q) (port_of t.out m) two);
+}
+  where
+    back : AreAlike h g
+    back = turned g h before
+
+    then : AreAlike h' g'
+    then = turned g' h' now
+
 in_tree_alike : (g h g' h' : Snapshot) → AreAlike g h → AreAlike g' h' → (best : System) (v : ℕ)
     → IsUnmovedOrInTree h h' best v → IsUnmovedOrInTree g g' best v
 in_tree_alike g h g' h' before now best v (inl unmoved) = inl (unmoved_alike g h g' h' before now v unmoved)
-in_tree_alike g h g' h' before now best v (inr (t, cut, in_v)) =
-    inr (t, cut_off_alike g h g' h' before now best t cut, alike_best h' g' (turned g' h' now) v t.next in_v)
+in_tree_alike g h g' h' before now best v (inr (inl (t, cut, in_v))) =
+    inr (inl (t, cut_off_alike g h g' h' before now best t cut, alike_best h' g' (turned g' h' now) v t.next in_v))
+in_tree_alike g h g' h' before now best v (inr (inr (t, is, in_v))) =
+    inr (inr (t, turned_alike g h g' h' before now best t is, in_v))
 
 -- what is gone by then has aged, or ports without a link aren't capable from then on
 goes_over : (n : NetworkState) (before : Snapshot) (ago events : List Timed) (failed gone silent : ℕ)
@@ -141,7 +184,7 @@ module _ (d : DocumentState) (playable : IsPlayable d) (made : List Timed) (even
     cuts_so =
         let (g, stands) = stands_after n made playable.network in
         let (g', stands') = stands_after n more playable.network in
-        let (best, each) = x.cuts g g' stands stands' in
+        let (best, each) = x.moves g g' stands stands' in
         let before = alike_so d playable made then keeps g stands in
         let now = alike_so d playable more w' after g' stands' in (
           best,
@@ -157,6 +200,9 @@ module _ (d : DocumentState) (playable : IsPlayable d) (made : List Timed) (even
 
     paths_after : sync_paths n more ≡ sync_paths_of w'
     paths_after = paths_stand n more w' playable.network after.stands after.claim.world.sound
+
+    few_before : path_bound (snapshot_of then) ≤ 255
+    few_before = subst (λ (y : SyncPaths). y.systems ≤ 255) paths_then x.few
 
     few_then : path_bound (snapshot_of w') ≤ 255
     few_then =
@@ -220,7 +266,8 @@ module _ (d : DocumentState) (playable : IsPlayable d) (made : List Timed) (even
           since = anew_begins p x.clock then draws done w' world_then after.claim.world came lived seen_then rest.sound
               start keeps.claim.pace keeps.claim.measured past rest.ready quiet rest.silent
               (near_so d playable made then keeps x.few) (omega (arith, over, at_time)) names_now silent best each
-              few_then shorter_then (GoesOver n before made more then.time gone silent) gone after.claim.measured
+              few_before few_then shorter_then (GoesOver n before made more then.time gone silent) gone
+              after.claim.measured
               (omega (arith, silent_is))
               (λ links. by_map says_announce (snapshot_of w') (stay_of p) (AgesOver n before made more then.time)
               (GoesOver n before made more then.time gone silent) (view w')

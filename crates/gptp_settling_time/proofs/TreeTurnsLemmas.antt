@@ -63,7 +63,7 @@ module _ (says : Spelling) (n0 n : Network) (tree : List ℕ) (top other last ou
   came0 : (v p u q : ℕ) (l : Lane) (f : AnnounceFrame) (c : Announce) → In v tree → In u tree
       → Joins n.graph (port_of v (suc p)) (port_of u (suc q)) → depth v ≡ suc (depth u)
       → slice_get w.lanes (n.lane (port_of v (suc p))) ≡ Some l → In f l.frames → says f.octets c
-      → Whole n.graph v c ⊎ In u c.path
+      → Whole t.ways v c ⊎ In u c.path
   came0 v p u q l f c in_v in_u joins higher at among said =
       let (whole, root) = link_whole says n0 n net0 w calm0 sound0 named0 same v p u q l f c best
       (t.left.links (port_of v (suc p)) (port_of u (suc q)) joins) at among said (t.was_best v in_v) in
@@ -103,7 +103,7 @@ module _ (says : Spelling) (n0 n : Network) (tree : List ℕ) (top other last ou
 
     -- what is held there was told before, and doesn't name the system that holds it
     held_left : (s : Station) (pu : Port) (r : Reception) → slice_get w'.stations (n.place last) ≡ Some s
-        → slice_get s.ports q ≡ Some pu → pu.held ≡ Received r → Whole n.graph out r.said
+        → slice_get s.ports q ≡ Some pu → pu.held ≡ Received r → Whole t.ways out r.said
     held_left s pu r at there holds =
         let (live, clock) = lives_at n w' kept'.calm last (t.lives last t.in_last) s at in
         let o = held_before says n0 n top t.well t.left moved_top net0 w calm0 invariant0 late0 sound0 same w' touch
@@ -138,7 +138,7 @@ module _ (says : Spelling) (n0 n : Network) (tree : List ℕ) (top other last ou
                   absurd (omega (arith, above, root))
             ])
 
-    inward : IsFreeAt says n out p last q w'
+    inward : IsFreeAt says t.ways n out p last q w'
     inward s pu l' at there lane' = record {
       hears = λ r holds. held_left s pu r at there holds;
       flight = λ f c among said. flies (lanes_so (port_of out (suc p)) (port_of last (suc q)) l' joins lane') f c among
@@ -147,7 +147,7 @@ module _ (says : Spelling) (n0 n : Network) (tree : List ℕ) (top other last ou
       where
         flies : ((l : Lane) × (slice_get w.lanes (n.lane (port_of out (suc p))) ≡ Some l)
             × LaneStep a.s.clock a.sends l l') → (f : AnnounceFrame) (c : Announce) → In f l'.frames
-            → says f.octets c → Whole n.graph out c ⊎ In last c.path
+            → says f.octets c → Whole t.ways out c ⊎ In last c.path
         flies (l, at_l, step) f c among said =
             elim (In-parts f l.frames step.news (subst (In f) step.behind among)) [
               | inl old ↦
@@ -164,10 +164,10 @@ module _ (says : Spelling) (n0 n : Network) (tree : List ℕ) (top other last ou
             ]
 
   inward_so : (v p u q : ℕ) → LeadsOut last out u v → Joins n.graph (port_of v (suc p)) (port_of u (suc q))
-      → IsFreeAt says n v p u q w'
+      → IsFreeAt says t.ways n v p u q w'
   inward_so v p u q (is_last, is_out) joins =
-      subst (λ c. IsFreeAt says n c p u q w') (sym is_out)
-      (subst (λ c. IsFreeAt says n out p c q w') (sym is_last)
+      subst (λ c. IsFreeAt says t.ways n c p u q w') (sym is_out)
+      (subst (λ c. IsFreeAt says t.ways n out p c q w') (sym is_last)
       (inward p q (subst (λ c. Joins n.graph (port_of out (suc p)) (port_of c (suc q))) is_last
       (subst (λ c. Joins n.graph (port_of c (suc p)) (port_of u (suc q))) is_out joins))))
 
@@ -215,7 +215,6 @@ module _ (says : Spelling) (n0 n : Network) (tree : List ℕ) (top other last ou
           (turns_moves g n tree top other last out best base depth t) net0 w calm0 invariant0 late0 came0 same w' in_top
           answer a.only lanes_so after dark' inward_so;
     };
-    dark = dark';
     sound = sound';
   }
 

@@ -18,7 +18,7 @@ use Rattle.gptp_model.specs.World.{WorldState}
 use Rattle.gptp_model.specs.declared.done.Done.{Done}
 use Rattle.gptp_bmca_machine.specs.Acts.{MachineSteps}
 use Rattle.gptp_bmca_machine.specs.Network.{Network}
-use Rattle.gptp_bmca_machine.specs.SoundLaws.{AllAreNear}
+use Rattle.gptp_bmca_machine.specs.SoundLaws.{AllAreNear, UnlinkedAreOff}
 use Rattle.gptp_bmca_machine.proofs.StillLemmas.{best_was}
 use Rattle.gptp_invariants.specs.ChoiceCalm.{HaveQuietLinks, delay_in}
 use Rattle.gptp_invariants.specs.ChoiceSeenLaws.{IsNoChange}
@@ -33,9 +33,15 @@ use Rattle.gptp_settling_time.proofs.AlwaysClaimedLemmas.{IsClaimedAlways}
 use Rattle.gptp_settling_time.proofs.FallAlwaysLemmas.{fallen_by, settles_by}
 use Rattle.gptp_settling_time.proofs.LeftClaimedLemmas.{HaveAskedBy, asked_acts, asked_later, left_net, left_network}
 use Rattle.gptp_settling_time.proofs.NamesItselfLemmas.{AllNameItself, sound_itself}
+<<<<<<< HEAD
 use Rattle.gptp_settling_time.proofs.RightBeginLemmas.{root_right}
 use Rattle.gptp_settling_time.proofs.TellsRightLemmas.{IsSettledState, LevelTellsRight}
 use Rattle.gptp_settling_time.proofs.ToldAnewLemmas.{SettlesOnce, TellsOnce, once_claimed, same_way, tells_begins, tells_on, told_over, way_in}
+=======
+use Rattle.gptp_settling_time.proofs.TellsRightLemmas.{IsSettledState}
+use Rattle.gptp_settling_time.proofs.ToldAnewLemmas.{SettlesOnce, TellsOnce, once_claimed, same_way, tells_begins, tells_on, way_in}
+use Rattle.gptp_settling_time.proofs.MovedAlwaysLemmas.{dark_now}
+>>>>>>> w_line
 use Rattle.gptp_settling_time.proofs.TurnedRestLemmas.{turned_state}
 use Rattle.gptp_settling_time.proofs.TurnedTreeLemmas.{IsTurnedTreeAlways, by_now, turn_times, turned_tree_acts, turned_tree_later}
 
@@ -62,7 +68,7 @@ module _ (p : SettlingParams) (g : Snapshot) (silent start : ℕ) (w : WorldStat
         IsBest-unique is.n.graph v is.best best is.turns.well (is.turns.is_best v in_v) is_best in
         subst (IsBest g v) one (is.turns.was_best v in_v)
     | no out ↦
-        best_was g is.n is.turns.well is.turns.left v best (is.turns.others v is_best.reached.1.begins out) is_best
+        best_was g is.n is.turns.well is.turns.left v best (is.others v is_best.reached.1.begins out) is_best
   ]
 
   itself : HaveQuietLinks p.params w → NothingLapses p.params → AllNameItself says_announce is.n g (view w)
@@ -84,6 +90,8 @@ module _ (p : SettlingParams) (g : Snapshot) (silent start : ℕ) (w : WorldStat
       (fallen_by is.n start) (settles_by is.n start)
       (turn_times g is.n is.tree is.top is.other is.last is.out is.best is.base is.depth is.turns start) (view w)
       (is.seen quiet off).0 (is.seen quiet off).1 (by_now p g silent start w is quiet off (omega (arith, late)))
+      is.others (subst (λ (z : Network). UnlinkedAreOff z.graph (view w)) is.same
+      (dark_now p silent w is.standing is.asked quiet is.past))
 
   -- what names the best in no steps names it alone
   root : HaveQuietLinks p.params w → NothingLapses p.params → start + 2 * way_in w < w.time → (base : ℕ)

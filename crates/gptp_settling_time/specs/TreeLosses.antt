@@ -6,6 +6,7 @@ use Rattle.gptp_graph.specs.Best.{IsBest}
 use Rattle.gptp_graph.specs.Distance.{IsDistance}
 use Rattle.gptp_graph.specs.Snapshot.{Adjacent, Joins, PortIdentity, Snapshot, System, clocks, port_of}
 use Rattle.gptp_bmca_machine.specs.CutTree.{Tree}
+use Rattle.gptp_bmca_machine.specs.FailureTrees.{Turning}
 use Rattle.gptp_network.specs.Snapshot.{StandsAfter}
 use Rattle.gptp_scenario.specs.Calm.{IsLive, IsUsed}
 use Rattle.gptp_scenario.specs.Change.{link_after}
@@ -179,24 +180,53 @@ pub record IsTreeCutOff (g g' : Snapshot) (best : System) (t : Tree) : Type 0 wh
       → t.depth v ≡ suc (t.depth a.clock) → t.depth v ≡ suc (t.depth b.clock)
       → p ≡ q
 
--- the system is unmoved, or in a tree that is so cut off from this best
-abbrev pub IsUnmovedOrInTree : Snapshot → Snapshot → System → ℕ → Type 0
-IsUnmovedOrInTree g g' best v =
-    IsUnmoved g g' v ⊎ ((t : Tree) × IsTreeCutOff g g' best t × IsBest g' v t.next)
+-- From the first snapshot to the second these systems are moved. They have the best that they had, and each is farther
+-- from it. Before, each was as far as its depth says, from the base on. The one at the top lost its links to others; each
+-- link that the others had they have still. Within the tree a link leads one deeper or less deep by one, and each system
+-- has one link at most to such as are less deep. One link leads out of it, to a system that is unmoved.
+pub record IsTreeTurned (g g' : Snapshot) (best : System) (t : Turning) : Type 0 where
+  pub in_top : In t.top t.tree
+  pub lives : (v : ℕ) → In v t.tree → In v (clocks g')
+  pub was_best : (v : ℕ) → In v t.tree → IsBest g v best
+  pub is_best : (v : ℕ) → In v t.tree → IsBest g' v best
+  pub was : (v : ℕ) → In v t.tree → IsDistance g v (t.base + t.depth v)
+  pub farther : (v far : ℕ) → In v t.tree → IsDistance g' v far → t.base + t.depth v < far
+  pub first : t.depth t.top ≡ 0
+  pub lost : (v u : ℕ) → In v t.tree → Adjacent g v u → Adjacent g' v u ⊎ (v ≡ t.top)
+  pub steps : (v u : ℕ) → In v t.tree → In u t.tree → Adjacent g' v u
+      → (t.depth u ≡ suc (t.depth v)) ⊎ (t.depth v ≡ suc (t.depth u))
+  pub single : (v p q : ℕ) (a b : PortIdentity) → In v t.tree → In a.clock t.tree → In b.clock t.tree
+      → Joins g' (port_of v p) a → Joins g' (port_of v q) b
+      → t.depth v ≡ suc (t.depth a.clock) → t.depth v ≡ suc (t.depth b.clock)
+      → p ≡ q
+  pub leaves : (v u : ℕ) → In v t.tree → Adjacent g' v u → In u t.tree ⊎ ((v ≡ t.last) × (u ≡ t.out))
+  pub in_last : In t.last t.tree
+  pub outside : In t.out t.tree → ⊥
+  pub unmoved : IsUnmoved g g' t.out
+  pub joined : Adjacent g' t.last t.out
+  pub one_way : (p q k m : ℕ) → Joins g' (port_of t.last p) (port_of t.out k)
+      → Joins g' (port_of t.last q) (port_of t.out m)
+      → p ≡ q
 
--- after these events this one so cuts trees off from one best, and no other system is moved
-abbrev pub CutsTreesFrom : NetworkState → List Timed → Timed → Type 0
-CutsTreesFrom n before event = (g g' : Snapshot) → StandsAfter n before g
+-- the system is unmoved, or in a tree that is so cut off from this best, or in one that turns
+abbrev pub IsUnmovedOrInTree : Snapshot → Snapshot → System → ℕ → Type 0
+IsUnmovedOrInTree g g' best v = IsUnmoved g g' v
+    ⊎ (((t : Tree) × IsTreeCutOff g g' best t × IsBest g' v t.next)
+    ⊎ ((t : Turning) × IsTreeTurned g g' best t × In v t.tree))
+
+-- after these events this one so moves trees that had one best, and no other system
+abbrev pub MovesTreesFrom : NetworkState → List Timed → Timed → Type 0
+MovesTreesFrom n before event = (g g' : Snapshot) → StandsAfter n before g
     → StandsAfter n (before ++ event ∷ []) g'
     → (best : System) × ((v : ℕ) → In v (clocks g') → IsUnmovedOrInTree g g' best v)
 
--- After these events this one lets a live system fail, and so cuts trees off. The greatest delay of a link in use gets
--- no greater, and no path longer. None had more than 255 systems.
+-- After these events this one lets a live system fail, and so moves trees: they are cut off, or turn to their way out.
+-- The greatest delay of a link in use gets no greater, and no path longer. None had more than 255 systems.
 pub record FailsTrees (n : NetworkState) (before : List Timed) (event : Timed) : Type 0 where
   pub clock : ℕ
   pub act : event.act ≡ Changing (Fail clock)
   pub live : IsLive n.systems before clock
-  pub cuts : CutsTreesFrom n before event
+  pub moves : MovesTreesFrom n before event
   pub delay : (sync_paths n (before ++ event ∷ [])).delay ≤ (sync_paths n before).delay
   pub paths : (sync_paths n (before ++ event ∷ [])).systems ≤ (sync_paths n before).systems
   pub few : (sync_paths n before).systems ≤ 255

@@ -1,4 +1,4 @@
--- Whether events cut off trees of systems, each by links that its top loses (profile).
+-- Whether events move trees of systems, each by links that its top loses: some are cut off, one may turn (profile).
 use Rattle.std.specs.Prelude.{ℕ, ◌==◌, ◌&&◌, ◌||◌, not, Bool, if◌then◌else◌, List, length, slice_get}
 use Rattle.std.specs.List.{list_all, list_any, range_with_len}
 use Rattle.gptp_scenario.specs.Network.{NetworkState}
@@ -7,15 +7,20 @@ use Rattle.gptp_topology.specs.After.{systems_after}
 use Rattle.gptp_topology.specs.declared.nodes.System.{System}
 use Rattle.gptp_how_soon.specs.Chosen.{chosen_after, is_moved_at, lost_ends, used_ends}
 use Rattle.gptp_how_soon.specs.Tree.{has_better_root, has_same_root, is_below}
+use Rattle.gptp_how_soon.specs.TurnedTree.{is_turned_at, tree_turns_at}
 use Rattle.gptp_how_soon.specs.declared.chosen.Chosen.{Chosen}
 use Rattle.gptp_how_soon.specs.declared.chosen.Ends.{Ends}
 
--- ---- a tree
+-- ---- a tree that is cut off
 
--- the system at a place is one of the tree below the top, which is moved, to a worse root
+-- the system at a place is moved, and doesn't turn
+abbrev pub falls_at : List System → List Chosen → List Chosen → ℕ → Bool
+falls_at systems before now place = is_moved_at systems before now place && not (is_turned_at systems before now place)
+
+-- it is one of the tree below the top, which so falls to a worse root
 abbrev pub is_under : List System → List Ends → List Chosen → List Chosen → ℕ → ℕ → Bool
 is_under systems links before now place top =
-    is_moved_at systems before now top
+    falls_at systems before now top
     && has_better_root (slice_get before top) (slice_get now top)
     && is_below links before now top place
 
@@ -24,19 +29,19 @@ abbrev pub is_under_end : List System → List Ends → List Chosen → List Cho
 is_under_end systems links before now place e =
     is_under systems links before now place e.a || is_under systems links before now place e.b
 
--- an end of a link is moved, and has the root of the system at a place
+-- an end of a link falls, and has the root of the system at a place
 abbrev pub shares_root : List System → List Chosen → List Chosen → ℕ → ℕ → Bool
 shares_root systems before now place top =
-    is_moved_at systems before now top && has_same_root (slice_get now top) (slice_get now place)
+    falls_at systems before now top && has_same_root (slice_get now top) (slice_get now place)
 
 abbrev pub shares_root_end : List System → List Chosen → List Chosen → ℕ → Ends → Bool
 shares_root_end systems before now place e =
     shares_root systems before now place e.a || shares_root systems before now place e.b
 
--- one that is moved is in a tree, and no other has the root of one
+-- one that falls is in a tree, and no other has the root of one
 abbrev pub is_in_or_apart : List System → List Ends → List Ends → List Chosen → List Chosen → ℕ → Bool
 is_in_or_apart systems lost links before now place =
-    if is_moved_at systems before now place then list_any (is_under_end systems links before now place) lost
+    if falls_at systems before now place then list_any (is_under_end systems links before now place) lost
     else not (list_any (shares_root_end systems before now place) lost)
 
 -- ---- tops
@@ -61,14 +66,26 @@ agrees_with systems lost before now e = list_all (ends_are_tops systems before n
 
 -- ---- trees
 
+-- an end of a link is the top of the tree that turns
+abbrev pub turns_at_end : List System → List Ends → List Chosen → List Chosen → Ends → Bool
+turns_at_end systems links before now e =
+    tree_turns_at systems links before now e.a || tree_turns_at systems links before now e.b
+
+-- no system turns, or it is so of one of the links that are lost
+abbrev pub turns_none_or_one : List System → List Ends → List Ends → List Chosen → List Chosen → Bool
+turns_none_or_one systems lost links before now =
+    not (list_any (is_turned_at systems before now) (range_with_len 0 (length systems)))
+    || list_any (turns_at_end systems links before now) lost
+
 -- Each system that is moved is in a tree below an end of a link that is lost, which alone of the ends of such is in it.
-abbrev pub cuts_trees : List System → List Ends → List Ends → List Chosen → List Chosen → Bool
-cuts_trees systems lost links before now =
+abbrev pub moves_trees : List System → List Ends → List Ends → List Chosen → List Chosen → Bool
+moves_trees systems lost links before now =
     list_all (agrees_with systems lost before now) lost
     && list_all (is_in_or_apart systems lost links before now) (range_with_len 0 (length systems))
+    && turns_none_or_one systems lost links before now
 
 -- between these events and more of them
-abbrev pub cuts_trees_after : NetworkState → List Timed → List Timed → Bool
-cuts_trees_after n made events =
-    cuts_trees (systems_after n events) (lost_ends n made events) (used_ends n events) (chosen_after n made)
+abbrev pub moves_trees_after : NetworkState → List Timed → List Timed → Bool
+moves_trees_after n made events =
+    moves_trees (systems_after n events) (lost_ends n made events) (used_ends n events) (chosen_after n made)
     (chosen_after n events)

@@ -1,14 +1,23 @@
-//! Whether events cut off trees of systems, each by links that its top loses.
+//! Whether events move trees of systems, each by links that its top loses: some are cut off, one may turn.
 
 ghost use Rattle.std.specs.Prelude.{◌≡◌, length};
 ghost use Rattle.std.specs.List.{list_all, list_any, range_with_len};
-ghost use Rattle.gptp_how_soon.specs.CutTrees.{agrees_with, are_tops, cuts_trees, ends_are_tops, is_in_or_apart, is_under, is_under_end, shares_root, shares_root_end};
+ghost use Rattle.gptp_how_soon.specs.MovedTrees.{agrees_with, are_tops, ends_are_tops, falls_at, is_in_or_apart, is_under, is_under_end, moves_trees, shares_root, shares_root_end, turns_at_end, turns_none_or_one};
+ghost use Rattle.gptp_how_soon.specs.TurnedTree.{is_turned_at};
 
 use crate::chosen::{Chosen, Ends, is_moved_at};
 use crate::tree::{had_better_root, has_same_root, is_below};
+use crate::turned_tree::{is_turned_at, tree_turns_at};
 use gptp_topology::System;
 
-/// Whether the system at a place is one of the tree below the top, which is moved, to a worse root.
+/// Whether the system at a place is moved, and doesn't turn.
+fn falls_at(systems: &[System], before: &[Chosen], now: &[Chosen], place: usize) -> bool
+    ensures { result ≡ falls_at systems.now before.now now.now place }
+{
+    is_moved_at(systems, before, now, place) && !is_turned_at(systems, before, now, place)
+}
+
+/// Whether it is one of the tree below the top, which so falls to a worse root.
 fn is_under(
     systems: &[System],
     links: &[Ends],
@@ -19,7 +28,7 @@ fn is_under(
 ) -> bool
     ensures { result ≡ is_under systems.now links.now before.now now.now place top }
 {
-    is_moved_at(systems, before, now, top)
+    falls_at(systems, before, now, top)
         && had_better_root(before, now, top)
         && is_below(links, before, now, top, place)
 }
@@ -54,7 +63,7 @@ fn is_under_any(
     lost.iter().any(|ends| is_under_end(systems, links, before, now, place, ends))
 }
 
-/// Whether the one system is moved, and has the root of that at a place.
+/// Whether the one system falls, and has the root of that at a place.
 fn shares_root(
     systems: &[System],
     before: &[Chosen],
@@ -64,7 +73,7 @@ fn shares_root(
 ) -> bool
     ensures { result ≡ shares_root systems.now before.now now.now place top }
 {
-    is_moved_at(systems, before, now, top) && has_same_root(now, top, place)
+    falls_at(systems, before, now, top) && has_same_root(now, top, place)
 }
 
 /// Whether an end of a link does.
@@ -95,7 +104,7 @@ fn shares_root_any(
         .any(|ends| shares_root_end(systems, before, now, place, ends))
 }
 
-/// Whether the system at a place is in a tree if it is moved, and has the root of none if not.
+/// Whether the system at a place is in a tree if it falls, and has the root of none if not.
 fn is_in_or_apart(
     systems: &[System],
     lost: &[Ends],
@@ -106,7 +115,7 @@ fn is_in_or_apart(
 ) -> bool
     ensures { result ≡ is_in_or_apart systems.now lost.now links.now before.now now.now place }
 {
-    if is_moved_at(systems, before, now, place) {
+    if falls_at(systems, before, now, place) {
         is_under_any(systems, lost, links, before, now, place)
     } else {
         !shares_root_any(systems, lost, before, now, place)
@@ -174,15 +183,66 @@ fn all_agree(systems: &[System], lost: &[Ends], before: &[Chosen], now: &[Chosen
         .all(|ends| agrees_with(systems, lost, before, now, ends))
 }
 
-/// Whether each system that is moved is in a tree that is cut off, as these links are lost.
-pub(crate) fn cuts_trees(
+/// Whether some system turns.
+fn any_turns(systems: &[System], before: &[Chosen], now: &[Chosen]) -> bool
+    ensures { result
+        ≡ list_any (is_turned_at systems.now before.now now.now) (range_with_len 0 (length systems.now)) }
+{
+    (0..systems.len()).any(|place| is_turned_at(systems, before, now, place))
+}
+
+/// Whether an end of a link is the top of the tree that turns.
+fn turns_at_end(
+    systems: &[System],
+    links: &[Ends],
+    before: &[Chosen],
+    now: &[Chosen],
+    ends: &Ends,
+) -> bool
+    ensures { result ≡ turns_at_end systems.now links.now before.now now.now ends.now }
+{
+    tree_turns_at(systems, links, before, now, ends.a)
+        || tree_turns_at(systems, links, before, now, ends.b)
+}
+
+/// Whether it is so of one of the links that are lost.
+fn turns_at_any_end(
     systems: &[System],
     lost: &[Ends],
     links: &[Ends],
     before: &[Chosen],
     now: &[Chosen],
 ) -> bool
-    ensures { result ≡ cuts_trees systems.now lost.now links.now before.now now.now }
+    ensures { result ≡ list_any (turns_at_end systems.now links.now before.now now.now) lost.now }
 {
-    all_agree(systems, lost, before, now) && all_are_in_or_apart(systems, lost, links, before, now)
+    lost.iter()
+        .any(|ends| turns_at_end(systems, links, before, now, ends))
+}
+
+/// Whether no system turns, or one tree does.
+fn turns_none_or_one(
+    systems: &[System],
+    lost: &[Ends],
+    links: &[Ends],
+    before: &[Chosen],
+    now: &[Chosen],
+) -> bool
+    ensures { result ≡ turns_none_or_one systems.now lost.now links.now before.now now.now }
+{
+    !any_turns(systems, before, now) || turns_at_any_end(systems, lost, links, before, now)
+}
+
+/// Whether each system that is moved is in a tree that is cut off or turns, as these links are lost.
+pub(crate) fn moves_trees(
+    systems: &[System],
+    lost: &[Ends],
+    links: &[Ends],
+    before: &[Chosen],
+    now: &[Chosen],
+) -> bool
+    ensures { result ≡ moves_trees systems.now lost.now links.now before.now now.now }
+{
+    all_agree(systems, lost, before, now)
+        && all_are_in_or_apart(systems, lost, links, before, now)
+        && turns_none_or_one(systems, lost, links, before, now)
 }
