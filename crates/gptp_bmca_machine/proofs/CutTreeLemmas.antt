@@ -1,5 +1,5 @@
 -- A tree that the loss of a link cuts off is moved by it, without a way out.
-use Rattle.std.proofs.Common.{◌≡◌, ◌⊎◌, ℕ, suc, ap, subst, inl, arith}
+use Rattle.std.proofs.Common.{◌≡◌, ◌⊎◌, ℕ, suc, ap, subst, inl, inr, arith}
 use native.Mathlib.Decide.{ℕ_discrete}
 use Rattle.gptp_lists.specs.Members.{In}
 use Rattle.gptp_graph.specs.Best.{IsBest}
@@ -53,6 +53,11 @@ module _ (g : Snapshot) (n : Network) (top : ℕ) (best next : System) (base : �
     ways = n.graph;
     ways_well = t.well;
     ways_left = nothing_lost n t.well;
+    ways_stand = λ s member. member;
+    stand = λ s member. elim (t.stand s member) [
+      | inl stood ↦ inl stood
+      | inr is_top ↦ inr (is_top, λ v u none. none)
+    ];
     tree_ways = λ v i q in_v joins. joins;
     far_now = λ v far around here. here;
     lives = λ v in_v. in_v.reached.1.begins;
@@ -86,7 +91,7 @@ module _ (g : Snapshot) (n : Network) (top : ℕ) (best next : System) (base : �
       → depth v ≡ suc (depth u) → Whole g v a → Whole n.graph v a ⊎ In u a.path
   off_whole v u a in_v in_u joined higher whole =
       whole_or_named g n (IsCutOff n next) LeadsNowhere top best next base depth moves_off u v joined in_u in_v higher
-      t.left.systems a whole (λ b z us none. absurd none)
+      a whole (λ b z us none. absurd none)
 
 module _ (g : Snapshot) (n : Network) (top : ℕ) (best next : System) (base : ℕ) (depth : ℕ → ℕ)
     (t : CutsTree g n top best next base depth) where
@@ -95,6 +100,7 @@ module _ (g : Snapshot) (n : Network) (top : ℕ) (best next : System) (base : �
   cuts_off = record {
     well = t.well;
     left = t.left;
+    stand = t.stand;
     worse = t.worse;
     was_best = t.was_best;
     was = t.was;

@@ -1,4 +1,5 @@
--- A link of a network at rest goes down, which moves a tree: its top answers, and it begins to fall back.
+-- A link of a network at rest goes down, or the best gets worse, which moves a tree: its top answers, and it begins to
+-- fall back.
 use Rattle.std.proofs.Common.{◌≡◌, ◌≢◌, ◌⊎◌, ◌<◌, ◌≤◌, ◌+◌, ℕ, suc, true, Some, slice_get, sym, ap, subst, ◌∙◌, inl, inr, arith}
 use native.Mathlib.Decide.{ℕ_discrete}
 use Rattle.gptp_lists.specs.Members.{In}
@@ -17,9 +18,9 @@ use Rattle.gptp_bmca_machine.specs.Network.{IsSettlingNetwork, Network, settled_
 use Rattle.gptp_bmca_machine.specs.Reacts.{PortStep}
 use Rattle.gptp_bmca_machine.specs.RestLaws.{LinkStays, SameWiring}
 use Rattle.gptp_bmca_machine.specs.Station.{Disabled, HoldsAt, MachineState, Mine, Port, Received, Reception, Station}
-use Rattle.gptp_bmca_machine.specs.Touch.{Disable, Hear, HeldInTouch, IsUsable, Replaces}
+use Rattle.gptp_bmca_machine.specs.Touch.{Hear, IsUsable, Replaces}
 use Rattle.gptp_bmca_machine.proofs.MovedTreeLemmas.{Around, IsBeyond, LeadsDown, MovesTree, around, child_leads}
-use Rattle.gptp_bmca_machine.proofs.FallLeaveLemmas.{TreeAnswers, leaves_old, tells_now}
+use Rattle.gptp_bmca_machine.proofs.FallLeaveLemmas.{OnlyDisables, TreeAnswers, leaves_old, tells_now}
 use Rattle.gptp_bmca_machine.proofs.FallHeldLemmas.{holds_by}
 use Rattle.gptp_bmca_machine.proofs.FallLemmas.{DownStage, HasChoice, HasLeft, HoldsInTree, HoldsLeft, IsAftermath, IsFalling, IsFreeAt, IsOld, falls_by, follows_old}
 use Rattle.gptp_bmca_machine.proofs.FallRestLemmas.{chosen, held_before, masters, stays0, was_x}
@@ -41,7 +42,7 @@ module _ (says : Spelling) (n0 n : Network) (Tree : ℕ → Type 0) (Out : ℕ �
     → slice_get w.lanes (n.lane (port_of v (suc p))) ≡ Some l → In f l.frames → says f.octets a
     → Whole t.ways v a ⊎ In u a.path)
     (same : SameWiring n0 n) (w' : MachineState) (in_top : Tree top)
-    (z : TreeAnswers says n (Around Tree Out) top w w') (lost : ℕ) (touch_is : z.touch ≡ Disable (suc lost))
+    (z : TreeAnswers says n (Around Tree Out) top w w') (only : OnlyDisables z.touch)
     (lanes_then : (p q : PortIdentity) (l' : Lane) → Joins n.graph p q → slice_get w'.lanes (n.lane p) ≡ Some l'
     → (l : Lane) × (slice_get w.lanes (n.lane p) ≡ Some l) × LaneStep z.s.clock z.sends l l')
     (m' : IsAftermath says n0.graph n w') (dark' : UnlinkedAreOff n.graph w') (inward' : (v p u q : ℕ) → Out u v
@@ -102,8 +103,7 @@ module _ (says : Spelling) (n0 n : Network) (Tree : ℕ → Type 0) (Out : ℕ �
                 in_v in_u joins higher z.s old r (subst (λ c. slice_get w.stations (n.place c) ≡ Some z.s) (sym is)
                 z.here) stood
                 was
-            | inr just ↦ absurd (let both : Disable (suc lost) ≡ Hear (suc q) just.said =
-                sym touch_is ∙ just.touched in cc)
+            | inr just ↦ absurd (only.deaf (suc q) just.said just.touched)
           ]
     ]
 
@@ -213,8 +213,7 @@ module _ (says : Spelling) (n0 n : Network) (Tree : ℕ → Type 0) (Out : ℕ �
       (down : LeadsDown g Tree Out base depth top u) where
     refuses_top : (a : Announce) → z.touch ≡ Hear (suc p) a → IsUsable top a
         → Replaces top (suc p) a (Mine best.identity (base + depth top)) → ⊥
-    refuses_top a touched usable replaces =
-        absurd (let both : Disable (suc lost) ≡ Hear (suc p) a = sym touch_is ∙ touched in cc)
+    refuses_top a touched usable replaces = only.deaf (suc p) a touched
 
     -- its port was master
     was_mine : (pv : Port) → slice_get z.s.ports p ≡ Some pv
@@ -243,10 +242,9 @@ module _ (says : Spelling) (n0 n : Network) (Tree : ℕ → Type 0) (Out : ℕ �
                 answered : ((old : Port) × (slice_get z.s.ports p ≡ Some old)
                     × PortStep says z.s.clock (suc p) w.time z.touch z.s'.root z.s'.steps old pv' z.sends) → ⊥
                 answered (old, stood', answer) =
-                    lit (elim (subst (λ k. HeldInTouch z.s.clock (suc p) k w.time old.held answer.mid) touch_is
-                    answer.before) [
-                      | inl (here, is) ↦ is
-                      | inr (other, is) ↦ is
+                    lit (elim (only.spares z.s.clock (suc p) w.time old.held answer.mid answer.before) [
+                      | inl is ↦ is
+                      | inr is ↦ is
                           ∙ ap (λ (y : Port). y.held) (same_there z.s.ports p old pv stood' stood) ∙ off
                     ])
                   where

@@ -11,7 +11,7 @@ use Rattle.gptp_bmca_machine.specs.Network.{Network}
 use Rattle.gptp_bmca_machine.specs.Reacts.{IsMasterAt, IsOwn, KeepsHeld, PortStep, StationReacts}
 use Rattle.gptp_bmca_machine.specs.RestLaws.{LinkStays}
 use Rattle.gptp_bmca_machine.specs.Station.{Aged, Disabled, Held, MachineState, Mine, Port, Received, Station}
-use Rattle.gptp_bmca_machine.specs.Touch.{Hear, IsUsable, Replaces, StationTouch}
+use Rattle.gptp_bmca_machine.specs.Touch.{Disable, Hear, HeldInTouch, IsUsable, Other, Replaces, StationTouch}
 use Rattle.gptp_bmca_machine.proofs.FallLemmas.{HasChoice, HoldsInTree, IsAftermath, IsNewTold, falls_by, says_usable, says_whole}
 use Rattle.gptp_bmca_machine.proofs.MovedTreeLemmas.{Around, IsBeyond, MovesTree, around}
 use Rattle.gptp_bmca_machine.proofs.HearingLemmas.{mid_mine}
@@ -74,6 +74,22 @@ tells_new says g n Tree Out top best next base depth t start w m x in_x s at hol
 
     same : i ≡ p
     same = let both = sym place ∙ is in omega (arith, both)
+
+-- By the touch nothing is heard, and a port holds what it held or is disabled.
+pub record OnlyDisables (touch : StationTouch) : Type 0 where
+  pub deaf : (m : ℕ) (a : Announce) → touch ≡ Hear m a → ⊥
+  pub spares : (c n now : ℕ) (held mid : Held) → HeldInTouch c n touch now held mid → (mid ≡ Disabled) ⊎ (mid ≡ held)
+
+-- so it is where a port is disabled
+pub disable_only : (number : ℕ) → OnlyDisables (Disable number)
+disable_only number = record {
+  deaf = λ m a same. absurd cc;
+  spares = λ c n now held mid is. elim is [ inl (here, off) ↦ inl off | inr (other, kept) ↦ inr kept ];
+}
+
+-- and where nothing is heard and no port changes
+pub other_only : OnlyDisables Other
+other_only = record { deaf = λ m a same. absurd cc; spares = λ c n now held mid is. inr is }
 
 -- A system of the tree answers, and whoever else is in it or beside it stands as it did: its sends enter the lanes to
 -- others.

@@ -44,7 +44,7 @@ module _ (says : Spelling) (g : Snapshot) (n : Network) (Tree : ℕ → Type 0) 
   not_zero none = elim (t.worse top in_top) [
     | inl worse ↦
         let (s, live, named) = system_of n.graph top known in
-        let one = same_clock g s best t.left.graph (t.left.systems s live) (t.was_best top in_top).live
+        let one = same_clock g s best t.left.graph (loses.systems s live) (t.was_best top in_top).live
         (named ∙ sym clock) in
         let least = (t.best_now top in_top).least s live
         (subst (Reaches n.graph top) (sym named) (Reaches-self n.graph top known)) in
@@ -173,7 +173,7 @@ module _ (says : Spelling) (g : Snapshot) (n : Network) (Tree : ℕ → Type 0) 
             (Joins-sym g (port_of lost (suc p)) (port_of top (suc i)) joins) in
             let same : y ≡ station_system s =
             same_clock g y (station_system s) t.left.graph in_y
-            (t.left.systems (station_system s) (m.kept.calm.facts.stations (n.place top) s at live).known)
+            (loses.systems (station_system s) (m.kept.calm.facts.stations (n.place top) s at live).known)
             (is_port.clock ∙ sym clock) in
             let (pu, there) = member_there s.ports i (subst (λ (z : System). suc i ≤ z.ports) same is_port.last) in
             record { s = s; at = at; pu = pu; there = there }

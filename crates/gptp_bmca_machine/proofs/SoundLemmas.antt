@@ -4,9 +4,10 @@ use native.Mathlib.Decide.{dec_le}
 use Rattle.gptp_lists.specs.Members.{In}
 use Rattle.gptp_lists.proofs.SystemSpecLemmas.{In-parts}
 use Rattle.gptp_graph.specs.Snapshot.{System, PortIdentity, Snapshot, clocks, port_of, Joins, Adjacent, IsWellFormed}
-use Rattle.gptp_graph.specs.Path.{Route, IsPath}
+use Rattle.gptp_graph.specs.Path.{Reaches, Route, IsPath}
 use Rattle.gptp_graph.proofs.LinkLemmas.{Joins-sym}
 use Rattle.gptp_graph.proofs.LinkDecisions.{IsLinked-dec}
+use Rattle.gptp_graph.proofs.PathLemmas.{Reaches-self}
 use Rattle.gptp_graph.proofs.SystemLemmas.{In-clocks}
 use Rattle.gptp_graph.proofs.SystemLemmas as systems
 use Rattle.gptp_graph.proofs.BestLemmas.{IsBest-neighbour}
@@ -19,13 +20,14 @@ use Rattle.gptp_bmca_machine.specs.Clean.{IsWorse, Whole, CameSound}
 use Rattle.gptp_bmca_machine.specs.Facts.{station_system, FollowsPort, IsLiveStationState}
 use Rattle.gptp_bmca_machine.specs.Network.{Network, IsSettlingNetwork, network_setting}
 use Rattle.gptp_bmca_machine.specs.Calm.{HasLane, Calm}
-use Rattle.gptp_bmca_machine.specs.LossLaws.{EverythingFits, FlightFits, IsWhatIsLeft}
+use Rattle.gptp_bmca_machine.specs.LossLaws.{EverythingFits, FlightFits, IsWhatIsLeft, WasSystem}
 use Rattle.gptp_bmca_machine.specs.SoundLaws.{IsSoundFrom, IsSoundOnLinks, UnlinkedAreOff, HasNews, AllIsWhole}
 use Rattle.gptp_bmca_machine.specs.Sound.{ReceivedFits}
 use Rattle.gptp_bmca_machine.proofs.NearestLemmas.{came_fits}
 use Rattle.gptp_bmca_machine.proofs.PlaceLemmas.{same_there}
 use Rattle.gptp_bmca_machine.proofs.TraceLemmas.{whole_own, whole_on}
 use Rattle.gptp_bmca_machine.proofs.ReactsLemmas.{JustHeard, held_from}
+use Rattle.gptp_bmca_machine.proofs.RestLemmas.{left_of, was_there}
 
 -- a port that received something after a touch wasn't disabled before
 on_before : (c n now : ℕ) (touch : StationTouch) (held mid : Held) (r : Reception) → HeldInTouch c n touch now held mid
@@ -57,7 +59,7 @@ was_on says s s' touch now sends reacts i r (q', at, holds) =
 
 -- all of a network is left of its own snapshot
 pub nothing_lost : (n : Network) → IsWellFormed n.graph → IsWhatIsLeft n.graph n
-nothing_lost n well = record { graph = well; systems = λ s known. known; links = λ p q joins. joins }
+nothing_lost n well = left_of n.graph n well (λ s known. known) (λ p q joins. joins)
 
 -- what is left of a snapshot: there it stays sound by the snapshot
 module _ (says : Spelling) (g : Snapshot) (n : Network) (left : IsWhatIsLeft g n) where
@@ -65,14 +67,29 @@ module _ (says : Spelling) (g : Snapshot) (n : Network) (left : IsWhatIsLeft g n
   abbrev IsSoundStation : Station → Type 0
   IsSoundStation s = (place : ℕ) (r : Reception) → HoldsAt s place r → CameSound g s.clock (suc place) r
 
+  -- what a system says of itself is sound, where its identity was as good or better
+  says_itself : (s : System) (a : Announce) → WasSystem g s → a.root ≡ s.identity → a.steps ≡ 0
+      → a.path ≡ s.clock ∷ [] → IsWorse g s.clock a ⊎ Whole g s.clock a
+  says_itself s a was root steps path = elim (dec_le s.identity was.old.identity) [
+    | yes same ↦
+        let better = was.identity in
+        let one : s.identity ≡ was.old.identity = omega (arith, same, better) in
+        inr (subst (λ c. Whole g c a) was.clock
+        (whole_own g was.old a was.known (root ∙ one) steps (path ∙ ap (λ c. c ∷ []) (sym was.clock))))
+    | no worse ↦ inl (λ best is_best.
+        let least = is_best.least was.old was.known
+        (subst (Reaches g s.clock) (sym was.clock) (Reaches-self g s.clock (was_there g s was))) in
+        omega (arith, least, worse, root))
+  ]
+
   -- what a system says is sound where what it holds is
   pub says_sound : (now : ℕ) (s : Station) → IsLiveStationState (network_setting n) now s → IsSoundStation s
       → (p : ℕ) (a : Announce)
       → IsOwn s p a → IsWorse g s.clock a ⊎ Whole g s.clock a
   says_sound now s is held p a own = elim is.follows [
-    | inl itself ↦ inr (whole_own g (station_system s) a (left.systems (station_system s) is.known) (own.root ∙
-        itself.root) (own.steps ∙ itself.steps)
-        (own.path ∙ itself.trace))
+    | inl itself ↦
+        says_itself (station_system s) a (left.systems (station_system s) is.known) (own.root ∙ itself.root)
+        (own.steps ∙ itself.steps) (own.path ∙ itself.trace)
     | inr port ↦ on port (held port.place port.r port.holds)
   ]
     where
@@ -85,8 +102,8 @@ module _ (says : Spelling) (g : Snapshot) (n : Network) (left : IsWhatIsLeft g n
             | inl worse ↦ inl (λ best is_best. subst (λ m. best.identity < m) (sym (own.root ∙ port.root))
                 (worse best (IsBest-neighbour g s.clock came.from.clock best left.graph joined is_best)))
             | inr whole ↦ inr (whole_on g s.clock came.from.clock port.r.said a whole
-                (In-clocks g (station_system s) (left.systems (station_system s) is.known)) joined (is.held port.place
-                port.r port.holds).no_loop
+                (was_there g (station_system s) (left.systems (station_system s) is.known)) joined
+                (is.held port.place port.r port.holds).no_loop
                 (own.root ∙ port.root) (own.steps ∙ port.steps) (own.path ∙ port.trace))
           ]
 

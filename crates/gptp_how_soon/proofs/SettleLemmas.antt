@@ -17,7 +17,7 @@ use Rattle.gptp_how_soon.specs.Silent.{any_silent}
 use Rattle.gptp_how_soon.specs.Times.{settling_time}
 use Rattle.gptp_how_soon.specs.Walk.{moves_seen, view_seen}
 use Rattle.gptp_how_soon.specs.declared.bounds.Row.{Row}
-use Rattle.gptp_how_soon.specs.declared.bounds.Row.TheVariants.{AnyLosses, AnyPast, CutOff, FailedEnd, FailedHeard, FailureCutsOff, FailureCutsTrees, Gained, Lowered, OneTurned, TreeCutOff, TreeTurned, Unchanged}
+use Rattle.gptp_how_soon.specs.declared.bounds.Row.TheVariants.{AnyLosses, AnyPast, CutOff, FailedEnd, FailedHeard, FailureCutsOff, FailureCutsTrees, Gained, Lowered, SystemTurned, TreeCutOff, TreeTurned, Unchanged}
 use Rattle.gptp_how_soon.specs.declared.bounds.SettlingTime.{SettlingTime}
 use Rattle.gptp_how_soon.specs.declared.kinds.Told.{Told}
 use Rattle.gptp_how_soon.specs.declared.rest.Moves.{Moves}
@@ -44,12 +44,12 @@ same_row from_rest first before paths told moves =
         else if followed && not (asked_of moves (rest && (followed || lowering || failing))).moved then Unchanged
         else if lowering && not (asked_of moves (rest && (followed || lowering || failing))).moved
         then if (asked_of moves (rest && (followed || lowering || failing))).cut then CutOff else Lowered
-        else if lowering && (asked_of moves (rest && (followed || lowering || failing))).turned then OneTurned
+        else if lowering && (asked_of moves (rest && (followed || lowering || failing))).turned then SystemTurned
         else if lowering && (asked_of moves (rest && (followed || lowering || failing))).falls then TreeCutOff
         else if lowering && (asked_of moves (rest && (followed || lowering || failing))).tree_turns then TreeTurned
         else if failing && not (asked_of moves (rest && (followed || lowering || failing))).moved
         then failed_row (asked_of moves (rest && (followed || lowering || failing))).far
-        (asked_of moves (rest && (followed || lowering || failing))).any
+        (asked_of moves (rest && (followed || lowering || failing))).any_moved
         else if failing && (asked_of moves (rest && (followed || lowering || failing))).trees_fall
         then FailureCutsTrees
         else if list_any is_loss told then if list_all brings_nothing told then AnyLosses else AnyPast
@@ -57,10 +57,10 @@ same_row from_rest first before paths told moves =
         ≡ (if not rest then AnyPast else if first then Gained else if idle then Unchanged
         else if followed && not moves.moved then Unchanged
         else if lowering && not moves.moved then if moves.cut then CutOff else Lowered
-        else if lowering && moves.turned then OneTurned
+        else if lowering && moves.turned then SystemTurned
         else if lowering && moves.falls then TreeCutOff
         else if lowering && moves.tree_turns then TreeTurned
-        else if failing && not moves.moved then failed_row moves.far moves.any
+        else if failing && not moves.moved then failed_row moves.far moves.any_moved
         else if failing && moves.trees_fall then FailureCutsTrees
         else if list_any is_loss told then if list_all brings_nothing told then AnyLosses else AnyPast
         else Gained)
@@ -93,10 +93,10 @@ held_asked from_rest first before paths told moves =
         → counts_held (if not rest then AnyPast else if starts then Gained else if idle then Unchanged
         else if followed && not moves.moved then Unchanged
         else if lowering && not moves.moved then if moves.cut then CutOff else Lowered
-        else if lowering && moves.turned then OneTurned
+        else if lowering && moves.turned then SystemTurned
         else if lowering && moves.falls then TreeCutOff
         else if lowering && moves.tree_turns then TreeTurned
-        else if failing && not moves.moved then failed_row moves.far moves.any
+        else if failing && not moves.moved then failed_row moves.far moves.any_moved
         else if failing && moves.trees_fall then FailureCutsTrees
         else if loses then if losses then AnyLosses else AnyPast
         else Gained)
@@ -132,7 +132,7 @@ module _ (n : NetworkState) (at arrived : ℕ) (paths_before paths : SyncPaths) 
   held_apart FailedEnd held other is = refl
   held_apart FailedHeard held other is = absurd cc
   held_apart FailureCutsOff held other is = absurd cc
-  held_apart OneTurned held other is = refl
+  held_apart SystemTurned held other is = refl
   held_apart TreeCutOff held other is = refl
   held_apart TreeTurned held other is = refl
   held_apart FailureCutsTrees held other is = absurd cc

@@ -40,7 +40,7 @@ use Rattle.gptp_how_soon.specs.Silent.{is_heard_link, own_intervals}
 use Rattle.gptp_how_soon.specs.Times.{IsWatchedShortly, View, events_at, events_before, gained_at, heard_at, last_of, last_set, loss_at, row_at, settling_time, settling_times, settling_times_from, time_at, view_at}
 use Rattle.gptp_how_soon.specs.declared.bounds.Loss.{Loss}
 use Rattle.gptp_how_soon.specs.declared.bounds.Row.{Row}
-use Rattle.gptp_how_soon.specs.declared.bounds.Row.TheVariants.{AnyLosses, AnyPast, CutOff, FailedEnd, FailedHeard, FailureCutsOff, FailureCutsTrees, Gained, Lowered, OneTurned, TreeCutOff, TreeTurned, Unchanged}
+use Rattle.gptp_how_soon.specs.declared.bounds.Row.TheVariants.{AnyLosses, AnyPast, CutOff, FailedEnd, FailedHeard, FailureCutsOff, FailureCutsTrees, Gained, Lowered, SystemTurned, TreeCutOff, TreeTurned, Unchanged}
 use Rattle.gptp_how_soon.specs.declared.bounds.SettlingTime.{SettlingTime}
 use Rattle.gptp_how_soon.specs.declared.kinds.Told.{Told}
 use Rattle.gptp_how_soon.proofs.SilentLemmas.{held_within}
@@ -158,7 +158,7 @@ module _ (n : NetworkState) (network : IsNetwork n) (paths : SyncPaths) (few : p
         by FailedEnd = quiet 0 (omega arith)
         by FailedHeard = let a = aged_most in quiet (aged_by loss) (omega (arith, a))
         by FailureCutsOff = cut_most
-        by OneTurned = let w = way in omega (arith, w)
+        by SystemTurned = let w = way in omega (arith, w)
         by TreeCutOff = let w = way in omega (arith, w)
         by TreeTurned = let w = way in omega (arith, w)
         by FailureCutsTrees = cut_most
@@ -183,15 +183,18 @@ module _ (n : NetworkState) (network : IsNetwork n) (paths : SyncPaths) (few : p
         by Lowered = let e = echo in let g = gone paths short in omega (arith, e, g)
         by CutOff = let w = way in let g = gone paths short in omega (arith, w, g)
         by FailedEnd =
-            let s = silence_most in let g = gone loss.paths_before soon in
-            either_most loss.used (gone_by n loss.paths_before loss.used_before) _ 195000000000000 (omega (arith, g))
-            (omega (arith, s, g))
+            let g = gone loss.paths_before soon in
+            quiet (gone_by n loss.paths_before loss.used_before) (omega (arith, g))
         by FailedHeard = aged
         by FailureCutsOff = let w = way in let a = aged in let b = aged_most in omega (arith, w, a, b)
-        by OneTurned = let w = way in let e = echo in omega (arith, w, e)
+        by SystemTurned = let w = way in let e = echo in omega (arith, w, e)
         by TreeCutOff = let w = way in let g = gone paths short in omega (arith, w, g)
         by TreeTurned = let w = way in let e = echo in omega (arith, w, e)
-        by FailureCutsTrees = roles_lost
+        by FailureCutsTrees =
+            let w = way in let e = echo in let l = largest in let a = aged_most in
+            quiet
+            (aged_by loss + (2 * way_span paths + max (echo_span (pace_of n) paths) (largest_interval (pace_of n))))
+            (omega (arith, w, e, l, a))
         by AnyLosses = roles_lost
         by Gained = early
 
@@ -211,7 +214,7 @@ module _ (n : NetworkState) (network : IsNetwork n) (paths : SyncPaths) (few : p
         by true FailedEnd = omega arith
         by true FailedHeard = let e = echo in let a = aged_most in omega (arith, e, a)
         by true FailureCutsOff = let w = way in let e = echo in let a = aged_most in omega (arith, w, e, a)
-        by true OneTurned = let w = way in let e = echo in omega (arith, w, e)
+        by true SystemTurned = let w = way in let e = echo in omega (arith, w, e)
         by true TreeCutOff = let w = way in omega (arith, w)
         by true TreeTurned = let w = way in let e = echo in omega (arith, w, e)
         by true FailureCutsTrees = let w = way in let e = echo in let a = aged_most in omega (arith, w, e, a)

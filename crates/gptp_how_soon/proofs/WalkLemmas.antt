@@ -91,7 +91,7 @@ used_by f stood (w ∷ ws) = by (cable_is_used (stood w)) (used_by f stood ws)
     by true rest = ap (λ es. f w ∷ es) rest
     by false rest = rest
 
-used_are : (n : NetworkState) (events : List Timed)
+pub used_are : (n : NetworkState) (events : List Timed)
     → ends_in_use (map (ends_of n) n.links) (map cable_is_used (standings_after n events)) ≡ used_ends n events
 used_are n events = used_by (ends_of n) (standing_then n events) n.links
 
@@ -110,7 +110,7 @@ lost_by f before now (w ∷ ws) =
     by true es vs rest = ap (λ ds. f w ∷ ds) rest
     by false es vs rest = rest
 
-lost_are : (n : NetworkState) (made events : List Timed)
+pub lost_are : (n : NetworkState) (made events : List Timed)
     → ends_in_use (map (ends_of n) n.links)
     (lost_among (map cable_is_used (standings_after n made)) (map cable_is_used (standings_after n events)))
     ≡ lost_ends n made events

@@ -13,7 +13,7 @@ use Rattle.gptp_how_soon.specs.Kinds.{recovers}
 use Rattle.gptp_how_soon.specs.Links.{varies}
 use Rattle.gptp_how_soon.specs.declared.bounds.Loss.{Loss}
 use Rattle.gptp_how_soon.specs.declared.bounds.Row.{Row}
-use Rattle.gptp_how_soon.specs.declared.bounds.Row.TheVariants.{AnyLosses, AnyPast, CutOff, FailedEnd, FailedHeard, FailureCutsOff, FailureCutsTrees, Gained, Lowered, OneTurned, TreeCutOff, TreeTurned, Unchanged}
+use Rattle.gptp_how_soon.specs.declared.bounds.Row.TheVariants.{AnyLosses, AnyPast, CutOff, FailedEnd, FailedHeard, FailureCutsOff, FailureCutsTrees, Gained, Lowered, SystemTurned, TreeCutOff, TreeTurned, Unchanged}
 use Rattle.gptp_how_soon.specs.declared.bounds.Settling.{Settling}
 use Rattle.gptp_how_soon.specs.declared.bounds.SettlingTime.{SettlingTime}
 use Rattle.gptp_how_soon.specs.declared.kinds.Told.{Told}
@@ -77,7 +77,7 @@ choice_of_row n loss paths CutOff gained = 2 * way_span paths
 choice_of_row n loss paths FailedEnd gained = 0
 choice_of_row n loss paths FailedHeard gained = aged_by loss
 choice_of_row n loss paths FailureCutsOff gained = aged_by loss + 2 * way_span paths
-choice_of_row n loss paths OneTurned gained = 2 * way_span paths
+choice_of_row n loss paths SystemTurned gained = 2 * way_span paths
 choice_of_row n loss paths TreeCutOff gained = 2 * way_span paths
 choice_of_row n loss paths TreeTurned gained = 2 * way_span paths
 choice_of_row n loss paths FailureCutsTrees gained = aged_by loss + 2 * way_span paths
@@ -98,7 +98,7 @@ roles_of_row n loss paths CutOff gained = 2 * way_span paths
 roles_of_row n loss paths FailedEnd gained = quiet_by n loss 0
 roles_of_row n loss paths FailedHeard gained = quiet_by n loss (choice_of_row n loss paths FailedHeard gained)
 roles_of_row n loss paths FailureCutsOff gained = quiet_by n loss (choice_of_row n loss paths FailureCutsOff gained)
-roles_of_row n loss paths OneTurned gained = choice_of_row n loss paths OneTurned gained
+roles_of_row n loss paths SystemTurned gained = choice_of_row n loss paths SystemTurned gained
 roles_of_row n loss paths TreeCutOff gained = choice_of_row n loss paths TreeCutOff gained
 roles_of_row n loss paths TreeTurned gained = choice_of_row n loss paths TreeTurned gained
 roles_of_row n loss paths FailureCutsTrees gained =
@@ -116,11 +116,6 @@ roles_by n loss paths row gained =
 abbrev pub gone_by : NetworkState → SyncPaths → Bool → ℕ
 gone_by n paths used_before = if used_before then paths.delay else largest_interval (pace_of n)
 
--- Where each link that is up is in use so much later is sound what was in flight; else no sooner than ports at other
--- links that are up aren't capable any more.
-abbrev pub silent_by : NetworkState → Loss → ℕ → ℕ
-silent_by n loss gone = if loss.used then gone else max (silence_span (pace_of n)) gone
-
 -- How much later than a system fails that others heard each tells a right trace, and what was in flight is gone. They
 -- do at once where each link that is up is in use. Else they do once nobody holds what names it, 1 ns later than the
 -- choice stands; and ports at other links that are up have to be off.
@@ -133,22 +128,24 @@ aged_echo_span n loss paths =
 -- By when all that is held and in flight is sound: as soon as the choice stands, but after a loss it may name what is
 -- gone. After a far end or a tree is cut off, or a far end fails, only what was in flight does; of one that fails by
 -- links of before too. After a link goes down by which no system is moved traces have to be told anew first. So they do
--- once the choice stands where one system or a tree turns, or one fails that others heard. After losses without a row
--- of their own all is sound once roles stand; and no later where trees are cut off. After others it is as soon as the
--- choice stands from any past.
+-- once the choice stands where one system or a tree turns, or one fails that others heard; where that cuts trees off
+-- what was in flight as they settled has to be gone too. After losses without a row of their own all is sound once
+-- roles stand. After others it is as soon as the choice stands from any past.
 abbrev pub sound_of_row : NetworkState → Loss → SyncPaths → Row → ℕ → ℕ
 sound_of_row n loss paths AnyPast gained = settling_span_at_once (pace_of n) paths
 sound_of_row n loss paths Unchanged gained = 0
 sound_of_row n loss paths Lowered gained = max (echo_span (pace_of n) paths) (gone_by n paths loss.used_before)
 sound_of_row n loss paths CutOff gained = max (2 * way_span paths) (gone_by n paths loss.used_before)
-sound_of_row n loss paths FailedEnd gained = silent_by n loss (gone_by n loss.paths_before loss.used_before)
+sound_of_row n loss paths FailedEnd gained = quiet_by n loss (gone_by n loss.paths_before loss.used_before)
 sound_of_row n loss paths FailedHeard gained = aged_echo_span n loss paths
 sound_of_row n loss paths FailureCutsOff gained =
     max (aged_by loss + 2 * way_span paths) (aged_echo_span n loss paths)
-sound_of_row n loss paths OneTurned gained = 2 * way_span paths + echo_span (pace_of n) paths
+sound_of_row n loss paths SystemTurned gained = 2 * way_span paths + echo_span (pace_of n) paths
 sound_of_row n loss paths TreeCutOff gained = max (2 * way_span paths) (gone_by n paths loss.used_before)
 sound_of_row n loss paths TreeTurned gained = 2 * way_span paths + echo_span (pace_of n) paths
-sound_of_row n loss paths FailureCutsTrees gained = quiet_by n loss (any_loss_span n loss paths)
+sound_of_row n loss paths FailureCutsTrees gained =
+    quiet_by n loss
+    (aged_by loss + (2 * way_span paths + max (echo_span (pace_of n) paths) (largest_interval (pace_of n))))
 sound_of_row n loss paths AnyLosses gained = quiet_by n loss (any_loss_span n loss paths)
 sound_of_row n loss paths Gained gained = gained
 
@@ -163,7 +160,7 @@ abbrev pub echo_of_row : NetworkState → SyncPaths → Row → ℕ
 echo_of_row n paths Lowered = echo_span (pace_of n) paths
 echo_of_row n paths FailedHeard = echo_span (pace_of n) paths
 echo_of_row n paths FailureCutsOff = echo_span (pace_of n) paths
-echo_of_row n paths OneTurned = echo_span (pace_of n) paths
+echo_of_row n paths SystemTurned = echo_span (pace_of n) paths
 echo_of_row n paths TreeTurned = echo_span (pace_of n) paths
 echo_of_row n paths FailureCutsTrees = echo_span (pace_of n) paths
 echo_of_row n paths row = 0

@@ -1,6 +1,6 @@
 -- What each event of a time does, by what stands just before it (profile).
 use Rattle.std.specs.Prelude.{ℕ, ◌-◌, ◌==◌, ◌&&◌, ◌||◌, nat_le, nat_lt, not, Bool, true, false, if◌then◌else◌, List, [], ◌∷◌, Option, Some, None}
-use Rattle.std.specs.List.{count_by, list_all, list_any}
+use Rattle.std.specs.List.{list_all, list_any}
 use Rattle.gptp_scenario.specs.Change.{with_priority1}
 use Rattle.gptp_scenario.specs.declared.change.Act.{Act}
 use Rattle.gptp_scenario.specs.declared.change.Act.TheVariants as acts
@@ -168,6 +168,10 @@ leaves_links e = makes_nothing e || (is_loss e && is_priority1 e)
 abbrev pub lowers_unused : Told → Bool
 lowers_unused e = is_unused e && is_link_down e
 
+-- it repeats what stands: it changes nothing, and sets no priority1
+abbrev pub repeats : Told → Bool
+repeats e = is_idle e && not (is_priority1 e)
+
 -- an act sets the bounds of a link, idly or not
 abbrev pub sets_bounds : Act → Bool
 sets_bounds act = elim (what_of act) [ whats.LinkSet ↦ true | _ ↦ false ]
@@ -187,23 +191,22 @@ abbrev pub first_wider_by : List Told → ℕ
 first_wider_by [] = 0
 first_wider_by (e ∷ es) = wider_by e
 
--- a link in use goes down by one event, and all others change nothing
-abbrev pub lowers_or_idle : Told → Bool
-lowers_or_idle e = is_lowering e || is_idle e
-
+-- a link in use goes down by the first, and the others repeat what stands
 abbrev pub lowers_one : List Told → Bool
-lowers_one told = list_all lowers_or_idle told && (count_by is_lowering told == 1)
+lowers_one [] = false
+lowers_one (e ∷ es) = is_lowering e && list_all repeats es
 
--- A live system fails by one event. By the others links go down of which an end has failed, or they change nothing.
-abbrev pub fails_or_idle : Told → Bool
-fails_or_idle e = is_failing e || lowers_unused e || is_idle e
+-- A live system fails by the first. By the others links go down of which an end has failed, or they repeat what stands.
+abbrev pub is_down_too : Told → Bool
+is_down_too e = lowers_unused e || repeats e
 
-abbrev pub fails_one : List Told → Bool
-fails_one told = list_all fails_or_idle told && (count_by is_failing told == 1)
+abbrev pub fails_first : List Told → Bool
+fails_first [] = false
+fails_first (e ∷ es) = is_failing e && list_all is_down_too es
 
 -- one link or one system is taken away
 abbrev pub takes_one : List Told → Bool
-takes_one told = lowers_one told || fails_one told
+takes_one told = lowers_one told || fails_first told
 
 -- the system with this clock recovers
 abbrev pub recovers : List Told → ℕ → Bool

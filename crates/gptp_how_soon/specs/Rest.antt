@@ -6,9 +6,9 @@ use Rattle.std.specs.Prelude.{ℕ, ◌+◌, ◌*◌, ◌&&◌, ◌||◌, nat_le,
 use Rattle.std.specs.List.{list_all, list_any}
 use Rattle.gptp_scenario.specs.SettlingTime.{way_span}
 use Rattle.gptp_scenario.specs.declared.sync_wait.SyncPaths.{SyncPaths}
-use Rattle.gptp_how_soon.specs.Kinds.{are_heard, begins_wider, brings_nothing, fails_and_recovers, fails_one, first_wider_by, is_better, is_gain, is_loss, is_other, is_recovery, is_wider, leaves_links, lowers_one, lowers_unused, makes_nothing, tells_nothing}
+use Rattle.gptp_how_soon.specs.Kinds.{are_heard, begins_wider, brings_nothing, fails_and_recovers, fails_first, first_wider_by, is_better, is_gain, is_loss, is_other, is_recovery, is_wider, leaves_links, lowers_one, lowers_unused, makes_nothing, tells_nothing}
 use Rattle.gptp_how_soon.specs.declared.bounds.Row.{Row}
-use Rattle.gptp_how_soon.specs.declared.bounds.Row.TheVariants.{AnyLosses, AnyPast, CutOff, FailedEnd, FailedHeard, FailureCutsOff, FailureCutsTrees, Gained, Lowered, OneTurned, TreeCutOff, TreeTurned, Unchanged}
+use Rattle.gptp_how_soon.specs.declared.bounds.Row.TheVariants.{AnyLosses, AnyPast, CutOff, FailedEnd, FailedHeard, FailureCutsOff, FailureCutsTrees, Gained, Lowered, SystemTurned, TreeCutOff, TreeTurned, Unchanged}
 use Rattle.gptp_how_soon.specs.declared.bounds.Settling.{Settling}
 use Rattle.gptp_how_soon.specs.declared.bounds.SettlingTime.{SettlingTime}
 use Rattle.gptp_how_soon.specs.declared.kinds.Told.{Told}
@@ -72,12 +72,13 @@ keeps_paths paths_before paths =
     nat_le paths_before.systems 255 && nat_le paths.delay paths_before.delay
     && nat_le paths.systems paths_before.systems
 
--- Then one link that goes down is followed. So is one system that fails, alone or as it loses its power.
+-- Then a link that goes down by the first event of a time is followed, where the others repeat what stands. So is a
+-- system that fails, alone or as it loses its power.
 abbrev pub is_lowering_followed : SyncPaths → SyncPaths → List Told → Bool
 is_lowering_followed paths_before paths told = keeps_paths paths_before paths && lowers_one told
 
 abbrev pub is_failing_followed : SyncPaths → SyncPaths → List Told → Bool
-is_failing_followed paths_before paths told = keeps_paths paths_before paths && fails_one told
+is_failing_followed paths_before paths told = keeps_paths paths_before paths && fails_first told
 
 -- Time 0 is from rest where its events, if any, leave it so that nothing is told.
 abbrev pub is_from_rest : ℕ → ℕ → SyncPaths → SyncPaths → List Told → Option SettlingTime → Bool
@@ -93,7 +94,7 @@ is_from_rest longest at paths_before paths told (Some b) =
 
 -- A system fails, and none is moved but such as are cut off: whether it was a far end, and whether one is cut off so.
 abbrev pub failed_row : Bool → Bool → Row
-failed_row far any = if far then FailedEnd else if any then FailureCutsOff else FailedHeard
+failed_row far any_moved = if far then FailedEnd else if any_moved then FailureCutsOff else FailedHeard
 
 -- What is known of a time, by what was seen of it. Not from rest, or where it both gains and loses, the network may
 -- come from any past. The first time has no loss: nothing was there to be lost. Events that make nothing of what stands
@@ -109,10 +110,10 @@ row_of from_rest first paths_before paths told moves =
     else if list_all makes_nothing told || begins_wider told then Unchanged
     else if are_losses_followed paths_before told && not moves.moved then Unchanged
     else if is_lowering_followed paths_before paths told && not moves.moved then if moves.cut then CutOff else Lowered
-    else if is_lowering_followed paths_before paths told && moves.turned then OneTurned
+    else if is_lowering_followed paths_before paths told && moves.turned then SystemTurned
     else if is_lowering_followed paths_before paths told && moves.falls then TreeCutOff
     else if is_lowering_followed paths_before paths told && moves.tree_turns then TreeTurned
-    else if is_failing_followed paths_before paths told && not moves.moved then failed_row moves.far moves.any
+    else if is_failing_followed paths_before paths told && not moves.moved then failed_row moves.far moves.any_moved
     else if is_failing_followed paths_before paths told && moves.trees_fall then FailureCutsTrees
     else if list_any is_loss told then if list_all brings_nothing told then AnyLosses else AnyPast
     else Gained
@@ -128,7 +129,7 @@ asks_who_is_moved from_rest paths_before paths told =
 abbrev pub no_moves : Moves
 no_moves = record {
   moved = false;
-  any = false;
+  any_moved = false;
   cut = false;
   turned = false;
   falls = false;

@@ -134,7 +134,7 @@ has_come_after n made before at =
 abbrev pub moves_at : NetworkState → List Timed → List Timed → Option SettlingTime → ℕ → Moves
 moves_at n made now before at = record {
   moved = moves_counted (takes_one (told_of n made now)) n made (made ++ now);
-  any = moves_some n made (made ++ now);
+  any_moved = moves_some n made (made ++ now);
   cut = cut_far_ends_after n made (made ++ now);
   turned = turns_one_after n made (made ++ now);
   falls = has_come_after n made before at && cuts_tree_after n made (made ++ now);

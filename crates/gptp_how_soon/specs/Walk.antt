@@ -107,7 +107,7 @@ abbrev pub moves_seen : NetworkState → Walk → ℕ → Moves
 moves_seen n w at = record {
   moved = any_counted (takes_one w.told.items) (systems_in w.tables.nodes.items)
       (ends_in_use w.ends.items (used_now w)) (chosen_before w) (chosen_now w);
-  any = any_moved (systems_in w.tables.nodes.items) (chosen_before w) (chosen_now w);
+  any_moved = any_moved (systems_in w.tables.nodes.items) (chosen_before w) (chosen_now w);
   cut = all_cut_far_ends (systems_in w.tables.nodes.items) (chosen_before w)
       (ends_in_use w.ends.items w.used_before.items) (ends_in_use w.ends.items (used_now w)) (lost_seen w);
   turned = turns_one (systems_in w.tables.nodes.items) (lost_seen w)

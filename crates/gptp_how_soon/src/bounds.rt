@@ -7,7 +7,7 @@ ghost use Rattle.gptp_setup.specs.SettlingParams.{largest_interval};
 ghost use Rattle.gptp_scenario.specs.Network.{pace_of};
 ghost use Rattle.gptp_scenario.specs.SettlingAtOnce.{settling_span_at_once};
 ghost use Rattle.gptp_scenario.specs.SettlingTime.{capability_span, echo_span, silence_span, way_span};
-ghost use Rattle.gptp_how_soon.specs.Bounds.{aged_by, aged_echo_span, any_loss_span, arrived_by, asked_again, choice_by, exact_from, exact_span, gone_by, heard_by, is_again, is_hard_to_hear, quiet_by, ready, retold_by, roles_by, set_span, settled, silent_by, sound_by, times_by, two_exchanges, watch};
+ghost use Rattle.gptp_how_soon.specs.Bounds.{aged_by, aged_echo_span, any_loss_span, arrived_by, asked_again, choice_by, exact_from, exact_span, gone_by, heard_by, is_again, is_hard_to_hear, quiet_by, ready, retold_by, roles_by, set_span, settled, sound_by, times_by, two_exchanges, watch};
 
 use crate::kinds::{Told, recovers};
 use crate::links::varies;
@@ -63,8 +63,8 @@ pub enum Row {
     AnyPast,
     /// Its events leave what stands as it was.
     Unchanged,
-    /// By one event a link goes down, and the others change nothing. No system is moved but such as are cut off, none of
-    /// which was a far end.
+    /// By the first event a link goes down, and the others repeat what stands. No system is moved but such as are cut
+    /// off, none of which was a far end.
     Lowered,
     /// One link goes down so that cuts off its far end. No other system is moved.
     CutOff,
@@ -75,7 +75,7 @@ pub enum Row {
     /// So it is, but systems are moved, all of which are cut off.
     FailureCutsOff,
     /// One link goes down so that moves one system alone. That keeps its root, and turns to others for it.
-    OneTurned,
+    SystemTurned,
     /// One link goes down so that cuts off a tree, whose systems have a worse root then.
     TreeCutOff,
     /// One link goes down so that moves a tree. Its systems keep their root, and get it by one other link.
@@ -276,7 +276,7 @@ fn choice_by(network: &Network, loss: Loss, paths: SyncPaths, row: Row, gained: 
         Row::Unchanged | Row::Lowered | Row::FailedEnd => 0,
         Row::FailedHeard => aged_by(loss),
         Row::FailureCutsOff | Row::FailureCutsTrees => aged_by(loss) + 2 * way_span(paths),
-        Row::CutOff | Row::OneTurned | Row::TreeCutOff | Row::TreeTurned => 2 * way_span(paths),
+        Row::CutOff | Row::SystemTurned | Row::TreeCutOff | Row::TreeTurned => 2 * way_span(paths),
         Row::AnyLosses => any_loss_span(network, loss, paths),
         Row::Gained => gained,
     }
@@ -303,7 +303,7 @@ fn roles_by(network: &Network, loss: Loss, paths: SyncPaths, row: Row, gained: u
         Row::FailureCutsOff | Row::FailureCutsTrees => {
             quiet_by(network, loss, aged_by(loss) + 2 * way_span(paths))
         }
-        Row::CutOff | Row::OneTurned | Row::TreeCutOff | Row::TreeTurned => 2 * way_span(paths),
+        Row::CutOff | Row::SystemTurned | Row::TreeCutOff | Row::TreeTurned => 2 * way_span(paths),
         Row::AnyLosses => quiet_by(network, loss, any_loss_span(network, loss, paths)),
         Row::Gained => gained,
     }
@@ -331,19 +331,6 @@ fn gone_by(network: &Network, paths: SyncPaths, used_before: bool) -> u64
         paths.delay
     } else {
         interval_of(network.largest())
-    }
-}
-
-/// By how much later than a system fails what was in flight is sound, in ns, where that is gone by so much.
-fn silent_by(network: &Network, loss: Loss, gone: u64) -> u64
-    requires { gone ≤ 16000000000 }
-    ensures is { result ≡ silent_by network.now loss gone }
-    ensures bound { result ≤ 4112000000000 }
-{
-    if loss.used {
-        gone
-    } else {
-        silence_span(network).max(gone)
     }
 }
 
@@ -385,16 +372,19 @@ fn sound_by(network: &Network, loss: Loss, paths: SyncPaths, row: Row, gained: u
         Row::Unchanged => 0,
         Row::Lowered => echo_span(network, paths).max(gone),
         Row::CutOff | Row::TreeCutOff => (2 * way_span(paths)).max(gone),
-        Row::FailedEnd => silent_by(network, loss, gone_before),
+        Row::FailedEnd => quiet_by(network, loss, gone_before),
         Row::FailedHeard => aged_echo_span(network, loss, paths),
         Row::FailureCutsOff => {
             let aged = aged_by(loss) + 2 * way_span(paths);
             aged.max(aged_echo_span(network, loss, paths))
         }
-        Row::OneTurned | Row::TreeTurned => 2 * way_span(paths) + echo_span(network, paths),
-        Row::AnyLosses | Row::FailureCutsTrees => {
-            quiet_by(network, loss, any_loss_span(network, loss, paths))
+        Row::SystemTurned | Row::TreeTurned => 2 * way_span(paths) + echo_span(network, paths),
+        Row::FailureCutsTrees => {
+            network.well_formed();
+            let told = echo_span(network, paths).max(interval_of(network.largest()));
+            quiet_by(network, loss, aged_by(loss) + (2 * way_span(paths) + told))
         }
+        Row::AnyLosses => quiet_by(network, loss, any_loss_span(network, loss, paths)),
         Row::Gained => gained,
     }
 }
@@ -420,7 +410,7 @@ fn retold_by(network: &Network, loss: Loss, paths: SyncPaths, row: Row, gained: 
         Row::FailureCutsOff | Row::FailureCutsTrees => {
             aged_by(loss) + 2 * way_span(paths) + echo_span(network, paths)
         }
-        Row::OneTurned | Row::TreeTurned => echo_span(network, paths) + 2 * way_span(paths),
+        Row::SystemTurned | Row::TreeTurned => echo_span(network, paths) + 2 * way_span(paths),
         Row::CutOff | Row::TreeCutOff => 2 * way_span(paths),
         Row::AnyLosses => any_loss_span(network, loss, paths),
         Row::Gained => gained,

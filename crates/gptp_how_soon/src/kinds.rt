@@ -1,8 +1,8 @@
 //! What each event of a time does, by what stands just before it.
 
 ghost use Rattle.std.specs.Prelude.{◌≡◌, ◌++◌, ◌∷◌, [], false, OnOk};
-ghost use Rattle.std.specs.List.{count_by, list_all, list_any};
-ghost use Rattle.gptp_how_soon.specs.Kinds.{are_heard, begins_wider, brings_nothing, first_wider_by, is_wider, kind_of_link_set, wider_by, fails_and_recovers, fails_one, fails_or_idle, is_fail, is_failing, is_recover, is_better, is_failure_of_same, is_gain, is_link_down, is_lowering, is_unused, leaves_links, lowers_one, lowers_or_idle, lowers_unused, makes_nothing, tells_nothing, is_heard_too, is_idle, is_loss, is_other, is_priority1, is_link_up, is_recovery, is_recovery_of, kind_of, kind_of_change, kind_of_failure, kind_of_link_down, kind_of_link_up, kind_of_priority1, kind_of_recovery, recovers, sets_bounds, sets_link, is_link_set, takes_one, told_by, what_of, what_of_change};
+ghost use Rattle.std.specs.List.{list_all, list_any};
+ghost use Rattle.gptp_how_soon.specs.Kinds.{are_heard, begins_wider, brings_nothing, first_wider_by, is_wider, kind_of_link_set, wider_by, fails_and_recovers, fails_first, is_fail, is_failing, is_recover, is_better, is_down_too, is_failure_of_same, is_gain, is_link_down, is_lowering, is_unused, leaves_links, lowers_one, lowers_unused, makes_nothing, tells_nothing, is_heard_too, is_idle, is_loss, is_other, is_priority1, is_link_up, is_recovery, is_recovery_of, kind_of, kind_of_change, kind_of_failure, kind_of_link_down, kind_of_link_up, kind_of_priority1, kind_of_recovery, recovers, repeats, sets_bounds, sets_link, is_link_set, takes_one, told_by, what_of, what_of_change};
 
 use gptp_scenario::{Act, Change};
 use gptp_topology::{Standing, System, is_used, named};
@@ -459,68 +459,60 @@ pub(crate) fn all_leave_links(told: &[Told]) -> bool
     told.iter().all(|one| leaves_links(one))
 }
 
-/// Whether a link in use goes down by it, or it changes nothing.
-fn lowers_or_idle(told: &Told) -> bool
-    ensures { result ≡ lowers_or_idle told.now }
+/// Whether it repeats what stands: it changes nothing, and sets no `priority1`.
+fn repeats(told: &Told) -> bool
+    ensures { result ≡ repeats told.now }
 {
-    is_lowering(told) || is_idle(told)
+    is_idle(told) && !is_priority1(told)
 }
 
-/// Whether each of these events is so.
-fn all_lower_or_idle(told: &[Told]) -> bool
-    ensures { result ≡ list_all lowers_or_idle told.now }
+/// Whether each of these events does.
+fn all_repeat(told: &[Told]) -> bool
+    ensures { result ≡ list_all repeats told.now }
 {
-    told.iter().all(|one| lowers_or_idle(one))
+    told.iter().all(|one| repeats(one))
 }
 
-/// By how many of these events a link in use goes down.
-fn count_lowering(told: &[Told]) -> usize
-    ensures { result ≡ count_by is_lowering told.now }
-{
-    told.iter().filter(|one| is_lowering(one)).count()
-}
-
-/// Whether a link in use goes down by one of these events, and all others change nothing.
+/// Whether a link in use goes down by the first of these events, and the others repeat what stands.
 pub(crate) fn lowers_one(told: &[Told]) -> bool
     ensures { result ≡ lowers_one told.now }
 {
-    all_lower_or_idle(told) && count_lowering(told) == 1
+    match told.split_first() {
+        Some((first, others)) => is_lowering(first) && all_repeat(others),
+        None => false,
+    }
 }
 
-/// Whether a live system fails by it, or a link goes down of which an end has failed, or it changes nothing.
-fn fails_or_idle(told: &Told) -> bool
-    ensures { result ≡ fails_or_idle told.now }
+/// Whether a link goes down by it of which an end has failed, or it repeats what stands.
+fn is_down_too(told: &Told) -> bool
+    ensures { result ≡ is_down_too told.now }
 {
-    is_failing(told) || lowers_unused(told) || is_idle(told)
+    lowers_unused(told) || repeats(told)
 }
 
 /// Whether each of these events is so.
-fn all_fail_or_idle(told: &[Told]) -> bool
-    ensures { result ≡ list_all fails_or_idle told.now }
+fn all_are_down_too(told: &[Told]) -> bool
+    ensures { result ≡ list_all is_down_too told.now }
 {
-    told.iter().all(|one| fails_or_idle(one))
+    told.iter().all(|one| is_down_too(one))
 }
 
-/// By how many of these events a live system fails.
-fn count_failing(told: &[Told]) -> usize
-    ensures { result ≡ count_by is_failing told.now }
+/// Whether a live system fails by the first of these events, and by the others links go down of which an end has
+/// failed, or they repeat what stands.
+pub(crate) fn fails_first(told: &[Told]) -> bool
+    ensures { result ≡ fails_first told.now }
 {
-    told.iter().filter(|one| is_failing(one)).count()
-}
-
-/// Whether a live system fails by one of these events, and by the others links go down of which an end has failed, or
-/// they change nothing.
-pub(crate) fn fails_one(told: &[Told]) -> bool
-    ensures { result ≡ fails_one told.now }
-{
-    all_fail_or_idle(told) && count_failing(told) == 1
+    match told.split_first() {
+        Some((first, others)) => is_failing(first) && all_are_down_too(others),
+        None => false,
+    }
 }
 
 /// Whether one link or one system is taken away by these events.
 pub(crate) fn takes_one(told: &[Told]) -> bool
     ensures { result ≡ takes_one told.now }
 {
-    lowers_one(told) || fails_one(told)
+    lowers_one(told) || fails_first(told)
 }
 
 /// Whether each of these events changes nothing.

@@ -56,7 +56,7 @@ fn a_far_end_that_a_link_cuts_off_costs_two_ways(rt: HostRuntime) -> Result<(), 
 }
 
 #[test]
-fn events_that_change_nothing_cost_nothing_beside_a_loss(rt: HostRuntime) -> Result<(), Fail> {
+fn events_that_repeat_what_stands_cost_nothing_behind_a_loss(rt: HostRuntime) -> Result<(), Fail> {
     const DOWN: &str =
         "[[event]]\nat = 30000000000\nkind = \"link_down\"\nclock = \"000000000000000b\"\nport = 2\n";
     const FAILS: &str =
@@ -65,14 +65,10 @@ fn events_that_change_nothing_cost_nothing_beside_a_loss(rt: HostRuntime) -> Res
         "[[event]]\nat = 30000000000\nkind = \"recover\"\nclock = \"000000000000000a\"\n";
     for (case, events, bound) in [
         ("a link goes down twice", [DOWN, DOWN], (0, 0)),
-        (
-            "a live system recovers, and then it does",
-            [LIVES, DOWN],
-            (0, 0),
-        ),
+        ("a live system recovers behind it", [DOWN, LIVES], (0, 0)),
         ("a system fails twice", [FAILS, FAILS], (0, 11_000_000_000)),
         (
-            "a live system recovers behind it",
+            "a live one recovers behind it",
             [FAILS, LIVES],
             (0, 11_000_000_000),
         ),

@@ -8,7 +8,7 @@ use crate::bounds::{Row, SettlingTime, way_span};
 use crate::kinds::{
     Told, all_bring_nothing, all_leave_links, all_make_nothing, all_tell_nothing, any_better,
     any_gain, any_loss, any_lowers_unused, any_other, any_recovery, any_wider, are_heard,
-    begins_wider, fails_and_recovers, fails_one, first_wider_by, lowers_one,
+    begins_wider, fails_and_recovers, fails_first, first_wider_by, lowers_one,
 };
 use gptp_scenario::SyncPaths;
 
@@ -18,7 +18,7 @@ pub struct Moves {
     /// Whether they move a system that counts: one that is cut off doesn't where one link or one system is taken away.
     pub moved: bool,
     /// Whether they move any, also one that is cut off.
-    pub any: bool,
+    pub any_moved: bool,
     /// Whether each link that is lost cuts off a far end.
     pub cut: bool,
     /// Whether they move one alone, and that turns.
@@ -211,7 +211,7 @@ fn is_lowering_followed(paths_before: SyncPaths, paths: SyncPaths, told: &[Told]
 fn is_failing_followed(paths_before: SyncPaths, paths: SyncPaths, told: &[Told]) -> bool
     ensures { result ≡ is_failing_followed paths_before paths told.now }
 {
-    keeps_paths(paths_before, paths) && fails_one(told)
+    keeps_paths(paths_before, paths) && fails_first(told)
 }
 
 /// Whether it counts whom its events move.
@@ -231,12 +231,12 @@ pub(crate) fn asks_who_is_moved(
 
 /// What is known of a time at which a system fails and none is moved but such as are cut off, by whether the one that
 /// fails was a far end, and whether another is cut off.
-fn failed_row(far: bool, any: bool) -> Row
-    ensures { result ≡ failed_row far any }
+fn failed_row(far: bool, any_moved: bool) -> Row
+    ensures { result ≡ failed_row far any_moved }
 {
     if far {
         Row::FailedEnd
-    } else if any {
+    } else if any_moved {
         Row::FailureCutsOff
     } else {
         Row::FailedHeard
@@ -266,13 +266,13 @@ pub(crate) fn row_of(
     } else if is_lowering_followed(paths_before, paths, told) && !moves.moved {
         if moves.cut { Row::CutOff } else { Row::Lowered }
     } else if is_lowering_followed(paths_before, paths, told) && moves.turned {
-        Row::OneTurned
+        Row::SystemTurned
     } else if is_lowering_followed(paths_before, paths, told) && moves.falls {
         Row::TreeCutOff
     } else if is_lowering_followed(paths_before, paths, told) && moves.tree_turns {
         Row::TreeTurned
     } else if is_failing_followed(paths_before, paths, told) && !moves.moved {
-        failed_row(moves.far, moves.any)
+        failed_row(moves.far, moves.any_moved)
     } else if is_failing_followed(paths_before, paths, told) && moves.trees_fall {
         Row::FailureCutsTrees
     } else if any_loss(told) {

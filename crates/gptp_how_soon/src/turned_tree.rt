@@ -1,6 +1,6 @@
 //! Whether events move a tree of systems, by one link that is lost, which keep their root and get it by one other link.
 
-ghost use Rattle.std.specs.Prelude.{◌≡◌, length, slice_get};
+ghost use Rattle.std.specs.Prelude.{◌≡◌, length};
 ghost use Rattle.std.specs.List.{list_all, range_with_len};
 ghost use Rattle.gptp_how_soon.specs.TurnedTree.{is_turned_at, leads_nearer_within, leads_one_on_within, leads_out, leads_within, stays_or_is_turned, stays_or_turns, tree_turns_at, turns_below, turns_from, turns_tree};
 

@@ -140,7 +140,7 @@ impl Walk {
         let heard = heard_links(alloc, &systems, &before, &self.used_before, &self.ends)?;
         Ok(Moves {
             moved: any_counted(joined, &systems, &links, &before, &now),
-            any: any_moved(&systems, &before, &now),
+            any_moved: any_moved(&systems, &before, &now),
             cut: all_cut_far_ends(&systems, &before, &links_before, &links, &lost),
             turned,
             falls: come && cuts_tree(&systems, &lost, &links, &before, &now),
@@ -167,7 +167,7 @@ impl Walk {
         } else {
             Ok(Moves {
                 moved: false,
-                any: false,
+                any_moved: false,
                 cut: false,
                 turned: false,
                 falls: false,

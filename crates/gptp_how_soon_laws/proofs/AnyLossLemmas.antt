@@ -1,19 +1,17 @@
 -- Events of a time that bring nothing, and of which some are losses, are such as are told.
-use Rattle.std.proofs.Common.{◌≡◌, inl, inr, ℕ, Bool, true, false, List, [], ◌∷◌, ◌++◌, refl, sym, subst, ◌∙◌}
-use Rattle.std.specs.Prelude.{◌&&◌}
+use Rattle.std.proofs.Common.{◌≡◌, inl, inr, Bool, true, false, List, [], ◌∷◌, ◌++◌, refl, sym, ◌∙◌}
 use Rattle.std.specs.List.{list_all, list_any}
-use Rattle.std.proofs.lemmas.Bool.{and_parts, or_cases, or_parts}
-use Rattle.gptp_scenario.specs.Calm.{IsLive}
+use Rattle.std.proofs.lemmas.Bool.{and_parts, or_cases}
 use Rattle.gptp_scenario.specs.Network.{IsNetwork, NetworkState}
 use Rattle.gptp_scenario.specs.declared.change.Act.{Act}
 use Rattle.gptp_scenario.specs.declared.change.Act.TheVariants as acts
 use Rattle.gptp_scenario.specs.declared.change.Change.TheVariants as changes
 use Rattle.gptp_scenario.specs.declared.change.Timed.{Timed}
-use Rattle.gptp_how_soon.specs.Kinds.{brings_nothing, is_failing, is_idle, is_loss, is_unused, kind_of_link_set, kind_of_link_up, kind_of_recovery, makes_nothing}
+use Rattle.gptp_how_soon.specs.Kinds.{brings_nothing, is_idle, is_loss, is_unused, kind_of_link_set, kind_of_link_up, kind_of_recovery, makes_nothing}
 use Rattle.gptp_how_soon.specs.Times.{told_at, told_of}
 use Rattle.gptp_how_soon.specs.declared.kinds.Told.{Told}
 use Rattle.gptp_how_soon.specs.declared.kinds.What.TheVariants as whats
-use Rattle.gptp_settling_time.specs.HowSoon.{EachEvent, IsIdleEvent, IsLossToo, LosesEvents, NoneFails}
+use Rattle.gptp_settling_time.specs.HowSoon.{EachEvent, IsIdleEvent, IsLossToo, LosesEvents}
 use Rattle.gptp_settling_time.specs.Losses.{LosesAny}
 use Rattle.gptp_how_soon_laws.proofs.KindLemmas.{IsRecovery, IsSet, IsUp, loss_found, recovery_found, set_found, up_found}
 use Rattle.gptp_how_soon_laws.proofs.ToldLemmas.{idle_changes, link_at, loss_fails, loss_lowers, loss_worsens, system_at, unused_turns}
@@ -63,27 +61,6 @@ module _ (n : NetworkState) (network : IsNetwork n) where
           | inr loss ↦ inl (loses event.act loss)
         ]
 
-    -- where no failure is a loss none is of a live system
-    spares : (act : Act) → brings_nothing (told_at n made act) ≡ true → is_failing (told_at n made act) ≡ false
-        → (number : ℕ) → act ≡ acts.Change (changes.Fail number) → IsLive n.systems made number → ⊥
-    spares act brings none number same live =
-        let failing : Act = acts.Change (changes.Fail number) in
-        let none_here = subst (λ a. is_failing (told_at n made a) ≡ false) same none in
-        elim (or_cases (makes_nothing (told_at n made failing)) (is_loss (told_at n made failing))
-        (subst (λ a. brings_nothing (told_at n made a) ≡ true) same brings)) [
-          | inl nothing ↦
-              elim (or_cases (is_idle (told_at n made failing)) (is_unused (told_at n made failing)) nothing) [
-                | inl idle ↦ idle_changes n network made failing idle live
-                | inr unused ↦ absurd (unused_turns n network made failing unused)
-              ]
-          | inr loss ↦
-              let no : true ≡ false = sym loss ∙ and_left (is_loss (told_at n made failing)) none_here in absurd cc
-        ]
-      where
-        and_left : (b : Bool) → (b && true) ≡ false → b ≡ false
-        and_left false is = is
-        and_left true is = absurd cc
-
   -- ---- the events of a time
 
   losses_each : (made left : List Timed) → list_all brings_nothing (told_of n made left) ≡ true
@@ -127,15 +104,3 @@ module _ (n : NetworkState) (network : IsNetwork n) where
           → LosesEvents n made (event ∷ left)
       by true is rest = inl (loses made event.act is, losses_each (made ++ event ∷ []) left parts.1)
       by false is rest = inr (idle is, rest (later is))
-
-  pub none_fails : (made left : List Timed) → list_all brings_nothing (told_of n made left) ≡ true
-      → list_any is_failing (told_of n made left) ≡ false → NoneFails n made left
-  none_fails made [] all none = tt
-  none_fails made (event ∷ left) all none =
-      let (brings, rest) =
-      and_parts (brings_nothing (told_at n made event.act))
-      (list_all brings_nothing (told_of n (made ++ event ∷ []) left)) all in
-      let (spared, later) =
-      or_parts (is_failing (told_at n made event.act)) (list_any is_failing (told_of n (made ++ event ∷ []) left))
-      none in
-      (spares made event.act brings spared, none_fails (made ++ event ∷ []) left rest later)

@@ -1,7 +1,7 @@
 -- What is told of each time of a document is so: its choice and roles are choice bounds or loss bounds. The network has
 -- come to rest by a rest bound.
 use Rattle.std.proofs.Common.{◌≡◌, ◌<◌, ◌≤◌, ◌⊎◌, inl, inr, ◌+◌, ◌*◌, max, ℕ, Bool, true, false, cond, List, [], ◌∷◌, ◌++◌, Some, None, refl, sym, ap, subst, ◌∙◌, arith}
-use Rattle.std.specs.Prelude.{◌==◌, min, nat_le, nat_lt}
+use Rattle.std.specs.Prelude.{◌==◌, if◌then◌else◌, min, nat_le, nat_lt}
 use Rattle.std.specs.List.{AllByRecursion}
 use Rattle.std.proofs.lemmas.Bool.{eqb-false, eqb-true}
 use Rattle.std.proofs.lemmas.Bool.Decides.{nat_tests}
@@ -13,29 +13,34 @@ use Rattle.gptp_scenario.specs.Network.{NetworkState, pace_of}
 use Rattle.gptp_scenario.specs.SettlingTime.{echo_span, silence_span, way_span, window_span}
 use Rattle.gptp_scenario.specs.SyncWait.{sync_paths}
 use Rattle.gptp_scenario.specs.declared.change.Timed.{Timed}
+use Rattle.gptp_scenario.specs.declared.sync_wait.SyncPaths.{SyncPaths}
 use Rattle.gptp_network.specs.Document.{DocumentState}
 use Rattle.gptp_network.specs.Snapshot.{events_by}
 use Rattle.gptp_network.proofs.SnapshotLemmas.{from_filter}
 use Rattle.gptp_theorem.specs.PlayedLaws.{IsPlayable}
-use Rattle.gptp_how_soon.specs.Bounds.{aged_echo_span, any_loss_span, arrived_by, choice_by, choice_of_row, gone_by, roles_of_row, sound_by}
+use Rattle.gptp_how_soon.specs.Bounds.{aged_by, aged_echo_span, any_loss_span, arrived_by, choice_by, choice_of_row, gone_by, quiet_by, roles_of_row, sound_by}
 use Rattle.gptp_how_soon.specs.Links.{longest_delay}
 use Rattle.gptp_how_soon.specs.Silent.{own_intervals}
 use Rattle.gptp_how_soon.specs.Times.{View, events_at, gained_at, last_set, loss_at, ready_at, row_at, settling_time, settling_times, settling_times_from, time_at, view_at}
 use Rattle.gptp_how_soon.specs.declared.bounds.Loss.{Loss}
 use Rattle.gptp_how_soon.specs.declared.bounds.Row.{Row}
-use Rattle.gptp_how_soon.specs.declared.bounds.Row.TheVariants.{AnyLosses, AnyPast, CutOff, FailedEnd, FailedHeard, FailureCutsOff, FailureCutsTrees, Gained, LostEnd, LostPower, Lowered, OneTurned, PowerCutsOff, PowerCutsTrees, TreeCutOff, TreeTurned, Unchanged}
+use Rattle.gptp_how_soon.specs.declared.bounds.Row.TheVariants.{AnyLosses, AnyPast, CutOff, FailedEnd, FailedHeard, FailureCutsOff, FailureCutsTrees, Gained, Lowered, SystemTurned, TreeCutOff, TreeTurned, Unchanged}
 use Rattle.gptp_how_soon.specs.declared.bounds.Settling.{Settling}
 use Rattle.gptp_how_soon.specs.declared.bounds.SettlingTime.{SettlingTime}
-use Rattle.gptp_settling_time.specs.HowSoon.{BoundsAging, BoundsAnyLoss, BoundsChoice, BoundsEvents, BoundsLoss, BoundsSplit, BoundsStart, BoundsTree, FailsHeardFirst, FailsTreesFirst, HeldFor, IsChoiceBoundAfter, IsLossBoundAfter, IsRestBoundAfter, NoneBetween, RestsAfterLoss, RestsTree, TreeNext}
+use Rattle.gptp_settling_time.specs.HowSoon.{BeforeRepeats, BesideIdle, BoundsAging, BoundsAnyLoss, BoundsChoice, BoundsEvents, BoundsLoss, BoundsSplit, BoundsStart, BoundsTree, CutsOneEnd, FailsEndFirst, FailsHeardFirst, FailsTreesFirst, HeldFor, IsChoiceBoundAfter, IsLossBoundAfter, IsRestBoundAfter, LosesEvents, LowersOneLink, NoneBetween, RestsAfterLoss, RestsOnceTold, RestsSplit, RestsTree, RolesAfterFailure, TreeNext, TurnsOneLink}
 use Rattle.gptp_settling_time.specs.InTurn.{FlightIsGone, turned_echo_span}
+use Rattle.gptp_settling_time.specs.Losses.{NoneSilent}
 use Rattle.gptp_settling_time.specs.TreeLosses.{LowersTree, TurnsTreeLink}
+use Rattle.gptp_settling_time.proofs.BesideIdleLemmas.{before_none}
 use Rattle.gptp_settling_time.proofs.MomentLemmas.{all_at, last_by, parted}
 use Rattle.gptp_settling_time.proofs.WellFormedLemmas.{after_well}
 use Rattle.gptp_how_soon_laws.specs.Choice.{SettlingsAreChoiceBounds}
+use Rattle.gptp_how_soon_laws.proofs.FailedLemmas.{used_up}
 use Rattle.gptp_how_soon_laws.proofs.RowBoundLemmas.{HasOwnBounds, IsSoundSooner, IsTelling, bounds_choice, choice_or_own, past_row, sound_or_sooner, tells}
-use Rattle.gptp_how_soon_laws.proofs.RowLemmas.{ComesLate, CutsLate, FailsLate, any_losses, cut_off, failed, failure_cuts, gained, heard, lost_end, lost_power, lowered, power_cuts, tree_cut, tree_turned, turned, unchanged}
+use Rattle.gptp_how_soon_laws.proofs.RowLemmas.{ComesLate, CutsLate, FailsLate, GoesFirst, cut_off, failed, failure_cuts, gained, heard, losses, lowered, none_left, same_paths, tree_cut, tree_turned, turned, unchanged}
+use Rattle.gptp_how_soon_laws.proofs.RepeatLemmas.{before_repeats}
 use Rattle.gptp_how_soon_laws.proofs.RowTestLemmas.{HasComeToRest}
-use Rattle.gptp_how_soon_laws.proofs.SilentLemmas.{held_for, last_now}
+use Rattle.gptp_how_soon_laws.proofs.SilentLemmas.{held_for, last_now, none_ages}
 use Rattle.gptp_how_soon_laws.proofs.StartRowLemmas.{first_past, first_roles, first_sound, never_unchanged, started}
 use Rattle.gptp_how_soon_laws.proofs.UnmovedLemmas.{AreWell}
 use Rattle.gptp_how_soon_laws.proofs.TimesLemmas.{AreTimes, later_times, times_after, times_parts}
@@ -58,6 +63,10 @@ begin_at (event ∷ events) = by (nat_le event.at 0) (event.at == 0) refl refl (
         let behind : 0 < event.at = grind (arith, nat_tests) in
         absurd (omega (arith, is, behind))
     by false false f g rest = rest
+
+rested_late : (aged ways echo quiet sound : ℕ) → sound ≡ max (aged + (ways + echo)) quiet
+    → max (max (aged + ways) quiet) (aged + ways + echo) ≤ sound
+rested_late aged ways echo quiet sound is = omega (arith, is)
 
 lesser : (choice roles a b : ℕ) → choice ≡ min a b → roles ≡ b → choice ≤ roles
 lesser choice roles a b is same = omega (arith, is, same)
@@ -144,10 +153,10 @@ module _ (d : DocumentState) (playable : IsPlayable d) where
     sound_before : (rest : HasComeToRest b at)
         → IsRestBoundAfter n all earlier b.at rest.settling.sound × (b.at + rest.settling.sound < at)
     sound_before rest =
-        let then = so rest.settling rest.is in
-        let less = then.rest in
+        let told = so rest.settling rest.is in
+        let less = told.rest in
         let passed = rest.passed in
-        (then.sound, omega (arith, less, passed))
+        (told.sound, omega (arith, less, passed))
 
     sharp : (choice : ℕ) → (rest : HasComeToRest b at)
         → BoundsEvents n made now (b.at + rest.settling.sound) at choice → Sharp choice
@@ -187,8 +196,9 @@ module _ (d : DocumentState) (playable : IsPlayable d) where
 
     -- what others hold of a system that fails has aged so much later
     held : (now ≡ [] → ⊥) → HeldFor n made now v.moves.held
-    held some = held_for n playable.network made now (well made now refl) (own_intervals n (Some b) at)
-        (late_so now some (all_at at all))
+    held some =
+        held_for n playable.network made now (own_intervals n (Some b) at) (late_so now some (all_at at all))
+        (well made now refl)
       where
         late_so : (events : List Timed) → (events ≡ [] → ⊥)
             → AllByRecursion (λ (t : Timed). t.at ≡ at) events → own_intervals n (Some b) at ≡ true
@@ -205,102 +215,248 @@ module _ (d : DocumentState) (playable : IsPlayable d) where
     some_now : (Are : List Timed → Type 0) → (Are [] → ⊥) → Are now → now ≡ [] → ⊥
     some_now Are none are same = none (subst Are same are)
 
-    held_heard : FailsHeardFirst n made now → HeldFor n made now v.moves.held
-    held_heard fails = held (some_now (FailsHeardFirst n made) (λ none. none) fails)
+    -- nothing has to age where no lost link is silent
+    aged : (now ≡ [] → ⊥) → HeldFor n made now (aged_by loss)
+    aged some = by v.silent refl
+      where
+        by : (silent : Bool) → v.silent ≡ silent → HeldFor n made now (if silent then v.moves.held else 0)
+        by true is = held some
+        by false is =
+            let none = none_left n playable.network all b at late is in
+            (0, none_ages n made (made ++ now) (last_change (made ++ now)) none, omega arith)
 
-    held_trees : FailsTreesFirst n made now → HeldFor n made now v.moves.held
-    held_trees fails = held (some_now (FailsTreesFirst n made) (λ none. none) fails)
+    -- and roles stand then, or once ports at silent links are off
+    aging : (now ≡ [] → ⊥) → BoundsAging n made now (aged_by loss) (quiet_by n loss (aged_by loss))
+    aging some = by v.silent refl
+      where
+        by : (silent : Bool) → v.silent ≡ silent
+            → BoundsAging n made now (if silent then v.moves.held else 0)
+            (if silent then max (if silent then v.moves.held else 0) (silence_span (pace_of n))
+            else if silent then v.moves.held else 0)
+        by true is =
+            let (span, ages, least) = held some in
+            inr ((span, ages, least), omega (arith, least))
+        by false is = inl (none_left n playable.network all b at late is, refl, refl)
 
-    -- an event of this kind comes an announce interval after the time before has come to rest, and all ask for this
+    -- so they do where the choice stands later
+    quiet_later : (more : ℕ)
+        → quiet_by n loss (aged_by loss + more) ≡ max (aged_by loss + more) (quiet_by n loss (aged_by loss))
+    quiet_later more = by v.silent
+      where
+        by : (silent : Bool)
+            → (if silent then max ((if silent then v.moves.held else 0) + more) (silence_span (pace_of n))
+            else (if silent then v.moves.held else 0) + more)
+            ≡ max ((if silent then v.moves.held else 0) + more)
+            (if silent then max (if silent then v.moves.held else 0) (silence_span (pace_of n))
+            else if silent then v.moves.held else 0)
+        by true = omega arith
+        by false = omega arith
+
+    some_heard : FailsHeardFirst n made now → now ≡ [] → ⊥
+    some_heard = some_now (FailsHeardFirst n made) (λ none. none)
+
+    some_trees : FailsTreesFirst n made now → now ≡ [] → ⊥
+    some_trees = some_now (FailsTreesFirst n made) (λ none. none)
+
+    -- no other event stands beside what is lost but such as repeat what stands
+    beside : (settled : ℕ) (Are : List Timed → List Timed → Type 0) → (now ≡ [] → ⊥) → BeforeRepeats n Are made now
+        → BesideIdle n settled at Are made now
+    beside settled Are some is = by now refl
+      where
+        by : (events : List Timed) → now ≡ events → BesideIdle n settled at Are made events
+        by [] none = absurd (some none)
+        by (event ∷ events) same = inl (inl (subst (BeforeRepeats n Are made) same is))
+
+    -- some event comes by which something is taken away
+    some_before : (Are : List Timed → List Timed → Type 0) → ((events : List Timed) → Are made events → events ≡ [] → ⊥)
+        → BeforeRepeats n Are made now → now ≡ [] → ⊥
+    some_before Are some (first, others, split, each, are) none = by first refl
+      where
+        by : (events : List Timed) → first ≡ events → ⊥
+        by [] is = some first are is
+        by (event ∷ events) is = let no = sym none ∙ split ∙ ap (λ es. es ++ others) is in absurd cc
+
+    some_of : (Are : List Timed → Type 0) → (Are [] → ⊥) → (events : List Timed) → Are events → events ≡ [] → ⊥
+    some_of Are none events are same = none (subst Are same are)
+
+    some_lost : (choice roles : ℕ) (events : List Timed) → BoundsLoss n made events choice roles → events ≡ [] → ⊥
+    some_lost choice roles events (inl (lowers, same, which)) =
+        some_of (LowersOneLink n made) (λ none. none) events lowers
+    some_lost choice roles events (inr (inl (fails, none, which))) =
+        some_of (FailsEndFirst n made) (λ none. none) events fails
+    some_lost choice roles events (inr (inr (inl (turns, is, same)))) =
+        some_of (TurnsOneLink n made) (λ none. none) events turns
+    some_lost choice roles events (inr (inr (inr (inl (fails, aging))))) =
+        some_of (FailsHeardFirst n made) (λ none. none) events fails
+    some_lost choice roles events (inr (inr (inr (inr (loses, is, later))))) =
+        some_of (LosesEvents n made) (λ none. none) events loses
+
+    some_rested : (sound : ℕ) (events : List Timed) → RestsAfterLoss n made events sound → events ≡ [] → ⊥
+    some_rested sound events (inl (inl (cuts, gone))) = some_of (CutsOneEnd n made) (λ none. none) events cuts
+    some_rested sound events (inl (inr (inl (fails, gone)))) =
+        some_of (FailsEndFirst n made) (λ none. none) events fails
+    some_rested sound events (inl (inr (inr (inl (lowers, gone))))) =
+        some_of (LowersOneLink n made) (λ none. none) events lowers
+    some_rested sound events (inl (inr (inr (inr (inl (turns, is)))))) =
+        some_of (TurnsOneLink n made) (λ none. none) events turns
+    some_rested sound events (inl (inr (inr (inr (inr (fails, told)))))) =
+        some_of (FailsHeardFirst n made) (λ none. none) events fails
+    some_rested sound events (inr (choice, bounds)) = some_of (LosesEvents n made) (λ none. none) events bounds.0
+
+    -- what is so of all events, or of the first, before such that repeat what stands
+    alone : (Are : List Timed → List Timed → Type 0) → Are made now → BeforeRepeats n Are made now
+    alone Are is = before_none n Are made now is
+
+    behind : (g : GoesFirst n playable.network all b at late) (Are : List Timed → List Timed → Type 0)
+        → Are made (g.x.event ∷ []) → BeforeRepeats n Are made now
+    behind g Are is = before_repeats n playable.network made now g.x Are is
+
+    abbrev Resting : ℕ → List Timed → List Timed → Type 0
+    Resting sound made now = RestsAfterLoss n made now sound
+
+    abbrev Losing : ℕ → ℕ → List Timed → List Timed → Type 0
+    Losing choice roles made now = BoundsLoss n made now choice roles
+
+    -- an event of this kind comes once what was in flight has arrived, and all ask for this
     tree_next : (Is : List Timed → Timed → Type 0) (Asks : List Timed → Type 0) → IsCalm n (events_by at all)
         → NothingLapses n.params → (rest : HasComeToRest b at) → ComesLate n playable.network all b at late Is rest
         → Asks (made ++ now)
-        → TreeNext n Is all (λ then. IsRestBoundAfter n all earlier b.at then) b.at at Asks
-    tree_next Is Asks calm off rest tree asks =
-        let bound = (sound_before rest).0 in
-        let then = so rest.settling rest.is in
-        let less = then.rest in
-        let passed = tree.longer in (
-          late,
-          between,
-          calm,
-          off,
-          (rest.settling.sound, bound, omega (arith, less, passed)),
-          tree.lowers,
-          subst Asks (sym (parted all b.at at playable.events.in_order late between)) asks,
-        )
+        → TreeNext n Is all (λ before. IsRestBoundAfter n all earlier b.at before) b.at at Asks
+    tree_next Is Asks calm off rest tree asks = (
+      late,
+      between,
+      calm,
+      off,
+      (rest.settling.sound, (sound_before rest).0, tree.come),
+      tree.lowers,
+      subst Asks (sym (parted all b.at at playable.events.in_order late between)) asks,
+    )
 
-    -- it comes to rest so after a loss, after a tree is cut off, or after one turns
+    -- it comes to rest so after a loss, or after a tree is cut off, one turns, or a failure cuts trees off
     abbrev Rests : ℕ → Type 0
     Rests sound =
-        (HasComeToRest b at × RestsAfterLoss n made now sound)
+        (HasComeToRest b at × BeforeRepeats n (Resting sound) made now)
         ⊎ (((rest : HasComeToRest b at) × CutsLate n playable.network all b at late rest
         × (sound ≡ max (2 * way_span v.paths) (gone_by n v.paths v.used_before)))
-        ⊎ ((rest : HasComeToRest b at) × ComesLate n playable.network all b at late (TurnsTreeLink n) rest
-        × (sound ≡ turned_echo_span n (made ++ now))))
+        ⊎ (((rest : HasComeToRest b at) × ComesLate n playable.network all b at late (TurnsTreeLink n) rest
+        × (sound ≡ turned_echo_span n (made ++ now)))
+        ⊎ (FailsLate n playable.network all b at late × RestsSplit n sound made now)))
 
     rests : (sound : ℕ) → IsCalm n (events_by at all) → NothingLapses n.params → Rests sound
         → IsRestBoundAfter n all (b.at ∷ earlier) at sound
     rests sound calm off (inl (rest, loses)) =
         let (bound, past) = sound_before rest in
-        inr (inl (late, between, calm, off, (rest.settling.sound, bound, past), loses))
+        inr (inl (
+          late,
+          between,
+          calm,
+          off,
+          (
+            rest.settling.sound,
+            bound,
+            past,
+            beside (b.at + rest.settling.sound) (Resting sound) (some_before (Resting sound) (some_rested sound) loses)
+                loses,
+          ),
+        ))
     rests sound calm off (inr (inl (rest, tree, is))) =
         inr (inr (inl (tree_next (LowersTree n) (RestsTree n sound) calm off rest tree.comes
         (gone_by n v.paths v.used_before, tree.flight, is))))
-    rests sound calm off (inr (inr (rest, tree, is))) =
-        inr (inr (inr (tree_next (TurnsTreeLink n) (λ events. sound ≡ turned_echo_span n events) calm off rest tree
-        is)))
+    rests sound calm off (inr (inr (inr (x, splits)))) =
+        inr (inr (inr (inr (
+          late,
+          between,
+          calm,
+          off,
+          (x.rest.settling.sound, (sound_before x.rest).0, x.come),
+          before_none n (λ made now. FailsTreesFirst n made now × RestsSplit n sound made now) made now
+              (x.fails, splits),
+        ))))
+    rests sound calm off (inr (inr (inl (rest, tree, is)))) =
+        inr (inr (inr (inl (tree_next (TurnsTreeLink n) (λ events. sound ≡ turned_echo_span n events) calm off rest
+        tree is))))
 
     -- it has come to rest by what the row of this loss says
     rests_by : (sound : ℕ) → sound ≡ sound_by n loss v.paths (row_at v) (gained_at n v)
         → IsSoundSooner n loss v.paths (row_at v) (sound_by n loss v.paths (row_at v) (gained_at n v)) → Rests sound
     rests_by sound told (inl (row, is)) =
-        let x = lost_end n playable.network all b at late well row in
-        let flight = subst (FlightIsGone n made) (sym (told ∙ is)) x.flight in
-        inl (x.rested, inl (inr (inl (x.fails, inl (x.used, flight)))))
-    rests_by sound told (inr (inl (row, is))) =
         let (rest, fails, flight) = failed n playable.network all b at late well row in
-        inl (rest, inl (inr (inl (fails, inr (gone_by n v.paths_before v.used_before, flight, told ∙ is)))))
+        inl (rest, alone (Resting sound) (inl (inr (inl (fails, by v.silent refl flight (told ∙ is))))))
+      where
+        gone : ℕ
+        gone = gone_by n v.paths_before v.used_before
+
+        by : (silent : Bool) → v.silent ≡ silent → FlightIsGone n made gone
+            → sound ≡ (if silent then max gone (silence_span (pace_of n)) else gone)
+            → (NoneSilent n made (made ++ now) × FlightIsGone n made sound)
+            ⊎ ((time : ℕ) × FlightIsGone n made time × (sound ≡ max (silence_span (pace_of n)) time))
+        by true silent flight same = inr (gone, flight, omega (arith, same))
+        by false silent flight same =
+            inl (none_left n playable.network all b at late silent, subst (FlightIsGone n made) (sym same) flight)
+    rests_by sound told (inr (inl (row, is))) =
+        let (rest, (l, flight)) = lowered n playable.network all b at late well row in
+        let same = same_paths n playable.network all b at late l.first in
+        let gone : ℕ = gone_by n v.paths v.used_before in
+        let is_first = told ∙ is ∙ ap (λ (p : SyncPaths). max (echo_span (pace_of n) p) gone) same in
+        inl (rest, behind l.first (Resting sound) (inl (inr (inr (inl (l.lowers, (gone, flight, is_first)))))))
     rests_by sound told (inr (inr (inl (row, is)))) =
-        let (rest, lowers, flight) = lowered n playable.network all b at late well row in
-        inl (rest, inl (inr (inr (inl (lowers, (gone_by n v.paths v.used_before, flight, told ∙ is))))))
-    rests_by sound told (inr (inr (inr (inl (row, is))))) =
         let x = cut_off n playable.network all b at late well row in
-        inl (x.rested, inl (inl (x.cuts, (gone_by n v.paths v.used_before, x.flight, told ∙ is))))
-    rests_by sound told (inr (inr (inr (inr (inl (inr row, is)))))) =
+        let same = same_paths n playable.network all b at late x.none.first in
+        let gone : ℕ = gone_by n v.paths v.used_before in
+        let is_first = told ∙ is ∙ ap (λ (p : SyncPaths). max (2 * way_span p) gone) same in
+        inl (x.rested, behind x.none.first (Resting sound) (inl (inl (x.cuts, (gone, x.flight, is_first)))))
+    rests_by sound told (inr (inr (inr (inl (inr row, is))))) =
         let (rest, tree) = tree_turned n playable.network all b at late well row in
-        inr (inr (rest, tree, told ∙ is))
-    rests_by sound told (inr (inr (inr (inr (inl (inl row, is)))))) =
-        let (rest, turns) = turned n playable.network all b at late well row in
-        inl (rest, inl (inr (inr (inr (inl (turns, told ∙ is))))))
-    rests_by sound told (inr (inr (inr (inr (inr (inl (row, long))))))) =
-        let (rest, fails, used) = lost_power n playable.network all b at late well row in
-        let late : max (echo_span (pace_of n) v.paths) v.paths.delay ≤ sound =
-        subst (λ t. max (echo_span (pace_of n) v.paths) v.paths.delay ≤ t) (sym told) long in
-        inl (rest, inl (inr (inr (inr (inr (fails, inl (used, late)))))))
-    rests_by sound told (inr (inr (inr (inr (inr (inr (inl (row, long)))))))) =
+        inr (inr (inl (rest, tree, told ∙ is)))
+    rests_by sound told (inr (inr (inr (inl (inl row, is))))) =
+        let (rest, (g, turns)) = turned n playable.network all b at late well row in
+        let same = same_paths n playable.network all b at late g in
+        let is_first = told ∙ is ∙ ap (λ (p : SyncPaths). 2 * way_span p + echo_span (pace_of n) p) same in
+        inl (rest, behind g (Resting sound) (inl (inr (inr (inr (inl (turns, is_first)))))))
+    rests_by sound told (inr (inr (inr (inr (inl (row, long)))))) =
         let (rest, fails) = heard n playable.network all b at late well row in
-        let late : aged_echo_span n loss v.paths ≤ sound =
-        subst (λ t. aged_echo_span n loss v.paths ≤ t) (sym told) long in
         inl (
           rest,
-          inl (inr (inr (inr (inr (
+          alone (Resting sound) (inl (inr (inr (inr (inr (
             fails,
-            inr (largest_interval (pace_of n), inr refl, (v.moves.held, held_heard fails, late)),
-          ))))),
+            by (some_heard fails) v.used refl (subst (λ t. aged_echo_span n loss v.paths ≤ t) (sym told) long),
+          )))))),
         )
-    rests_by sound told (inr (inr (inr (inr (inr (inr (inr (inl (row, is))))))))) =
-        let (rest, loses, roles) = any_losses n playable.network all b at late row in
+      where
+        by : (now ≡ [] → ⊥) → (used : Bool) → v.used ≡ used
+            → (if used then max (echo_span (pace_of n) v.paths) v.paths.delay
+            else max (silence_span (pace_of n))
+            (aged_by loss + 1 + max (echo_span (pace_of n) v.paths) (largest_interval (pace_of n))))
+            ≤ sound
+            → RestsOnceTold n made now sound
+        by some true used late_then = inl (used_up n playable.network (made ++ now) used, late_then)
+        by some false used late_then =
+            inr (largest_interval (pace_of n), inr refl, (aged_by loss, aged some, late_then))
+    rests_by sound told (inr (inr (inr (inr (inr (inl (row, is))))))) =
+        let (rest, loses, roles) = losses n playable.network all b at late row in
         inl (
           rest,
-          inr (
+          alone (Resting sound) (inr (
             any_loss_span n loss v.paths,
             subst (λ t. BoundsAnyLoss n made now (any_loss_span n loss v.paths) t) (sym (told ∙ is))
                 (loses, refl, roles (any_loss_span n loss v.paths)),
-          ),
+          )),
         )
-    rests_by sound told (inr (inr (inr (inr (inr (inr (inr (inr (row, is))))))))) =
+    rests_by sound told (inr (inr (inr (inr (inr (inr (inl (row, is)))))))) =
         let (rest, tree) = tree_cut n playable.network all b at late well row in inr (inl (rest, tree, told ∙ is))
+    rests_by sound told (inr (inr (inr (inr (inr (inr (inr (row, is)))))))) =
+        let x = failure_cuts n playable.network all b at late well row in
+        let echo : ℕ = max (echo_span (pace_of n) v.paths) (largest_interval (pace_of n)) in
+        inr (inr (inr (
+          x,
+          (
+            aged_by loss + 2 * way_span v.paths,
+            max (aged_by loss + 2 * way_span v.paths) (quiet_by n loss (aged_by loss)),
+            (aged_by loss, quiet_by n loss (aged_by loss), aging (some_trees x.fails), refl, refl),
+            rested_late (aged_by loss) (2 * way_span v.paths) echo (quiet_by n loss (aged_by loss)) sound
+                (told ∙ is ∙ quiet_later (2 * way_span v.paths + echo)),
+          ),
+        )))
 
     -- it has come to rest as soon as it settles from any past, or sooner after a loss
     rest_so : (s : Settling) → IsTelling n v s → IsChoiceBoundAfter n all (b.at ∷ earlier) at settled_by
@@ -319,11 +475,10 @@ module _ (d : DocumentState) (playable : IsPlayable d) where
           ⊎ ((roles : ℕ) × IsLossBoundAfter n all (b.at ∷ earlier) at s.choice roles)
       sooner : s.choice ≤ s.roles
 
-    -- What a loss asks for from rest, or a tree that falls off or turns an announce interval later, or a failure that
-    -- cuts trees off.
+    -- What a loss asks for from rest, or a tree that falls off or turns, or a failure that cuts trees off.
     abbrev Asks : ℕ → ℕ → Type 0
     Asks choice roles =
-        (HasComeToRest b at × BoundsLoss n made now choice roles)
+        (HasComeToRest b at × BeforeRepeats n (Losing choice roles) made now)
         ⊎ ((((rest : HasComeToRest b at)
         × (CutsLate n playable.network all b at late rest
         ⊎ ComesLate n playable.network all b at late (TurnsTreeLink n) rest))
@@ -335,7 +490,19 @@ module _ (d : DocumentState) (playable : IsPlayable d) where
         → IsLossBoundAfter n all (b.at ∷ earlier) at s.choice s.roles
     lost s settles off (inl (rest, loses)) =
         let (bound, past) = sound_before rest in
-        inl (late, between, settles.2.0, off, (rest.settling.sound, bound, past), loses)
+        inl (
+          late,
+          between,
+          settles.2.0,
+          off,
+          (
+            rest.settling.sound,
+            bound,
+            past,
+            beside (b.at + rest.settling.sound) (Losing s.choice s.roles)
+                (some_before (Losing s.choice s.roles) (some_lost s.choice s.roles) loses) loses,
+          ),
+        )
     lost s settles off (inr (inl ((rest, inl tree), choice, roles))) =
         inr (inl (tree_next (LowersTree n) (BoundsTree n s.choice s.roles) settles.2.0 off rest tree.comes
         (choice, roles)))
@@ -343,39 +510,36 @@ module _ (d : DocumentState) (playable : IsPlayable d) where
         inr (inr (inl (tree_next (TurnsTreeLink n) (BoundsTree n s.choice s.roles) settles.2.0 off rest tree
         (choice, roles))))
     lost s settles off (inr (inr (x, splits))) =
-        let then = so x.rest.settling x.rest.is in
-        let less = then.rest in
-        let passed = x.longer in
         inr (inr (inr (
           late,
           between,
           settles.2.0,
           off,
-          (x.rest.settling.sound, then.sound, omega (arith, less, passed)),
-          x.fails,
-          splits,
+          (x.rest.settling.sound, (sound_before x.rest).0, x.come),
+          before_none n (λ made now. FailsTreesFirst n made now × BoundsSplit n s.choice s.roles made now) made now
+              (x.fails, splits),
         )))
 
     -- what ages does no later than ports beside a failed system are off
-    ages_first : (aged quiet : ℕ) → BoundsAging n made now aged quiet → aged ≤ quiet
-    ages_first aged quiet (inl (used, none, no_roles)) = omega (arith, none)
-    ages_first aged quiet (inr ((span, within, is), is_roles)) =
+    ages_first : (aged quiet : ℕ) (events : List Timed) → BoundsAging n made events aged quiet → aged ≤ quiet
+    ages_first aged quiet events (inl (used, none, no_roles)) = omega (arith, none)
+    ages_first aged quiet events (inr ((span, within, is), is_roles)) =
         lesser aged quiet span (silence_span (pace_of n)) is is_roles
 
-    no_later : (choice roles : ℕ) → BoundsLoss n made now choice roles → choice ≤ roles
-    no_later choice roles (inl (lowers, same, which)) = omega (arith, same)
-    no_later choice roles (inr (inl (fails, none, which))) = omega (arith, none)
-    no_later choice roles (inr (inr (inl (turns, is, same)))) = omega (arith, same)
-    no_later choice roles (inr (inr (inr (inl (fails, (aged, quiet, aging, inl (same, roles_same))))))) =
-        let first = ages_first aged quiet aging in omega (arith, same, roles_same, first)
-    no_later choice roles (inr (inr (inr (inl (fails, (aged, quiet, aging, inr (is, later))))))) =
+    no_later : (choice roles : ℕ) (events : List Timed) → BoundsLoss n made events choice roles → choice ≤ roles
+    no_later choice roles events (inl (lowers, same, which)) = omega (arith, same)
+    no_later choice roles events (inr (inl (fails, none, which))) = omega (arith, none)
+    no_later choice roles events (inr (inr (inl (turns, is, same)))) = omega (arith, same)
+    no_later choice roles events (inr (inr (inr (inl (fails, (aged, quiet, aging, inl (same, roles_same))))))) =
+        let first = ages_first aged quiet events aging in omega (arith, same, roles_same, first)
+    no_later choice roles events (inr (inr (inr (inl (fails, (aged, quiet, aging, inr (is, later))))))) =
         greater choice roles quiet later
-    no_later choice roles (inr (inr (inr (inr (loses, is, inl (quiet, same)))))) = omega (arith, same)
-    no_later choice roles (inr (inr (inr (inr (loses, is, inr later))))) =
+    no_later choice roles events (inr (inr (inr (inr (loses, is, inl (quiet, same)))))) = omega (arith, same)
+    no_later choice roles events (inr (inr (inr (inr (loses, is, inr later))))) =
         greater choice roles (silence_span (pace_of n)) later
 
     asked_later : (choice roles : ℕ) → Asks choice roles → choice ≤ roles
-    asked_later choice roles (inl (rest, loses)) = no_later choice roles loses
+    asked_later choice roles (inl (rest, (first, others, split, each, loses))) = no_later choice roles first loses
     asked_later choice roles (inr (inl (tree, is, same))) = omega (arith, same)
     asked_later choice roles (inr (inr (x, (aged, quiet, aging, is, later)))) = greater choice roles quiet later
 
@@ -387,26 +551,33 @@ module _ (d : DocumentState) (playable : IsPlayable d) where
     asks_by Unchanged row own = absurd own
     asks_by Gained row own = absurd own
     asks_by Lowered row own =
-        let (rest, lowers, flight) = lowered n playable.network all b at late well row in
-        inl (rest, inl (lowers, refl, inl refl))
+        let (rest, (l, flight)) = lowered n playable.network all b at late well row in
+        inl (rest, behind l.first (Losing 0 0) (inl (l.lowers, refl, inl refl)))
     asks_by CutOff row own =
         let x = cut_off n playable.network all b at late well row in
-        inl (x.rested, inl (x.lowers, refl, inr (x.cuts, refl)))
-    asks_by LostEnd row own =
-        let x = lost_end n playable.network all b at late well row in
-        inl (x.rested, inr (inl (x.fails, refl, inl (x.used, refl))))
+        let way : ℕ = 2 * way_span v.paths in
+        let same = same_paths n playable.network all b at late x.none.first in
+        inl (
+          x.rested,
+          behind x.none.first (Losing way way)
+              (inl (x.none.lowers, refl, inr (x.cuts, ap (λ (p : SyncPaths). 2 * way_span p) same))),
+        )
     asks_by FailedEnd row own =
         let (rest, fails, flight) = failed n playable.network all b at late well row in
-        inl (rest, inr (inl (fails, refl, inr refl)))
-    asks_by LostPower row own =
-        let (rest, fails, used) = lost_power n playable.network all b at late well (inl row) in
-        inl (rest, inr (inr (inr (inl (fails, (0, 0, inl (used, refl, refl), inl (refl, refl)))))))
-    asks_by PowerCutsOff row own =
-        let (rest, fails, used) = lost_power n playable.network all b at late well (inr row) in
-        inl (rest, inr (inr (inr (inl (fails, (0, 0, inl (used, refl, refl), inr (omega arith, omega arith)))))))
-    asks_by OneTurned row own =
-        let (rest, turns) = turned n playable.network all b at late well row in
-        inl (rest, inr (inr (inl (turns, refl, refl))))
+        inl (rest, alone (Losing 0 (quiet_by n loss 0)) (inr (inl (fails, refl, by v.silent refl))))
+      where
+        by : (silent : Bool) → v.silent ≡ silent
+            → RolesAfterFailure n made now (if silent then max 0 (silence_span (pace_of n)) else 0)
+        by true is = inr (omega arith)
+        by false is = inl (none_left n playable.network all b at late is, refl)
+    asks_by SystemTurned row own =
+        let (rest, (g, turns)) = turned n playable.network all b at late well row in
+        let way : ℕ = 2 * way_span v.paths in
+        let same = same_paths n playable.network all b at late g in
+        inl (
+          rest,
+          behind g (Losing way way) (inr (inr (inl (turns, ap (λ (p : SyncPaths). 2 * way_span p) same, refl)))),
+        )
     asks_by TreeCutOff row own =
         let (rest, tree) = tree_cut n playable.network all b at late well row in
         inr (inl ((rest, inl tree), refl, refl))
@@ -417,32 +588,42 @@ module _ (d : DocumentState) (playable : IsPlayable d) where
         let (rest, fails) = heard n playable.network all b at late well (inl row) in
         inl (
           rest,
-          inr (inr (inr (inl (
+          alone (Losing (aged_by loss) (quiet_by n loss (aged_by loss))) (inr (inr (inr (inl (
             fails,
-            (v.moves.held, silence_span (pace_of n), inr (held_heard fails, refl), inl (refl, refl)),
-          )))),
+            (aged_by loss, quiet_by n loss (aged_by loss), aging (some_heard fails), inl (refl, refl)),
+          ))))),
         )
     asks_by FailureCutsOff row own =
         let (rest, fails) = heard n playable.network all b at late well (inr row) in
         inl (
           rest,
-          inr (inr (inr (inl (
+          alone (Losing (aged_by loss + 2 * way_span v.paths) (quiet_by n loss (aged_by loss + 2 * way_span v.paths)))
+              (inr (inr (inr (inl (
             fails,
-            (v.moves.held, silence_span (pace_of n), inr (held_heard fails, refl), inr (refl, refl)),
-          )))),
+            (
+              aged_by loss,
+              quiet_by n loss (aged_by loss),
+              aging (some_heard fails),
+              inr (refl, quiet_later (2 * way_span v.paths)),
+            ),
+          ))))),
         )
-    asks_by PowerCutsTrees row own =
-        let (x, used) = power_cuts n playable.network all b at late well row in
-        inr (inr (x, (0, 0, inl (used, refl, refl), omega arith, omega arith)))
     asks_by FailureCutsTrees row own =
         let x = failure_cuts n playable.network all b at late well row in
         inr (inr (
           x,
-          (v.moves.held, silence_span (pace_of n), inr (held_trees x.fails, refl), refl, refl),
+          (
+            aged_by loss,
+            quiet_by n loss (aged_by loss),
+            aging (some_trees x.fails),
+            refl,
+            quiet_later (2 * way_span v.paths),
+          ),
         ))
     asks_by AnyLosses row own =
-        let (rest, loses, roles) = any_losses n playable.network all b at late row in
-        inl (rest, inr (inr (inr (inr (loses, refl, roles (any_loss_span n loss v.paths))))))
+        let (rest, loses, roles) = losses n playable.network all b at late row in
+        let span : ℕ = any_loss_span n loss v.paths in
+        inl (rest, alone (Losing span (quiet_by n loss span)) (inr (inr (inr (inr (loses, refl, roles span))))))
 
     sooner_so : (s : Settling) → IsTelling n v s → IsChoiceBoundAfter n all (b.at ∷ earlier) at settled_by → IsSooner s
     sooner_so s it settles = elim (choice_or_own n loss v.paths (row_at v) (gained_at n v)) [

@@ -1,17 +1,13 @@
 -- Offsets are exact in each run from the time on that is told of a time.
-use Rattle.std.proofs.Common.{◌≡◌, ◌<◌, ◌≤◌, ◌+◌, ◌*◌, ◌^◌, ℕ, Bool, true, false, cond, suc, max, List, [], ◌∷◌, Option, Some, None, filter, refl, ap, ap₂, subst, arith}
+use Rattle.std.proofs.Common.{◌≡◌, ◌<◌, ◌≤◌, ◌+◌, ◌*◌, ◌^◌, ℕ, Bool, true, false, cond, suc, max, List, [], ◌∷◌, Option, filter, refl, ap, subst, arith}
 use Rattle.std.specs.List.{AllByRecursion}
 use Rattle.std.proofs.Math.Nat.{mul-le-mul}
-use Rattle.std.proofs.lemmas.List.{append-nil}
 use Rattle.gptp_lists.specs.Members.{In}
 use Rattle.gptp_graph.specs.PathBound.{path_bound}
 use Rattle.gptp_graph.proofs.PathBoundLemmas.{IsDistance-within, paths_within}
 use Rattle.gptp_links.specs.declared.bounds.Bounds.{Bounds}
-use Rattle.gptp_scenario.specs.Network.{NetworkState, pace_of}
+use Rattle.gptp_scenario.specs.Network.{pace_of}
 use Rattle.gptp_scenario.specs.SyncWait.{sync_paths}
-use Rattle.gptp_scenario.specs.declared.change.Act.{Act}
-use Rattle.gptp_scenario.specs.declared.change.Act.TheVariants as acts
-use Rattle.gptp_scenario.specs.declared.change.Change.TheVariants as changes
 use Rattle.gptp_scenario.specs.declared.change.Timed.{Timed}
 use Rattle.gptp_scenario.specs.declared.sync_wait.SyncPaths.{SyncPaths}
 use Rattle.gptp_model.specs.World.{WorldState}
@@ -25,20 +21,16 @@ use Rattle.gptp_invariants.proofs.SyncFollowWayLemmas.{way_distance}
 use Rattle.gptp_invariants.proofs.WorldStandsLemmas.{stands_well}
 use Rattle.gptp_theorem.specs.PlayedLaws.{IsPlayable}
 use Rattle.gptp_theorem.proofs.SyncPathLemmas.{paths_stand}
-use Rattle.gptp_how_soon.specs.Kinds.{sets_bounds}
 use Rattle.gptp_how_soon.specs.Links.{longest_delay}
-use Rattle.gptp_how_soon.specs.Bounds.{arrived_by as arrived_here}
-use Rattle.gptp_how_soon.specs.Times.{last_of as last_here, last_set as set_here}
 use Rattle.gptp_how_soon.specs.declared.bounds.Settling.{Settling}
 use Rattle.gptp_scenario.specs.SettlingTime.{window_span}
-use Rattle.gptp_settling_time.specs.Gains.{HasDelaysWithin}
 use Rattle.gptp_settling_time.specs.HowSoon.{IsChoiceAloneBound, NoneBetween}
-use Rattle.gptp_settling_time.specs.Arrivals.{after_set, arrived_by, last_of, sets_link}
+use Rattle.gptp_settling_time.specs.Arrivals.{arrived_by}
 use Rattle.gptp_settling_time.proofs.ChoiceBoundLemmas.{choice_bounds_are_exact, choice_bounds_carry}
 use Rattle.gptp_settling_time.proofs.ExactInTurnLemmas.{IsCarried}
 use Rattle.gptp_how_soon_laws.specs.Exact.{IsExact, IsExactSoon}
+use Rattle.gptp_how_soon_laws.proofs.ArrivedLemmas.{all_within, same_set}
 use Rattle.gptp_how_soon_laws.proofs.ChoiceLemmas.{IsSo, time_so}
-use Rattle.gptp_how_soon_laws.proofs.RowTestLemmas.{longest_within}
 use Rattle.gptp_how_soon_laws.proofs.StepLemmas.{IsKept, kept_alone}
 
 -- ---- lists
@@ -53,43 +45,6 @@ all_kept P p (x ∷ xs) all = by (p x) (all_kept P p xs all.1)
         → AllByRecursion P (cond test (x ∷ filter p xs) (filter p xs))
     by true rest = (all.0, rest)
     by false rest = rest
-
--- ---- when a link was last set
-
-same_sets : (act : Act) → sets_bounds act ≡ sets_link act
-same_sets (acts.Deliver link direction) = refl
-same_sets (acts.Expire clock timer) = refl
-same_sets (acts.Change (changes.LinkDown clock port)) = refl
-same_sets (acts.Change (changes.LinkUp clock port)) = refl
-same_sets (acts.Change (changes.LinkSet clock port least greatest loss)) = refl
-same_sets (acts.Change (changes.Fail number)) = refl
-same_sets (acts.Change (changes.Recover number)) = refl
-same_sets (acts.Change (changes.Priority1 number value)) = refl
-same_sets (acts.Change (changes.Inject clock port octets)) = refl
-
-same_kept : (events : List Timed)
-    → filter (λ (t : Timed). sets_bounds t.act) events ≡ filter (λ (t : Timed). sets_link t.act) events
-same_kept [] = refl
-same_kept (t ∷ ts) =
-    ap₂ (λ test (kept : List Timed). cond test (t ∷ kept) kept) (same_sets t.act) (same_kept ts)
-
-same_last : (events : List Timed) → last_here events ≡ last_of events
-same_last [] = refl
-same_last (t ∷ ts) = refl
-
-same_arrived : (longest : ℕ) (last : Option ℕ) → arrived_here longest last ≡ after_set longest last
-same_arrived longest None = refl
-same_arrived longest (Some time) = refl
-
-same_set : (longest : ℕ) (events : List Timed) → arrived_here longest (set_here events) ≡ arrived_by longest events
-same_set longest events =
-    same_arrived longest (set_here events)
-    ∙ ap (after_set longest) (ap last_here (same_kept events)
-    ∙ same_last (filter (λ (t : Timed). sets_link t.act) events))
-
-all_within : (n : NetworkState) (events : List Timed) → HasDelaysWithin n events (longest_delay n events)
-all_within n events =
-    subst (λ es. HasDelaysWithin n events (longest_delay n es)) (append-nil events) (longest_within n events [])
 
 -- ---- a way has fewer links than a path has systems
 

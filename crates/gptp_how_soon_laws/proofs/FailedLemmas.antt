@@ -32,12 +32,12 @@ use Rattle.gptp_topology.specs.After.{system_then, systems_after, standing_then,
 use Rattle.gptp_topology.specs.declared.nodes.System as ours
 use Rattle.gptp_how_soon.specs.Chosen.{chosen_after, is_joined, moves_joined, place_of, used_ends}
 use Rattle.gptp_how_soon.specs.Far.{are_far_after, has_lower_clock, is_far_end, is_far_over, is_nearer, is_nearer_at, is_down_or_used, is_far_named, up_is_used}
-use Rattle.gptp_how_soon.specs.Kinds.{is_fail, is_failing, is_loss, fails_first, is_link_down, is_unused, lowers_unused}
+use Rattle.gptp_how_soon.specs.Kinds.{fails_first, is_down_too, is_fail, is_failing, is_loss, lowers_unused, makes_nothing, repeats}
 use Rattle.gptp_how_soon.specs.Times.{told_at, told_of}
 use Rattle.gptp_how_soon.specs.declared.chosen.Chosen.{Chosen}
 use Rattle.gptp_how_soon.proofs.ChosenLemmas.{IsAt, at_clock, chosen_there, place_is, settled_choice, touched}
 use Rattle.gptp_how_soon.proofs.RoundsLemmas.{Touches}
-use Rattle.gptp_settling_time.specs.HowSoon.{EachEvent, FailsEndFirst, FailsHeardFirst, TurnsUnused}
+use Rattle.gptp_settling_time.specs.HowSoon.{EachEvent, FailsEndFirst, FailsHeardFirst, IsDownToo, TurnsUnused}
 use Rattle.gptp_settling_time.specs.Losses.{FailsFarEnd, FailsHeard, IsCutOff, IsFarEnd, IsUnmoved, IsUnmovedOrCutOff, LowersUnused, MovesNoneJoined, UpIsUsed}
 use Rattle.gptp_vector.specs.declared.port.PortId.{PortId}
 use Rattle.gptp_scenario.specs.Calm.{IsLive}
@@ -47,13 +47,14 @@ use Rattle.gptp_scenario.proofs.AfterLemmas.{after_keeps}
 use Rattle.gptp_topology.specs.Course.{cable_is_used}
 use Rattle.gptp_topology.proofs.RestLemmas.{cable_used}
 use Rattle.gptp_how_soon.specs.declared.kinds.Kind.{Kind}
+use Rattle.gptp_how_soon.specs.declared.kinds.Kind.TheVariants.{Gain, Idle, Loss, Other, Unused, Wider}
 use Rattle.gptp_how_soon.specs.declared.kinds.Told.{Told}
 use Rattle.gptp_how_soon.specs.declared.kinds.What.{What}
-use Rattle.gptp_how_soon.specs.declared.kinds.What.TheVariants as whats
 use Rattle.gptp_settling_time.proofs.SamePathsLemmas.{is_end, lives_not, map_same, turned_paths}
 use Rattle.gptp_how_soon_laws.proofs.KindLemmas.{told}
 use Rattle.gptp_how_soon_laws.proofs.ToldLemmas.{failure_is, loss_fails, unused_lowers}
 use Rattle.gptp_how_soon_laws.proofs.LoweredLemmas.{joined_by}
+use Rattle.gptp_how_soon_laws.proofs.RepeatLemmas.{paths_seen, repeat_same, repeats_by, stands_seen}
 use Rattle.gptp_how_soon_laws.proofs.UnmovedLemmas.{AreWell, none_joined_there, unmoved_at}
 
 -- what is so of all is so of each
@@ -375,30 +376,49 @@ module _ (n : NetworkState) (network : IsNetwork n) (made : List Timed) (event :
     links = stands.links ∙ sym (links_stay n.links link_stays);
   }
 
--- and several do
+-- and several do, or repeat what stands
 module _ (n : NetworkState) (network : IsNetwork n) where
-  stands_all : (h : Snapshot) (made now : List Timed) → EachEvent (LowersUnused n) made now → StandsAfter n made h
+  stands_too : (h : Snapshot) (made : List Timed) (event : Timed) → IsDownToo n made event → StandsAfter n made h
+      → StandsAfter n (made ++ event ∷ []) h
+  stands_too h made event (inl lowers) stands = stands_less n network made event lowers h stands
+  stands_too h made event (inr repeats) stands =
+      stands_seen n made (made ++ event ∷ []) (repeat_same n network made event repeats) h stands
+
+  stands_all : (h : Snapshot) (made now : List Timed) → EachEvent (IsDownToo n) made now → StandsAfter n made h
       → StandsAfter n (made ++ now) h
   stands_all h made [] each stands = subst (λ es. StandsAfter n es h) (sym (append-nil made)) stands
-  stands_all h made (event ∷ now) (lowers, others) stands =
+  stands_all h made (event ∷ now) (down, others) stands =
       subst (λ es. StandsAfter n es h) (append_assoc made (event ∷ []) now)
-      (stands_all h (made ++ event ∷ []) now others (stands_less n network made event lowers h stands))
+      (stands_all h (made ++ event ∷ []) now others (stands_too h made event down stands))
 
-  paths_all : (made now : List Timed) → EachEvent (LowersUnused n) made now
+  paths_too : (made : List Timed) (event : Timed) → IsDownToo n made event
+      → sync_paths n (made ++ event ∷ []) ≡ sync_paths n made
+  paths_too made event (inl lowers) =
+      turned_paths n made event (subst (TurnsUnused n made) (sym lowers.act) lowers.failed)
+  paths_too made event (inr repeats) =
+      paths_seen n made (made ++ event ∷ []) (repeat_same n network made event repeats)
+
+  paths_all : (made now : List Timed) → EachEvent (IsDownToo n) made now
       → sync_paths n (made ++ now) ≡ sync_paths n made
   paths_all made [] each = ap (sync_paths n) (append-nil made)
-  paths_all made (event ∷ now) (lowers, others) =
+  paths_all made (event ∷ now) (down, others) =
       ap (sync_paths n) (sym (append_assoc made (event ∷ []) now))
       ∙ paths_all (made ++ event ∷ []) now others
-      ∙ turned_paths n made event (subst (TurnsUnused n made) (sym lowers.act) lowers.failed)
+      ∙ paths_too made event down
 
-  lowers_each : (made now : List Timed) → list_all lowers_unused (told_of n made now) ≡ true
-      → EachEvent (LowersUnused n) made now
-  lowers_each made [] all = tt
-  lowers_each made (event ∷ now) all =
-      let (first, others) = and_parts (lowers_unused (told_at n made event.act))
-      (list_all lowers_unused (told_of n (made ++ event ∷ []) now)) all in
-      (unused_lowers n network made event first, lowers_each (made ++ event ∷ []) now others)
+  down_each : (made now : List Timed) → list_all is_down_too (told_of n made now) ≡ true
+      → EachEvent (IsDownToo n) made now
+  down_each made [] all = tt
+  down_each made (event ∷ now) all =
+      let t = told_at n made event.act in
+      let (first, others) =
+      and_parts (is_down_too t) (list_all is_down_too (told_of n (made ++ event ∷ []) now)) all in (
+        elim (or_cases (lowers_unused t) (repeats t) first) [
+          | inl lowers ↦ inl (unused_lowers n network made event lowers)
+          | inr same ↦ inr (repeats_by n network made event same)
+        ],
+        down_each (made ++ event ∷ []) now others,
+      )
 
   -- each link that is up is in use where it is seen so
   pub used_up : (all : List Timed) → up_is_used (standings_after n all) ≡ true → UpIsUsed n all
@@ -410,17 +430,15 @@ module _ (n : NetworkState) (network : IsNetwork n) where
         | inr used ↦ used
       ])
 
--- what fails takes no link down
-pub fail_lowers_none : (kind : Kind) (clock : ℕ) (what : What) → is_fail (told clock what kind) ≡ true
-    → is_link_down (told clock what kind) ≡ true → ⊥
-fail_lowers_none kind clock whats.LinkDown fails lowers = absurd cc
-fail_lowers_none kind clock whats.LinkUp fails lowers = absurd cc
-fail_lowers_none kind clock whats.LinkSet fails lowers = absurd cc
-fail_lowers_none kind clock whats.Fail fails lowers = absurd cc
-fail_lowers_none kind clock whats.Recover fails lowers = absurd cc
-fail_lowers_none kind clock whats.Priority1 fails lowers = absurd cc
-fail_lowers_none kind clock whats.Inject fails lowers = absurd cc
-fail_lowers_none kind clock whats.NoChange fails lowers = absurd cc
+-- a loss makes something of what stands
+loss_makes : (kind : Kind) (clock : ℕ) (what : What) → is_loss (told clock what kind) ≡ true
+    → makes_nothing (told clock what kind) ≡ true → ⊥
+loss_makes Idle clock what loss nothing = absurd cc
+loss_makes Unused clock what loss nothing = absurd cc
+loss_makes Loss clock what loss nothing = absurd cc
+loss_makes Gain clock what loss nothing = absurd cc
+loss_makes (Wider by) clock what loss nothing = absurd cc
+loss_makes Other clock what loss nothing = absurd cc
 
 -- the events of a time
 module _ (n : NetworkState) (network : IsNetwork n) (made : List Timed) (event : Timed) (events : List Timed)
@@ -433,11 +451,11 @@ module _ (n : NetworkState) (network : IsNetwork n) (made : List Timed) (event :
   abbrev pub t : Told
   t = told_at n made event.act
 
-  pub parts : (is_failing t ≡ true) × (list_all lowers_unused (told_of n first_behind events) ≡ true)
-  parts = and_parts (is_failing t) (list_all lowers_unused (told_of n first_behind events)) is
+  pub parts : (is_failing t ≡ true) × (list_all is_down_too (told_of n first_behind events) ≡ true)
+  parts = and_parts (is_failing t) (list_all is_down_too (told_of n first_behind events)) is
 
-  pub others : EachEvent (LowersUnused n) first_behind events
-  others = lowers_each n network first_behind events parts.1
+  pub others : EachEvent (IsDownToo n) first_behind events
+  others = down_each n network first_behind events parts.1
 
   whole : first_behind ++ events ≡ made ++ event ∷ events
   whole = append_assoc made (event ∷ []) events
@@ -456,7 +474,7 @@ module _ (n : NetworkState) (network : IsNetwork n) (made : List Timed) (event :
       subst (λ es. StandsAfter n es h) whole (stands_all n network h first_behind events others stands)
 
   pub heard_first : AreWell n (made ++ event ∷ events) → moves_joined n made (made ++ event ∷ events) ≡ false
-      → FailsHeard n made event × EachEvent (LowersUnused n) first_behind events
+      → FailsHeard n made event × EachEvent (IsDownToo n) first_behind events
   heard_first well unmoved = (
     fails_heard n network made event (made ++ event ∷ events) well
         (λ g stands. well made (event ∷ events) refl g stands) stands_on unmoved first_delay first_paths few parts.0,
@@ -465,17 +483,15 @@ module _ (n : NetworkState) (network : IsNetwork n) (made : List Timed) (event :
 
   pub end_first : AreWell n (made ++ event ∷ events) → moves_joined n made (made ++ event ∷ events) ≡ false
       → are_far_after n made (told_of n made (event ∷ events)) ≡ true
-      → FailsFarEnd n made event × EachEvent (LowersUnused n) first_behind events
+      → FailsFarEnd n made event × EachEvent (IsDownToo n) first_behind events
   end_first well unmoved far =
       let far_test : Bool = is_far_end (systems_after n made) (chosen_after n made) (used_ends n made)
       (place_of (systems_after n made) t.clock) in
-      let (first, more) = and_parts (lowers_unused t || far_test)
+      let (first, more) = and_parts (makes_nothing t || far_test)
       (list_all (is_far_named (systems_after n made) (chosen_after n made) (used_ends n made))
       (told_of n first_behind events)) far in
-      let far_end : far_test ≡ true = elim (or_cases (lowers_unused t) far_test first) [
-        | inl unused ↦
-            absurd (fail_lowers_none t.kind t.clock t.what (and_parts (is_loss t) (is_fail t) parts.0).1
-            (and_parts (is_unused t) (is_link_down t) unused).1)
+      let far_end : far_test ≡ true = elim (or_cases (makes_nothing t) far_test first) [
+        | inl nothing ↦ absurd (loss_makes t.kind t.clock t.what (and_parts (is_loss t) (is_fail t) parts.0).0 nothing)
         | inr is_far ↦ is_far
       ] in (
         fails_far_end n network made event (made ++ event ∷ events) well

@@ -8,6 +8,7 @@ mod GainLemmas
 mod GainedLemmas
 mod WorseningLemmas
 mod UnmovedLemmas
+mod RepeatLemmas
 mod LoweredLemmas
 mod FailedLemmas
 mod CutOffLemmas
@@ -24,11 +25,13 @@ mod MovedTreesTestLemmas
 mod MovedTreesLemmas
 mod TreeEventLemmas
 mod TurnedLemmas
+mod LiveEndsLemmas
 mod SilentLemmas
 mod RowBoundLemmas
 mod RowReasonLemmas
 mod StartRowLemmas
 mod RowTestLemmas
+mod ArrivedLemmas
 mod RowLemmas
 mod AnyLossLemmas
 pub mod ChoiceLemmas

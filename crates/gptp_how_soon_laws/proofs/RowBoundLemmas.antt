@@ -4,20 +4,21 @@ use Rattle.std.proofs.Common.{◌≡◌, ◌≤◌, ◌⊎◌, inl, inr, ◌+◌
 use Rattle.std.specs.Prelude.{⊤, ◌==◌, not, max, if◌then◌else◌}
 use Rattle.std.proofs.lemmas.Bool.{eqb-false, eqb-true}
 use Rattle.gptp_lists.proofs.MappedLemmas.{some_same}
+use Rattle.gptp_setup.specs.SettlingParams.{largest_interval}
 use Rattle.gptp_scenario.specs.Calm.{NothingLapses}
 use Rattle.gptp_scenario.specs.Network.{NetworkState, pace_of}
 use Rattle.gptp_scenario.specs.SettlingAtOnce.{settling_span_at_once}
-use Rattle.gptp_scenario.specs.SettlingTime.{echo_span, settling_span_with, silence_span, way_span, window_span}
+use Rattle.gptp_scenario.specs.SettlingTime.{echo_span, settling_span_with, way_span, window_span}
 use Rattle.gptp_scenario.specs.SyncWait.{sync_paths}
 use Rattle.gptp_scenario.specs.declared.change.Timed.{Timed}
 use Rattle.gptp_scenario.specs.declared.sync_wait.SyncPaths.{SyncPaths}
 use Rattle.gptp_topology.specs.After.{is_calm}
-use Rattle.gptp_how_soon.specs.Bounds.{aged_echo_span, arrived_by, choice_by, choice_of_row, gone_by, roles_after_losses, roles_by, roles_of_row, settled, sound_by, sound_of_row}
+use Rattle.gptp_how_soon.specs.Bounds.{aged_by, aged_echo_span, any_loss_span, arrived_by, choice_by, choice_of_row, gone_by, quiet_by, roles_by, roles_of_row, settled, sound_by, sound_of_row}
 use Rattle.gptp_how_soon.specs.Kinds.{sets_link}
 use Rattle.gptp_how_soon.specs.Times.{View, gained_at, loss_at, row_at, settling_time}
 use Rattle.gptp_how_soon.specs.declared.bounds.Loss.{Loss}
 use Rattle.gptp_how_soon.specs.declared.bounds.Row.{Row}
-use Rattle.gptp_how_soon.specs.declared.bounds.Row.TheVariants.{AnyLosses, AnyPast, CutOff, FailedEnd, FailedHeard, FailureCutsOff, FailureCutsTrees, Gained, LostEnd, LostPower, Lowered, OneTurned, PowerCutsOff, PowerCutsTrees, TreeCutOff, TreeTurned, Unchanged}
+use Rattle.gptp_how_soon.specs.declared.bounds.Row.TheVariants.{AnyLosses, AnyPast, CutOff, FailedEnd, FailedHeard, FailureCutsOff, FailureCutsTrees, Gained, Lowered, SystemTurned, TreeCutOff, TreeTurned, Unchanged}
 use Rattle.gptp_how_soon.specs.declared.bounds.Settling.{Settling}
 use Rattle.gptp_settling_time.specs.HowSoon.{BoundsChoice}
 use Rattle.gptp_topology.proofs.RestLemmas.{calm_from}
@@ -28,16 +29,12 @@ past_row AnyPast = AnyPast
 past_row Unchanged = Unchanged
 past_row Lowered = AnyPast
 past_row CutOff = AnyPast
-past_row LostEnd = AnyPast
-past_row LostPower = AnyPast
 past_row FailedEnd = AnyPast
 past_row FailedHeard = AnyPast
-past_row PowerCutsOff = AnyPast
 past_row FailureCutsOff = AnyPast
-past_row OneTurned = AnyPast
+past_row SystemTurned = AnyPast
 past_row TreeCutOff = AnyPast
 past_row TreeTurned = AnyPast
-past_row PowerCutsTrees = AnyPast
 past_row FailureCutsTrees = AnyPast
 past_row AnyLosses = AnyPast
 past_row Gained = Gained
@@ -63,16 +60,12 @@ bounds_choice n Sharp loss events row gained calm unchanged is_gained =
     by_row off AnyPast is = inl refl
     by_row off Lowered is = inl refl
     by_row off CutOff is = inl refl
-    by_row off LostEnd is = inl refl
-    by_row off LostPower is = inl refl
     by_row off FailedEnd is = inl refl
     by_row off FailedHeard is = inl refl
-    by_row off PowerCutsOff is = inl refl
     by_row off FailureCutsOff is = inl refl
-    by_row off OneTurned is = inl refl
+    by_row off SystemTurned is = inl refl
     by_row off TreeCutOff is = inl refl
     by_row off TreeTurned is = inl refl
-    by_row off PowerCutsTrees is = inl refl
     by_row off FailureCutsTrees is = inl refl
     by_row off AnyLosses is = inl refl
     by_row off Unchanged is = inr (unchanged is)
@@ -120,31 +113,28 @@ choice_or_own n loss paths row gained = by (n.params.sync_timeout == 0) refl row
     by true is Gained = inl (refl, refl)
     by true is Lowered = inr (eqb-true n.params.sync_timeout 0 is, tt, refl, refl)
     by true is CutOff = inr (eqb-true n.params.sync_timeout 0 is, tt, refl, refl)
-    by true is LostEnd = inr (eqb-true n.params.sync_timeout 0 is, tt, refl, refl)
-    by true is LostPower = inr (eqb-true n.params.sync_timeout 0 is, tt, refl, refl)
     by true is FailedEnd = inr (eqb-true n.params.sync_timeout 0 is, tt, refl, refl)
     by true is FailedHeard = inr (eqb-true n.params.sync_timeout 0 is, tt, refl, refl)
-    by true is PowerCutsOff = inr (eqb-true n.params.sync_timeout 0 is, tt, refl, refl)
     by true is FailureCutsOff = inr (eqb-true n.params.sync_timeout 0 is, tt, refl, refl)
-    by true is OneTurned = inr (eqb-true n.params.sync_timeout 0 is, tt, refl, refl)
+    by true is SystemTurned = inr (eqb-true n.params.sync_timeout 0 is, tt, refl, refl)
     by true is TreeCutOff = inr (eqb-true n.params.sync_timeout 0 is, tt, refl, refl)
     by true is TreeTurned = inr (eqb-true n.params.sync_timeout 0 is, tt, refl, refl)
-    by true is PowerCutsTrees = inr (eqb-true n.params.sync_timeout 0 is, tt, refl, refl)
     by true is FailureCutsTrees = inr (eqb-true n.params.sync_timeout 0 is, tt, refl, refl)
     by true is AnyLosses = inr (eqb-true n.params.sync_timeout 0 is, tt, refl, refl)
 
 -- All is sound by that bound. Or nothing lapses, and it is sooner after a loss.
 abbrev pub IsSoundSooner : NetworkState → Loss → SyncPaths → Row → ℕ → Type 0
 IsSoundSooner n loss paths row sound =
-    ((row ≡ LostEnd) × (sound ≡ gone_by n loss.paths_before loss.used_before))
-    ⊎ (((row ≡ FailedEnd) × (sound ≡ max (silence_span (pace_of n)) (gone_by n loss.paths_before loss.used_before)))
+    ((row ≡ FailedEnd) × (sound ≡ quiet_by n loss (gone_by n loss.paths_before loss.used_before)))
     ⊎ (((row ≡ Lowered) × (sound ≡ max (echo_span (pace_of n) paths) (gone_by n paths loss.used_before)))
     ⊎ (((row ≡ CutOff) × (sound ≡ max (2 * way_span paths) (gone_by n paths loss.used_before)))
-    ⊎ ((((row ≡ OneTurned) ⊎ (row ≡ TreeTurned)) × (sound ≡ 2 * way_span paths + echo_span (pace_of n) paths))
-    ⊎ ((((row ≡ LostPower) ⊎ (row ≡ PowerCutsOff)) × (max (echo_span (pace_of n) paths) paths.delay ≤ sound))
+    ⊎ ((((row ≡ SystemTurned) ⊎ (row ≡ TreeTurned)) × (sound ≡ 2 * way_span paths + echo_span (pace_of n) paths))
     ⊎ ((((row ≡ FailedHeard) ⊎ (row ≡ FailureCutsOff)) × (aged_echo_span n loss paths ≤ sound))
-    ⊎ (((row ≡ AnyLosses) × (sound ≡ roles_after_losses n loss paths))
-    ⊎ ((row ≡ TreeCutOff) × (sound ≡ max (2 * way_span paths) (gone_by n paths loss.used_before))))))))))
+    ⊎ (((row ≡ AnyLosses) × (sound ≡ quiet_by n loss (any_loss_span n loss paths)))
+    ⊎ (((row ≡ TreeCutOff) × (sound ≡ max (2 * way_span paths) (gone_by n paths loss.used_before)))
+    ⊎ ((row ≡ FailureCutsTrees)
+    × (sound ≡ quiet_by n loss
+    (aged_by loss + (2 * way_span paths + max (echo_span (pace_of n) paths) (largest_interval (pace_of n))))))))))))
 
 pub sound_or_sooner : (n : NetworkState) (loss : Loss) (paths : SyncPaths) (row : Row)
     (gained : ℕ)
@@ -166,28 +156,21 @@ sound_or_sooner n loss paths row gained = by (n.params.sync_timeout == 0) refl r
     by true is AnyPast = inl refl
     by true is Unchanged = inl refl
     by true is Gained = inl refl
-    by true is PowerCutsTrees = inl refl
-    by true is FailureCutsTrees = inl refl
-    by true is LostEnd = inr (eqb-true n.params.sync_timeout 0 is, inl (refl, refl))
-    by true is FailedEnd = inr (eqb-true n.params.sync_timeout 0 is, inr (inl (refl, refl)))
-    by true is Lowered = inr (eqb-true n.params.sync_timeout 0 is, inr (inr (inl (refl, refl))))
-    by true is CutOff = inr (eqb-true n.params.sync_timeout 0 is, inr (inr (inr (inl (refl, refl)))))
-    by true is OneTurned =
-        inr (eqb-true n.params.sync_timeout 0 is, inr (inr (inr (inr (inl (inl refl, refl))))))
-    by true is TreeTurned =
-        inr (eqb-true n.params.sync_timeout 0 is, inr (inr (inr (inr (inl (inr refl, refl))))))
-    by true is LostPower =
-        inr (eqb-true n.params.sync_timeout 0 is, inr (inr (inr (inr (inr (inl (inl refl, omega arith)))))))
-    by true is PowerCutsOff =
-        inr (eqb-true n.params.sync_timeout 0 is, inr (inr (inr (inr (inr (inl (inr refl, omega arith)))))))
+    by true is FailedEnd = inr (eqb-true n.params.sync_timeout 0 is, inl (refl, refl))
+    by true is Lowered = inr (eqb-true n.params.sync_timeout 0 is, inr (inl (refl, refl)))
+    by true is CutOff = inr (eqb-true n.params.sync_timeout 0 is, inr (inr (inl (refl, refl))))
+    by true is SystemTurned = inr (eqb-true n.params.sync_timeout 0 is, inr (inr (inr (inl (inl refl, refl)))))
+    by true is TreeTurned = inr (eqb-true n.params.sync_timeout 0 is, inr (inr (inr (inl (inr refl, refl)))))
     by true is FailedHeard =
-        inr (eqb-true n.params.sync_timeout 0 is, inr (inr (inr (inr (inr (inr (inl (inl refl, omega arith))))))))
+        inr (eqb-true n.params.sync_timeout 0 is, inr (inr (inr (inr (inl (inl refl, omega arith))))))
     by true is FailureCutsOff =
-        inr (eqb-true n.params.sync_timeout 0 is, inr (inr (inr (inr (inr (inr (inl (inr refl, omega arith))))))))
+        inr (eqb-true n.params.sync_timeout 0 is, inr (inr (inr (inr (inl (inr refl, omega arith))))))
     by true is AnyLosses =
-        inr (eqb-true n.params.sync_timeout 0 is, inr (inr (inr (inr (inr (inr (inr (inl (refl, refl)))))))))
+        inr (eqb-true n.params.sync_timeout 0 is, inr (inr (inr (inr (inr (inl (refl, refl)))))))
+    by true is FailureCutsTrees =
+        inr (eqb-true n.params.sync_timeout 0 is, inr (inr (inr (inr (inr (inr (inr (refl, refl))))))))
     by true is TreeCutOff =
-        inr (eqb-true n.params.sync_timeout 0 is, inr (inr (inr (inr (inr (inr (inr (inr (refl, refl)))))))))
+        inr (eqb-true n.params.sync_timeout 0 is, inr (inr (inr (inr (inr (inr (inl (refl, refl))))))))
 
 -- what is told of a calm network
 pub record IsTelling (n : NetworkState) (v : View) (s : Settling) : Type 0 where

@@ -1,5 +1,5 @@
 -- What is told of a time after the first one, by its row, is so by its events.
-use Rattle.std.proofs.Common.{◌≡◌, ◌<◌, ◌≤◌, ◌⊎◌, inl, inr, ◌+◌, ◌*◌, ℕ, Bool, true, false, cond, List, [], ◌∷◌, ◌++◌, Option, Some, None, refl, sym, ap, subst, ◌∙◌, arith}
+use Rattle.std.proofs.Common.{◌≡◌, ◌<◌, ◌≤◌, ◌⊎◌, inl, inr, ◌+◌, ◌*◌, ℕ, Bool, true, false, cond, List, [], ◌∷◌, ◌++◌, Option, Some, None, suc, refl, sym, ap, subst, ◌∙◌, arith}
 use Rattle.std.specs.Prelude.{◌&&◌, ◌||◌, not, if◌then◌else◌, nat_le, nat_lt, max}
 use Rattle.std.specs.List.{list_all, list_any}
 use Rattle.std.proofs.lemmas.Bool.{and_parts, not-true, or_cases, or_parts}
@@ -11,39 +11,59 @@ use Rattle.gptp_scenario.specs.Network.{IsNetwork, NetworkState, pace_of}
 use Rattle.gptp_scenario.specs.SettlingTime.{silence_span, way_span}
 use Rattle.gptp_scenario.specs.SyncWait.{sync_paths}
 use Rattle.gptp_scenario.specs.declared.change.Timed.{Timed}
+use Rattle.gptp_scenario.specs.declared.sync_wait.SyncPaths.{SyncPaths}
 use Rattle.gptp_network.specs.Snapshot.{events_by}
-use Rattle.gptp_how_soon.specs.Bounds.{is_hard_to_hear, gone_by}
+use Rattle.gptp_how_soon.specs.Bounds.{is_hard_to_hear, gone_by, quiet_by}
 use Rattle.gptp_how_soon.specs.Chosen.{moves_joined}
+<<<<<<< HEAD
+use Rattle.gptp_how_soon.specs.CutTrees.{cuts_trees_after}
+use Rattle.gptp_how_soon.specs.Kinds.{are_heard, brings_nothing, fails_and_recovers, fails_first, is_better, is_gain, is_idle, is_loss, is_other, is_recovery, leaves_links, lowers_one, lowers_unused, makes_nothing, recovers, takes_one, begins_wider, first_wider_by, is_wider}
+use Rattle.gptp_how_soon.specs.Rest.{are_events_followed, are_losses_followed, are_recoveries_followed, are_turns_followed, heard_at_once, is_failing_followed, is_from_rest, is_lowering_followed, keeps_paths, rested, is_wider_followed, settles_wider_by}
+use Rattle.gptp_how_soon.specs.Times.{View, events_at, gained_at, has_come_after, loss_at, ready_at, row_at, view_at}
+=======
 use Rattle.gptp_how_soon.specs.Kinds.{are_heard, brings_nothing, fails_and_recovers, fails_first, is_better, is_failing, is_gain, is_idle, is_loss, is_other, is_recovery, leaves_links, lowers_one, lowers_unused, makes_nothing, recovers, takes_one, begins_wider, first_wider_by, is_wider}
 use Rattle.gptp_how_soon.specs.MovedTrees.{moves_trees_after}
 use Rattle.gptp_how_soon.specs.Rest.{are_events_followed, are_losses_followed, are_recoveries_followed, are_turns_followed, has_rested_for, heard_at_once, is_failing_followed, is_from_rest, is_lowering_followed, keeps_paths, leaves_silent, rested, is_wider_followed, settles_wider_by}
 use Rattle.gptp_how_soon.specs.Times.{View, events_at, gained_at, ready_at, row_at, view_at}
+>>>>>>> w_line
 use Rattle.gptp_how_soon.specs.Tree.{cuts_tree_after}
 use Rattle.gptp_how_soon.specs.TurnedTree.{turns_tree_after}
 use Rattle.gptp_how_soon.specs.declared.bounds.Row.{Row}
-use Rattle.gptp_how_soon.specs.declared.bounds.Row.TheVariants.{AnyLosses, CutOff, FailedEnd, FailedHeard, FailureCutsOff, FailureCutsTrees, Gained, LostEnd, LostPower, Lowered, OneTurned, PowerCutsOff, PowerCutsTrees, TreeCutOff, TreeTurned, Unchanged}
+use Rattle.gptp_how_soon.specs.declared.bounds.Row.TheVariants.{AnyLosses, CutOff, FailedEnd, FailedHeard, FailureCutsOff, FailureCutsTrees, Gained, Lowered, SystemTurned, TreeCutOff, TreeTurned, Unchanged}
 use Rattle.gptp_how_soon.specs.declared.bounds.Settling.{Settling}
 use Rattle.gptp_how_soon.specs.declared.bounds.SettlingTime.{SettlingTime}
 use Rattle.gptp_how_soon.specs.declared.kinds.Told.{Told}
-use Rattle.gptp_settling_time.specs.HowSoon.{AreWiderEvents, BoundsGains, CutsOneEnd, EachEvent, FailsEndFirst, FailsHeardFirst, FailsTreesFirst, IsStillEvent, LosesEvents, LowersOneLink, OneEvent, RolesAfterLoss, TurnsOneLink}
+use Rattle.gptp_settling_time.specs.Arrivals.{HasArrivedBy}
+use Rattle.gptp_settling_time.specs.HowSoon.{AreWiderEvents, BeforeRepeats, BoundsGains, EachEvent, FailsEndFirst, FailsHeardFirst, FailsTreesFirst, IsStillEvent, LosesEvents, OneEvent, RolesAfterLoss}
 use Rattle.gptp_settling_time.specs.InTurn.{FlightIsGone}
-use Rattle.gptp_settling_time.specs.Losses.{LowersLink, UpIsUsed}
+use Rattle.gptp_settling_time.specs.Losses.{CutsFarEnd, LowersLink, NoneSilent, TurnsLink}
 use Rattle.gptp_settling_time.specs.TreeLosses.{LowersTree, TurnsTreeLink}
 use Rattle.gptp_settling_time.proofs.CutLemmas.{all_by}
 use Rattle.gptp_settling_time.proofs.LeadOnLemmas.{all_still}
 use Rattle.gptp_settling_time.proofs.MomentLemmas.{all_at}
-use Rattle.gptp_how_soon_laws.proofs.AnyLossLemmas.{all_losses, none_fails}
+use Rattle.gptp_how_soon_laws.proofs.AnyLossLemmas.{all_losses}
+use Rattle.gptp_how_soon_laws.proofs.ArrivedLemmas.{has_come_so, longest_within}
 use Rattle.gptp_how_soon_laws.proofs.GainLemmas.{AreFollowed, AreTurnsFollowed}
 use Rattle.gptp_how_soon_laws.proofs.GainedLemmas.{all_gained, all_heard, all_idle, all_wider}
 use Rattle.gptp_how_soon_laws.proofs.FailedLemmas.{fails_end_first, fails_heard_first, used_up}
+<<<<<<< HEAD
+use Rattle.gptp_how_soon_laws.proofs.CutOffLemmas.{cuts_far}
+use Rattle.gptp_how_soon_laws.proofs.CutTreesLemmas.{fails_trees_first}
+use Rattle.gptp_how_soon_laws.proofs.LoweredLemmas.{lowers_link, used_on}
+use Rattle.gptp_how_soon_laws.proofs.RepeatLemmas.{IsSame, LowersFirst, before_repeats, cut_seen, falls_seen, first_same, first_well, joined_seen, lowers_first, paths_seen, turned_seen, turns_seen, used_still}
+use Rattle.gptp_how_soon_laws.proofs.TreeEventLemmas.{lowers_one_tree, turns_tree_link}
+use Rattle.gptp_how_soon_laws.proofs.TurnedLemmas.{turns_link}
+=======
 use Rattle.gptp_how_soon_laws.proofs.CutOffLemmas.{cuts_one_end}
 use Rattle.gptp_how_soon_laws.proofs.MovedTreesLemmas.{fails_trees_first}
 use Rattle.gptp_how_soon_laws.proofs.LoweredLemmas.{GoesDown, lowers_one_link, one_as, used_on}
 use Rattle.gptp_how_soon_laws.proofs.TreeEventLemmas.{lowers_tree, turns_tree_by}
 use Rattle.gptp_how_soon_laws.proofs.TurnedLemmas.{turns_one_link}
+>>>>>>> w_line
 use Rattle.gptp_how_soon_laws.proofs.UnmovedLemmas.{AreWell, all_still_unmoved}
 use Rattle.gptp_how_soon_laws.proofs.RowReasonLemmas.{ReasonOf, Tests, reason_of}
-use Rattle.gptp_how_soon_laws.proofs.RowTestLemmas.{HasComeToRest, at_most, counts_all, counts_joined, failing_takes, leaves_all, longest_within, lowering_takes, not_both, over_before, rested_for_so, rested_so}
+use Rattle.gptp_how_soon_laws.proofs.SilentLemmas.{none_silent}
+use Rattle.gptp_how_soon_laws.proofs.RowTestLemmas.{HasComeToRest, at_most, counts_all, counts_joined, failing_takes, leaves_all, lowering_takes, not_both, over_before, rested_so}
 
 module _ (n : NetworkState) (network : IsNetwork n) (events : List Timed) (b : SettlingTime) (at : ℕ)
     (late : b.at < at) where
@@ -68,9 +88,8 @@ module _ (n : NetworkState) (network : IsNetwork n) (events : List Timed) (b : S
     branch = is_lowering_followed v.paths_before v.paths v.told && v.moves.tree_turns;
     fails = is_failing_followed v.paths_before v.paths v.told && not v.moves.moved;
     far = v.moves.far;
-    any = v.moves.any;
+    moved = v.moves.any_moved;
     trees = is_failing_followed v.paths_before v.paths v.told && v.moves.trees_fall;
-    used = v.used;
     loss = list_any is_loss v.told;
     only = list_all brings_nothing v.told;
   }
@@ -269,27 +288,23 @@ module _ (n : NetworkState) (network : IsNetwork n) (events : List Timed) (b : S
         few = at_most v.paths_before.systems 255 few;
       }
 
-  -- a loss of this kind comes, by which no system is moved but such as are cut off
-  record TakesOne (kind : List Told → Bool) : Type 0 where
-    pub one : kind v.told ≡ true
+  -- a system fails by the first event, by which no system is moved but such as are cut off
+  record FailsOne : Type 0 where
+    pub one : fails_first v.told ≡ true
     pub unmoved : moves_joined n made (made ++ now) ≡ false
     pub keeps : KeepsPaths
 
-  takes_so : (kind : List Told → Bool) → ((es : List Told) → kind es ≡ true → takes_one es ≡ true)
-      → (keeps_paths v.paths_before v.paths && kind v.told && not v.moves.moved) ≡ true → TakesOne kind
-  takes_so kind takes is =
-      let (followed, none) = and_parts (keeps_paths v.paths_before v.paths && kind v.told) (not v.moves.moved) is in
-      let (keeps, one) = and_parts (keeps_paths v.paths_before v.paths) (kind v.told) followed in
+  fails_so : (is_failing_followed v.paths_before v.paths v.told && not v.moves.moved) ≡ true → FailsOne
+  fails_so is =
+      let (followed, none) =
+      and_parts (keeps_paths v.paths_before v.paths && fails_first v.told) (not v.moves.moved) is in
+      let (keeps, one) = and_parts (keeps_paths v.paths_before v.paths) (fails_first v.told) followed in
       record {
         one = one;
-        unmoved = counts_joined (takes_one v.told) n made (made ++ now) (takes v.told one)
+        unmoved = counts_joined (takes_one v.told) n made (made ++ now) (failing_takes v.told one)
             (not-true v.moves.moved none);
         keeps = keeps_so keeps;
       }
-
-  -- a system fails by the first event
-  fails_so : (is_failing_followed v.paths_before v.paths v.told && not v.moves.moved) ≡ true → TakesOne fails_first
-  fails_so = takes_so fails_first failing_takes
 
   failing_heard : AreWell n (made ++ now)
       → (is_failing_followed v.paths_before v.paths v.told && not v.moves.moved) ≡ true → FailsHeardFirst n made now
@@ -305,22 +320,67 @@ module _ (n : NetworkState) (network : IsNetwork n) (events : List Timed) (b : S
       let x = fails_so fails in
       fails_end_first n network made now well x.unmoved x.keeps.delay x.keeps.paths x.keeps.few x.one far
 
-  -- a link goes down by the one event
-  goes_down : (is_lowering_followed v.paths_before v.paths v.told && not v.moves.moved) ≡ true → TakesOne lowers_one
-  goes_down = takes_so lowers_one lowering_takes
+  -- a link goes down by the first event, and paths get no longer by it
+  pub record GoesFirst : Type 0 where
+    pub x : LowersFirst n made now
+    pub delay : (sync_paths n (made ++ x.event ∷ [])).delay ≤ (sync_paths n made).delay
+    pub paths : (sync_paths n (made ++ x.event ∷ [])).systems ≤ (sync_paths n made).systems
+    pub few : (sync_paths n made).systems ≤ 255
+
+  -- what stands behind it stands behind all
+  pub first_stays : (g : GoesFirst) → IsSame n (made ++ g.x.event ∷ []) (made ++ now)
+  first_stays g = first_same n network made now g.x
+
+  pub same_paths : (g : GoesFirst) → sync_paths n (made ++ now) ≡ sync_paths n (made ++ g.x.event ∷ [])
+  same_paths g = paths_seen n (made ++ g.x.event ∷ []) (made ++ now) (first_stays g)
+
+  goes_first : keeps_paths v.paths_before v.paths ≡ true → lowers_one v.told ≡ true → GoesFirst
+  goes_first keeps lowers =
+      let x = lowers_first n network made now lowers in
+      let k = keeps_so keeps in
+      let same = paths_seen n (made ++ x.event ∷ []) (made ++ now) (first_same n network made now x) in
+      record {
+        x = x;
+        delay = subst (λ (p : SyncPaths). p.delay ≤ (sync_paths n made).delay) same k.delay;
+        paths = subst (λ (p : SyncPaths). p.systems ≤ (sync_paths n made).systems) same k.paths;
+        few = k.few;
+      }
+
+  -- by which no system is moved but such as are cut off
+  pub record LowersNone : Type 0 where
+    pub first : GoesFirst
+    pub lowers : LowersLink n made first.x.event
+
+  lowers_none : AreWell n (made ++ now)
+      → (is_lowering_followed v.paths_before v.paths v.told && not v.moves.moved) ≡ true
+      → (g : GoesFirst) × (moves_joined n made (made ++ g.x.event ∷ []) ≡ false)
+  lowers_none well is =
+      let (followed, none) =
+      and_parts (keeps_paths v.paths_before v.paths && lowers_one v.told) (not v.moves.moved) is in
+      let (keeps, one) = and_parts (keeps_paths v.paths_before v.paths) (lowers_one v.told) followed in
+      let g = goes_first keeps one in (
+        g,
+        sym (joined_seen n made (made ++ g.x.event ∷ []) (made ++ now) (first_stays g))
+            ∙ counts_joined (takes_one v.told) n made (made ++ now) (lowering_takes v.told one)
+            (not-true v.moves.moved none),
+      )
 
   lowers_so : AreWell n (made ++ now) → (is_lowering_followed v.paths_before v.paths v.told && not v.moves.moved) ≡ true
-      → LowersOneLink n made now
-  lowers_so well lowers =
-      let x = goes_down lowers in
-      lowers_one_link n network made now well x.unmoved x.keeps.delay x.keeps.paths x.keeps.few x.one
+      → LowersNone
+  lowers_so well is =
+      let (g, unmoved) = lowers_none well is in
+      record {
+        first = g;
+        lowers = lowers_link n network made g.x.event (first_well n network made now g.x well) unmoved g.delay g.paths
+            g.few g.x.lowers;
+      }
 
   -- and it cuts off a far end
-  cuts_so : AreWell n (made ++ now) → (is_lowering_followed v.paths_before v.paths v.told && not v.moves.moved) ≡ true
-      → v.moves.cut ≡ true → CutsOneEnd n made now
-  cuts_so well lowers cut =
-      let x = goes_down lowers in
-      cuts_one_end n network made now well x.unmoved cut x.keeps.delay x.keeps.paths x.keeps.few x.one
+  cuts_so : AreWell n (made ++ now) → (l : LowersNone) → v.moves.cut ≡ true → CutsFarEnd n made l.first.x.event
+  cuts_so well l cut =
+      let g = l.first in
+      cuts_far n network made g.x.event (first_well n network made now g.x well)
+      (sym (cut_seen n made (made ++ g.x.event ∷ []) (made ++ now) (first_stays g)) ∙ cut) g.x.lowers l.lowers
 
   -- what was in flight is gone by then
   flight_so : FlightIsGone n made (gone_by n v.paths_before v.used_before)
@@ -330,118 +390,117 @@ module _ (n : NetworkState) (network : IsNetwork n) (events : List Timed) (b : S
       by true is = inl (used_up n network made is, refl)
       by false is = inr refl
 
-  -- so it is after a link goes down
-  flight_on : OneEvent GoesDown made now → FlightIsGone n (made ++ now) (gone_by n v.paths v.used_before)
-  flight_on down = by v.used_before refl
+  -- so it is behind a link that goes down
+  flight_first : (g : GoesFirst) → FlightIsGone n (made ++ g.x.event ∷ []) (gone_by n v.paths v.used_before)
+  flight_first g =
+      subst (λ (p : SyncPaths). FlightIsGone n (made ++ g.x.event ∷ []) (gone_by n p v.used_before))
+      (sym (same_paths g)) (by v.used_before refl)
     where
-      by : (used : Bool) → v.used_before ≡ used → FlightIsGone n (made ++ now) (gone_by n v.paths used)
-      by true is = inl (used_on n made now down (used_up n network made is), refl)
+      by : (used : Bool) → v.used_before ≡ used
+          → FlightIsGone n (made ++ g.x.event ∷ [])
+          (gone_by n (sync_paths n (made ++ g.x.event ∷ [])) used)
+      by true is = inl (used_on n network made g.x.event g.x.lowers (used_up n network made is), refl)
       by false is = inr refl
 
-  flight_lowered : LowersOneLink n made now → FlightIsGone n (made ++ now) (gone_by n v.paths v.used_before)
-  flight_lowered lowers =
-      flight_on (one_as (LowersLink n) GoesDown made now (λ event l. (l.clock, l.port, l.act)) lowers)
+  -- and behind all
+  flight_all : (g : GoesFirst) → FlightIsGone n (made ++ now) (gone_by n v.paths v.used_before)
+  flight_all g = by v.used_before refl
+    where
+      by : (used : Bool) → v.used_before ≡ used → FlightIsGone n (made ++ now) (gone_by n v.paths used)
+      by true is =
+          inl (
+            used_still n (made ++ g.x.event ∷ []) (made ++ now) (first_stays g)
+                (used_on n network made g.x.event g.x.lowers (used_up n network made is)),
+            refl,
+          )
+      by false is = inr refl
 
-  -- what stands goes on, as a link goes down by the one event and no system is moved
+  -- what stands goes on, as a link goes down and no system is moved
   pub lowered : AreWell n (made ++ now) → row_at v ≡ Lowered
-      → HasComeToRest b at × LowersOneLink n made now × FlightIsGone n (made ++ now) (gone_by n v.paths v.used_before)
+      → HasComeToRest b at × ((l : LowersNone)
+      × FlightIsGone n (made ++ l.first.x.event ∷ []) (gone_by n v.paths v.used_before))
   lowered well row =
       let (from, lowers) = why Lowered row in
-      let one = lowers_so well lowers in
-      ((from_rest from).rested, one, flight_lowered one)
-
-  -- or a system loses its power that others heard
-  pub lost_power : AreWell n (made ++ now) → (row_at v ≡ LostPower) ⊎ (row_at v ≡ PowerCutsOff)
-      → HasComeToRest b at × FailsHeardFirst n made now × UpIsUsed n (made ++ now)
-  lost_power well which =
-      let (from, fails, used) = by which in
-      ((from_rest from).rested, failing_heard well fails, used_up n network (made ++ now) used)
-    where
-      by : (row_at v ≡ LostPower) ⊎ (row_at v ≡ PowerCutsOff) → ReasonOf tests LostPower
-      by (inl row) = why LostPower row
-      by (inr row) = why PowerCutsOff row
+      let l = lowers_so well lowers in
+      ((from_rest from).rested, (l, flight_first l.first))
 
   -- or it cuts off its far end
   pub record CutsEnd : Type 0 where
     pub rested : HasComeToRest b at
-    pub cuts : CutsOneEnd n made now
-    pub lowers : LowersOneLink n made now
-    pub flight : FlightIsGone n (made ++ now) (gone_by n v.paths v.used_before)
+    pub none : LowersNone
+    pub cuts : CutsFarEnd n made none.first.x.event
+    pub flight : FlightIsGone n (made ++ none.first.x.event ∷ []) (gone_by n v.paths v.used_before)
 
   pub cut_off : AreWell n (made ++ now) → row_at v ≡ CutOff → CutsEnd
   cut_off well row =
       let (from, lowers, cut) = why CutOff row in
-      let one = lowers_so well lowers in
+      let l = lowers_so well lowers in
       record {
         rested = (from_rest from).rested;
-        cuts = cuts_so well lowers cut;
-        lowers = one;
-        flight = flight_lowered one;
-      }
-
-  -- or a far end loses its power
-  pub record LosesEnd : Type 0 where
-    pub rested : HasComeToRest b at
-    pub fails : FailsEndFirst n made now
-    pub used : UpIsUsed n (made ++ now)
-    pub flight : FlightIsGone n made (gone_by n v.paths_before v.used_before)
-
-  pub lost_end : AreWell n (made ++ now) → row_at v ≡ LostEnd → LosesEnd
-  lost_end well row =
-      let (from, fails, far, used) = why LostEnd row in record {
-        rested = (from_rest from).rested;
-        fails = failing_end well fails far;
-        used = used_up n network (made ++ now) used;
-        flight = flight_so;
+        none = l;
+        cuts = cuts_so well l cut;
+        flight = flight_first l.first;
       }
 
   -- or one system turns
-  pub turned : AreWell n (made ++ now) → row_at v ≡ OneTurned
-      → HasComeToRest b at × TurnsOneLink n made now
+  pub turned : AreWell n (made ++ now) → row_at v ≡ SystemTurned
+      → HasComeToRest b at × ((g : GoesFirst) × TurnsLink n made g.x.event)
   turned well row =
-      let (from, turns) = why OneTurned row in
+      let (from, turns) = why SystemTurned row in
       let (followed, one) = and_parts (is_lowering_followed v.paths_before v.paths v.told) v.moves.turned turns in
       let (keeps, lowers) = and_parts (keeps_paths v.paths_before v.paths) (lowers_one v.told) followed in
-      let x = keeps_so keeps in
-      ((from_rest from).rested, turns_one_link n network made now well one x.delay x.paths x.few lowers)
+      let g = goes_first keeps lowers in (
+        (from_rest from).rested,
+        (
+          g,
+          turns_link n network made g.x.event (first_well n network made now g.x well)
+              (sym (turned_seen n made (made ++ g.x.event ∷ []) (made ++ now) (first_stays g)) ∙ one) g.delay g.paths
+              g.few g.x.lowers,
+        ),
+      )
 
-  -- an event of this kind comes an announce interval after all came to rest
+  -- what was in flight as the time before was sound has arrived
+  abbrev pub HasCome : HasComeToRest b at → Type 0
+  HasCome rest =
+      (arrived : ℕ) × HasArrivedBy n made (suc (b.at + rest.settling.sound)) arrived × (arrived ≤ at)
+
+  -- an event of this kind comes then, and others that repeat what stands
   pub record ComesLate (Is : List Timed → Timed → Type 0) (rest : HasComeToRest b at) : Type 0 where
-    pub lowers : OneEvent Is made now
-    pub longer : b.at + (rest.settling.rest + largest_interval (pace_of n)) < at
+    pub lowers : BeforeRepeats n (OneEvent Is) made now
+    pub come : HasCome rest
 
   -- by which a tree is cut off
   pub record CutsLate (rest : HasComeToRest b at) : Type 0 where
     pub comes : ComesLate (LowersTree n) rest
     pub flight : FlightIsGone n (made ++ now) (gone_by n v.paths v.used_before)
 
-  -- an event of this kind comes an announce interval after all came to rest, and paths get no longer
+  -- events of this kind come then, and paths get no longer
   late_by : (kind : List Told → Bool) (test : Bool) → (keeps_paths v.paths_before v.paths && kind v.told
-      && (has_rested_for (largest_interval (pace_of n)) (Some b) at && test)) ≡ true
-      → KeepsPaths × (kind v.told ≡ true) × (test ≡ true)
-      × ((rest : HasComeToRest b at) → b.at + (rest.settling.rest + largest_interval (pace_of n)) < at)
+      && (has_come_after n made (Some b) at && test)) ≡ true
+      → (keeps_paths v.paths_before v.paths ≡ true) × (kind v.told ≡ true) × (test ≡ true)
+      × ((rest : HasComeToRest b at) → HasCome rest)
   late_by kind test is =
-      let late_test : Bool = has_rested_for (largest_interval (pace_of n)) (Some b) at in
-      let (followed, both) =
-      and_parts (keeps_paths v.paths_before v.paths && kind v.told) (late_test && test) is in
+      let come : Bool = has_come_after n made (Some b) at in
+      let (followed, both) = and_parts (keeps_paths v.paths_before v.paths && kind v.told) (come && test) is in
       let (keeps, one) = and_parts (keeps_paths v.paths_before v.paths) (kind v.told) followed in
-      let (late_is, so) = and_parts late_test test both in (
-        keeps_so keeps,
-        one,
-        so,
-        λ rest. rested_for_so (largest_interval (pace_of n)) b at rest.settling rest.is late_is,
-      )
+      let (come_is, so) = and_parts come test both in
+      (keeps, one, so, λ rest. has_come_so n made b at rest.settling rest.is come_is)
 
   pub tree_cut : AreWell n (made ++ now) → row_at v ≡ TreeCutOff → (rest : HasComeToRest b at) × CutsLate rest
   tree_cut well row =
       let (from, falls) = why TreeCutOff row in
-      let (x, lowers, tree, longer) = late_by lowers_one (cuts_tree_after n made (made ++ now)) falls in
+      let (keeps, lowers, tree, come) = late_by lowers_one (cuts_tree_after n made (made ++ now)) falls in
       let rest = (from_rest from).rested in
-      let one = lowers_tree n network made now well x.delay x.paths x.few lowers tree in (
+      let g = goes_first keeps lowers in
+      let one = lowers_one_tree n network made g.x.event (first_well n network made now g.x well) g.delay g.paths g.few
+      g.x.lowers (sym (falls_seen n made (made ++ g.x.event ∷ []) (made ++ now) (first_stays g)) ∙ tree) in (
         rest,
         record {
-          comes = record { lowers = one; longer = longer rest };
-          flight = flight_on (one_as (LowersTree n) GoesDown made now (λ event l. (l.clock, l.port, l.act)) one);
+          comes = record {
+            lowers = before_repeats n network made now g.x (OneEvent (LowersTree n)) one;
+            come = come rest;
+          };
+          flight = flight_all g;
         },
       )
 
@@ -450,43 +509,44 @@ module _ (n : NetworkState) (network : IsNetwork n) (events : List Timed) (b : S
       → (rest : HasComeToRest b at) × ComesLate (TurnsTreeLink n) rest
   tree_turned well row =
       let (from, turns) = why TreeTurned row in
-      let (x, lowers, tree, longer) = late_by lowers_one (turns_tree_after n made (made ++ now)) turns in
-      let rest = (from_rest from).rested in (
+      let (keeps, lowers, tree, come) = late_by lowers_one (turns_tree_after n made (made ++ now)) turns in
+      let rest = (from_rest from).rested in
+      let g = goes_first keeps lowers in
+      let one = turns_tree_link n network made g.x.event (first_well n network made now g.x well) g.delay g.paths g.few
+      g.x.lowers (sym (turns_seen n made (made ++ g.x.event ∷ []) (made ++ now) (first_stays g)) ∙ tree) in (
         rest,
         record {
-          lowers = turns_tree_by n network made now well x.delay x.paths x.few lowers tree;
-          longer = longer rest;
+          lowers = before_repeats n network made now g.x (OneEvent (TurnsTreeLink n)) one;
+          come = come rest;
         },
       )
 
   -- or a system fails and moves trees
   pub record FailsLate : Type 0 where
     pub rest : HasComeToRest b at
-    pub longer : b.at + (rest.settling.rest + largest_interval (pace_of n)) < at
+    pub come : HasCome rest
     pub fails : FailsTreesFirst n made now
 
+<<<<<<< HEAD
+  pub failure_cuts : AreWell n (made ++ now) → row_at v ≡ FailureCutsTrees → FailsLate
+  failure_cuts well row =
+      let (from, trees) = why FailureCutsTrees row in
+      let (keeps, one, cut, come) = late_by fails_first (cuts_trees_after n made (made ++ now)) trees in
+      let x = keeps_so keeps in
+=======
   fails_late : is_from_rest v.longest at v.paths_before v.paths v.told (Some b) ≡ true → AreWell n (made ++ now)
       → (is_failing_followed v.paths_before v.paths v.told && v.moves.trees_fall) ≡ true → FailsLate
   fails_late from well trees =
       let (x, one, cut, longer) = late_by fails_first (moves_trees_after n made (made ++ now)) trees in
+>>>>>>> w_line
       let rest = (from_rest from).rested in
       record {
         rest = rest;
-        longer = longer rest;
+        come = come rest;
         fails = fails_trees_first n network made now well cut x.delay x.paths x.few one;
       }
 
-  -- and loses its power
-  pub power_cuts : AreWell n (made ++ now) → row_at v ≡ PowerCutsTrees → FailsLate × UpIsUsed n (made ++ now)
-  power_cuts well row =
-      let (from, trees, used) = why PowerCutsTrees row in
-      (fails_late from well trees, used_up n network (made ++ now) used)
-
-  -- or hangs
-  pub failure_cuts : AreWell n (made ++ now) → row_at v ≡ FailureCutsTrees → FailsLate
-  failure_cuts well row = let (from, trees) = why FailureCutsTrees row in fails_late from well trees
-
-  -- or a far end hangs
+  -- or a far end fails
   pub failed : AreWell n (made ++ now) → row_at v ≡ FailedEnd
       → HasComeToRest b at × FailsEndFirst n made now × FlightIsGone n made (gone_by n v.paths_before v.used_before)
   failed well row =
@@ -504,23 +564,26 @@ module _ (n : NetworkState) (network : IsNetwork n) (events : List Timed) (b : S
       by (inl row) = why FailedHeard row
       by (inr row) = why FailureCutsOff row
 
-  -- Or there are losses, and nothing is brought. Then roles stand with the choice; or no sooner than no port beside a
-  -- system that fails is left capable.
-  pub any_losses : row_at v ≡ AnyLosses
-      → HasComeToRest b at × LosesEvents n made now
-      × ((choice : ℕ) → RolesAfterLoss n made now choice
-      (if leaves_silent v.used v.told then max choice (silence_span (pace_of n)) else choice))
-  any_losses row =
-      let (from, loss, only) = why AnyLosses row in (
-        (from_rest from).rested,
-        all_losses n network made now only loss,
-        by only v.used (list_any is_failing v.told) refl refl,
-      )
+  -- no lost link is left silent
+  pub none_left : v.silent ≡ false → NoneSilent n made (made ++ now)
+  none_left = none_silent n made (made ++ now)
+
+  -- Or there are losses, and nothing is brought. Then roles stand with the choice; or, where a lost link is silent, no
+  -- sooner than the port at its live end isn't capable any more.
+  abbrev pub LosesSome : Type 0
+  LosesSome =
+      HasComeToRest b at × LosesEvents n made now
+      × ((choice : ℕ) → RolesAfterLoss n made now choice (quiet_by n (loss_at v) choice))
+
+  loses_some : is_from_rest v.longest at v.paths_before v.paths v.told (Some b) ≡ true
+      → list_all brings_nothing v.told ≡ true → list_any is_loss v.told ≡ true → LosesSome
+  loses_some from only loss =
+      ((from_rest from).rested, all_losses n network made now only loss, by v.silent refl)
     where
-      by : list_all brings_nothing v.told ≡ true → (used failing : Bool) → v.used ≡ used
-          → list_any is_failing v.told ≡ failing → (choice : ℕ)
-          → RolesAfterLoss n made now choice
-          (if not used && failing then max choice (silence_span (pace_of n)) else choice)
-      by only true failing used none choice = inl (inr (used_up n network (made ++ now) used), refl)
-      by only false false used none choice = inl (inl (none_fails n network made now only none), refl)
-      by only false true used none choice = inr refl
+      by : (silent : Bool) → v.silent ≡ silent → (choice : ℕ)
+          → RolesAfterLoss n made now choice (if silent then max choice (silence_span (pace_of n)) else choice)
+      by true is choice = inr refl
+      by false is choice = inl (none_left is, refl)
+
+  pub losses : row_at v ≡ AnyLosses → LosesSome
+  losses row = let (from, loss, only) = why AnyLosses row in loses_some from only loss

@@ -47,18 +47,22 @@ in_range first (suc count) place least most = elim (same_place place first) [
   | inr apart ↦ inr (in_range (first + 1) count place (omega (arith, least, apart)) (omega (arith, most)))
 ]
 
--- the place of each system is one of those that are asked
+-- the place of each member of a list is one of those that are asked
+pub place_in_range : {X : Type 0} (xs : List X) (i : ℕ) (x : X) → slice_get xs i ≡ Some x
+    → In i (range_with_len 0 (length xs))
+place_in_range {X} xs i x there =
+    let less = bound xs i there in in_range 0 (length xs) i (omega arith) (omega (arith, less))
+  where
+    bound : (ys : List X) (place : ℕ) → slice_get ys place ≡ Some x → place < length ys
+    bound [] place is = absurd cc
+    bound (y ∷ ys) zero is = omega arith
+    bound (y ∷ ys) (suc place) is = let rest = bound ys place is in omega (arith, rest)
+
+-- so is that of each system
 pub asked_of : (n : NetworkState) (all : List Timed) (i : ℕ) (m : SystemSpec) → slice_get n.systems i ≡ Some m
     → In i (range_with_len 0 (length (systems_after n all)))
 asked_of n all i m there =
-    let less = bound (systems_after n all) i (system_then all m)
-    (mapped_there (system_then all) n.systems i m there) in
-    in_range 0 (length (systems_after n all)) i (omega arith) (omega (arith, less))
-  where
-    bound : (os : List ours.System) (place : ℕ) (o : ours.System) → slice_get os place ≡ Some o → place < length os
-    bound [] place o is = absurd cc
-    bound (p ∷ os) zero o is = omega arith
-    bound (p ∷ os) (suc place) o is = let rest = bound os place o is in omega (arith, rest)
+    place_in_range (systems_after n all) i (system_then all m) (mapped_there (system_then all) n.systems i m there)
 
 -- where none is moved none is so there; nor is one that isn't cut off, where none of these is
 none_there : (n : NetworkState) (first all : List Timed) → moves_some n first all ≡ false → (i : ℕ) (m : SystemSpec)

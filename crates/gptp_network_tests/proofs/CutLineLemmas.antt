@@ -1,7 +1,7 @@
 -- Both links of the root go down, one long after the other, and so the three other bridges are cut off in a line. The
 -- one that lost its link tells the next that the root is gone, and so on; then the best of them passes down the line.
 -- Choice and roles stand later by twice the greatest delay of two links.
-use Rattle.std.proofs.Common.{◌≡◌, ◌⊎◌, ◌<◌, ◌≤◌, ◌+◌, ◌*◌, ℕ, zero, suc, false, List, [], ◌∷◌, Option, Some, None, slice_get, refl, sym, ap, subst, ◌∙◌, inl, inr, arith}
+use Rattle.std.proofs.Common.{◌≡◌, ◌≢◌, ◌⊎◌, ◌≤◌, ◌+◌, ◌*◌, ℕ, zero, suc, false, List, [], ◌∷◌, Option, Some, None, slice_get, refl, sym, ap, subst, ◌∙◌, inl, inr, arith}
 use Rattle.std.specs.Prelude.{◌==◌, if◌then◌else◌}
 use Rattle.std.proofs.lemmas.List.Sorted.{IsPermutation-refl}
 use native.Mathlib.Decide.{ℕ_discrete, dec_le, dec_lt}
@@ -30,18 +30,20 @@ use Rattle.gptp_scenario.specs.InUse.{path_systems}
 use Rattle.gptp_scenario.specs.Network.{IsEnd, IsNetwork, pace_of}
 use Rattle.gptp_scenario.specs.SettlingTime.{echo_span, way_span}
 use Rattle.gptp_scenario.specs.SyncWait.{sync_paths}
+use Rattle.gptp_scenario.specs.declared.change.Act.{Act}
 use Rattle.gptp_scenario.specs.declared.change.Act.TheVariants.{Change as Changing}
 use Rattle.gptp_scenario.specs.declared.change.Change.TheVariants.{LinkDown}
 use Rattle.gptp_scenario.specs.declared.change.Timed.{Timed}
 use Rattle.gptp_scenario.specs.declared.network.LinkSpec.{LinkSpec}
 use Rattle.gptp_scenario.specs.declared.sync_wait.SyncPaths.{SyncPaths}
 use Rattle.gptp_model.specs.World.{port_id}
+use Rattle.gptp_network.specs.Events.{IsEvent}
 use Rattle.gptp_network.specs.Snapshot.{StandsAfter}
 use Rattle.gptp_network.proofs.LawLemmas.{one_snapshot}
 use Rattle.gptp_invariants.specs.WorldEncodableLaws.{SetsAnOctet}
 use Rattle.gptp_theorem.specs.PlayedLaws.{IsPlayable}
 use Rattle.gptp_theorem.proofs.SettlingInvariantLemmas.{each_there}
-use Rattle.gptp_settling_time.specs.HowSoon.{IsChoiceAloneBound, IsChoiceBound, IsLossBoundAfter, IsRestBoundAfter}
+use Rattle.gptp_settling_time.specs.HowSoon.{ComesAfterRest, IsChoiceAloneBound, IsChoiceBound, IsLossBoundAfter, IsRestBoundAfter, NoneBetween}
 use Rattle.gptp_settling_time.specs.Losses.{IsUnmoved}
 use Rattle.gptp_settling_time.specs.TreeLosses.{CutsTreeFrom, IsCutTree, LowersTree}
 use Rattle.gptp_network_tests.specs.Ring.{bridge, cut_document, fibre, ring_network, ring_paths}
@@ -53,28 +55,38 @@ use Rattle.gptp_network_tests.proofs.DocumentLemmas.{none_between}
 
 -- ---- the document
 
+abbrev pub before : List Timed
+before = event ∷ []
+
+-- another event comes long after the first link goes down
+abbrev pub later : Act → Timed
+later act = record { at = 60000000000; act = act }
+
+abbrev pub both_of : Act → List Timed
+both_of act = event ∷ later act ∷ []
+
+pub later_playable : (act : Act) → IsEvent ring_network (later act) → SetsAnOctet act → IsNetwork ring_network
+    → IsPlayable (record { network = ring_network; events = both_of act })
+later_playable act is octet network = record {
+  network = network;
+  events = record {
+    in_order = (omega arith, tt);
+    each = (record { early = omega arith; change = LinkDown first.clock 1; act = refl; fits = refl }, (is, tt));
+  };
+  octets = each_there (λ (t : Timed). SetsAnOctet t.act) (both_of act) (tt, (octet, tt));
+}
+
 -- the other link of the root goes down
 abbrev cut : Timed
-cut = record { at = 60000000000; act = Changing (LinkDown first.clock 2) }
-
-abbrev before : List Timed
-before = event ∷ []
+cut = later (Changing (LinkDown first.clock 2))
 
 abbrev both : List Timed
 both = event ∷ cut ∷ []
 
 pub cut_playable : IsNetwork ring_network → IsPlayable cut_document
-cut_playable network = record {
-  network = network;
-  events = record {
-    in_order = (omega arith, tt);
-    each = (
-      record { early = omega arith; change = LinkDown first.clock 1; act = refl; fits = refl },
-      (record { early = omega arith; change = LinkDown first.clock 2; act = refl; fits = refl }, tt),
-    );
-  };
-  octets = each_there (λ (t : Timed). SetsAnOctet t.act) both (tt, (tt, tt));
-}
+cut_playable =
+    later_playable (Changing (LinkDown first.clock 2))
+    (record { early = omega arith; change = LinkDown first.clock 2; act = refl; fits = refl }) tt
 
 links_rest : AllRest ring_network.params ring_network.systems ring_network.links both
 links_rest zero x early = λ used. record { lossless = refl; good = omega arith }
@@ -90,7 +102,7 @@ paths_cut = refl
 
 -- ---- the snapshot after it
 
-abbrev line : Snapshot
+abbrev pub line : Snapshot
 line = record {
   systems = first ∷ second ∷ third ∷ fourth ∷ [];
   links = cable second 2 third 1 ∷ cable third 2 fourth 1 ∷ [];
@@ -100,7 +112,7 @@ line_stands : StandsAfter ring_network both line
 line_stands = record { systems = IsPermutation-refl line.systems; rising = ring_stands.rising; links = refl }
 
 -- the root is the second of them
-abbrev under : System → ℕ → Option ParentLink → Role → Role → SystemLine
+abbrev pub under : System → ℕ → Option ParentLink → Role → Role → SystemLine
 under s steps parent one two = record {
   clock = s.clock;
   root = second.identity;
@@ -197,7 +209,7 @@ others v (inr (inr (inr (inr none)))) out = absurd none
 -- ---- the tree
 
 -- over so many links a system hears that the root is gone
-abbrev depth : ℕ → ℕ
+abbrev pub depth : ℕ → ℕ
 depth v = if v == third.clock then 1 else if v == second.clock then 2 else 0
 
 was_best : (v : ℕ) → IsBest line v second → IsBest chain v first
@@ -211,39 +223,38 @@ was_best =
 was : (v : ℕ) → IsBest line v second → IsDistance chain v (1 + depth v)
 was = of_three (λ v. IsDistance chain v (1 + depth v)) second_then.steps third_then.steps fourth_then.steps
 
-lost_top : (v u : ℕ) → IsBest line v second → Adjacent chain v u → Adjacent line v u ⊎ (v ≡ fourth.clock)
-lost_top v u is (p, q, inl (inl same)) = inl (p, q, inl (inl same))
-lost_top v u is (p, q, inl (inr (inl same))) = inl (p, q, inl (inr (inl same)))
-lost_top v u is (p, q, inl (inr (inr (inl same)))) = inr (ap (λ (l : Link). l.a.clock) same)
-lost_top v u is (p, q, inl (inr (inr (inr none)))) = absurd none
-lost_top v u is (p, q, inr (inl same)) = inl (p, q, inr (inl same))
-lost_top v u is (p, q, inr (inr (inl same))) = inl (p, q, inr (inr (inl same)))
-lost_top v u is (p, q, inr (inr (inr (inl same)))) =
-    absurd (apart_from_first v is (ap (λ (l : Link). l.b.clock) same))
-lost_top v u is (p, q, inr (inr (inr (inr none)))) = absurd none
+-- what others than the root had they have still, but for the top
+pub lost_top : (v u : ℕ) → v ≢ first.clock → Adjacent chain v u → Adjacent line v u ⊎ (v ≡ fourth.clock)
+lost_top v u other (p, q, inl (inl same)) = inl (p, q, inl (inl same))
+lost_top v u other (p, q, inl (inr (inl same))) = inl (p, q, inl (inr (inl same)))
+lost_top v u other (p, q, inl (inr (inr (inl same)))) = inr (ap (λ (l : Link). l.a.clock) same)
+lost_top v u other (p, q, inl (inr (inr (inr none)))) = absurd none
+lost_top v u other (p, q, inr (inl same)) = inl (p, q, inr (inl same))
+lost_top v u other (p, q, inr (inr (inl same))) = inl (p, q, inr (inr (inl same)))
+lost_top v u other (p, q, inr (inr (inr (inl same)))) = absurd (other (ap (λ (l : Link). l.b.clock) same))
+lost_top v u other (p, q, inr (inr (inr (inr none)))) = absurd none
 
 deeper : (v u a b : ℕ) → v ≡ a → u ≡ b → depth a ≡ suc (depth b) → depth v ≡ suc (depth u)
 deeper v u a b x y is = ap (λ w. depth w) x ∙ is ∙ ap (λ w. suc (depth w)) (sym y)
 
-steps : (v u : ℕ) → IsBest line v second → Adjacent line v u
-    → (depth u ≡ suc (depth v)) ⊎ (depth v ≡ suc (depth u))
-steps v u is (p, q, inl (inl same)) =
+pub steps : (v u : ℕ) → Adjacent line v u → (depth u ≡ suc (depth v)) ⊎ (depth v ≡ suc (depth u))
+steps v u (p, q, inl (inl same)) =
     inr (deeper v u second.clock third.clock (ap (λ (l : Link). l.a.clock) same) (ap (λ (l : Link). l.b.clock) same)
     refl)
-steps v u is (p, q, inl (inr (inl same))) =
+steps v u (p, q, inl (inr (inl same))) =
     inr (deeper v u third.clock fourth.clock (ap (λ (l : Link). l.a.clock) same) (ap (λ (l : Link). l.b.clock) same)
     refl)
-steps v u is (p, q, inl (inr (inr none))) = absurd none
-steps v u is (p, q, inr (inl same)) =
+steps v u (p, q, inl (inr (inr none))) = absurd none
+steps v u (p, q, inr (inl same)) =
     inl (deeper u v second.clock third.clock (ap (λ (l : Link). l.a.clock) same) (ap (λ (l : Link). l.b.clock) same)
     refl)
-steps v u is (p, q, inr (inr (inl same))) =
+steps v u (p, q, inr (inr (inl same))) =
     inl (deeper u v third.clock fourth.clock (ap (λ (l : Link). l.a.clock) same) (ap (λ (l : Link). l.b.clock) same)
     refl)
-steps v u is (p, q, inr (inr (inr none))) = absurd none
+steps v u (p, q, inr (inr (inr none))) = absurd none
 
 -- a link that leads less deep is at the second port
-at_second : (v p : ℕ) (t : PortIdentity) → Joins line (port_of v p) t → depth v ≡ suc (depth t.clock) → p ≡ 2
+pub at_second : (v p : ℕ) (t : PortIdentity) → Joins line (port_of v p) t → depth v ≡ suc (depth t.clock) → p ≡ 2
 at_second v p t (inl (inl same)) less = ap (λ (l : Link). l.a.port) same
 at_second v p t (inl (inr (inl same))) less = ap (λ (l : Link). l.a.port) same
 at_second v p t (inl (inr (inr none))) less = absurd none
@@ -264,8 +275,8 @@ tree = record {
   was_best = was_best;
   was = was;
   first = refl;
-  lost = lost_top;
-  steps = steps;
+  lost = λ v u is. lost_top v u (apart_from_first v is);
+  steps = λ v u is. steps v u;
   single = λ v p q t u one other less less_too. at_second v p t one less ∙ sym (at_second v q u other less_too);
 }
 
@@ -283,7 +294,7 @@ cuts g h stands stands_then =
 
 -- ---- the link
 
-lives_first : IsLive ring_network.systems before first.clock
+pub lives_first : IsLive ring_network.systems before first.clock
 lives_first = record { place = 0; system = bridge first.identity; there = refl; clock = refl; live = refl }
 
 lives_fourth : IsLive ring_network.systems before fourth.clock
@@ -335,15 +346,19 @@ lowers = record {
 -- ---- the bounds
 
 -- by then what turned first has come to rest
-rested : IsRestBoundAfter ring_network cut_document.events (0 ∷ []) 30000000000 3000003690
-rested =
+rested : (act : Act) → IsRestBoundAfter ring_network (both_of act) (0 ∷ []) 30000000000 3000003690
+rested act =
     inr (inl (
       omega arith,
-      none_between cut_document.events 0 30000000000 ((λ later. omega arith), ((λ later. omega arith), tt)),
+      none_between (both_of act) 0 30000000000 ((λ next. omega arith), ((λ next. omega arith), tt)),
       record { links = turned.links_rest; lapses = inl refl },
       refl,
-      (1000003050, (refl, ring_begun), omega arith),
-      inl (inr (inr (inr (inl (turns, told))))),
+      (
+        1000003050,
+        (refl, ring_begun),
+        omega arith,
+        inl (inl (event ∷ [], [], refl, tt, inl (inr (inr (inr (inl (turns, told))))))),
+      ),
     ))
   where
     told : 3000003690
@@ -354,24 +369,39 @@ rested =
         (subst (λ (p : SettlingParams). 3000003690 ≡ 2 * way_span ring_paths + echo_span p ring_paths) (sym pace_is)
         refl)
 
+-- what was sent until then has arrived an announce interval later, before the next event
+pub comes_after : (act : Act)
+    → ComesAfterRest ring_network (both_of act)
+    (λ rest. IsRestBoundAfter ring_network (both_of act) (0 ∷ []) 30000000000 rest) 30000000000 60000000000
+comes_after act = (
+  3000003690,
+  rested act,
+  (suc (30000000000 + 3000003690) + largest_interval (pace_of ring_network), inl refl, later),
+)
+  where
+    later : suc (30000000000 + 3000003690) + largest_interval (pace_of ring_network) ≤ 60000000000
+    later =
+        subst (λ (p : SettlingParams). suc (30000000000 + 3000003690) + largest_interval p ≤ 60000000000) (sym pace_is)
+        (omega arith)
+
+-- no event comes between the two
+pub none_comes : (act : Act) → NoneBetween (both_of act) 30000000000 60000000000
+none_comes act =
+    none_between (both_of act) 30000000000 60000000000
+    ((λ next. absurd (omega (arith, next))), ((λ next. omega arith), tt))
+
 lost : IsLossBoundAfter ring_network cut_document.events (30000000000 ∷ 0 ∷ []) 60000000000 1640 1640
 lost =
     inr (inl (
       omega arith,
-      none_between cut_document.events 30000000000 60000000000
-          ((λ later. absurd (omega (arith, later))), ((λ later. omega arith), tt)),
+      none_comes (Changing (LinkDown first.clock 2)),
       record { links = links_rest; lapses = inl refl },
       refl,
-      (3000003690, rested, later),
-      lowers,
+      comes_after (Changing (LinkDown first.clock 2)),
+      (cut ∷ [], [], refl, tt, lowers),
       (ways, refl),
     ))
   where
-    later : 30000000000 + 3000003690 + largest_interval (pace_of ring_network) < 60000000000
-    later =
-        subst (λ (p : SettlingParams). 30000000000 + 3000003690 + largest_interval p < 60000000000) (sym pace_is)
-        (omega arith)
-
     ways : 1640 ≡ 2 * way_span (sync_paths ring_network both)
     ways = subst (λ (x : SyncPaths). 1640 ≡ 2 * way_span x) (sym paths_cut) refl
 

@@ -308,8 +308,12 @@ lost = inl (
   none_between far_document.events 0 30000000000 ((λ later. omega arith), tt),
   record { links = failure_rests 0x80e1fffe00000c; lapses = inl refl },
   refl,
-  (1000003050, (refl, ring_begun), omega arith),
-  inr (inl ((fails, tt), refl, inr span)),
+  (
+    1000003050,
+    (refl, ring_begun),
+    omega arith,
+    inl (inl (event ∷ [], [], refl, tt, inr (inl ((fails, tt), refl, inr span)))),
+  ),
 )
   where
     span : 11000000000 ≡ silence_span (pace_of ring_network)

@@ -139,23 +139,33 @@ lost = inl (
   none_between heard_document.events 0 30000000000 ((λ later. omega arith), tt),
   record { links = failure_rests 0x80e1fffe00000b; lapses = inl refl },
   refl,
-  (1000003050, (refl, ring_begun), omega arith),
-  inr (inr (inr (inl (
-    (fails, tt),
-    (
-      3000000410,
-      11000000000,
-      inr (
+  (
+    1000003050,
+    (refl, ring_begun),
+    omega arith,
+    inl (inl (
+      event ∷ [],
+      [],
+      refl,
+      tt,
+      inr (inr (inr (inl (
+        (fails, tt),
         (
-          aging_span (pace_of ring_network) (sync_paths ring_network []),
-          failure_within ring_network [] event fails,
-          ages,
+          3000000410,
+          11000000000,
+          inr (
+            (
+              aging_span (pace_of ring_network) (sync_paths ring_network []),
+              failure_within ring_network [] event fails,
+              ages,
+            ),
+            span,
+          ),
+          inl (refl, refl),
         ),
-        span,
-      ),
-      inl (refl, refl),
-    ),
-  )))),
+      )))),
+    )),
+  ),
 )
   where
     span : 11000000000 ≡ silence_span (pace_of ring_network)

@@ -14,4 +14,5 @@ mod HeardRingLemmas
 mod RootlessRingLemmas
 mod TurnedRingLemmas
 mod CutLineLemmas
+mod HungRootLemmas
 mod AgeLemmas

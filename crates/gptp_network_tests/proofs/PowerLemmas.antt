@@ -17,6 +17,7 @@ use Rattle.gptp_theorem.specs.PlayedLaws.{IsPlayable}
 use Rattle.gptp_theorem.proofs.SettlingInvariantLemmas.{each_there}
 use Rattle.gptp_settling_time.specs.HowSoon.{IsChoiceAloneBound, IsChoiceBound, IsLossBoundAfter}
 use Rattle.gptp_settling_time.specs.Losses.{LowersUnused, UpIsUsed}
+use Rattle.gptp_settling_time.proofs.SilentSpanLemmas.{up_none_silent}
 use Rattle.gptp_network_tests.specs.Ring.{bridge, dark_document, fibre, ring_network}
 use Rattle.gptp_network_tests.proofs.FarLemmas.{event, fails}
 use Rattle.gptp_network_tests.proofs.RingLemmas.{ring_begun}
@@ -193,8 +194,22 @@ lost = inl (
       ((λ later. omega arith), ((λ later. omega arith), ((λ later. omega arith), tt))),
   record { links = links_rest; lapses = inl refl },
   refl,
-  (1000003050, (refl, ring_begun), omega arith),
-  inr (inl ((fails, (lowers_first, (lowers_second, tt))), refl, inl (used, refl))),
+  (
+    1000003050,
+    (refl, ring_begun),
+    omega arith,
+    inl (inl (
+      both_down,
+      [],
+      refl,
+      tt,
+      inr (inl (
+        (fails, (inl lowers_first, (inl lowers_second, tt))),
+        refl,
+        inl (up_none_silent ring_network [] both_down used, refl),
+      )),
+    )),
+  ),
 )
 
 pub dark_choice : IsChoiceAloneBound dark_document 30000000000 0

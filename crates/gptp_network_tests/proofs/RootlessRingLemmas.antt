@@ -44,8 +44,12 @@ lost = inl (
   none_between rootless_document.events 0 30000000000 ((λ later. omega arith), tt),
   record { links = failure_rests 0x80e1fffe00000a; lapses = inl refl },
   refl,
-  (1000003050, (refl, ring_begun), omega arith),
-  inr (inr (inr (inr (inl (live, tt), turns, inr silent)))),
+  (
+    1000003050,
+    (refl, ring_begun),
+    omega arith,
+    inl (inl (event ∷ [], [], refl, tt, inr (inr (inr (inr (inl (live, tt), turns, inr silent)))))),
+  ),
 )
   where
     turns : 10000002050

@@ -280,8 +280,12 @@ lost = inl (
   none_between ring_document.events 0 30000000000 ((λ later. omega arith), tt),
   record { links = links_rest; lapses = inl refl },
   refl,
-  (1000003050, (refl, ring_begun), omega arith),
-  inr (inr (inl (turns, ways, refl))),
+  (
+    1000003050,
+    (refl, ring_begun),
+    omega arith,
+    inl (inl (event ∷ [], [], refl, tt, inr (inr (inl (turns, ways, refl))))),
+  ),
 )
   where
     ways : 2460 ≡ 2 * way_span (sync_paths ring_network (event ∷ []))

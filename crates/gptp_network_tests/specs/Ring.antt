@@ -57,6 +57,16 @@ cut_document = record {
       ∷ [];
 }
 
+-- or the root fails then, and so cuts them off
+abbrev pub hung_document : DocumentState
+hung_document = record {
+  network = ring_network;
+  events =
+      record { at = 30000000000; act = Changing (LinkDown 0x80e1fffe00000a 1) }
+      ∷ record { at = 60000000000; act = Changing (Fail 0x80e1fffe00000a) }
+      ∷ [];
+}
+
 -- the bridge fails that is farthest from the root: it is the far end of both its links
 abbrev pub far_document : DocumentState
 far_document = record {

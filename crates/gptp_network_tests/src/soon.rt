@@ -3,7 +3,7 @@
 
 ghost use Rattle.std.specs.Prelude.{◌≡◌, IfOk, OnOk, Some};
 ghost use Rattle.gptp_network_tests.specs.Pair.{HasBegun, first_member, pair_document};
-ghost use Rattle.gptp_network_tests.specs.Ring.{cut_document, dark_document, far_document, heard_document, ring_document, rootless_document};
+ghost use Rattle.gptp_network_tests.specs.Ring.{cut_document, dark_document, far_document, heard_document, hung_document, ring_document, rootless_document};
 ghost use Rattle.gptp_network_tests.specs.Soon.{BetterClocksSettleSoon, ChoosesWithin, IsPairSoon, SettlesWithin, back_document, early_document};
 
 use crate::drawn::begun;
@@ -121,6 +121,16 @@ pub fn turned_rings_settle_soon<F: Fate>()
 pub fn cut_lines_settle_soon<F: Fate>()
     ensures choice { ChoosesWithin F.answers cut_document 60000000000 1640 }
     ensures roles { SettlesWithin F.answers cut_document 60000000000 1640 }
+{
+    choice_alone_bounds_hold::<F>();
+    choice_bounds_hold::<F>();
+}
+
+/// Where the root hangs then in place of that, its neighbour holds what it heard for three announce intervals and a
+/// delay. So the choice stands 3.00000205 s later. The roles do 11 s later.
+pub fn hung_lines_settle_soon<F: Fate>()
+    ensures choice { ChoosesWithin F.answers hung_document 60000000000 3000002050 }
+    ensures roles { SettlesWithin F.answers hung_document 60000000000 11000000000 }
 {
     choice_alone_bounds_hold::<F>();
     choice_bounds_hold::<F>();

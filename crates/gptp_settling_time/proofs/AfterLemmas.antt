@@ -31,17 +31,18 @@ use Rattle.gptp_theorem.specs.PlayedLaws.{IsPlayable}
 use Rattle.gptp_theorem.proofs.CalmLemmas.{pace_stands, quiet_stands}
 use Rattle.gptp_theorem.proofs.SyncPathLemmas.{paths_stand}
 use Rattle.gptp_settling_time.specs.Exactly.{SettlesBy}
-use Rattle.gptp_settling_time.specs.InTurn.{Aging, AnyPast, BeginsBy, ChoosesAfter, Cleared, Fallen, Gained, Heard, IsTakenAs, Left, Lost, Past, RestsFrom, SettlesAfter, Split, Starting, Turned, TurnedTree}
+use Rattle.gptp_settling_time.specs.InTurn.{Aging, AnyPast, BeginsBy, ChoosesAfter, Cleared, Fallen, Gained, Heard, IsTakenAs, Left, Fewer, Lost, Past, RestsFrom, SettlesAfter, Split, Starting, Turned, TurnedTree}
 use Rattle.gptp_settling_time.proofs.AgingToLemmas.{IsAgingTo, aging_to_act, aging_to_chooses, aging_to_claimed, aging_to_later, aging_to_settled}
 use Rattle.gptp_settling_time.proofs.BegunLemmas.{begun_keeps}
 use Rattle.gptp_settling_time.proofs.ClaimedToLemmas.{IsClaimedTo, claimed_act, claimed_later, claimed_settled}
 use Rattle.gptp_settling_time.proofs.ClearedToLemmas.{IsClearedTo, cleared_left, cleared_to_act, cleared_to_claimed, cleared_to_later}
 use Rattle.gptp_settling_time.proofs.KeptToLemmas.{IsNewsTo, KeepsTo, keeps_act, keeps_later, news_act_to, news_later_to}
-use Rattle.gptp_settling_time.proofs.LeftToLemmas.{IsLeftTo, left_to_act, left_to_chooses, left_to_later, left_to_settled}
+use Rattle.gptp_settling_time.proofs.LeftToLemmas.{IsLeftSince, left_since_act, left_since_later, left_to_chooses, left_to_settled}
 use Rattle.gptp_settling_time.proofs.FallenToLemmas.{IsFallenTo, fallen_to_act, fallen_to_claimed, fallen_to_later, fallen_to_settled}
 use Rattle.gptp_settling_time.proofs.LostToLemmas.{IsLostTo, lost_to_act, lost_to_chooses, lost_to_claimed, lost_to_later, lost_to_settled}
+use Rattle.gptp_settling_time.proofs.TakenToLemmas.{IsTakenTo, taken_to_act, taken_to_chooses, taken_to_later, taken_to_settled}
 use Rattle.gptp_settling_time.proofs.TurnedTreeToLemmas.{IsTurnedTreeTo, turned_tree_to_act, turned_tree_to_claimed, turned_tree_to_later, turned_tree_to_settled}
-use Rattle.gptp_settling_time.proofs.SplitToLemmas.{IsSplitTo, split_to_act, split_to_chooses, split_to_later, split_to_settled}
+use Rattle.gptp_settling_time.proofs.SplitToLemmas.{IsSplitTo, split_to_act, split_to_chooses, split_to_claimed, split_to_later, split_to_settled}
 use Rattle.gptp_settling_time.proofs.TurnedToLemmas.{IsTurnedTo, turned_to_act, turned_to_claimed, turned_to_later, turned_to_settled}
 use Rattle.gptp_settling_time.proofs.StartEventLemmas.{IsStartingTo, begun_soon_claimed, begun_soon_news, starting_act, starting_begins, starting_later}
 use Rattle.gptp_settling_time.proofs.TimedNewsLemmas.{CanSettle, has_settled}
@@ -53,14 +54,15 @@ IsAfter d events AnyPast w = KeepsTo d events w
 IsAfter d events Starting w = IsStartingTo d events w
 IsAfter d events (Gained start) w = IsNewsTo d start events w
 IsAfter d events (Heard start) w = IsClaimedTo d events start w
-IsAfter d events (Left ago start) w = IsLeftTo d ago events start w
+IsAfter d events (Left ago start) w = IsLeftSince d ago events start w
 IsAfter d events (Turned silent now) w = IsTurnedTo d events silent now w
 IsAfter d events (Fallen silent now) w = IsFallenTo d events silent now w
 IsAfter d events (TurnedTree silent now) w = IsTurnedTreeTo d events silent now w
 IsAfter d events (Cleared ago since silent right old) w = IsClearedTo d ago events since silent right old w
 IsAfter d events (Aging ago aged silent) w = IsAgingTo d ago events aged silent w
 IsAfter d events (Split ago gone silent) w = IsSplitTo d ago events gone silent w
-IsAfter d events (Lost since most silent) w = IsLostTo d events since most silent w
+IsAfter d events (Lost ago since most silent) w = IsLostTo d ago events since most silent w
+IsAfter d events (Fewer ago since most silent) w = IsTakenTo d ago events since most silent w
 
 module _ (d : DocumentState) (events : List Timed) where
   pub after_keeps : (past : Past) (w : WorldState) → IsAfter d events past w → KeepsTo d events w
@@ -68,14 +70,15 @@ module _ (d : DocumentState) (events : List Timed) where
   after_keeps Starting w so = so.keeps
   after_keeps (Gained start) w so = so.keeps
   after_keeps (Heard start) w so = so.keeps
-  after_keeps (Left ago start) w so = so.keeps
+  after_keeps (Left ago start) w so = so.left.keeps
   after_keeps (Turned silent now) w so = so.keeps
   after_keeps (Fallen silent now) w so = so.keeps
   after_keeps (TurnedTree silent now) w so = so.keeps
   after_keeps (Cleared ago since silent right old) w so = so.keeps
   after_keeps (Aging ago aged silent) w so = so.keeps
   after_keeps (Split ago gone silent) w so = so.keeps
-  after_keeps (Lost since most silent) w so = so.keeps
+  after_keeps (Lost ago since most silent) w so = so.keeps
+  after_keeps (Fewer ago since most silent) w so = so.lost.keeps
 
   pub after_later : (past : Past) (w : WorldState) (time : ℕ) → w.time ≤ time → NothingBefore time w.net.pending
       → IsAfter d events past w → IsAfter d events past (at time w)
@@ -83,19 +86,21 @@ module _ (d : DocumentState) (events : List Timed) where
   after_later Starting w time later first so = starting_later d events w time later first so
   after_later (Gained start) w time later first so = news_later_to d events start w time later first so
   after_later (Heard start) w time later first so = claimed_later d events start w time later first so
-  after_later (Left ago start) w time later first so = left_to_later d ago events start w time later first so
+  after_later (Left ago start) w time later first so = left_since_later d ago events start w time later first so
   after_later (Turned silent now) w time later first so = turned_to_later d events silent now w time later first so
   after_later (Fallen silent now) w time later first so = fallen_to_later d events silent now w time later first so
   after_later (TurnedTree silent now) w time later first so =
       turned_tree_to_later d events silent now w time later first so
-  after_later (Cleared ago since silent right old) w time later first so = cleared_to_later d ago events since silent right old
-      w time later first so
+  after_later (Cleared ago since silent right old) w time later first so =
+      cleared_to_later d ago events since silent right old w time later first so
   after_later (Aging ago aged silent) w time later first so =
       aging_to_later d ago events aged silent w time later first so
   after_later (Split ago gone silent) w time later first so =
       split_to_later d ago events gone silent w time later first so
-  after_later (Lost since most silent) w time later first so =
-      lost_to_later d events since most silent w time later first so
+  after_later (Lost ago since most silent) w time later first so =
+      lost_to_later d ago events since most silent w time later first so
+  after_later (Fewer ago since most silent) w time later first so =
+      taken_to_later d ago events since most silent w time later first so
 
   pub after_act : {F : Type 0} (answers : Bounds → ℕ → F → Option ℕ → F → Type 0) (past : Past) (t : ActTrace)
       (fate drawn : F) (w : WorldState) → IsNextAct w t.told.timed
@@ -107,8 +112,8 @@ module _ (d : DocumentState) (events : List Timed) where
       news_act_to d events answers t fate drawn w next was start so
   after_act answers (Heard start) t fate drawn w next was so = claimed_act d events start answers t fate drawn w next
       was so
-  after_act answers (Left ago start) t fate drawn w next was so = left_to_act d ago events start answers t fate drawn w next was
-      so
+  after_act answers (Left ago start) t fate drawn w next was so =
+      left_since_act d ago events start answers t fate drawn w next was so
   after_act answers (Turned silent now) t fate drawn w next was so =
       turned_to_act d events silent now answers t fate drawn w next was so
   after_act answers (Fallen silent now) t fate drawn w next was so =
@@ -121,8 +126,10 @@ module _ (d : DocumentState) (events : List Timed) where
       aging_to_act d ago events aged silent answers t fate drawn w next was so
   after_act answers (Split ago gone silent) t fate drawn w next was so =
       split_to_act d ago events gone silent answers t fate drawn w next was so
-  after_act answers (Lost since most silent) t fate drawn w next was so =
-      lost_to_act d events since most silent answers t fate drawn w next was so
+  after_act answers (Lost ago since most silent) t fate drawn w next was so =
+      lost_to_act d ago events since most silent answers t fate drawn w next was so
+  after_act answers (Fewer ago since most silent) t fate drawn w next was so =
+      taken_to_act d ago events since most silent answers t fate drawn w next was so
 
 -- ---- rest
 
@@ -143,9 +150,11 @@ module _ (d : DocumentState) (playable : IsPlayable d) (events : List Timed) (w 
       cleared_to_claimed d ago events since silent right old w start so playable rest
   rests_from (Aging ago aged silent) start rest so =
       aging_to_claimed d ago events aged silent w start so playable rest
-  rests_from (Split ago gone silent) start none so = absurd none
-  rests_from (Lost since most silent) start rest so =
-      lost_to_claimed d events since most silent w start so playable rest
+  rests_from (Split ago gone silent) start rest so =
+      split_to_claimed d ago events gone silent w start so playable rest
+  rests_from (Lost ago since most silent) start rest so =
+      lost_to_claimed d ago events since most silent w start so playable rest
+  rests_from (Fewer ago since most silent) start none so = absurd none
 
   pub taken_as : (past seen : Past) → IsTakenAs d.network events past w.time seen → IsAfter d events past w
       → IsAfter d events seen w
@@ -177,7 +186,8 @@ begins_after answers d playable fate until first w ts k (TurnedTree silent now) 
 begins_after answers d playable fate until first w ts k (Cleared ago since silent right old) none = absurd none
 begins_after answers d playable fate until first w ts k (Aging ago aged silent) none = absurd none
 begins_after answers d playable fate until first w ts k (Split ago gone silent) none = absurd none
-begins_after answers d playable fate until first w ts k (Lost since most silent) none = absurd none
+begins_after answers d playable fate until first w ts k (Lost ago since most silent) none = absurd none
+begins_after answers d playable fate until first w ts k (Fewer ago since most silent) none = absurd none
 
 -- ---- it settles
 
@@ -257,8 +267,9 @@ module _ (d : DocumentState) (playable : IsPlayable d) (all : List Timed) (calm 
   after_settles (Heard start) so (off, passed) =
       claimed_settled d all start w so playable calm off (omega (arith, passed, on))
   after_settles (Left ago silent) so (off, inl passed) =
-      left_to_settled d ago all silent w so playable calm off (inl (omega (arith, passed, on)))
-  after_settles (Left ago silent) so (off, inr used) = left_to_settled d ago all silent w so playable calm off (inr used)
+      left_to_settled d ago all silent w so.left playable calm off (inl (omega (arith, passed, on)))
+  after_settles (Left ago silent) so (off, inr none) =
+      left_to_settled d ago all silent w so.left playable calm off (inr none)
   after_settles (Turned silent now) so (off, passed) =
       turned_to_settled d all silent now w so playable calm off
       (subst (λ (x : SyncPaths). now + 1 + pred x.systems * x.delay ≤ w.time) (paths so.keeps)
@@ -275,7 +286,8 @@ module _ (d : DocumentState) (playable : IsPlayable d) (all : List Timed) (calm 
       left_to_settled d ago all silent w (cleared_left d ago all since silent right old w so) playable calm off
       (inl (omega (arith, passed, on)))
   after_settles (Cleared ago since silent right old) so (off, inr used) =
-      left_to_settled d ago all silent w (cleared_left d ago all since silent right old w so) playable calm off (inr used)
+      left_to_settled d ago all silent w (cleared_left d ago all since silent right old w so) playable calm off
+      (inr used)
   after_settles (Aging ago aged silent) so (off, inl passed) =
       aging_to_settled d ago all aged silent w so playable calm off (inl (omega (arith, passed, on)))
   after_settles (Aging ago aged silent) so (off, inr used) =
@@ -285,17 +297,20 @@ module _ (d : DocumentState) (playable : IsPlayable d) (all : List Timed) (calm 
       (subst (λ (x : SyncPaths). gone + 2 * (pred x.systems * x.delay) ≤ w.time) (paths so.keeps)
       (omega (arith, passed, on)))
       (elim late [ inl now ↦ inl (omega (arith, now, on)) | inr used ↦ inr used ])
-  after_settles (Lost since most silent) so (off, passed, inl late) =
-      lost_to_settled d all since most silent w so playable (omega (arith, passed, on)) (inl (omega (arith, late, on)))
-  after_settles (Lost since most silent) so (off, passed, inr used) =
-      lost_to_settled d all since most silent w so playable (omega (arith, passed, on)) (inr used)
+  after_settles (Lost ago since most silent) so (off, passed, inl late) =
+      lost_to_settled d ago all since most silent w so playable (omega (arith, passed, on))
+      (inl (omega (arith, late, on)))
+  after_settles (Lost ago since most silent) so (off, passed, inr used) =
+      lost_to_settled d ago all since most silent w so playable (omega (arith, passed, on)) (inr used)
+  after_settles (Fewer ago since most silent) so (off, leaves, none) =
+      taken_to_settled d ago all since most silent w so playable leaves none
 
   pub after_chooses : (past : Past) → IsAfter d all past w → ChoosesAfter d.network all past settled → ChoiceStands w
   after_chooses AnyPast so settles = choice_stands w (after_settles AnyPast so settles).0
   after_chooses Starting so none = absurd none
   after_chooses (Gained start) so settles = choice_stands w (after_settles (Gained start) so settles).0
   after_chooses (Heard start) so settles = choice_stands w (after_settles (Heard start) so settles).0
-  after_chooses (Left ago silent) so off = left_to_chooses d ago all silent w so playable calm off
+  after_chooses (Left ago silent) so off = left_to_chooses d ago all silent w so.left playable calm off
   after_chooses (Turned silent now) so settles = choice_stands w (after_settles (Turned silent now) so settles).0
   after_chooses (Fallen silent now) so settles = choice_stands w (after_settles (Fallen silent now) so settles).0
   after_chooses (TurnedTree silent now) so settles =
@@ -312,5 +327,7 @@ module _ (d : DocumentState) (playable : IsPlayable d) (all : List Timed) (calm 
       split_to_chooses d ago all gone silent w so playable calm off
       (subst (λ (x : SyncPaths). gone + 2 * (pred x.systems * x.delay) ≤ w.time) (paths so.keeps)
       (omega (arith, passed, on)))
-  after_chooses (Lost since most silent) so (off, passed) =
-      lost_to_chooses d all since most silent w so playable (omega (arith, passed, on))
+  after_chooses (Lost ago since most silent) so (off, passed) =
+      lost_to_chooses d ago all since most silent w so playable (omega (arith, passed, on))
+  after_chooses (Fewer ago since most silent) so (off, leaves, none) =
+      taken_to_chooses d ago all since most silent w so playable leaves none

@@ -56,7 +56,7 @@ module _ (systems : List SystemSpec) (events : List Timed) where
 
 -- ---- it stays calm
 
-alike_calm : (n : NetworkState) (made later : List Timed) → NothingLapses n.params → StandAlike n made later
+pub alike_calm : (n : NetworkState) (made later : List Timed) → NothingLapses n.params → StandAlike n made later
     → IsCalm n made → IsCalm n later
 alike_calm n made later off same calm = record {
   links = λ i other early used.

@@ -35,7 +35,7 @@ use Rattle.gptp_settling_time.specs.Arrivals.{arrived_by}
 use Rattle.gptp_settling_time.specs.ExactInTurn.{ActsAreExactInTurn}
 use Rattle.gptp_settling_time.specs.Exactly.{AreExactFrom}
 use Rattle.gptp_settling_time.specs.Gains.{HasDelaysWithin}
-use Rattle.gptp_settling_time.specs.InTurn.{Aging, AnyPast, ChoosesAfter, ChoosesByEvents, Cleared, Fallen, Gained, Heard, Left, Lost, Past, Split, Starting, Turned, TurnedTree}
+use Rattle.gptp_settling_time.specs.InTurn.{Aging, AnyPast, ChoosesAfter, ChoosesByEvents, Cleared, Fallen, Gained, Heard, Left, Fewer, Lost, Past, Split, Starting, Turned, TurnedTree}
 use Rattle.gptp_settling_time.proofs.AgingClaimedLemmas.{aging_measured}
 use Rattle.gptp_settling_time.proofs.SplitSettlesLemmas.{split_measured}
 use Rattle.gptp_settling_time.proofs.SplitToLemmas.{GoesOver}
@@ -95,7 +95,7 @@ module _ (d : DocumentState) (playable : IsPlayable d) (all : List Timed) (calm 
       news_measured p start w so.since.news links (omega (arith, late, on))
   have_measured (Left ago silent) w so settles links on =
       let change = (after_keeps d all (Left ago silent) w so).stands.last in
-      left_measured p so.before silent w so.since links (omega (arith, behind, on, change))
+      left_measured p so.left.before silent w so.left.since links (omega (arith, behind, on, change))
   have_measured (Cleared ago since silent right old) w so settles links on =
       let change = (after_keeps d all (Cleared ago since silent right old) w so).stands.last in
       left_measured p so.before silent w so.is.left links (omega (arith, behind, on, change))
@@ -113,11 +113,14 @@ module _ (d : DocumentState) (playable : IsPlayable d) (all : List Timed) (calm 
       aging_measured p so.before aged silent w so.since links (omega (arith, behind, on, change))
   have_measured (Split ago gone silent) w so settles links on =
       let change = (after_keeps d all (Split ago gone silent) w so).stands.last in
-      split_measured p so.before (GoesOver d.network so.before ago all so.failed gone silent) so.failed gone silent w so.since
-      links (omega (arith, behind, on, change))
-  have_measured (Lost since most silent) w so settles links on =
-      let change = (after_keeps d all (Lost since most silent) w so).stands.last in
+      split_measured p so.before (GoesOver d.network so.before ago all so.failed gone silent) so.failed gone silent w
+      so.since links (omega (arith, behind, on, change))
+  have_measured (Lost ago since most silent) w so settles links on =
+      let change = (after_keeps d all (Lost ago since most silent) w so).stands.last in
       lost_measured p since most silent w so.is (omega (arith, behind, on, change))
+  have_measured (Fewer ago since most silent) w so settles links on =
+      let change = (after_keeps d all (Fewer ago since most silent) w so).stands.last in
+      lost_measured p since most silent w so.lost.is (omega (arith, behind, on, change))
 
   -- what was in flight before has arrived
   arrive : (w : WorldState) → IsAfter d all last w → ArriveBy whole w

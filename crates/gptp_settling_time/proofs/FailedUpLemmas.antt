@@ -44,7 +44,7 @@ use Rattle.gptp_invariants.proofs.ChoiceSettlesAsMachineLemmas.{kept_back}
 use Rattle.gptp_invariants.proofs.DelayClaimedCapableLemmas.{clock_has, used_if}
 use Rattle.gptp_invariants.proofs.DelayFirstUpLemmas.{queue_up, sender_up}
 use Rattle.gptp_invariants.proofs.DelayLinkLemmas.{sender_opposite}
-use Rattle.gptp_invariants.proofs.FailedSilentElsewhereLemmas.{up_silences}
+use Rattle.gptp_invariants.proofs.FailedSilentElsewhereLemmas.{stood_elsewhere, up_silences}
 use Rattle.gptp_invariants.proofs.FailedUnansweredLaneLemmas.{calls_shrink}
 use Rattle.gptp_invariants.proofs.WorldSoundCallLemmas.{tells_keep}
 use Rattle.gptp_invariants.proofs.WorldSoundLemmas.{sound_gains}
@@ -56,6 +56,7 @@ use Rattle.gptp_settling_time.proofs.LinkStoodLemmas.{raised_ends, second_still,
 use Rattle.gptp_settling_time.proofs.LinkUpLemmas.{lane_set}
 use Rattle.gptp_settling_time.proofs.RaisedLemmas.{IsRaised, raised, unmeasured_then}
 use Rattle.gptp_settling_time.proofs.NewsSoonLemmas.{IsNewsFrom, from_silent, from_sound}
+use Rattle.gptp_settling_time.proofs.StaySilentLemmas.{GoesSilent, StaysSilent}
 use Rattle.gptp_settling_time.proofs.StandsLikeLemmas.{StandsLike, claims_like, expects_none, from_like}
 use Rattle.gptp_settling_time.proofs.StandsStillLemmas.{StandsStill, changed_still, claims_stand, from_stands}
 
@@ -320,10 +321,24 @@ module _ (p : SettlingParams) (w : WorldState) (is : IsWorld p w) (place : ℕ) 
             off = unmeasured_off one.link.asking.state.peer unmeasured;
           }
 
+    -- a port at another link stays silent
+    stay_apart : (at : LinkPlace) → at.link ≢ place → StandsUnanswered at w' → StaysSilent p at w w'
+    stay_apart at apart s = record {
+      stood = stood_elsewhere p at place channel w draws w' is.sound.wired here apart k s;
+      silent = up_silences p at place channel w draws w' is.sound.wired here apart k s;
+    }
+
+    -- one at this link is off
+    pub goes_up : FailedNeighboursAreSilent p w' → (at : LinkPlace) → StandsUnanswered at w' → GoesSilent p at w w'
+    goes_up silent' at s = elim (same_place at.link place) [
+      | inl same ↦ inl (λ start. inl (is_off at same s (w'.last_change + largest_interval p) (silent' at s)))
+      | inr apart ↦ inr (inl (stay_apart at apart s))
+    ]
+
     pub up_silent : (start : ℕ) → FailedNeighboursAreSilent p w' → AreSilentBy p start w → AreSilentBy p start w'
     up_silent start silent' silent at s = elim (same_place at.link place) [
       | inl same ↦ inl (is_off at same s (w'.last_change + largest_interval p) (silent' at s))
-      | inr apart ↦ up_silences p start at place channel w draws w' is.sound.wired here apart k silent s
+      | inr apart ↦ let x = stay_apart at apart s in x.silent start (silent at x.stood)
     ]
 
 -- ---- the claims

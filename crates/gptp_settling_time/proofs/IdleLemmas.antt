@@ -108,27 +108,38 @@ module _ (w : WorldState) (sound : IsSound w) (draws : List Draw) (w' : WorldSta
   abbrev now : WorldState
   now = record w { last_change = w.time }
 
+  -- but for a priority1 nothing but the time of the last change is another
+  pub idle_same : (change : Change) → ((number value : ℕ) → change ≡ Priority1 number value → ⊥) → IsIdle change w
+      → Changes change now draws w' → w' ≡ now
+  idle_same (LinkDown number port) other idle k =
+      (subst (λ up. GoesDownIf up k.place k.channel now draws w') (idle k.place k.channel k.is) k.so).1
+  idle_same (LinkUp number port) other idle k =
+      (subst (λ up. ComesUpIf up k.place k.channel now draws w') (idle k.place k.channel k.is) k.so).1
+  idle_same (LinkSet number port min max loss) other idle k = absurd idle
+  idle_same (Fail number) other idle k =
+      let live = idle k.place k.station (record { here = k.is.here; named = k.is.named }) in
+      (subst (λ live. FailsIf live k.place k.station now draws w') live k.so).1
+  idle_same (Recover number) other idle k =
+      let live = idle k.place k.station (record { here = k.is.here; named = k.is.named }) in
+      (subst (λ live. RecoversIf live k.place now draws w') live k.so).1
+  idle_same (Priority1 number value) other idle k = absurd (other number value (λ i. Priority1 number value))
+  idle_same (Inject number port octets) other idle k =
+      (subst (λ up. InjectsIf up (port_id number port) octets now draws w') (idle k.place k.channel k.is) k.so).1
+
   -- so nothing that is claimed of changes
   pub idle_still : (change : Change) → IsIdle change w → Changes change now draws w' → StandsStill w w'
   idle_still (LinkDown number port) idle k =
-      changed_still w w'
-      (subst (λ up. GoesDownIf up k.place k.channel now draws w') (idle k.place k.channel k.is) k.so).1
+      changed_still w w' (idle_same (LinkDown number port) (λ m value same. cc) idle k)
   idle_still (LinkUp number port) idle k =
-      changed_still w w'
-      (subst (λ up. ComesUpIf up k.place k.channel now draws w') (idle k.place k.channel k.is) k.so).1
+      changed_still w w' (idle_same (LinkUp number port) (λ m value same. cc) idle k)
   idle_still (LinkSet number port min max loss) idle k = absurd idle
-  idle_still (Fail number) idle k =
-      let live = idle k.place k.station (record { here = k.is.here; named = k.is.named }) in
-      changed_still w w' (subst (λ live. FailsIf live k.place k.station now draws w') live k.so).1
-  idle_still (Recover number) idle k =
-      let live = idle k.place k.station (record { here = k.is.here; named = k.is.named }) in
-      changed_still w w' (subst (λ live. RecoversIf live k.place now draws w') live k.so).1
+  idle_still (Fail number) idle k = changed_still w w' (idle_same (Fail number) (λ m value same. cc) idle k)
+  idle_still (Recover number) idle k = changed_still w w' (idle_same (Recover number) (λ m value same. cc) idle k)
   idle_still (Priority1 number value) idle k =
       prioritized_still w sound number value k.place k.station (record { here = k.is.here; named = k.is.named }) idle
       draws w' k.so
   idle_still (Inject number port octets) idle k =
-      changed_still w w'
-      (subst (λ up. InjectsIf up (port_id number port) octets now draws w') (idle k.place k.channel k.is) k.so).1
+      changed_still w w' (idle_same (Inject number port octets) (λ m value same. cc) idle k)
 
 -- it sets no bounds
 idle_fit : (change : Change) (w : WorldState) → IsIdle change w → IsFitAct (Changing change)

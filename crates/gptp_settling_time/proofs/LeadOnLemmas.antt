@@ -14,7 +14,7 @@ use Rattle.gptp_scenario.specs.declared.change.Change.TheVariants.{LinkDown, Lin
 use Rattle.gptp_scenario.specs.declared.change.Timed.{Timed}
 use Rattle.gptp_scenario.specs.declared.sync_wait.SyncPaths.{SyncPaths}
 use Rattle.gptp_settling_time.specs.HowSoon.{AfterIdleEvents, AreGainEvents, AreHeardEvents, AreWiderEvents, EachEvent, IsGainEvent, IsGainToo, IsHeardEvent, IsHeardToo, IsIdleEvent, IsStillEvent, TurnsUnused}
-use Rattle.gptp_settling_time.specs.InTurn.{Aging, AnyPast, Cleared, EventLeads, Fallen, Gained, HasSettledAnyhow, HasSettledHeard, HasSettledSince, HasToldAnew, Heard, IsTakenAs, LeadOn, LeavesSettled, Left, Lost, MakesNothing, Past, RestsFrom, SettlesAfter, Split, Starting, Turned, TurnedTree, TurnsInVain, WidensLink}
+use Rattle.gptp_settling_time.specs.InTurn.{Aging, AnyPast, Cleared, EventLeads, Fallen, Gained, HasSettledAnyhow, HasSettledHeard, HasSettledSince, HasToldAnew, Heard, IsTakenAs, LeadOn, LeavesSettled, Left, Fewer, Lost, MakesNothing, Past, RestsFrom, SettlesAfter, Split, Starting, Turned, TurnedTree, TurnsInVain, WidensLink}
 use Rattle.gptp_settling_time.specs.Losses.{LeavesChoice}
 use Rattle.gptp_settling_time.proofs.MadeLemmas.{adds_later}
 use Rattle.gptp_settling_time.proofs.SamePathsLemmas.{idle_paths, priority_paths, turned_paths}
@@ -55,7 +55,8 @@ HasSettled n events (TurnedTree silent now) time = ⊥
 HasSettled n events (Cleared ago begun silent right old) time = ⊥
 HasSettled n events (Aging ago aged silent) time = ⊥
 HasSettled n events (Split ago gone silent) time = ⊥
-HasSettled n events (Lost since most silent) time = ⊥
+HasSettled n events (Lost ago since most silent) time = ⊥
+HasSettled n events (Fewer ago since most silent) time = ⊥
 
 pub settled_later : (n : NetworkState) (events : List Timed) (past : Past) (time later : ℕ) → time ≤ later
     → HasSettled n events past time → HasSettled n events past later
@@ -71,7 +72,8 @@ settled_later n events (TurnedTree silent now) time later less is = absurd is
 settled_later n events (Cleared ago begun silent right old) time later less is = absurd is
 settled_later n events (Aging ago aged silent) time later less is = absurd is
 settled_later n events (Split ago gone silent) time later less is = absurd is
-settled_later n events (Lost since most silent) time later less is = absurd is
+settled_later n events (Lost ago since most silent) time later less is = absurd is
+settled_later n events (Fewer ago since most silent) time later less is = absurd is
 
 -- or it has so as it may be taken
 abbrev pub HasRested : NetworkState → List Timed → Past → ℕ → Type 0
@@ -141,8 +143,19 @@ taken_later n events past seen time later less (inr (start, same, rests)) = inr 
           unlinked = omega (arith, unlinked, less);
           over = omega (arith, over, less);
         }
-    by (Split ago gone silent) none = absurd none
-    by (Lost begun most silent) is =
+    by (Split ago gone silent) is =
+        let told = is.told in
+        let over = is.over in
+        record {
+          calm = is.calm;
+          off = is.off;
+          since = is.since;
+          told = omega (arith, told, less);
+          later = is.later;
+          unlinked = elim is.unlinked [ inl past ↦ inl (omega (arith, past, less)) | inr none ↦ inr none ];
+          over = omega (arith, over, less);
+        }
+    by (Lost ago begun most silent) is =
         let over = is.over in
         record {
           off = is.off;
@@ -150,6 +163,7 @@ taken_later n events past seen time later less (inr (start, same, rests)) = inr 
           unlinked = elim is.unlinked [ inl past ↦ inl (omega (arith, past, less)) | inr used ↦ inr used ];
           over = omega (arith, over, less);
         }
+    by (Fewer ago begun most silent) none = absurd none
 
 -- what is taken so is taken as nothing else
 taken_on : (n : NetworkState) (events : List Timed) (past seen other : Past) (time : ℕ)
@@ -172,7 +186,8 @@ settled_so n events (TurnedTree silent now) time off is = absurd is
 settled_so n events (Cleared ago begun silent right old) time off is = absurd is
 settled_so n events (Aging ago aged silent) time off is = absurd is
 settled_so n events (Split ago gone silent) time off is = absurd is
-settled_so n events (Lost since most silent) time off is = absurd is
+settled_so n events (Lost ago since most silent) time off is = absurd is
+settled_so n events (Fewer ago since most silent) time off is = absurd is
 
 -- what has come to rest has settled
 pub rested_so : (n : NetworkState) (events : List Timed) (past : Past) (time : ℕ) → NothingLapses n.params
@@ -195,11 +210,12 @@ rested_so n events past time off (seen, inr (start, same, rests), is) = by past 
     by (TurnedTree silent now) (rest, later) = let told = rest.told in (off, omega (arith, told))
     by (Cleared ago begun silent right old) rest = (off, rest.unlinked)
     by (Aging ago aged silent) rest = (off, inl rest.unlinked)
-    by (Split ago gone silent) none = absurd none
-    by (Lost begun most silent) rest =
+    by (Split ago gone silent) rest = let told = rest.told in (off, omega (arith, told), rest.unlinked)
+    by (Lost ago begun most silent) rest =
         let later = rest.later in
         let over = rest.over in
         (off, omega (arith, later, over), rest.unlinked)
+    by (Fewer ago begun most silent) none = absurd none
 
 -- ---- an event leads from a network that has settled
 
@@ -258,7 +274,8 @@ module _ (n : NetworkState) (made : List Timed) (event : Timed) where
   gain_leads (Cleared ago begun silent right old) next settled less gain = absurd settled
   gain_leads (Aging ago aged silent) next settled less gain = absurd settled
   gain_leads (Split ago gone silent) next settled less gain = absurd settled
-  gain_leads (Lost since most silent) next settled less gain = absurd settled
+  gain_leads (Lost ago since most silent) next settled less gain = absurd settled
+  gain_leads (Fewer ago since most silent) next settled less gain = absurd settled
 
   heard_leads : (past : Past) (next : ℕ) → HasSettled n made past event.at → IsHeardEvent n next made event
       → EventLeads n made past event (Heard next)
@@ -277,7 +294,8 @@ module _ (n : NetworkState) (made : List Timed) (event : Timed) where
   heard_leads (Cleared ago begun silent right old) next settled heard = absurd settled
   heard_leads (Aging ago aged silent) next settled heard = absurd settled
   heard_leads (Split ago gone silent) next settled heard = absurd settled
-  heard_leads (Lost since most silent) next settled heard = absurd settled
+  heard_leads (Lost ago since most silent) next settled heard = absurd settled
+  heard_leads (Fewer ago since most silent) next settled heard = absurd settled
 
   -- what makes nothing of what stands leads from a network that has settled to one that has settled by then, as if its
   -- ports had been capable from a time on
@@ -303,7 +321,8 @@ module _ (n : NetworkState) (made : List Timed) (event : Timed) where
     way_over (Cleared ago begun silent right old) settled = absurd settled
     way_over (Aging ago aged silent) settled = absurd settled
     way_over (Split ago gone silent) settled = absurd settled
-    way_over (Lost begun most silent) settled = absurd settled
+    way_over (Lost ago begun most silent) settled = absurd settled
+    way_over (Fewer ago begun most silent) settled = absurd settled
 
     pub same_paths : IsStillEvent n made event → sync_paths n more ≡ sync_paths n made
     same_paths (inl (inl nothing)) = idle_paths n network made event nothing
@@ -330,7 +349,8 @@ module _ (n : NetworkState) (made : List Timed) (event : Timed) where
       idle_leads (Cleared ago begun silent right old) settled = absurd settled
       idle_leads (Aging ago aged silent) settled = absurd settled
       idle_leads (Split ago gone silent) settled = absurd settled
-      idle_leads (Lost begun most silent) settled = absurd settled
+      idle_leads (Lost ago begun most silent) settled = absurd settled
+      idle_leads (Fewer ago begun most silent) settled = absurd settled
 
       pub idle_settled : (past : Past) → HasSettled n made past event.at → HasSettled n more (Heard since) event.at
       idle_settled past settled =
@@ -439,7 +459,7 @@ module _ (n : NetworkState) (network : IsNetwork n) where
         idle)
 
     -- a link gets wider by the first, and the others make nothing of what stands
-    widens_leads : (made : List Timed) (event : Timed) (past : Past) (settled by : ℕ) → event.at ≡ time
+    pub widens_leads : (made : List Timed) (event : Timed) (past : Past) (settled by : ℕ) → event.at ≡ time
         → IsCalm n made → HasSettled n made past settled → settled ≤ time → WidensLink n made event by
         → settled + 2 * by + way_span (sync_paths n (made ++ event ∷ [])) ≤ time + way_span (sync_paths n made)
         → (next : ℕ) × EventLeads n made past event (Heard next)
@@ -501,7 +521,8 @@ module _ (n : NetworkState) (network : IsNetwork n) where
     widens_leads made event (Cleared ago begun silent right old) settled by here calm is late widens soon = absurd is
     widens_leads made event (Aging ago aged silent) settled by here calm is late widens soon = absurd is
     widens_leads made event (Split ago gone silent) settled by here calm is late widens soon = absurd is
-    widens_leads made event (Lost begun most silent) settled by here calm is late widens soon = absurd is
+    widens_leads made event (Lost ago begun most silent) settled by here calm is late widens soon = absurd is
+    widens_leads made event (Fewer ago begun most silent) settled by here calm is late widens soon = absurd is
 
     pub wider_led : (made now : List Timed) (past : Past) (settled : ℕ) → AllNow now → IsCalm n made
         → HasSettled n made past (suc settled) → settled < time → AreWiderEvents n settled time made now

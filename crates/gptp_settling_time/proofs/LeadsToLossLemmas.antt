@@ -16,10 +16,10 @@ use Rattle.gptp_network.specs.Document.{DocumentState}
 use Rattle.gptp_invariants.specs.WorldEncodableLaws.{SetsAnOctet}
 use Rattle.gptp_invariants.specs.ChoiceCalm.{HaveQuietLinks}
 use Rattle.gptp_invariants.specs.ChoiceView.{says_announce, view}
-use Rattle.gptp_invariants.specs.WorldStanding.{snapshot_of}
+use Rattle.gptp_invariants.specs.WorldStanding.{live_stations, snapshot_of}
 use Rattle.gptp_theorem.specs.PlayedLaws.{IsMade, IsPlayable}
 use Rattle.gptp_theorem.proofs.CalmLemmas.{quiet_stands}
-use Rattle.gptp_settling_time.specs.InTurn.{AgesSooner, Aging, AnyPast, Cleared, ClearsBy, EventLeads, FailsNow, Fallen, Gained, Heard, LeavesStanding, Left, LosesNow, Lost, LowersUnusedCalm, Past, Split, Starting, Turned, TurnedTree, TurnsNow}
+use Rattle.gptp_settling_time.specs.InTurn.{AgesSooner, Aging, AnyPast, AreUsedSince, Cleared, ClearsBy, EventLeads, FailsNow, Fallen, Fewer, Gained, Heard, IsDownNow, LeavesStanding, Left, LosesNow, Lost, LowersToo, LowersUnusedCalm, Past, Split, Starting, TakesNow, Turned, TurnedTree, TurnsNow}
 use Rattle.gptp_settling_time.proofs.AgingDownLemmas.{down_ages}
 use Rattle.gptp_settling_time.proofs.AgesByLemmas.{by_map}
 use Rattle.gptp_settling_time.proofs.AgesByWorldLemmas.{WorldAgesBy, aging_by}
@@ -28,25 +28,31 @@ use Rattle.gptp_settling_time.proofs.AgingToLemmas.{IsAgingTo}
 use Rattle.gptp_settling_time.proofs.SilentDownLemmas.{over_down}
 use Rattle.gptp_settling_time.proofs.SilentLinksLemmas.{AgesOver, over_within}
 use Rattle.gptp_settling_time.proofs.UpPortsLemmas.{IsUpAt, by_up}
-use Rattle.gptp_settling_time.proofs.GainLemmas.{unused_so, up_so}
+use Rattle.gptp_settling_time.proofs.GainLemmas.{found_so, unused_so, up_so}
 use Rattle.gptp_settling_time.proofs.DeadDownLemmas.{asked_on, dead_left, reduced as dead_reduced, snapshot_now}
 use Rattle.gptp_settling_time.proofs.KeptToLemmas.{KeepsTo}
-use Rattle.gptp_settling_time.proofs.LeftToLemmas.{IsLeftTo}
+use Rattle.gptp_settling_time.proofs.LeftToLemmas.{IsLeftSince}
 use Rattle.gptp_settling_time.proofs.TurnedToLemmas.{IsTurnedTo}
 use Rattle.gptp_settling_time.proofs.AfterLemmas.{IsAfter}
-use Rattle.gptp_settling_time.proofs.LossMadeLemmas.{HasRestedSo, aging_so, cleared_to, left_to, turned_so}
-use Rattle.gptp_settling_time.proofs.LostClaimedLemmas.{IsLostAlways}
+use Rattle.gptp_settling_time.proofs.LossMadeLemmas.{HasRestedSo, aging_so, cleared_to, left_to, shorter_way, turned_so}
 use Rattle.gptp_settling_time.proofs.LostMadeLemmas.{loses_first, loses_more}
 use Rattle.gptp_settling_time.proofs.LostPowerLemmas.{told_anew}
 use Rattle.gptp_settling_time.proofs.LostToLemmas.{IsLostTo}
-use Rattle.gptp_graph.specs.Snapshot.{Snapshot}
-use Rattle.gptp_settling_time.specs.Losses.{AgesWithin, LowersUnused}
+use Rattle.gptp_graph.specs.Snapshot.{Snapshot, clocks}
+use Rattle.gptp_lists.specs.Members.{In}
+use Rattle.gptp_invariants.proofs.WorldSystemLemmas.{clock_from}
+use Rattle.gptp_settling_time.proofs.LoweredAgainLemmas.{lowered_again}
+use Rattle.gptp_settling_time.proofs.WorldMovesLemmas.{stays_joined}
+use Rattle.gptp_settling_time.specs.Losses.{AgesWithin, LowersLink, LowersUnused}
 use Rattle.gptp_settling_time.proofs.AgedLemmas.{aged_begins}
 use Rattle.gptp_settling_time.proofs.ClearedLemmas.{IsCleared}
 use Rattle.gptp_settling_time.proofs.ClearedToLemmas.{IsClearedTo}
 use Rattle.gptp_settling_time.proofs.ClearsLemmas.{cleared_reduced}
 use Rattle.gptp_settling_time.proofs.LeftClaimedLemmas.{IsLeftAlways}
+use Rattle.gptp_settling_time.proofs.RepeatedLemmas.{aging_repeated, cleared_repeated, left_repeated, lost_repeated, taken_repeated, turned_repeated}
 use Rattle.gptp_settling_time.proofs.RestedSoLemmas.{rested_any, rested_gained, rested_heard}
+use Rattle.gptp_settling_time.proofs.TakenMadeLemmas.{taken_first, taken_more}
+use Rattle.gptp_settling_time.proofs.TakenToLemmas.{IsTakenTo}
 use Rattle.gptp_settling_time.proofs.WereSilentLemmas.{WereSilent, were_down}
 
 module _ (d : DocumentState) (playable : IsPlayable d) (made : List Timed) (event : Timed) (then : WorldState)
@@ -65,9 +71,9 @@ module _ (d : DocumentState) (playable : IsPlayable d) (made : List Timed) (even
   -- ---- a link goes down, or a system fails
 
   loses : (ago : List Timed) (start next : ℕ) → HasRestedSo p start event.at then → ago ≡ made
-      → LeavesStanding n made event start next → IsLeftTo d ago more next w'
+      → LeavesStanding n made event start next → IsLeftSince d ago more next w'
   loses ago start next rest same leaves =
-      subst (λ es. IsLeftTo d es more next w') (sym same)
+      subst (λ es. IsLeftSince d es more next w') (sym same)
       (left_to d playable made event then draws done w' acts at_time time last keeps after start rest next leaves)
 
   turns : (start silent now : ℕ) → HasRestedSo p start event.at then → TurnsNow n made event start silent now
@@ -125,8 +131,53 @@ module _ (d : DocumentState) (playable : IsPlayable d) (made : List Timed) (even
       were_down n ago then draws done w' keeps.claim.world after.claim.world x.clock x.port came
       (up_so n made then keeps.stands (port_id x.clock x.port) x.up came.1.place came.1.channel came.1.is)
 
+  -- another link goes down by which no system is moved but such as are cut off
+  module _ (ago : List Timed) (silent : ℕ) (so : IsLeftSince d ago made silent then)
+      (too : LowersToo n ago made event silent) where
+    abbrev y : LowersLink n made event
+    y = too.lowers.lowers
+
+    went : Acts (Changing (LinkDown y.clock y.port)) then draws done w'
+    went = subst (λ act. Acts act then draws done w') y.act acts
+
+    stood_up : went.1.channel.up ≡ true
+    stood_up =
+        up_so n made then keeps.stands (port_id y.clock y.port) (λ place v there end. (y.used place v there end).up)
+        went.1.place went.1.channel went.1.is
+
+    known_still : (number : ℕ) → In number (clocks so.left.before) → In number (clocks (snapshot_of then))
+    known_still number member =
+        clock_from (live_stations then.stations) number
+        (found_so n made then keeps.stands keeps.claim.world.sound number (too.lives number (so.known number member)))
+
+    too_since : IsLeftAlways p so.left.before silent w'
+    too_since =
+        let past = too.past in
+        let late = so.left.since.late in
+        let less =
+        shorter_way d playable made event then draws done w' acts at_time time last keeps after y.delay y.paths in
+        lowered_again p so.left.before silent y.clock y.port then draws done w' after.claim.world after.claim.measured
+        went so.left.since
+        (quiet_stands n made then playable.network keeps.stands keeps.claim.world.sound too.lowers.calm).links
+        too.lowers.off stood_up (omega (arith, past, at_time))
+        (stays_joined d playable made event then w' keeps after y.moves) known_still
+        (omega (arith, late, less, time, at_time))
+
+    lowers_too : IsLeftSince d ago more silent w'
+    lowers_too = record {
+      left = record {
+        keeps = after;
+        before = so.left.before;
+        since = too_since;
+        were = were_down n ago then draws done w' keeps.claim.world after.claim.world y.clock y.port went stood_up
+            so.left.were;
+      };
+      known = so.known;
+    }
+
   pub leads_to_left : (past : Past) (ago : List Timed) (next : ℕ) → EventLeads n made past event (Left ago next)
-      → IsAfter d made past then → IsLeftTo d ago more next w'
+      → IsAfter d made past then → IsLeftSince d ago more next w'
+  unfolding left_repeated
   leads_to_left AnyPast ago next (settled, same, leaves) so =
       loses ago (last_change made + capability_span p) next
       (rested_any d playable made event then at_time keeps settled) same leaves
@@ -136,21 +187,33 @@ module _ (d : DocumentState) (playable : IsPlayable d) (made : List Timed) (even
   leads_to_left (Heard start) ago next (settled, same, leaves) so =
       loses ago start next (rested_heard d playable made event then at_time keeps start settled so.since) same leaves
   leads_to_left (Left old silent) ago next (falls, same_ago, same) so =
-      subst (λ es. IsLeftTo d es more next w') (sym same_ago)
-      (subst (λ t. IsLeftTo d old more t w') (sym same)
-      (record {
-        keeps = after;
-        before = so.before;
-        since = fallen_left so.before silent falls so.since;
-        were = fallen_were old falls so.were;
-      }))
+      subst (λ es. IsLeftSince d es more next w') (sym same_ago)
+      (subst (λ t. IsLeftSince d old more t w') (sym same)
+      (elim falls [
+        | inl (inl lowers) ↦ record {
+          left = record {
+            keeps = after;
+            before = so.left.before;
+            since = fallen_left so.left.before silent lowers so.left.since;
+            were = fallen_were old lowers so.left.were;
+          };
+          known = so.known;
+        }
+        | inl (inr repeats) ↦ record {
+          left = left_repeated d playable made event then draws done w' acts at_time keeps after repeats old silent
+              so.left;
+          known = so.known;
+        }
+        | inr too ↦ lowers_too old silent so too
+      ]))
   leads_to_left (Turned silent now) ago next none so = absurd none
   leads_to_left (Fallen silent now) ago next none so = absurd none
   leads_to_left (TurnedTree silent now) ago next none so = absurd none
   leads_to_left (Cleared was since silent right old) ago next none so = absurd none
   leads_to_left (Aging old aged silent) ago next none so = absurd none
   leads_to_left (Split old gone silent) ago next none so = absurd none
-  leads_to_left (Lost since most silent) ago next none so = absurd none
+  leads_to_left (Lost old since most silent) ago next none so = absurd none
+  leads_to_left (Fewer old since most silent) ago next none so = absurd none
 
   pub leads_to_turned : (past : Past) (silent now : ℕ) → EventLeads n made past event (Turned silent now)
       → IsAfter d made past then → IsTurnedTo d more silent now w'
@@ -163,13 +226,17 @@ module _ (d : DocumentState) (playable : IsPlayable d) (made : List Timed) (even
   leads_to_turned (Heard start) silent now (settled, by) so =
       turns start silent now (rested_heard d playable made event then at_time keeps start settled so.since) by
   leads_to_turned (Left ago start) silent now none so = absurd none
-  leads_to_turned (Turned start was) silent now none so = absurd none
+  leads_to_turned (Turned start was) silent now (repeats, same, here) so =
+      subst (λ t. IsTurnedTo d more t now w') (sym same)
+      (subst (λ t. IsTurnedTo d more start t w') (sym here)
+      (turned_repeated d playable made event then draws done w' acts at_time keeps after repeats start was so))
   leads_to_turned (Fallen start was) silent now none so = absurd none
   leads_to_turned (TurnedTree start was) silent now none so = absurd none
   leads_to_turned (Cleared ago since start right old) silent now none so = absurd none
   leads_to_turned (Aging ago aged start) silent now none so = absurd none
   leads_to_turned (Split ago gone start) silent now none so = absurd none
-  leads_to_turned (Lost since most start) silent now none so = absurd none
+  leads_to_turned (Lost ago since most start) silent now none so = absurd none
+  leads_to_turned (Fewer ago since most start) silent now none so = absurd none
 
   clears : (ago : List Timed) (start since silent right old : ℕ) → HasRestedSo p start event.at then → ago ≡ made
       → ClearsBy n made event start since silent right old → IsClearedTo d ago more since silent right old w'
@@ -213,6 +280,13 @@ module _ (d : DocumentState) (playable : IsPlayable d) (made : List Timed) (even
         were = fallen_were ago falls so.were;
       }
 
+  -- so it does where all stays as it stands
+  ages_still : (ago : List Timed) (aged silent : ℕ) → IsDownNow n made event → IsAgingTo d ago made aged silent then
+      → IsAgingTo d ago more aged silent w'
+  ages_still ago aged silent (inl falls) so = ages_on ago aged silent falls so
+  ages_still ago aged silent (inr repeats) so =
+      aging_repeated d playable made event then draws done w' acts at_time keeps after repeats ago aged silent so
+
   -- it has aged sooner where faster links alone are silent still
   ages_sooner : (ago : List Timed) (gone aged silent : ℕ) → AgesSooner n ago more aged silent
       → IsAgingTo d ago more gone silent w' → IsAgingTo d ago more aged silent w'
@@ -253,25 +327,30 @@ module _ (d : DocumentState) (playable : IsPlayable d) (made : List Timed) (even
   leads_to_cleared (Fallen start now) ago since silent right old none so = absurd none
   leads_to_cleared (TurnedTree start now) ago since silent right old none so = absurd none
   leads_to_cleared (Cleared was start dark clean gone) ago since silent right old
-      (falls, past, same_ago, (begun, by, is, same)) so =
+      (falls, same_ago, (begun, by, is, same)) so =
       subst (λ es. IsClearedTo d es more since silent right old w') (sym same_ago)
       (subst (λ t. IsClearedTo d was more t silent right old w') (sym begun)
       (subst (λ t. IsClearedTo d was more start t right old w') (sym by)
       (subst (λ t. IsClearedTo d was more start dark t old w') (sym is)
       (subst (λ t. IsClearedTo d was more start dark clean t w') (sym same)
-      (record {
-        keeps = after;
-        before = so.before;
-        is = fallen_cleared so.before dark falls so.is.left start clean gone past so.is;
-        were = fallen_were was falls so.were;
-      })))))
+      (elim falls [
+        | inl (lowers, past) ↦ record {
+          keeps = after;
+          before = so.before;
+          is = fallen_cleared so.before dark lowers so.is.left start clean gone past so.is;
+          were = fallen_were was lowers so.were;
+        }
+        | inr repeats ↦ cleared_repeated d playable made event then draws done w' acts at_time keeps after repeats was
+            start dark clean gone so
+      ])))))
   leads_to_cleared (Aging was aged dark) ago since silent right old (falls, same_ago, same, anew) so =
       subst (λ es. IsClearedTo d es more since silent right old w') (sym same_ago)
       (subst (λ t. IsClearedTo d was more since t right old w') (sym same)
       (told_anew d playable was more event.at aged dark since right old w' after time last
-      (ages_on was aged dark falls so) anew))
+      (ages_still was aged dark falls so) anew))
   leads_to_cleared (Split was gone dark) ago since silent right old none so = absurd none
-  leads_to_cleared (Lost begun most start) ago since silent right old none so = absurd none
+  leads_to_cleared (Lost was begun most start) ago since silent right old none so = absurd none
+  leads_to_cleared (Fewer was begun most start) ago since silent right old none so = absurd none
 
   ages : (ago : List Timed) (start aged silent : ℕ) → HasRestedSo p start event.at then → ago ≡ made
       → FailsNow n made event aged silent → IsAgingTo d ago more aged silent w'
@@ -300,41 +379,96 @@ module _ (d : DocumentState) (playable : IsPlayable d) (made : List Timed) (even
       subst (λ es. IsAgingTo d es more aged silent w') (sym same_ago)
       (subst (λ time. IsAgingTo d old more aged time w') (sym same_silent)
       (elim sooner [
-        | inl same ↦ subst (λ time. IsAgingTo d old more time start w') (sym same) (ages_on old gone start falls so)
-        | inr is ↦ ages_sooner old gone aged start is (ages_on old gone start falls so)
+        | inl same ↦ subst (λ time. IsAgingTo d old more time start w') (sym same) (ages_still old gone start falls so)
+        | inr is ↦ ages_sooner old gone aged start is (ages_still old gone start falls so)
       ]))
   leads_to_aging (Split old gone start) ago aged silent none so = absurd none
-  leads_to_aging (Lost since most start) ago aged silent none so = absurd none
+  leads_to_aging (Lost old since most start) ago aged silent none so = absurd none
+  leads_to_aging (Fewer old since most start) ago aged silent none so = absurd none
 
   -- ---- anything is taken away
 
   module _ (is : IsMade event) (octet : SetsAnOctet event.act) where
-    loses_now : (start since most silent : ℕ) → HasRestedSo p start event.at then
-        → LosesNow n made event since most silent → IsLostTo d more since most silent w'
+    loses_now : (ago : List Timed) (start since most silent : ℕ) → HasRestedSo p start event.at then
+        → AreUsedSince n ago made → LosesNow n made event since most silent
+        → IsLostTo d ago more since most silent w'
     loses_now = loses_first d playable made event then draws done w' is acts octet at_time time last keeps after
 
-    pub leads_to_lost : (past : Past) (since most silent : ℕ) → EventLeads n made past event (Lost since most silent)
-        → IsAfter d made past then → IsLostTo d more since most silent w'
-    leads_to_lost AnyPast since most silent (settled, now) so =
-        loses_now (last_change made + capability_span p) since most silent
+    pub leads_to_lost : (past : Past) (ago : List Timed) (since most silent : ℕ)
+        → EventLeads n made past event (Lost ago since most silent)
+        → IsAfter d made past then → IsLostTo d ago more since most silent w'
+    leads_to_lost AnyPast ago since most silent (settled, used, now) so =
+        loses_now ago (last_change made + capability_span p) since most silent
+        (rested_any d playable made event then at_time keeps settled) used now
+    leads_to_lost Starting ago since most silent none so = absurd none
+    leads_to_lost (Gained start) ago since most silent (settled, used, now) so =
+        loses_now ago start since most silent
+        (rested_gained d playable made event then at_time keeps start settled so.news) used now
+    leads_to_lost (Heard start) ago since most silent (settled, used, now) so =
+        loses_now ago start since most silent
+        (rested_heard d playable made event then at_time keeps start settled so.since) used now
+    leads_to_lost (Left old start) ago since most silent none so = absurd none
+    leads_to_lost (Turned start was) ago since most silent none so = absurd none
+    leads_to_lost (Fallen start was) ago since most silent none so = absurd none
+    leads_to_lost (TurnedTree start was) ago since most silent none so = absurd none
+    leads_to_lost (Cleared was begun start right old) ago since most silent none so = absurd none
+    leads_to_lost (Aging old aged start) ago since most silent none so = absurd none
+    leads_to_lost (Split old gone start) ago since most silent none so = absurd none
+    leads_to_lost (Lost old begun delay start) ago since most silent
+        (which, same_ago, same_since, same_most, same_silent) so =
+        let lost : IsLostTo d old made since most silent then =
+        subst (λ t. IsLostTo d old made t most silent then) (sym same_since)
+        (subst (λ m. IsLostTo d old made begun m silent then) (sym same_most)
+        (subst (λ t. IsLostTo d old made begun delay t then) (sym same_silent) so)) in
+        subst (λ es. IsLostTo d es more since most silent w') (sym same_ago)
+        (elim which [
+          | inl more_now ↦
+              loses_more d playable made event then draws done w' is acts octet at_time time last keeps after old since
+              most silent lost.is lost.less lost.were more_now
+          | inr repeats ↦ lost_repeated d playable made event then draws done w' acts at_time keeps after repeats old
+              since most silent lost
+        ])
+    leads_to_lost (Fewer old begun delay start) ago since most silent none so = absurd none
+
+    taken_now : (ago : List Timed) (start since most silent : ℕ) → HasRestedSo p start event.at then
+        → TakesNow n made event ago since most silent → IsTakenTo d ago more since most silent w'
+    taken_now ago start since most silent rest (same, now, any, later) =
+        subst (λ es. IsTakenTo d es more since most silent w') (sym same)
+        (taken_first d playable made event then draws done w' is acts octet at_time time last keeps after start since
+        most silent rest now any later)
+
+    pub leads_to_fewer : (past : Past) (ago : List Timed) (since most silent : ℕ)
+        → EventLeads n made past event (Fewer ago since most silent)
+        → IsAfter d made past then → IsTakenTo d ago more since most silent w'
+    leads_to_fewer AnyPast ago since most silent (settled, now) so =
+        taken_now ago (last_change made + capability_span p) since most silent
         (rested_any d playable made event then at_time keeps settled) now
-    leads_to_lost Starting since most silent none so = absurd none
-    leads_to_lost (Gained start) since most silent (settled, now) so =
-        loses_now start since most silent (rested_gained d playable made event then at_time keeps start settled so.news)
-        now
-    leads_to_lost (Heard start) since most silent (settled, now) so =
-        loses_now start since most silent (rested_heard d playable made event then at_time keeps start settled so.since)
-        now
-    leads_to_lost (Left ago start) since most silent none so = absurd none
-    leads_to_lost (Turned start was) since most silent none so = absurd none
-    leads_to_lost (Fallen start was) since most silent none so = absurd none
-    leads_to_lost (TurnedTree start was) since most silent none so = absurd none
-    leads_to_lost (Cleared ago begun start right old) since most silent none so = absurd none
-    leads_to_lost (Aging ago aged start) since most silent none so = absurd none
-    leads_to_lost (Split ago gone start) since most silent none so = absurd none
-    leads_to_lost (Lost begun delay start) since most silent (more_now, same_since, same_most, same_silent) so =
-        loses_more d playable made event then draws done w' is acts octet at_time time last keeps after since most
-        silent
-        (subst (λ t. IsLostAlways p t most silent then) (sym same_since)
-        (subst (λ m. IsLostAlways p begun m silent then) (sym same_most)
-        (subst (λ t. IsLostAlways p begun delay t then) (sym same_silent) so.is))) more_now
+    leads_to_fewer Starting ago since most silent none so = absurd none
+    leads_to_fewer (Gained start) ago since most silent (settled, now) so =
+        taken_now ago start since most silent
+        (rested_gained d playable made event then at_time keeps start settled so.news) now
+    leads_to_fewer (Heard start) ago since most silent (settled, now) so =
+        taken_now ago start since most silent
+        (rested_heard d playable made event then at_time keeps start settled so.since) now
+    leads_to_fewer (Left old start) ago since most silent none so = absurd none
+    leads_to_fewer (Turned start was) ago since most silent none so = absurd none
+    leads_to_fewer (Fallen start was) ago since most silent none so = absurd none
+    leads_to_fewer (TurnedTree start was) ago since most silent none so = absurd none
+    leads_to_fewer (Cleared was begun start right old) ago since most silent none so = absurd none
+    leads_to_fewer (Aging old aged start) ago since most silent none so = absurd none
+    leads_to_fewer (Split old gone start) ago since most silent none so = absurd none
+    leads_to_fewer (Lost old begun delay start) ago since most silent none so = absurd none
+    leads_to_fewer (Fewer old begun delay start) ago since most silent
+        (which, same_ago, same_since, same_most, same_silent) so =
+        let taken : IsTakenTo d old made since most silent then =
+        subst (λ t. IsTakenTo d old made t most silent then) (sym same_since)
+        (subst (λ m. IsTakenTo d old made begun m silent then) (sym same_most)
+        (subst (λ t. IsTakenTo d old made begun delay t then) (sym same_silent) so)) in
+        subst (λ es. IsTakenTo d es more since most silent w') (sym same_ago)
+        (elim which [
+          | inl (now, one) ↦
+              taken_more d playable made event then draws done w' is acts octet at_time time last keeps after old since
+              most silent now one taken
+          | inr repeats ↦ taken_repeated d playable made event then draws done w' acts at_time keeps after repeats old
+              since most silent taken
+        ])

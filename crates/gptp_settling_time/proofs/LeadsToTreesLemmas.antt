@@ -13,8 +13,8 @@ use Rattle.gptp_model.specs.World.{WorldState}
 use Rattle.gptp_network.specs.Document.{DocumentState}
 use Rattle.gptp_theorem.specs.PlayedLaws.{IsPlayable}
 use Rattle.gptp_settling_time.specs.Arrivals.{HasArrivedBy}
-use Rattle.gptp_settling_time.specs.InTurn.{Aging, AnyPast, Cleared, EventLeads, Fallen, FallsCalm, Gained, Heard, LeadsByTree, Left, Lost, Past, Split, SplitsNow, Starting, TreeNow, Turned, TurnedTree, TurnsTreeCalm}
-use Rattle.gptp_settling_time.proofs.FallMadeLemmas.{fallen_to}
+use Rattle.gptp_settling_time.specs.InTurn.{Aging, AnyPast, Cleared, EventLeads, Fallen, FallsCalm, Gained, Heard, IsDownNow, LeadsByTree, Left, Fewer, Lost, Past, Split, SplitsNow, Starting, TreeNow, Turned, TurnedTree, TurnsTreeCalm}
+use Rattle.gptp_settling_time.proofs.FallMadeLemmas.{fallen_to, falls_few}
 use Rattle.gptp_settling_time.proofs.FallenToLemmas.{IsFallenTo}
 use Rattle.gptp_settling_time.proofs.TurnedTreeMadeLemmas.{turned_tree_to}
 use Rattle.gptp_settling_time.proofs.TurnedTreeToLemmas.{IsTurnedTreeTo}
@@ -25,6 +25,7 @@ use Rattle.gptp_settling_time.proofs.SplitMadeLemmas.{split_on, split_sooner, sp
 use Rattle.gptp_settling_time.proofs.SplitToLemmas.{IsSplitTo}
 use Rattle.gptp_settling_time.proofs.AfterLemmas.{IsAfter}
 use Rattle.gptp_settling_time.proofs.LossMadeLemmas.{HasRestedSo}
+use Rattle.gptp_settling_time.proofs.RepeatedLemmas.{fallen_repeated, split_repeated, turned_tree_repeated}
 use Rattle.gptp_settling_time.proofs.RestedSoLemmas.{rested_any, rested_gained, rested_heard}
 
 module _ (d : DocumentState) (playable : IsPlayable d) (made : List Timed) (event : Timed) (then : WorldState)
@@ -82,23 +83,31 @@ module _ (d : DocumentState) (playable : IsPlayable d) (made : List Timed) (even
     leads_by_tree (Cleared ago since start right old) silent now none named so = absurd none
     leads_by_tree (Aging ago aged start) silent now none named so = absurd none
     leads_by_tree (Split ago gone start) silent now none named so = absurd none
-    leads_by_tree (Lost since most start) silent now none named so = absurd none
+    leads_by_tree (Lost ago since most start) silent now none named so = absurd none
+    leads_by_tree (Fewer ago since most start) silent now none named so = absurd none
 
   pub leads_to_fallen : (past : Past) (silent now : ℕ) → EventLeads n made past event (Fallen silent now)
       → NamesAfter d made past then → IsAfter d made past then → IsFallenTo d more silent now w'
-  leads_to_fallen =
-      leads_by_tree (FallsCalm n made event) (λ x. x.calm) (λ x. x.off) (λ x. x.lowers.few)
-      (λ silent now. IsFallenTo d more silent now w') (λ start stood arrived rest named arrives quiet falls.
+  leads_to_fallen past silent now (inl leads) named so =
+      leads_by_tree (FallsCalm n made event) (λ x. x.calm) (λ x. x.off)
+      (λ x. falls_few d.network made event x.falls) (λ silent now. IsFallenTo d more silent now w')
+      (λ start stood arrived rest named arrives quiet falls.
       fallen_to d playable made event then draws done w' acts at_time time keeps after start rest stood arrived named
-      arrives quiet falls)
+      arrives quiet falls) past silent now leads named so
+  leads_to_fallen past silent now (inr (repeats, same)) named so =
+      fallen_repeated d playable made event then draws done w' acts at_time keeps after repeats silent now
+      (subst (λ x. IsAfter d made x then) same so)
 
   pub leads_to_turned_tree : (past : Past) (silent now : ℕ) → EventLeads n made past event (TurnedTree silent now)
       → NamesAfter d made past then → IsAfter d made past then → IsTurnedTreeTo d more silent now w'
-  leads_to_turned_tree =
+  leads_to_turned_tree past silent now (inl leads) named so =
       leads_by_tree (TurnsTreeCalm n made event) (λ x. x.calm) (λ x. x.off) (λ x. x.turns.few)
       (λ silent now. IsTurnedTreeTo d more silent now w') (λ start stood arrived rest named arrives quiet turns.
       turned_tree_to d playable made event then draws done w' acts at_time time keeps after start rest stood arrived
-      named arrives quiet turns last)
+      named arrives quiet turns last) past silent now leads named so
+  leads_to_turned_tree past silent now (inr (repeats, same)) named so =
+      turned_tree_repeated d playable made event then draws done w' acts at_time keeps after repeats silent now
+      (subst (λ x. IsAfter d made x then) same so)
 
   -- trees are, as a system fails
   splits : (start stood : ℕ) (ago : List Timed) (gone silent : ℕ) → ago ≡ made
@@ -108,8 +117,16 @@ module _ (d : DocumentState) (playable : IsPlayable d) (made : List Timed) (even
       let later = arrives_later n made stood now.arrived now.arrives in
       let quiet = now.quiet in
       subst (λ es. IsSplitTo d es more gone silent w') (sym same)
-      (split_to d playable made event then draws done w' acts at_time time keeps after start
+      (split_to d playable made event then draws done w' acts at_time time last keeps after start
       (rest (omega (arith, later, quiet))) stood gone silent now (named now.arrived now.arrives))
+
+  -- they fall back where a link goes down of which an end has failed, or all stays as it stands
+  splits_still : (ago : List Timed) (gone silent : ℕ) → IsDownNow n made event → IsSplitTo d ago made gone silent then
+      → IsSplitTo d ago more gone silent w'
+  splits_still ago gone silent (inl falls) so =
+      split_on d playable made event then draws done w' acts at_time time last keeps after ago gone silent falls so
+  splits_still ago gone silent (inr repeats) so =
+      split_repeated d playable made event then draws done w' acts at_time keeps after repeats ago gone silent so
 
   pub leads_to_split : (past : Past) (ago : List Timed) (gone silent : ℕ)
       → EventLeads n made past event (Split ago gone silent) → NamesAfter d made past then → IsAfter d made past then
@@ -140,11 +157,10 @@ module _ (d : DocumentState) (playable : IsPlayable d) (made : List Timed) (even
       (subst (λ time. IsSplitTo d old more gone time w') (sym same_silent)
       (elim sooner [
         | inl same ↦
-            subst (λ time. IsSplitTo d old more time start w') (sym same)
-            (split_on d playable made event then draws done w' acts at_time time keeps after old was start
-            falls so)
+            subst (λ time. IsSplitTo d old more time start w') (sym same) (splits_still old was start falls so)
         | inr (now, is_gone) ↦
-            split_sooner d playable made event then draws done w' acts at_time time keeps after old was
-            start falls so gone now is_gone
+            split_sooner d playable made event then draws done w' acts at_time time last keeps after old was start
+            (splits_still old was start falls so) gone now is_gone
       ]))
-  leads_to_split (Lost since most start) ago gone silent none named so = absurd none
+  leads_to_split (Lost old since most start) ago gone silent none named so = absurd none
+  leads_to_split (Fewer old since most start) ago gone silent none named so = absurd none

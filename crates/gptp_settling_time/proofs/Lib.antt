@@ -1,4 +1,14 @@
+pub mod BetweenCalmLemmas
+pub mod BetweenUnmovedLemmas
 pub mod NewsMeasuredLemmas
+pub mod OneCallLemmas
+pub mod TakenClaimedLemmas
+pub mod TakenDownLossLemmas
+pub mod TakenFailLossLemmas
+pub mod TakenLeadLemmas
+pub mod TakenMadeLemmas
+pub mod TakenSeenLemmas
+pub mod TakenToLemmas
 pub mod WillAskLemmas
 pub mod NewsSoonLemmas
 pub mod AskedInTimeLemmas
@@ -72,8 +82,10 @@ pub mod UnchangedLemmas
 pub mod ExactInTurnLemmas
 pub mod SamePathsLemmas
 pub mod MomentLemmas
+pub mod BesideIdleLemmas
 pub mod FollowedLemmas
 pub mod LossFollowedLemmas
+pub mod RepeatedLemmas
 pub mod BoundSettlesLemmas
 pub mod ChoiceBoundLemmas
 pub mod ReactsLemmas
@@ -92,6 +104,7 @@ pub mod LeftClaimedLemmas
 pub mod GoesDownLemmas
 pub mod ReducedLemmas
 pub mod BegunLeftLemmas
+pub mod LoweredAgainLemmas
 pub mod LoweredLemmas
 pub mod DeadDownLemmas
 pub mod CalmLessLemmas
@@ -122,8 +135,12 @@ pub mod TreeSoundLemmas
 pub mod TreeSoundBeginLemmas
 pub mod FallenClaimedLemmas
 pub mod FallenToLemmas
+pub mod TreeBeginsLemmas
 pub mod TreeMadeLemmas
 pub mod FallMadeLemmas
+pub mod WorsenedActLemmas
+pub mod WorsenedMadeLemmas
+pub mod WorsenedTracesLemmas
 pub mod NamedAfterLemmas
 pub mod TurnsDownLemmas
 pub mod TurnedToLemmas
@@ -141,6 +158,7 @@ pub mod SoundButOldLemmas
 pub mod LeadOnLemmas
 pub mod LossLeadLemmas
 pub mod LossRestLemmas
+pub mod SplitFollowedLemmas
 pub mod RightStageLemmas
 pub mod DueLemmas
 pub mod TellsRightLemmas
@@ -178,6 +196,7 @@ pub mod LostToLemmas
 pub mod LostMadeLemmas
 pub mod LosesVainLemmas
 pub mod CalmStillLemmas
+pub mod UsedSinceLemmas
 pub mod LosesLeadLemmas
 pub mod RightBeginLemmas
 pub mod ToldAnewLemmas
@@ -196,6 +215,7 @@ pub mod SplitLemmas
 pub mod SplitAlwaysLemmas
 pub mod SplitDownLemmas
 pub mod SplitSettlesLemmas
+pub mod SplitRestLemmas
 pub mod SplitFailLemmas
 pub mod SplitToLemmas
 pub mod SplitMadeLemmas

@@ -3,7 +3,7 @@ use Rattle.std.proofs.Common.{List, [], arith, inl, inr, refl, subst, suc, sym, 
 use Rattle.std.specs.List.{AllByRecursion}
 use Rattle.std.proofs.Math.Nat.{le-max_left, le-max_right}
 use Rattle.gptp_setup.specs.SettlingParams.{SettlingParams, largest_interval, longest_span}
-use Rattle.gptp_scenario.specs.Calm.{IsCalm, IsLive, NothingLapses}
+use Rattle.gptp_scenario.specs.Calm.{IsCalm, NothingLapses}
 use Rattle.gptp_scenario.specs.Network.{IsNetwork, NetworkState, pace_of}
 use Rattle.gptp_scenario.specs.SettlingTime.{loss_span, silence_span}
 use Rattle.gptp_scenario.specs.SyncWait.{sync_paths}
@@ -12,12 +12,13 @@ use Rattle.gptp_scenario.specs.declared.change.Act.TheVariants.{Deliver, Expire,
 use Rattle.gptp_scenario.specs.declared.change.Change.TheVariants.{LinkDown, LinkUp, LinkSet, Fail, Recover, Priority1, Inject}
 use Rattle.gptp_scenario.specs.declared.change.Timed.{Timed}
 use Rattle.gptp_scenario.specs.declared.sync_wait.SyncPaths.{SyncPaths}
-use Rattle.gptp_settling_time.specs.HowSoon.{BoundsAnyLoss, EachEvent, IsLossToo, LosesEvents, NoneFails, RestsAfterAnyLoss, RolesAfterLoss, delay_between}
-use Rattle.gptp_settling_time.specs.InTurn.{Heard, LeadOn, Lost, Past}
-use Rattle.gptp_settling_time.specs.Losses.{AreSilentAfter, LosesAny, UpIsUsed}
+use Rattle.gptp_settling_time.specs.HowSoon.{BoundsAnyLoss, EachEvent, IsLossToo, LosesEvents, RestsAfterAnyLoss, RolesAfterLoss, delay_between}
+use Rattle.gptp_settling_time.specs.InTurn.{AreUsedSince, Heard, LeadOn, Lost, Past}
+use Rattle.gptp_settling_time.specs.Losses.{AreSilentAfter, LosesAny, NoneSilent}
 use Rattle.gptp_settling_time.proofs.CalmStillLemmas.{idle_calm}
 use Rattle.gptp_settling_time.proofs.LeadOnLemmas.{HasSettled, IsLed, idle_leads, idle_settled, makes_nothing, same_paths, since}
 use Rattle.gptp_settling_time.proofs.LossLeadLemmas.{loses_leads}
+use Rattle.gptp_settling_time.proofs.UsedSinceLemmas.{idle_since}
 
 -- ---- from when on ports aren't capable beside what fails
 
@@ -31,7 +32,7 @@ module _ (n : NetworkState) (made : List Timed) (time : ℕ) where
   p = pace_of n
 
   -- once too many requests are lost, whatever it is
-  long_silent : (act : Act) → AreSilentAfter p time (suc (time + silence_span p)) act
+  pub long_silent : (act : Act) → AreSilentAfter p time (suc (time + silence_span p)) act
   long_silent (Changing (Fail number)) = omega arith
   long_silent (Changing (LinkDown number port)) = omega arith
   long_silent (Changing (LinkUp number port)) = omega arith
@@ -41,19 +42,6 @@ module _ (n : NetworkState) (made : List Timed) (time : ℕ) where
   long_silent (Changing (Inject number port octets)) = omega arith
   long_silent (Deliver link direction) = omega arith
   long_silent (Expire number timer) = omega arith
-
-  -- at once where no system fails
-  now_silent : (act : Act) → ((number : ℕ) → act ≡ Changing (Fail number) → IsLive n.systems made number → ⊥)
-      → LosesAny n made act → AreSilentAfter p time time act
-  now_silent (Changing (Fail number)) none lives = absurd (none number refl lives)
-  now_silent (Changing (LinkDown number port)) none loses = omega arith
-  now_silent (Changing (LinkUp number port)) none loses = omega arith
-  now_silent (Changing (LinkSet number port min max loss)) none loses = omega arith
-  now_silent (Changing (Recover number)) none loses = omega arith
-  now_silent (Changing (Priority1 number value)) none loses = omega arith
-  now_silent (Changing (Inject number port octets)) none loses = omega arith
-  now_silent (Deliver link direction) none loses = omega arith
-  now_silent (Expire number timer) none loses = omega arith
 
 -- ---- the events lead on
 
@@ -70,18 +58,9 @@ module _ (n : NetworkState) (time : ℕ) where
     long_silenced (made ++ event ∷ []) now at,
   )
 
-  pub now_silenced : (made now : List Timed) → AreNow now → NoneFails n made now
-      → EachEvent (IsSilencedBy n time) made now
-  now_silenced made [] at none = tt
-  now_silenced made (event ∷ now) (here, at) (none, others) = (
-    λ loses. subst (λ t. AreSilentAfter (pace_of n) t time event.act) (sym here)
-        (now_silent n made time event.act none loses),
-    now_silenced (made ++ event ∷ []) now at others,
-  )
-
-  module _ (network : IsNetwork n) (off : NothingLapses n.params) (most silent : ℕ) where
+  module _ (network : IsNetwork n) (off : NothingLapses n.params) (ago : List Timed) (most silent : ℕ) where
     abbrev lost : Past
-    lost = Lost time most silent
+    lost = Lost ago time most silent
 
     -- one has taken something away, and the others do or make nothing of what stands
     more_lead : (made now : List Timed) → AreNow now → EachEvent (IsLossToo n) made now
@@ -91,7 +70,7 @@ module _ (n : NetworkState) (time : ℕ) where
       lost,
       inl refl,
       lost,
-      (record { more = inl (loses, silenced loses); now = here }, refl, refl, refl),
+      (inl (record { more = inl (loses, silenced loses); now = here }), refl, refl, refl, refl),
       more_lead (made ++ event ∷ []) now at each quiet,
     )
     more_lead made (event ∷ now) (here, at) (inr idle, each) (silenced, quiet) = (
@@ -99,7 +78,8 @@ module _ (n : NetworkState) (time : ℕ) where
       inl refl,
       lost,
       (
-        record { more = inr (makes_nothing n made event time (omega (arith, here)) off idle); now = here },
+        inl (record { more = inr (makes_nothing n made event time (omega (arith, here)) off idle); now = here }),
+        refl,
         refl,
         refl,
         refl,
@@ -109,14 +89,15 @@ module _ (n : NetworkState) (time : ℕ) where
 
     -- such come first that make nothing of what stands
     pub losing_lead : (made now : List Timed) (past : Past) → AreNow now → HasSettled n made past time → IsCalm n made
-        → (sync_paths n made).delay ≤ most → LosesEvents n made now → EachEvent (IsSilencedBy n silent) made now
+        → (sync_paths n made).delay ≤ most → AreUsedSince n ago made → LosesEvents n made now
+        → EachEvent (IsSilencedBy n silent) made now
         → LeadOn n made past now lost
-    losing_lead made [] past at settled calm less none quiet = absurd none
-    losing_lead made (event ∷ now) past (here, at) settled calm less (inl (loses, each)) (silenced, quiet) = (
+    losing_lead made [] past at settled calm less used none quiet = absurd none
+    losing_lead made (event ∷ now) past (here, at) settled calm less used (inl (loses, each)) (silenced, quiet) = (
       past,
       inl refl,
       lost,
-      loses_leads n made event past time most silent (subst (HasSettled n made past) (sym here) settled)
+      loses_leads n made event past ago time most silent (subst (HasSettled n made past) (sym here) settled) used
           (record {
             loses = loses;
             calm = calm;
@@ -127,7 +108,7 @@ module _ (n : NetworkState) (time : ℕ) where
           }),
       more_lead (made ++ event ∷ []) now at each quiet,
     )
-    losing_lead made (event ∷ now) past (here, at) settled calm less (inr (idle, others)) (silenced, quiet) =
+    losing_lead made (event ∷ now) past (here, at) settled calm less used (inr (idle, others)) (silenced, quiet) =
         let then = subst (HasSettled n made past) (sym here) settled in
         let start : ℕ = since n made event network off in
         let stays = same_paths n made event network off (inl idle) in (
@@ -139,7 +120,10 @@ module _ (n : NetworkState) (time : ℕ) where
               (subst (HasSettled n (made ++ event ∷ []) (Heard start)) here
               (idle_settled n made event network off (inl idle) past then))
               (idle_calm n network off made event idle calm)
-              (subst (λ (x : SyncPaths). x.delay ≤ most) (sym stays) less) others quiet,
+              (subst (λ (x : SyncPaths). x.delay ≤ most) (sym stays) less)
+              (λ place v there now_used.
+              used place v there (idle_since n network made event idle place v there now_used))
+              others quiet,
         )
 
 -- ---- what the events ask for
@@ -150,10 +134,10 @@ pub record LosesBy (n : NetworkState) (time : ℕ) (made now : List Timed) (past
   where
     pub most : ℕ
     pub silent : ℕ
-    pub lead : LeadOn n made past now (Lost time most silent)
+    pub lead : LeadOn n made past now (Lost made time most silent)
     pub span : choice ≡ loss_span (pace_of n) (sync_paths n (made ++ now)) most
     pub more : choice ≤ roles
-    pub quiet : (silent ≤ suc (time + roles)) ⊎ UpIsUsed n (made ++ now)
+    pub quiet : (silent ≤ suc (time + roles)) ⊎ NoneSilent n made (made ++ now)
 
 module _ (n : NetworkState) (time : ℕ) (network : IsNetwork n) (off : NothingLapses n.params) (made now : List Timed)
     (past : Past) (at : AreNow n time now) (settled : HasSettled n made past time) (calm : IsCalm n made) where
@@ -165,23 +149,22 @@ module _ (n : NetworkState) (time : ℕ) (network : IsNetwork n) (off : NothingL
       most = delay_between n made now
 
       lost_by : (silent : ℕ) → EachEvent (IsSilencedBy n silent) made now → choice ≤ roles
-          → (silent ≤ suc (time + roles)) ⊎ UpIsUsed n (made ++ now) → LosesBy n time made now past choice roles
+          → (silent ≤ suc (time + roles)) ⊎ NoneSilent n made (made ++ now) → LosesBy n time made now past choice roles
       lost_by silent silenced more quiet = record {
         most = most;
         silent = silent;
-        lead = losing_lead n time network off most silent made now past at settled calm
-            (le-max_left (sync_paths n made).delay (sync_paths n (made ++ now)).delay) any silenced;
+        lead = losing_lead n time network off made most silent made now past at settled calm
+            (le-max_left (sync_paths n made).delay (sync_paths n (made ++ now)).delay) (λ place v there used. used) any
+            silenced;
         span = is_choice;
         more = more;
         quiet = quiet;
       }
 
       by : RolesAfterLoss n made now choice roles → LosesBy n time made now past choice roles
-      by (inl (inl none, same)) =
-          lost_by time (now_silenced n time made now at none) (omega (arith, same)) (inl (omega arith))
-      by (inl (inr used, same)) =
+      by (inl (none, same)) =
           lost_by (suc (time + silence_span (pace_of n))) (long_silenced n time made now at) (omega (arith, same))
-          (inr used)
+          (inr none)
       by (inr is_roles) =
           let one = le-max_left choice (silence_span (pace_of n)) in
           let other = le-max_right choice (silence_span (pace_of n)) in
@@ -197,7 +180,7 @@ module _ (n : NetworkState) (time : ℕ) (network : IsNetwork n) (off : NothingL
       let paths = sync_paths n (made ++ now) in
       let start : ℕ = suc (time + paths.systems * (longest_span (pace_of n) + x.most) + largest_interval (pace_of n)) in
       record {
-        last = Lost time x.most x.silent;
+        last = Lost made time x.most x.silent;
         lead = x.lead;
         settles = (
           Heard start,

@@ -29,7 +29,7 @@ use Rattle.gptp_invariants.proofs.WorldStandsLemmas.{used_up}
 use Rattle.gptp_settling_time.proofs.DeadLanesLemmas.{HasLess, told_less}
 use Rattle.gptp_settling_time.proofs.LosingLemmas.{HadFlight, TakesAway, WasUsed}
 use Rattle.gptp_settling_time.proofs.LoweredLemmas.{ready_on}
-use Rattle.gptp_settling_time.proofs.TakenDownLemmas.{silent_down, told_keeps, up_apart}
+use Rattle.gptp_settling_time.proofs.TakenDownLemmas.{silent_down, stay_down, told_keeps, up_apart}
 
 -- nothing is in flight on a link that is lost
 none_flies : (direction : Direction) (channel : Channel) (f : Frame) → In f (world_queue direction (lost channel)) → ⊥
@@ -140,6 +140,7 @@ module _ (p : SettlingParams) (owner port : ℕ) (w : WorldState) (draws : List 
       world = is';
       measured = measured';
       quiet = silent_down p w is k.place k.channel k.is.here draws w' is' tells silent silent_by;
+      goes = λ at s. inr (inl (stay_down p w is k.place k.channel k.is.here draws w' is' tells at s));
       ready = ready_on p since owner port w draws done w' pace is is' measured measured' acts up ready;
       lived = lived;
       used = was_used;

@@ -1,5 +1,5 @@
 -- The priority1 of a live system is set: among events that take something away it takes nothing but its identity.
-use Rattle.std.proofs.Common.{◌≡◌, ◌<◌, ℕ, true, List, Some, slice_get, refl, sym, ap, subst, ◌∙◌}
+use Rattle.std.proofs.Common.{◌≡◌, ◌<◌, ℕ, true, List, Some, slice_get, refl, sym, ap, subst, ◌∙◌, inl, inr}
 use Rattle.gptp_lists.specs.Members.{In}
 use Rattle.gptp_lists.proofs.MappedLemmas.{alike, same_there}
 use Rattle.gptp_graph.specs.Snapshot.{Snapshot, clocks}
@@ -26,7 +26,7 @@ use Rattle.gptp_invariants.proofs.ChoiceCalmFactLemmas.{used_is}
 use Rattle.gptp_settling_time.specs.Idle.{Lives}
 use Rattle.gptp_settling_time.proofs.DeadLanesLemmas.{HasLess, called_less}
 use Rattle.gptp_settling_time.proofs.LosingLemmas.{HadFlight, TakesAway, WasUsed}
-use Rattle.gptp_settling_time.proofs.PriorityNewsLemmas.{priority_silent, stood}
+use Rattle.gptp_settling_time.proofs.PriorityNewsLemmas.{priority_silent, stay_priority, stood}
 use Rattle.gptp_settling_time.proofs.ReactsLemmas.{Reacts, reacts}
 use Rattle.gptp_settling_time.proofs.StandsStillLemmas.{StandsStill, set_still, snapshot_still}
 
@@ -113,6 +113,7 @@ module _ (p : SettlingParams) (owner value : ℕ) (w : WorldState) (draws : List
     world = is';
     measured = measured';
     quiet = priority_silent p silent owner value w draws done w' is is' measured live silent_by octet acts;
+    goes = λ at s. inr (inl (stay_priority p owner value w draws done w' is live octet acts at s));
     ready = λ at stands.
         ready_goes_through p since at (Changing (Priority1 owner value)) w w' draws done is.sound measured tt acts
         (ready at (stood w w' r p is is' at stands));

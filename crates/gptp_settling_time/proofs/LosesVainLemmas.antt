@@ -23,7 +23,7 @@ use Rattle.gptp_invariants.proofs.ChoiceCalmKeptLemmas.{KeepsNetwork}
 use Rattle.gptp_invariants.proofs.DelayFirstUpLemmas.{queue_up}
 use Rattle.gptp_invariants.proofs.WorldSoundCallLemmas.{tells_keep}
 use Rattle.gptp_settling_time.proofs.DeadLanesLemmas.{HasLess, told_less}
-use Rattle.gptp_settling_time.proofs.FailedUpLemmas.{up_like, up_silent}
+use Rattle.gptp_settling_time.proofs.FailedUpLemmas.{goes_up, up_like, up_silent}
 use Rattle.gptp_settling_time.proofs.LosingLemmas.{HadFlight, TakesAway, WasUsed}
 use Rattle.gptp_settling_time.proofs.SameLinkLemmas.{ready_same}
 use Rattle.gptp_settling_time.proofs.StandsLikeLemmas.{StandsLike}
@@ -144,6 +144,7 @@ module _ (p : SettlingParams) (w : WorldState) (is : IsWorld p w) (place : ℕ) 
       world = is';
       measured = measured';
       quiet = up_silent p w is place channel here down unused draws w' is' k silent beside silent_by;
+      goes = goes_up p w is place channel here down unused draws w' is' k beside;
       ready = λ at s. ready_same p since at w w' (like.links at) (ready at (like.stood p is is' at s));
       lived = λ v known. subst (λ (g : Snapshot). In v (clocks g)) like.snapshot known;
       used = was_used;

@@ -32,6 +32,9 @@ use Rattle.gptp_settling_time.proofs.ClearsLemmas.{ready_asked}
 use Rattle.gptp_settling_time.proofs.LeftClaimedLemmas.{HaveAskedBy}
 use Rattle.gptp_settling_time.proofs.LiveTracesLemmas.{TellersLive}
 use Rattle.gptp_settling_time.proofs.LostClaimedLemmas.{IsLostAlways, loss_facts, loss_setting, lost_begins}
+use Rattle.gptp_settling_time.proofs.StaySilentLemmas.{GoesSilent}
+use Rattle.gptp_invariants.specs.DelayLinkView.{LinkPlace}
+use Rattle.gptp_invariants.specs.FailedUnanswered.{StandsUnanswered}
 
 -- ---- a greatest delay
 
@@ -75,12 +78,23 @@ pub record TakesAway (p : SettlingParams) (since silent : ℕ) (w w' : WorldStat
   pub world : IsWorld p w'
   pub measured : LinkIsMeasured w'
   pub quiet : AreSilentBy p silent w'
+  pub goes : (at : LinkPlace) → StandsUnanswered at w' → GoesSilent p at w w'
   pub ready : AreReadyBy p since w'
   pub lived : (v : ℕ) → In v (clocks (snapshot_of w')) → In v (clocks (snapshot_of w))
   pub used : (link : ℕ) (new : Channel) → slice_get w'.net.channels link ≡ Some new
       → channel_is_used (live_stations w'.stations) new ≡ true → WasUsed w link new
   pub flight : (link : ℕ) (direction : Direction) (new : Channel) → slice_get w'.net.channels link ≡ Some new
       → (In (sender direction new).clock (clocks (snapshot_of w')) → ⊥) → HadFlight w link direction new
+
+-- so no greatest delay gets greater
+pub takes_shorter : (p : SettlingParams) (since silent : ℕ) (w w' : WorldState) → TakesAway p since silent w w'
+    → delay_in w' ≤ delay_in w
+takes_shorter p since silent w w' by =
+    delay_most (live_stations w'.stations) w'.net.channels (delay_in w) (λ link channel here used.
+    let was = by.used link channel here used in
+    let less = delay_of_used (live_stations w.stations) w.net.channels link was.old was.here was.used in
+    let same = ap (λ (b : Bounds). b.max) was.bounds in
+    omega (arith, less, same))
 
 -- ---- between the events
 
@@ -140,13 +154,7 @@ module _ (p : SettlingParams) (since most silent : ℕ) (w w' : WorldState) (is 
       record { lossless = rw⁻¹ bounds x.lossless; good = rw⁻¹ bounds x.good }
 
   short' : delay_in w' ≤ most
-  short' =
-      delay_most (live_stations w'.stations) w'.net.channels most (λ link channel here used.
-      let was = by.used link channel here used in
-      let short = is.short in
-      let less = delay_of_used (live_stations w.stations) w.net.channels link was.old was.here was.used in
-      let same = ap (λ (b : Bounds). b.max) was.bounds in
-      omega (arith, short, less, same))
+  short' = let short = is.short in let less = takes_shorter p since silent w w' by in omega (arith, short, less)
 
   now' : w'.time ≡ since
   now' = by.time ∙ is.now

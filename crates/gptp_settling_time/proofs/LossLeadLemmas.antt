@@ -3,34 +3,33 @@ use Rattle.std.proofs.Common.{List, [], ap, append-nil, append_assoc, arith, inl
 use Rattle.std.specs.List.{AllByRecursion}
 use Rattle.std.proofs.Math.Nat.{le-max_left}
 use Rattle.gptp_setup.specs.SettlingParams.{largest_interval, longest_span}
-use Rattle.gptp_scenario.specs.Calm.{IsCalm, NothingLapses, last_change}
-use Rattle.gptp_scenario.specs.Network.{NetworkState, pace_of}
+use Rattle.gptp_scenario.specs.Calm.{IsCalm, IsLive, NothingLapses, last_change}
+use Rattle.gptp_scenario.specs.Network.{IsNetwork, NetworkState, pace_of}
 use Rattle.gptp_scenario.specs.SettlingTime.{aging_span, capability_span, silence_span}
 use Rattle.gptp_scenario.specs.SyncWait.{sync_paths}
 use Rattle.gptp_scenario.specs.declared.change.Timed.{Timed}
 use Rattle.gptp_settling_time.specs.Arrivals.{HasArrivedBy}
-use Rattle.gptp_settling_time.specs.HowSoon.{EachEvent, TurnsUnused}
-use Rattle.gptp_settling_time.specs.InTurn.{AgesSooner, Aging, AnyPast, ChoosesAfter, Cleared, EventLeads, FailsCalm, FailsNow, Fallen, Gained, Heard, IsGoneBy, LeadOn, LeadsByTree, Left, LosesNow, Lost, LowersCalm, Past, SettlesAfter, Split, SplitsNow, Starting, Turned, TurnedTree, TurnsCalm}
-use Rattle.gptp_settling_time.specs.Losses.{AgesWithin, FailsHeard, LowersUnused}
+use Rattle.gptp_settling_time.specs.HowSoon.{EachEvent, IsDownToo, TurnsUnused}
+use Rattle.gptp_settling_time.specs.InTurn.{AgesSooner, Aging, AnyPast, AreUsedSince, ChoosesAfter, Cleared, EventLeads, FailsCalm, FailsNow, Fallen, Gained, Heard, IsDownNow, IsGoneBy, LeadOn, LeadsByTree, Left, LosesNow, Fewer, Lost, LowersCalm, Past, SettlesAfter, Split, SplitsNow, Starting, Turned, TurnedTree, TurnsCalm}
+use Rattle.gptp_settling_time.specs.Losses.{AgesWithin, FailsHeard, LowersLink}
 use Rattle.gptp_settling_time.specs.TreeLosses.{FailsTrees}
-use Rattle.gptp_settling_time.proofs.CalmLessLemmas.{failure_calm, lowers_calm}
-use Rattle.gptp_settling_time.proofs.SamePathsLemmas.{turned_paths}
+use Rattle.gptp_settling_time.proofs.CalmLessLemmas.{down_calm as act_calm, failure_calm, lowers_calm, still_lives}
+use Rattle.gptp_theorem.proofs.EventLemmas.{last_behind}
+use Rattle.gptp_settling_time.proofs.CalmStillLemmas.{idle_calm}
+use Rattle.gptp_settling_time.proofs.SamePathsLemmas.{idle_paths, idle_same, same_lives, turned_paths}
 use Rattle.gptp_settling_time.proofs.LeadOnLemmas.{HasSettled}
 use Rattle.gptp_settling_time.proofs.SilentSpanLemmas.{fail_within, failure_within}
 
-module _ (n : NetworkState) (made : List Timed) (event : Timed) (roles : ℕ) where
+module _ (n : NetworkState) (made : List Timed) (event : Timed) where
   -- after a loss by which no system is moved the network is left so that its choice stands
-  pub record IsLeftBy (past : Past) : Type 0 where
+  pub record IsLeftBy (past : Past) (latest : ℕ) : Type 0 where
     pub silent : ℕ
     pub leads : EventLeads n made past event (Left made silent)
-    pub over : silent ≤ suc (event.at + roles)
+    pub over : silent ≤ latest
 
-  abbrev pub LosesCalm : Type 0
-  LosesCalm = (LowersCalm n made event × (roles ≡ 0))
-      ⊎ (FailsCalm n made event × (roles ≡ silence_span (pace_of n)))
-
-  pub loss_leads : (past : Past) → HasSettled n made past event.at → LosesCalm → IsLeftBy past
-  loss_leads AnyPast settled (inl (lowers, none)) =
+  -- a link goes down
+  pub lowers_leads : (past : Past) → HasSettled n made past event.at → LowersCalm n made event → IsLeftBy past event.at
+  lowers_leads AnyPast settled lowers =
       let passed = settled.passed in
       let over = le-max_left (capability_span (pace_of n)) (2 * largest_interval (pace_of n)
       + (sync_paths n made).systems * (longest_span (pace_of n) + (sync_paths n made).delay)) in
@@ -39,34 +38,42 @@ module _ (n : NetworkState) (made : List Timed) (event : Timed) (roles : ℕ) wh
         leads = (settled, refl, inl (lowers, refl));
         over = omega (arith, passed, over);
       }
-  loss_leads AnyPast settled (inr (fails, is)) = record {
-    silent = suc (event.at + silence_span (pace_of n));
-    leads = (settled, refl, inr (fails, refl));
-    over = omega (arith, is);
-  }
-  loss_leads Starting settled loses = absurd settled
-  loss_leads (Gained start) settled (inl (lowers, none)) =
+  lowers_leads Starting settled lowers = absurd settled
+  lowers_leads (Gained start) settled lowers =
       record { silent = start; leads = (settled, refl, inl (lowers, refl)); over = omega (arith, settled) }
-  loss_leads (Gained start) settled (inr (fails, is)) = record {
-    silent = suc (event.at + silence_span (pace_of n));
-    leads = (settled, refl, inr (fails, refl));
-    over = omega (arith, is);
-  }
-  loss_leads (Heard start) settled (inl (lowers, none)) =
+  lowers_leads (Heard start) settled lowers =
       record { silent = start; leads = (settled, refl, inl (lowers, refl)); over = omega (arith, settled) }
-  loss_leads (Heard start) settled (inr (fails, is)) = record {
-    silent = suc (event.at + silence_span (pace_of n));
-    leads = (settled, refl, inr (fails, refl));
-    over = omega (arith, is);
-  }
-  loss_leads (Left ago silent) settled loses = absurd settled
-  loss_leads (Turned silent now) settled loses = absurd settled
-  loss_leads (Fallen silent now) settled loses = absurd settled
-  loss_leads (TurnedTree silent now) settled loses = absurd settled
-  loss_leads (Cleared ago begun silent right old) settled loses = absurd settled
-  loss_leads (Aging ago aged silent) settled loses = absurd settled
-  loss_leads (Split ago gone silent) settled loses = absurd settled
-  loss_leads (Lost since most silent) settled loses = absurd settled
+  lowers_leads (Left ago silent) settled lowers = absurd settled
+  lowers_leads (Turned silent now) settled lowers = absurd settled
+  lowers_leads (Fallen silent now) settled lowers = absurd settled
+  lowers_leads (TurnedTree silent now) settled lowers = absurd settled
+  lowers_leads (Cleared ago begun silent right old) settled lowers = absurd settled
+  lowers_leads (Aging ago aged silent) settled lowers = absurd settled
+  lowers_leads (Split ago gone silent) settled lowers = absurd settled
+  lowers_leads (Lost ago since most silent) settled lowers = absurd settled
+  lowers_leads (Fewer ago since most silent) settled lowers = absurd settled
+
+  -- a far end fails
+  pub fails_leads : (past : Past) → HasSettled n made past event.at → FailsCalm n made event
+      → IsLeftBy past (suc (event.at + silence_span (pace_of n)))
+  fails_leads past settled fails =
+      record { silent = suc (event.at + silence_span (pace_of n)); leads = by past settled; over = omega arith }
+    where
+      by : (past : Past) → HasSettled n made past event.at
+          → EventLeads n made past event (Left made (suc (event.at + silence_span (pace_of n))))
+      by AnyPast settled = (settled, refl, inr (fails, refl))
+      by Starting settled = absurd settled
+      by (Gained start) settled = (settled, refl, inr (fails, refl))
+      by (Heard start) settled = (settled, refl, inr (fails, refl))
+      by (Left ago silent) settled = absurd settled
+      by (Turned silent now) settled = absurd settled
+      by (Fallen silent now) settled = absurd settled
+      by (TurnedTree silent now) settled = absurd settled
+      by (Cleared ago begun silent right old) settled = absurd settled
+      by (Aging ago aged silent) settled = absurd settled
+      by (Split ago gone silent) settled = absurd settled
+      by (Lost ago since most silent) settled = absurd settled
+      by (Fewer ago since most silent) settled = absurd settled
 
 -- after one by which a tree is so moved it is, where what was sent before the choice stood has arrived
 module _ (n : NetworkState) (made : List Timed) (event : Timed) (stood : ℕ) (later : last_change made < stood)
@@ -85,7 +92,8 @@ module _ (n : NetworkState) (made : List Timed) (event : Timed) (stood : ℕ) (l
   tree_leads (Cleared ago begun silent right old) settled moves = absurd settled
   tree_leads (Aging ago aged silent) settled moves = absurd settled
   tree_leads (Split ago gone silent) settled moves = absurd settled
-  tree_leads (Lost since most silent) settled moves = absurd settled
+  tree_leads (Lost ago since most silent) settled moves = absurd settled
+  tree_leads (Fewer ago since most silent) settled moves = absurd settled
 
 -- after one by which trees are cut off, as a system fails, they do too
 module _ (n : NetworkState) (made : List Timed) (event : Timed) (stood : ℕ) where
@@ -102,7 +110,8 @@ module _ (n : NetworkState) (made : List Timed) (event : Timed) (stood : ℕ) wh
   split_leads (Cleared ago begun start right old) gone silent settled now = absurd settled
   split_leads (Aging ago aged start) gone silent settled now = absurd settled
   split_leads (Split ago was start) gone silent settled now = absurd settled
-  split_leads (Lost since most start) gone silent settled now = absurd settled
+  split_leads (Lost ago since most start) gone silent settled now = absurd settled
+  split_leads (Fewer ago since most start) gone silent settled now = absurd settled
 
 -- after one by which a system turns it has turned
 module _ (n : NetworkState) (made : List Timed) (event : Timed) where
@@ -119,7 +128,8 @@ module _ (n : NetworkState) (made : List Timed) (event : Timed) where
   turn_leads (Cleared ago begun silent right old) settled turns = absurd settled
   turn_leads (Aging ago aged silent) settled turns = absurd settled
   turn_leads (Split ago gone silent) settled turns = absurd settled
-  turn_leads (Lost since most silent) settled turns = absurd settled
+  turn_leads (Lost ago since most silent) settled turns = absurd settled
+  turn_leads (Fewer ago since most silent) settled turns = absurd settled
 
   -- after one of a system that others hear what they hold of it ages
   pub ages_leads : (past : Past) (aged silent : ℕ) → HasSettled n made past event.at → FailsNow n made event aged silent
@@ -135,23 +145,26 @@ module _ (n : NetworkState) (made : List Timed) (event : Timed) where
   ages_leads (Cleared ago begun start right old) aged silent settled now = absurd settled
   ages_leads (Aging ago gone start) aged silent settled now = absurd settled
   ages_leads (Split ago gone start) aged silent settled now = absurd settled
-  ages_leads (Lost since most start) aged silent settled now = absurd settled
+  ages_leads (Lost ago since most start) aged silent settled now = absurd settled
+  ages_leads (Fewer ago since most start) aged silent settled now = absurd settled
 
   -- after any other it has lost
-  pub loses_leads : (past : Past) (since most silent : ℕ) → HasSettled n made past event.at
-      → LosesNow n made event since most silent → EventLeads n made past event (Lost since most silent)
-  loses_leads AnyPast since most silent settled now = (settled, now)
-  loses_leads Starting since most silent settled now = absurd settled
-  loses_leads (Gained start) since most silent settled now = (settled, now)
-  loses_leads (Heard start) since most silent settled now = (settled, now)
-  loses_leads (Left ago start) since most silent settled now = absurd settled
-  loses_leads (Turned start was) since most silent settled now = absurd settled
-  loses_leads (Fallen start was) since most silent settled now = absurd settled
-  loses_leads (TurnedTree start was) since most silent settled now = absurd settled
-  loses_leads (Cleared ago begun start right old) since most silent settled now = absurd settled
-  loses_leads (Aging ago aged start) since most silent settled now = absurd settled
-  loses_leads (Split ago gone start) since most silent settled now = absurd settled
-  loses_leads (Lost begun delay start) since most silent settled now = absurd settled
+  pub loses_leads : (past : Past) (ago : List Timed) (since most silent : ℕ) → HasSettled n made past event.at
+      → AreUsedSince n ago made → LosesNow n made event since most silent
+      → EventLeads n made past event (Lost ago since most silent)
+  loses_leads AnyPast ago since most silent settled used now = (settled, used, now)
+  loses_leads Starting ago since most silent settled used now = absurd settled
+  loses_leads (Gained start) ago since most silent settled used now = (settled, used, now)
+  loses_leads (Heard start) ago since most silent settled used now = (settled, used, now)
+  loses_leads (Left old start) ago since most silent settled used now = absurd settled
+  loses_leads (Turned start was) ago since most silent settled used now = absurd settled
+  loses_leads (Fallen start was) ago since most silent settled used now = absurd settled
+  loses_leads (TurnedTree start was) ago since most silent settled used now = absurd settled
+  loses_leads (Cleared was begun start right old) ago since most silent settled used now = absurd settled
+  loses_leads (Aging old aged start) ago since most silent settled used now = absurd settled
+  loses_leads (Split old gone start) ago since most silent settled used now = absurd settled
+  loses_leads (Lost old begun delay start) ago since most silent settled used now = absurd settled
+  loses_leads (Fewer old begun delay start) ago since most silent settled used now = absurd settled
 
 -- what settles has its choice
 pub settles_chooses : (n : NetworkState) (events : List Timed) (past : Past) (settled : ℕ)
@@ -167,156 +180,231 @@ settles_chooses n events (TurnedTree silent now) settled so = so
 settles_chooses n events (Cleared ago begun silent right old) settled (off, late) = off
 settles_chooses n events (Aging ago aged silent) settled (off, late) = (off, inr late)
 settles_chooses n events (Split ago gone silent) settled (off, passed, late) = (off, passed)
-settles_chooses n events (Lost since most silent) settled (off, passed, late) = (off, passed)
+settles_chooses n events (Lost ago since most silent) settled (off, passed, late) = (off, passed)
+settles_chooses n events (Fewer ago since most silent) settled so = so
 
--- a network that is left stays so where links go down of which an end has failed
-pub dead_lead : (n : NetworkState) (ago made now : List Timed) (silent : ℕ) → NothingLapses n.params → IsCalm n made
-    → EachEvent (LowersUnused n) made now → LeadOn n made (Left ago silent) now (Left ago silent)
-dead_lead n ago made [] silent off calm each = refl
-dead_lead n ago made (event ∷ now) silent off calm (lowers, others) = (
-  Left ago silent,
-  inl refl,
-  Left ago silent,
-  (record { lowers = lowers; calm = calm; off = off }, refl, refl),
-  dead_lead n ago (made ++ event ∷ []) now silent off (lowers_calm n made event off calm lowers) others,
-)
+-- ---- behind a failure links go down of which an end has failed, or all stays as it stands
 
--- so does one that is cleared
-pub dead_clear : (n : NetworkState) (ago made now : List Timed) (begun silent old : ℕ) → NothingLapses n.params
-    → IsCalm n made → EachEvent (LowersUnused n) made now
-    → LeadOn n made (Cleared ago begun silent 0 old) now (Cleared ago begun silent 0 old)
-dead_clear n ago made [] begun silent old off calm each = refl
-dead_clear n ago made (event ∷ now) begun silent old off calm (lowers, others) = (
-  Cleared ago begun silent 0 old,
-  inl refl,
-  Cleared ago begun silent 0 old,
-  (record { lowers = lowers; calm = calm; off = off }, omega arith, refl, (refl, refl, refl, refl)),
-  dead_clear n ago (made ++ event ∷ []) now begun silent old off (lowers_calm n made event off calm lowers) others,
-)
+-- who lives does behind it
+down_lives : (n : NetworkState) (network : IsNetwork n) (made : List Timed) (event : Timed) (number : ℕ)
+    → IsDownToo n made event → IsLive n.systems made number → IsLive n.systems (made ++ event ∷ []) number
+down_lives n network made event number (inl lowers) live =
+    still_lives n made event lowers.clock lowers.port lowers.act number live
+down_lives n network made event number (inr repeats) live =
+    same_lives n made (made ++ event ∷ []) (idle_same n network made event repeats) number live
 
--- and what is in use stays
-pub dead_paths : (n : NetworkState) (made now : List Timed) → EachEvent (LowersUnused n) made now
-    → sync_paths n (made ++ now) ≡ sync_paths n made
-dead_paths n made [] each = ap (sync_paths n) (append-nil made)
-dead_paths n made (event ∷ now) (lowers, others) =
-    ap (sync_paths n) (sym (append_assoc made (event ∷ []) now))
-    ∙ dead_paths n (made ++ event ∷ []) now others
-    ∙ turned_paths n made event
-    (subst (TurnsUnused n made) (sym lowers.act) lowers.failed)
+module _ (n : NetworkState) (network : IsNetwork n) (off : NothingLapses n.params) (time : ℕ) where
+  abbrev AllNow : List Timed → Type 0
+  AllNow = AllByRecursion (λ (t : Timed). t.at ≡ time)
 
--- and what ages goes on to age
-aging_lead : (n : NetworkState) (ago made now : List Timed) (other : Timed) (gone aged silent : ℕ)
-    → NothingLapses n.params → IsCalm n made → EachEvent (LowersUnused n) made (other ∷ now)
-    → AgesSooner n ago (made ++ other ∷ now) aged silent
-    → LeadOn n made (Aging ago gone silent) (other ∷ now) (Aging ago aged silent)
-aging_lead n ago made [] other gone aged silent off calm (lowers, others) sooner = (
-  Aging ago gone silent,
-  inl refl,
-  Aging ago aged silent,
-  (record { lowers = lowers; calm = calm; off = off }, refl, refl, inr sooner),
-  refl,
-)
-aging_lead n ago made (event ∷ now) other gone aged silent off calm (lowers, others) sooner = (
-  Aging ago gone silent,
-  inl refl,
-  Aging ago gone silent,
-  (record { lowers = lowers; calm = calm; off = off }, refl, refl, inl refl),
-  aging_lead n ago (made ++ other ∷ []) now event gone aged silent off (lowers_calm n made other off calm lowers) others
-      (subst (λ es. AgesSooner n ago es aged silent) (sym (append_assoc made (other ∷ []) (event ∷ now))) sooner),
-)
+  -- such an event comes at the time of the one before
+  pub down_now : (made : List Timed) (event : Timed) → IsCalm n made → last_change made ≡ time → event.at ≡ time
+      → IsDownToo n made event → IsDownNow n made event
+  down_now made event calm last here (inl lowers) = inl (record { lowers = lowers; calm = calm; off = off })
+  down_now made event calm last here (inr repeats) = inr (repeats, here ∙ sym last)
 
--- So it does from when a system fails that others hear, as long as what came over the links that are silent after all
--- of the events.
-pub heard_lead : (n : NetworkState) (made : List Timed) (event : Timed) (now : List Timed) (past : Past) (span : ℕ)
-    → NothingLapses n.params → IsCalm n made → HasSettled n made past event.at → FailsHeard n made event
-    → EachEvent (LowersUnused n) (made ++ event ∷ []) now → AgesWithin n made (made ++ event ∷ now) event.at span
-    → LeadOn n made past (event ∷ now)
-    (Aging made (suc (event.at + span)) (suc (event.at + silence_span (pace_of n))))
-heard_lead n made event [] past span off calm settled fails lowers within =
-    let aged = suc (event.at + span) in
-    let silent = suc (event.at + silence_span (pace_of n)) in (
-      past,
-      inl refl,
-      Aging made aged silent,
-      ages_leads n made event past aged silent settled (record {
-        fails = fails;
-        calm = calm;
-        off = off;
-        span = span;
-        within = within;
-        gone = refl;
-        unanswered = refl;
+  pub down_calm : (made : List Timed) (event : Timed) → IsDownToo n made event → IsCalm n made
+      → IsCalm n (made ++ event ∷ [])
+  down_calm made event (inl lowers) calm = lowers_calm n made event off calm lowers
+  down_calm made event (inr repeats) calm = idle_calm n network off made event (inl repeats.0) calm
+
+  -- what is in use stays
+  down_paths : (made : List Timed) (event : Timed) → IsDownToo n made event
+      → sync_paths n (made ++ event ∷ []) ≡ sync_paths n made
+  down_paths made event (inl lowers) =
+      turned_paths n made event (subst (TurnsUnused n made) (sym lowers.act) lowers.failed)
+  down_paths made event (inr repeats) = idle_paths n network made event repeats.0
+
+  pub dead_paths : (made now : List Timed) → EachEvent (IsDownToo n) made now
+      → sync_paths n (made ++ now) ≡ sync_paths n made
+  dead_paths made [] each = ap (sync_paths n) (append-nil made)
+  dead_paths made (event ∷ now) (down, others) =
+      ap (sync_paths n) (sym (append_assoc made (event ∷ []) now)) ∙ dead_paths (made ++ event ∷ []) now others
+      ∙ down_paths made event down
+
+  -- a network that is left stays so
+  pub dead_lead : (ago made now : List Timed) (silent : ℕ) → IsCalm n made → last_change made ≡ time → AllNow now
+      → EachEvent (IsDownToo n) made now → LeadOn n made (Left ago silent) now (Left ago silent)
+  dead_lead ago made [] silent calm last at each = refl
+  dead_lead ago made (event ∷ now) silent calm last (here, at) (down, others) = (
+    Left ago silent,
+    inl refl,
+    Left ago silent,
+    (inl (down_now made event calm last here down), refl, refl),
+    dead_lead ago (made ++ event ∷ []) now silent (down_calm made event down calm) (last_behind made event ∙ here) at
+        others,
+  )
+
+  -- so it does where other links go down by which no system is moved but such as are cut off
+  pub lowered_lead : (ago made now : List Timed) (silent : ℕ) → IsCalm n made → last_change made ≡ time → AllNow now
+      → silent ≤ time
+      → ((number : ℕ) → IsLive n.systems ago number → IsLive n.systems made number)
+      → EachEvent (λ made event. IsDownToo n made event ⊎ LowersLink n made event) made now
+      → LeadOn n made (Left ago silent) now (Left ago silent)
+  lowered_lead ago made [] silent calm last at past lives each = refl
+  lowered_lead ago made (event ∷ now) silent calm last (here, at) past lives (inl down, others) = (
+    Left ago silent,
+    inl refl,
+    Left ago silent,
+    (inl (down_now made event calm last here down), refl, refl),
+    lowered_lead ago (made ++ event ∷ []) now silent (down_calm made event down calm) (last_behind made event ∙ here)
+        at past (λ number live. down_lives n network made event number down (lives number live)) others,
+  )
+  lowered_lead ago made (event ∷ now) silent calm last (here, at) past lives (inr lowers, others) = (
+    Left ago silent,
+    inl refl,
+    Left ago silent,
+    (
+      inr (record {
+        lowers = record { lowers = lowers; calm = calm; off = off };
+        lives = lives;
+        past = omega (arith, past, here);
       }),
       refl,
-    )
-heard_lead n made event (other ∷ now) past span off calm settled fails lowers within =
-    let aged = suc (event.at + span) in
-    let silent = suc (event.at + silence_span (pace_of n)) in
-    let most = aging_span (pace_of n) (sync_paths n made) in
-    let gone = suc (event.at + most) in (
-      past,
-      inl refl,
-      Aging made gone silent,
-      ages_leads n made event past gone silent settled (record {
-        fails = fails;
-        calm = calm;
-        off = off;
-        span = most;
-        within = failure_within n made event fails;
-        gone = refl;
-        unanswered = refl;
-      }),
-      aging_lead n made (made ++ event ∷ []) now other gone aged silent off
-          (failure_calm n made event off calm fails.clock fails.act) lowers (
-            event.at,
-            span,
-            refl,
-            subst (λ es. AgesWithin n made es event.at span) (sym (append_assoc made (event ∷ []) (other ∷ now)))
-                within,
-            refl,
-          ),
-    )
-
--- And what is held of the system goes on to go as trees fall back. All of it is gone as soon as what came over the
--- links that are silent after all of the events.
-split_on_lead : (n : NetworkState) (ago made now : List Timed) (other : Timed) (time was gone : ℕ)
-    → NothingLapses n.params → IsCalm n made → EachEvent (LowersUnused n) made (other ∷ now)
-    → AllByRecursion (λ (t : Timed). t.at ≡ time) (other ∷ now) → IsGoneBy n ago (made ++ other ∷ now) time gone
-    → LeadOn n made (Split ago was (suc (time + silence_span (pace_of n)))) (other ∷ now)
-    (Split ago gone (suc (time + silence_span (pace_of n))))
-split_on_lead n ago made [] other time was gone off calm (lowers, others) (at, later) is_gone =
-    let silent = suc (time + silence_span (pace_of n)) in (
-      Split ago was silent,
-      inl refl,
-      Split ago gone silent,
-      (
-        record { lowers = lowers; calm = calm; off = off },
-        refl,
-        refl,
-        inr (omega (arith, at), subst (λ t. IsGoneBy n ago (made ++ other ∷ []) t gone) (sym at) is_gone),
-      ),
       refl,
-    )
-split_on_lead n ago made (event ∷ now) other time was gone off calm (lowers, others) (at, later) is_gone =
-    let silent = suc (time + silence_span (pace_of n)) in (
-      Split ago was silent,
-      inl refl,
-      Split ago was silent,
-      (record { lowers = lowers; calm = calm; off = off }, refl, refl, inl refl),
-      split_on_lead n ago (made ++ other ∷ []) now event time was gone off (lowers_calm n made other off calm lowers)
-          others later
-          (subst (λ es. IsGoneBy n ago es time gone) (sym (append_assoc made (other ∷ []) (event ∷ now))) is_gone),
-    )
+    ),
+    lowered_lead ago (made ++ event ∷ []) now silent (act_calm n made event off calm lowers.clock lowers.port lowers.act)
+        (last_behind made event ∙ here) at past
+        (λ number live. still_lives n made event lowers.clock lowers.port lowers.act number (lives number live)) others,
+  )
+
+  -- so does one that is cleared
+  pub dead_clear : (ago made now : List Timed) (begun silent old : ℕ) → IsCalm n made → last_change made ≡ time
+      → AllNow now → EachEvent (IsDownToo n) made now
+      → LeadOn n made (Cleared ago begun silent 0 old) now (Cleared ago begun silent 0 old)
+  dead_clear ago made [] begun silent old calm last at each = refl
+  dead_clear ago made (event ∷ now) begun silent old calm last (here, at) (down, others) = (
+    Cleared ago begun silent 0 old,
+    inl refl,
+    Cleared ago begun silent 0 old,
+    (
+      elim (down_now made event calm last here down) [
+        | inl lowers ↦ inl (lowers, omega arith)
+        | inr repeats ↦ inr repeats
+      ],
+      refl,
+      (refl, refl, refl, refl),
+    ),
+    dead_clear ago (made ++ event ∷ []) now begun silent old (down_calm made event down calm)
+        (last_behind made event ∙ here) at others,
+  )
+
+  -- and what ages goes on to age
+  aging_lead : (ago made now : List Timed) (other : Timed) (gone aged silent : ℕ) → IsCalm n made
+      → last_change made ≡ time → AllNow (other ∷ now) → EachEvent (IsDownToo n) made (other ∷ now)
+      → AgesSooner n ago (made ++ other ∷ now) aged silent
+      → LeadOn n made (Aging ago gone silent) (other ∷ now) (Aging ago aged silent)
+  aging_lead ago made [] other gone aged silent calm last (here, at) (down, others) sooner = (
+    Aging ago gone silent,
+    inl refl,
+    Aging ago aged silent,
+    (down_now made other calm last here down, refl, refl, inr sooner),
+    refl,
+  )
+  aging_lead ago made (event ∷ now) other gone aged silent calm last (here, at) (down, others) sooner = (
+    Aging ago gone silent,
+    inl refl,
+    Aging ago gone silent,
+    (down_now made other calm last here down, refl, refl, inl refl),
+    aging_lead ago (made ++ other ∷ []) now event gone aged silent (down_calm made other down calm)
+        (last_behind made other ∙ here) at others
+        (subst (λ es. AgesSooner n ago es aged silent) (sym (append_assoc made (other ∷ []) (event ∷ now))) sooner),
+  )
+
+  -- So it does from when a system fails that others hear, as long as what came over the links that are silent after all
+  -- of the events.
+  pub heard_lead : (made : List Timed) (event : Timed) (now : List Timed) (past : Past) (span : ℕ) → IsCalm n made
+      → HasSettled n made past event.at → event.at ≡ time → FailsHeard n made event
+      → AllNow now → EachEvent (IsDownToo n) (made ++ event ∷ []) now
+      → AgesWithin n made (made ++ event ∷ now) event.at span
+      → LeadOn n made past (event ∷ now)
+      (Aging made (suc (event.at + span)) (suc (event.at + silence_span (pace_of n))))
+  heard_lead made event [] past span calm settled here fails at down within =
+      let aged = suc (event.at + span) in
+      let silent = suc (event.at + silence_span (pace_of n)) in (
+        past,
+        inl refl,
+        Aging made aged silent,
+        ages_leads n made event past aged silent settled (record {
+          fails = fails;
+          calm = calm;
+          off = off;
+          span = span;
+          within = within;
+          gone = refl;
+          unanswered = refl;
+        }),
+        refl,
+      )
+  heard_lead made event (other ∷ now) past span calm settled here fails at down within =
+      let aged = suc (event.at + span) in
+      let silent = suc (event.at + silence_span (pace_of n)) in
+      let most = aging_span (pace_of n) (sync_paths n made) in
+      let gone = suc (event.at + most) in (
+        past,
+        inl refl,
+        Aging made gone silent,
+        ages_leads n made event past gone silent settled (record {
+          fails = fails;
+          calm = calm;
+          off = off;
+          span = most;
+          within = failure_within n made event fails;
+          gone = refl;
+          unanswered = refl;
+        }),
+        aging_lead made (made ++ event ∷ []) now other gone aged silent
+            (failure_calm n made event off calm fails.clock fails.act) (last_behind made event ∙ here) at down (
+              event.at,
+              span,
+              refl,
+              subst (λ es. AgesWithin n made es event.at span) (sym (append_assoc made (event ∷ []) (other ∷ now)))
+                  within,
+              refl,
+            ),
+      )
+
+  -- And what is held of the system goes on to go as trees fall back. All of it is gone as soon as what came over the
+  -- links that are silent after all of the events.
+  split_on_lead : (ago made now : List Timed) (other : Timed) (was gone : ℕ) → IsCalm n made
+      → last_change made ≡ time → EachEvent (IsDownToo n) made (other ∷ now) → AllNow (other ∷ now)
+      → IsGoneBy n ago (made ++ other ∷ now) time gone
+      → LeadOn n made (Split ago was (suc (time + silence_span (pace_of n)))) (other ∷ now)
+      (Split ago gone (suc (time + silence_span (pace_of n))))
+  split_on_lead ago made [] other was gone calm last (down, others) (at, later) is_gone =
+      let silent = suc (time + silence_span (pace_of n)) in (
+        Split ago was silent,
+        inl refl,
+        Split ago gone silent,
+        (
+          down_now made other calm last at down,
+          refl,
+          refl,
+          inr (omega (arith, at), subst (λ t. IsGoneBy n ago (made ++ other ∷ []) t gone) (sym at) is_gone),
+        ),
+        refl,
+      )
+  split_on_lead ago made (event ∷ now) other was gone calm last (down, others) (at, later) is_gone =
+      let silent = suc (time + silence_span (pace_of n)) in (
+        Split ago was silent,
+        inl refl,
+        Split ago was silent,
+        (down_now made other calm last at down, refl, refl, inl refl),
+        split_on_lead ago (made ++ other ∷ []) now event was gone (down_calm made other down calm)
+            (last_behind made other ∙ at) others later
+            (subst (λ es. IsGoneBy n ago es time gone) (sym (append_assoc made (other ∷ []) (event ∷ now))) is_gone),
+      )
 
 -- so it does from when the system fails, once what was sent before the choice stood has arrived
-pub splits_lead : (n : NetworkState) (made : List Timed) (event : Timed) (now : List Timed) (past : Past)
-    (stood arrived span : ℕ) → NothingLapses n.params → IsCalm n made → HasSettled n made past stood
+pub splits_lead : (n : NetworkState) → IsNetwork n → NothingLapses n.params → (made : List Timed) (event : Timed)
+    (now : List Timed) (past : Past) (stood arrived span : ℕ) → IsCalm n made → HasSettled n made past stood
     → last_change made < stood → HasArrivedBy n made stood arrived → arrived ≤ event.at → FailsTrees n made event
-    → EachEvent (LowersUnused n) (made ++ event ∷ []) now → AllByRecursion (λ (t : Timed). t.at ≡ event.at) now
+    → EachEvent (IsDownToo n) (made ++ event ∷ []) now → AllByRecursion (λ (t : Timed). t.at ≡ event.at) now
     → AgesWithin n made (made ++ event ∷ now) event.at span
     → LeadOn n made past (event ∷ now)
     (Split made (suc (event.at + min span (silence_span (pace_of n)))) (suc (event.at + silence_span (pace_of n))))
-splits_lead n made event [] past stood arrived span off calm settled later arrives quiet fails lowers here within =
+splits_lead n network off made event [] past stood arrived span calm settled later arrives quiet fails down here within
+    =
     let gone = suc (event.at + min span (silence_span (pace_of n))) in
     let silent = suc (event.at + silence_span (pace_of n)) in (
       past,
@@ -335,8 +423,8 @@ splits_lead n made event [] past stood arrived span off calm settled later arriv
       }),
       refl,
     )
-splits_lead n made event (other ∷ now) past stood arrived span off calm settled later arrives quiet fails lowers here
-    within =
+splits_lead n network off made event (other ∷ now) past stood arrived span calm settled later arrives quiet fails down
+    here within =
     let most = aging_span (pace_of n) (sync_paths n made) in
     let was = suc (event.at + min most (silence_span (pace_of n))) in
     let gone = suc (event.at + min span (silence_span (pace_of n))) in
@@ -355,8 +443,8 @@ splits_lead n made event (other ∷ now) past stood arrived span off calm settle
         is_gone = (most, fail_within n made event fails.clock fails.act, refl);
         unanswered = refl;
       }),
-      split_on_lead n made (made ++ event ∷ []) now other event.at was gone off
-          (failure_calm n made event off calm fails.clock fails.act) lowers here (
+      split_on_lead n network off event.at made (made ++ event ∷ []) now other was gone
+          (failure_calm n made event off calm fails.clock fails.act) (last_behind made event) down here (
             span,
             subst (λ es. AgesWithin n made es event.at span) (sym (append_assoc made (event ∷ []) (other ∷ now)))
                 within,

@@ -5,20 +5,20 @@ use Rattle.std.proofs.Math.Nat.{le-max_left, le-max_right, mul-le-mul_left}
 use Rattle.gptp_setup.specs.SettlingParams.{largest_interval, longest_span}
 use native.Mathlib.Decide.{dec_le}
 use Rattle.gptp_scenario.specs.Calm.{IsCalm, NothingLapses, last_change}
-use Rattle.gptp_scenario.specs.Network.{NetworkState, pace_of}
+use Rattle.gptp_scenario.specs.Network.{IsNetwork, NetworkState, pace_of}
 use Rattle.gptp_scenario.specs.SettlingTime.{aging_span, capability_span, echo_span, silence_span, way_span}
 use Rattle.gptp_scenario.specs.SyncWait.{sync_paths}
 use Rattle.gptp_scenario.specs.declared.change.Timed.{Timed}
 use Rattle.gptp_scenario.specs.declared.sync_wait.SyncPaths.{SyncPaths}
 use Rattle.gptp_theorem.proofs.EventLemmas.{last_behind}
-use Rattle.gptp_settling_time.specs.HowSoon.{CutsOneEnd, EachEvent, FailsEndFirst, FailsHeardFirst, LowersOneLink, RestsAfterOneLoss, RestsOnceTold, TurnsOneLink}
-use Rattle.gptp_settling_time.specs.InTurn.{Aging, AnyPast, Cleared, CutsCalm, EventLeads, FailsCalm, FailsNow, Fallen, FlightIsGone, Gained, Heard, LeadOn, Left, Lost, LowersCalm, Past, Split, Starting, Turned, TurnedTree, nearer_echo_span, turned_echo_span}
-use Rattle.gptp_settling_time.specs.Losses.{AgesWithin, CutsFarEnd, FailsFarEnd, FailsHeard, LowersLink, LowersUnused, NoneSilent, TurnsLink, UpIsUsed}
-use Rattle.gptp_settling_time.proofs.CalmLessLemmas.{failure_calm, fails_calm, lowers_calm}
+use Rattle.gptp_settling_time.specs.HowSoon.{CutsOneEnd, EachEvent, FailsEndFirst, FailsHeardFirst, IsDownToo, LowersOneLink, RestsAfterOneLoss, RestsOnceTold, TurnsOneLink}
+use Rattle.gptp_settling_time.specs.InTurn.{Aging, AnyPast, Cleared, CutsCalm, EventLeads, FailsCalm, FailsNow, Fallen, FlightIsGone, Gained, Heard, LeadOn, Left, Fewer, Lost, LowersCalm, Past, Split, Starting, Turned, TurnedTree, nearer_echo_span, turned_echo_span}
+use Rattle.gptp_settling_time.specs.Losses.{AgesWithin, CutsFarEnd, FailsFarEnd, FailsHeard, LowersLink, NoneSilent, TurnsLink, UpIsUsed}
+use Rattle.gptp_settling_time.proofs.CalmLessLemmas.{failure_calm, fails_calm}
 use Rattle.gptp_settling_time.proofs.LeftToLemmas.{less_way}
 use Rattle.gptp_settling_time.proofs.LeadOnLemmas.{HasSettled, IsLed}
 use Rattle.gptp_settling_time.proofs.SilentSpanLemmas.{failure_within, up_none_silent}
-use Rattle.gptp_settling_time.proofs.LossLeadLemmas.{ages_leads, dead_clear, dead_paths, heard_lead, turn_leads}
+use Rattle.gptp_settling_time.proofs.LossLeadLemmas.{ages_leads, dead_clear, dead_paths, down_calm, down_now, heard_lead, turn_leads}
 
 -- after the loss of a far end it is cleared
 module _ (n : NetworkState) (made : List Timed) (event : Timed) (gone : ℕ) where
@@ -65,7 +65,8 @@ module _ (n : NetworkState) (made : List Timed) (event : Timed) (gone : ℕ) whe
   cut_leads flight (Cleared ago begun silent right last) settled cuts = absurd settled
   cut_leads flight (Aging ago aged silent) settled cuts = absurd settled
   cut_leads flight (Split ago aged silent) settled cuts = absurd settled
-  cut_leads flight (Lost since most silent) settled cuts = absurd settled
+  cut_leads flight (Lost ago since most silent) settled cuts = absurd settled
+  cut_leads flight (Fewer ago since most silent) settled cuts = absurd settled
 
   -- or as it fails, once the ports beside it have been unanswered for long enough
   fail_leads : FlightIsGone n made gone → (past : Past) → HasSettled n made past event.at → FailsCalm n made event
@@ -103,7 +104,8 @@ module _ (n : NetworkState) (made : List Timed) (event : Timed) (gone : ℕ) whe
   fail_leads flight (Cleared ago begun silent right last) settled fails = absurd settled
   fail_leads flight (Aging ago aged silent) settled fails = absurd settled
   fail_leads flight (Split ago aged silent) settled fails = absurd settled
-  fail_leads flight (Lost since most silent) settled fails = absurd settled
+  fail_leads flight (Lost ago since most silent) settled fails = absurd settled
+  fail_leads flight (Fewer ago since most silent) settled fails = absurd settled
 
 -- after another such link goes down it is, once right traces are told
 module _ (n : NetworkState) (made : List Timed) (event : Timed) (gone : ℕ)
@@ -144,7 +146,8 @@ module _ (n : NetworkState) (made : List Timed) (event : Timed) (gone : ℕ)
   right_leads (Cleared ago begun silent right last) settled lowers = absurd settled
   right_leads (Aging ago aged silent) settled lowers = absurd settled
   right_leads (Split ago aged silent) settled lowers = absurd settled
-  right_leads (Lost since most silent) settled lowers = absurd settled
+  right_leads (Lost ago since most silent) settled lowers = absurd settled
+  right_leads (Fewer ago since most silent) settled lowers = absurd settled
 
 -- as a system fails that others hear it is, where each link that is up then is in use
 module _ (n : NetworkState) (made : List Timed) (event : Timed) (aged silent : ℕ)
@@ -166,24 +169,25 @@ module _ (n : NetworkState) (made : List Timed) (event : Timed) (aged silent : �
   power_leads (Cleared ago begun start right last) settled = absurd settled
   power_leads (Aging ago gone start) settled = absurd settled
   power_leads (Split ago gone start) settled = absurd settled
-  power_leads (Lost since most start) settled = absurd settled
+  power_leads (Lost ago since most start) settled = absurd settled
+  power_leads (Fewer ago since most start) settled = absurd settled
 
 -- Else it goes on to age until the last link goes down of which an end has failed, at this time.
-power_lead : (n : NetworkState) (ago made now : List Timed) (other : Timed) (time aged silent : ℕ)
+power_lead : (n : NetworkState) → IsNetwork n → (ago made now : List Timed) (other : Timed) (time aged silent : ℕ)
     → NothingLapses n.params
-    → IsCalm n made → AllByRecursion (λ (t : Timed). t.at ≡ time) (other ∷ now)
-    → EachEvent (LowersUnused n) made (other ∷ now) → UpIsUsed n (made ++ other ∷ now)
+    → IsCalm n made → last_change made ≡ time → AllByRecursion (λ (t : Timed). t.at ≡ time) (other ∷ now)
+    → EachEvent (IsDownToo n) made (other ∷ now) → UpIsUsed n (made ++ other ∷ now)
     → LeadOn n made (Aging ago aged silent) (other ∷ now)
     (Cleared ago time silent (time + 1 + nearer_echo_span n (made ++ other ∷ now))
     (time + nearer_echo_span n (made ++ other ∷ now) + (sync_paths n (made ++ other ∷ now)).delay))
-power_lead n ago made [] other time aged silent off calm (at, none) (lowers, others) used =
+power_lead n network ago made [] other time aged silent off calm last_then (at, none) (down, others) used =
     let last = Cleared ago time silent (time + 1 + nearer_echo_span n (made ++ other ∷ []))
     (time + nearer_echo_span n (made ++ other ∷ []) + (sync_paths n (made ++ other ∷ [])).delay) in (
       Aging ago aged silent,
       inl refl,
       last,
       (
-        record { lowers = lowers; calm = calm; off = off },
+        down_now n network off time made other calm last_then at down,
         refl,
         refl,
         (
@@ -195,18 +199,19 @@ power_lead n ago made [] other time aged silent off calm (at, none) (lowers, oth
       ),
       refl,
     )
-power_lead n ago made (event ∷ now) other time aged silent off calm (at, later) (lowers, others) used =
+power_lead n network ago made (event ∷ now) other time aged silent off calm last_then (at, later) (down, others) used =
     let all : (made ++ other ∷ []) ++ event ∷ now ≡ made ++ other ∷ event ∷ now =
     append_assoc made (other ∷ []) (event ∷ now) in (
       Aging ago aged silent,
       inl refl,
       Aging ago aged silent,
-      (record { lowers = lowers; calm = calm; off = off }, refl, refl, inl refl),
+      (down_now n network off time made other calm last_then at down, refl, refl, inl refl),
       subst (λ es. LeadOn n (made ++ other ∷ []) (Aging ago aged silent) (event ∷ now)
           (Cleared ago time silent (time + 1 + nearer_echo_span n es)
           (time + nearer_echo_span n es + (sync_paths n es).delay))) all
-          (power_lead n ago (made ++ other ∷ []) now event time aged silent off
-          (lowers_calm n made other off calm lowers) later others (subst (UpIsUsed n) (sym all) used)),
+          (power_lead n network ago (made ++ other ∷ []) now event time aged silent off
+          (down_calm n network off time made other down calm) (last_behind made other ∙ at) later others
+          (subst (UpIsUsed n) (sym all) used)),
     )
 
 -- the last of events of one time is of that time
@@ -217,20 +222,25 @@ last_at made event (next ∷ now) time (here, at) =
     ap last_change (sym (append_assoc made (event ∷ []) (next ∷ now))) ∙ last_at (made ++ event ∷ []) next now time at
 
 -- What was in flight as all but the neighbours of the best tell what is right is gone once they do too.
-nearer_within : (systems hop gone : ℕ) → gone ≤ hop → pred (pred systems) * hop + gone ≤ max (pred systems * hop) gone
+pub nearer_within : (systems hop gone : ℕ) → gone ≤ hop
+    → pred (pred systems) * hop + gone ≤ max (pred systems * hop) gone
 nearer_within zero hop gone soon = let least = le-max_right (0 * hop) gone in omega (arith, least)
 nearer_within (suc zero) hop gone soon = let least = le-max_right (0 * hop) gone in omega (arith, least)
 nearer_within (suc (suc k)) hop gone soon =
     let most = le-max_left (suc k * hop) gone in omega (arith, most, soon)
 
 -- it has come to rest by so much later
-module _ (n : NetworkState) (off : NothingLapses n.params) (time : ℕ) (made now : List Timed) (past : Past) (rest : ℕ)
+module _ (n : NetworkState) (network : IsNetwork n) (off : NothingLapses n.params) (time : ℕ) (made now : List Timed)
+    (past : Past) (rest : ℕ)
     (at : AllByRecursion (λ (t : Timed). t.at ≡ time) now) (calm_then : IsCalm n made) (calm : IsCalm n (made ++ now))
     (settled : HasSettled n made past time) where
   -- the event that loses the end is the first of them
   module _ (event : Timed) (others : List Timed) (same : now ≡ event ∷ others) where
     here : event.at ≡ time
     here = (subst (AllByRecursion (λ (t : Timed). t.at ≡ time)) same at).0
+
+    others_now : AllByRecursion (λ (t : Timed). t.at ≡ time) others
+    others_now = (subst (AllByRecursion (λ (t : Timed). t.at ≡ time)) same at).1
 
     settled_then : HasSettled n made past event.at
     settled_then = subst (HasSettled n made past) (sym here) settled
@@ -265,7 +275,7 @@ module _ (n : NetworkState) (off : NothingLapses n.params) (time : ℕ) (made no
     }
 
     -- the way that is left is no longer
-    module _ (others_lower : EachEvent (LowersUnused n) (made ++ event ∷ []) others)
+    module _ (others_lower : EachEvent (IsDownToo n) (made ++ event ∷ []) others)
         (delay : (sync_paths n (made ++ event ∷ [])).delay ≤ (sync_paths n made).delay)
         (fewer : (sync_paths n (made ++ event ∷ [])).systems ≤ (sync_paths n made).systems) where
       way_then : way_span (sync_paths n (made ++ now)) ≤ way_span (sync_paths n made)
@@ -273,7 +283,7 @@ module _ (n : NetworkState) (off : NothingLapses n.params) (time : ℕ) (made no
           let parts : made ++ now ≡ (made ++ event ∷ []) ++ others =
           ap (λ es. made ++ es) same ∙ sym (append_assoc made (event ∷ []) others) in
           let paths : sync_paths n (made ++ now) ≡ sync_paths n (made ++ event ∷ []) =
-          ap (sync_paths n) parts ∙ dead_paths n (made ++ event ∷ []) others others_lower in
+          ap (sync_paths n) parts ∙ dead_paths n network off time (made ++ event ∷ []) others others_lower in
           subst (λ (x : SyncPaths). way_span x ≤ way_span (sync_paths n made)) (sym paths)
           (less_way (sync_paths n made).systems (sync_paths n (made ++ event ∷ [])).systems (sync_paths n made).delay
           (sync_paths n (made ++ event ∷ [])).delay fewer delay)
@@ -286,7 +296,7 @@ module _ (n : NetworkState) (off : NothingLapses n.params) (time : ℕ) (made no
         let x = cut_leads n made event gone (subst (λ es. FlightIsGone n es gone) one flight) past settled_then
         (record { cuts = cuts; calm = calm_then; off = off }) in
         let l = cuts.lowers in
-        let less = way_then (subst (EachEvent (LowersUnused n) (made ++ event ∷ [])) (sym alone) tt) l.delay l.paths in
+        let less = way_then (subst (EachEvent (IsDownToo n) (made ++ event ∷ [])) (sym alone) tt) l.delay l.paths in
         let before = here in
         let early = x.early in
         let over = x.over in
@@ -321,7 +331,7 @@ module _ (n : NetworkState) (off : NothingLapses n.params) (time : ℕ) (made no
         ap (λ es. made ++ es) (same ∙ ap (λ es. event ∷ es) alone) in
         let x = right_leads n made event gone (subst (λ es. FlightIsGone n es gone) one flight) past settled_then
         (record { lowers = lowers; calm = calm_then; off = off }) in
-        let less = way_then (subst (EachEvent (LowersUnused n) (made ++ event ∷ [])) (sym alone) tt) lowers.delay
+        let less = way_then (subst (EachEvent (IsDownToo n) (made ++ event ∷ [])) (sym alone) tt) lowers.delay
         lowers.paths in
         let last : Past = Cleared made x.since x.since (event.at + 1 + nearer_echo_span n (made ++ event ∷ []))
         (event.at + nearer_echo_span n (made ++ event ∷ []) + gone) in
@@ -336,7 +346,7 @@ module _ (n : NetworkState) (off : NothingLapses n.params) (time : ℕ) (made no
         (omega (arith, before, is, within)) (inl (omega (arith, early, before)))
         (omega (arith, early, before, less))
 
-    fail_led : FailsFarEnd n made event → EachEvent (LowersUnused n) (made ++ event ∷ []) others
+    fail_led : FailsFarEnd n made event → EachEvent (IsDownToo n) (made ++ event ∷ []) others
         → (NoneSilent n made (made ++ now) × FlightIsGone n made rest)
         ⊎ ((gone : ℕ) × FlightIsGone n made gone × (rest ≡ max (silence_span (pace_of n)) gone))
         → IsLed n made now past (suc (time + rest))
@@ -347,8 +357,9 @@ module _ (n : NetworkState) (off : NothingLapses n.params) (time : ℕ) (made no
         let before = here in
         let early = x.early in
         led x.since x.silent 0 (event.at + rest) x.leads
-        (dead_clear n made (made ++ event ∷ []) others x.since x.silent (event.at + rest) off
-        (fails_calm n made event off calm_then fails) lowers) (omega (arith, before)) (inr none)
+        (dead_clear n network off time made (made ++ event ∷ []) others x.since x.silent (event.at + rest)
+        (fails_calm n made event off calm_then fails) (last_behind made event ∙ here) others_now lowers)
+        (omega (arith, before)) (inr none)
         (omega (arith, early, before, less))
     fail_led fails lowers (inr (gone, flight, is)) =
         let x = fail_leads n made event gone flight past settled_then
@@ -360,8 +371,9 @@ module _ (n : NetworkState) (off : NothingLapses n.params) (time : ℕ) (made no
         let silent_most = le-max_left (silence_span (pace_of n)) gone in
         let gone_most = le-max_right (silence_span (pace_of n)) gone in
         led x.since x.silent 0 (event.at + gone) x.leads
-        (dead_clear n made (made ++ event ∷ []) others x.since x.silent (event.at + gone) off
-        (fails_calm n made event off calm_then fails) lowers) (omega (arith, is, gone_most, before))
+        (dead_clear n network off time made (made ++ event ∷ []) others x.since x.silent (event.at + gone)
+        (fails_calm n made event off calm_then fails) (last_behind made event ∙ here) others_now lowers)
+        (omega (arith, is, gone_most, before))
         (inl (omega (arith, over, before, is, silent_most))) (omega (arith, early, before, less))
 
     -- one system turns, and it is taken as heard from now on
@@ -396,7 +408,7 @@ module _ (n : NetworkState) (off : NothingLapses n.params) (time : ℕ) (made no
         }
 
     -- a system fails that others hear
-    power_led : FailsHeard n made event → EachEvent (LowersUnused n) (made ++ event ∷ []) others
+    power_led : FailsHeard n made event → EachEvent (IsDownToo n) (made ++ event ∷ []) others
         → UpIsUsed n (made ++ now)
         → max (echo_span (pace_of n) (sync_paths n (made ++ now))) (sync_paths n (made ++ now)).delay ≤ rest
         → IsLed n made now past (suc (time + rest))
@@ -488,21 +500,21 @@ module _ (n : NetworkState) (off : NothingLapses n.params) (time : ℕ) (made no
               subst (λ es. LeadOn n (made ++ event ∷ []) (Aging made aged silent) (other ∷ more)
                   (Cleared made time silent (time + 1 + nearer_echo_span n es)
                   (time + nearer_echo_span n es + (sync_paths n es).delay))) (sym all)
-                  (power_lead n made (made ++ event ∷ []) more other time aged silent off
-                  (failure_calm n made event off calm_then fails.clock fails.act)
+                  (power_lead n network made (made ++ event ∷ []) more other time aged silent off
+                  (failure_calm n made event off calm_then fails.clock fails.act) (last_behind made event ∙ here)
                   (subst (AllByRecursion (λ (t : Timed). t.at ≡ time)) alone at_then)
-                  (subst (EachEvent (LowersUnused n) (made ++ event ∷ [])) alone lowers)
+                  (subst (EachEvent (IsDownToo n) (made ++ event ∷ [])) alone lowers)
                   (subst (UpIsUsed n) all used)),
             ))
 
     -- else it is taken as heard from now on once right traces are told since what is held of it has aged
-    heard_led : FailsHeard n made event → EachEvent (LowersUnused n) (made ++ event ∷ []) others
+    heard_led : FailsHeard n made event → EachEvent (IsDownToo n) (made ++ event ∷ []) others
         → RestsOnceTold n made now rest → IsLed n made now past (suc (time + rest))
     heard_led fails lowers (inl (used, long)) = power_led fails lowers used long
     heard_led fails lowers (inr (gone, flight, (held, (span, within, is), long))) = record {
       last = Aging made aged silent;
       lead = subst (λ es. LeadOn n made past es (Aging made aged silent)) (sym same)
-          (heard_lead n made event others past span off calm_then settled_then fails lowers
+          (heard_lead n network off time made event others past span calm_then settled_then here fails others_now lowers
           (subst (λ es. AgesWithin n made (made ++ es) event.at span) same
           (subst (λ t. AgesWithin n made (made ++ now) t span) (last ∙ sym before) within)));
       settles = (

@@ -1,7 +1,10 @@
 -- The events of a time take something away from a world of a document.
 use Rattle.std.proofs.Common.{List, [], ap, arith, inl, inr, refl, subst, sym, Bool, true, false, ℕ, ◌++◌, ◌∙◌, ◌∷◌, ◌≡◌, ◌≤◌}
+use Rattle.gptp_lists.proofs.MappedLemmas.{alike, same_there}
 use Rattle.gptp_links.specs.Fate.{Draw}
 use Rattle.gptp_setup.specs.SettlingParams.{SettlingParams}
+use Rattle.gptp_scenario.specs.Calm.{IsUsed}
+use Rattle.gptp_scenario.specs.Change.{link_after}
 use Rattle.gptp_scenario.specs.Network.{NetworkState, pace_of}
 use Rattle.gptp_scenario.specs.SyncWait.{sync_paths}
 use Rattle.gptp_scenario.specs.declared.change.Act.{Act}
@@ -20,12 +23,13 @@ use Rattle.gptp_invariants.specs.ChoiceSettlesAsMachine.{IsWorld}
 use Rattle.gptp_invariants.specs.WorldEncodableLaws.{SetsAnOctet}
 use Rattle.gptp_invariants.specs.WorldNews.{AreReadyBy}
 use Rattle.gptp_theorem.specs.PlayedLaws.{IsMade, IsPlayable}
+use Rattle.gptp_theorem.specs.Reached.{channel_wire}
 use Rattle.gptp_theorem.proofs.CalmLemmas.{quiet_stands}
 use Rattle.gptp_theorem.proofs.SyncPathLemmas.{paths_stand}
 use Rattle.gptp_settling_time.specs.Gains.{ChangesNothing, EndHasFailed}
-use Rattle.gptp_settling_time.specs.InTurn.{LosesMore, LosesNow, MakesNothing, TurnsInVain}
+use Rattle.gptp_settling_time.specs.InTurn.{AreUsedSince, LosesMore, LosesNow, MakesNothing, TurnsInVain}
 use Rattle.gptp_settling_time.specs.Losses.{AreSilentAfter, LosesAny}
-use Rattle.gptp_settling_time.proofs.GainLemmas.{idle_so, lives_so, unused_so, up_so}
+use Rattle.gptp_settling_time.proofs.GainLemmas.{idle_so, lives_so, unused_so, up_so, used_so}
 use Rattle.gptp_settling_time.proofs.KeptToLemmas.{KeepsTo}
 use Rattle.gptp_settling_time.proofs.IdleLemmas.{idle_still}
 use Rattle.gptp_settling_time.proofs.LosesLinkLemmas.{lowers_takes}
@@ -38,6 +42,7 @@ use Rattle.gptp_settling_time.proofs.LossMadeLemmas.{HasRestedSo}
 use Rattle.gptp_settling_time.proofs.LostClaimedLemmas.{IsLostAlways, asked_are_ready}
 use Rattle.gptp_settling_time.proofs.LostToLemmas.{IsLostTo}
 use Rattle.gptp_settling_time.proofs.StandsStillLemmas.{StandsStill, changed_still}
+use Rattle.gptp_settling_time.proofs.WereSilentLemmas.{WereSilent, used_then, were_lose, were_silent}
 
 -- no act leaves ports capable for less than till its own time
 silent_since : (p : SettlingParams) (time silent : ℕ) (act : Act) → AreSilentAfter p time silent act → time ≤ silent
@@ -93,7 +98,7 @@ module _ (d : DocumentState) (playable : IsPlayable d) (made : List Timed) (even
         k.1.so).1) since silent world_then after.claim.world after.claim.measured ready losing.standing.silent
 
     -- it takes something away
-    takes : LosesAny n made event.act → AreSilentAfter p event.at silent event.act → TakesAway p since silent then w'
+    pub takes : LosesAny n made event.act → AreSilentAfter p event.at silent event.act → TakesAway p since silent then w'
     takes loses unanswered =
         by is.change refl (subst (LosesAny n made) is.act loses)
         (subst (AreSilentAfter p event.at silent) is.act unanswered)
@@ -139,7 +144,7 @@ module _ (d : DocumentState) (playable : IsPlayable d) (made : List Timed) (even
         k.1.so) since silent after.claim.measured after.claim.silent ready losing.standing.silent
 
     -- it makes nothing of what stands
-    spares : MakesNothing n made event since → TakesAway p since silent then w'
+    pub spares : MakesNothing n made event since → TakesAway p since silent then w'
     spares (inl nothing) =
         still_takes p then w' (made_still nothing) since silent world_then after.claim.world after.claim.measured ready
         losing.standing.silent
@@ -157,37 +162,64 @@ module _ (d : DocumentState) (playable : IsPlayable d) (made : List Timed) (even
         by (Priority1 number value) same none = absurd none
         by (Inject number port octets) same none = absurd none
 
-    lost_then : TakesAway p since silent then w' → IsLostTo d (made ++ event ∷ []) since most silent w'
-    lost_then away = record {
+    lost_then : (ago : List Timed) → AreUsedSince n ago made → WereSilent n ago then → TakesAway p since silent then w'
+        → IsLostTo d ago (made ++ event ∷ []) since most silent w'
+    lost_then ago used were away = record {
       keeps = after;
       is = losing_lost p since most silent w' (takes_losing p since most silent then w' losing away)
           (last ∙ time ∙ sym at_time ∙ losing.now);
+      were = were_lose n ago made used then w' (let now = away.time in omega (arith, now)) away.goes
+          (used_then n made then world_then keeps.stands) were;
+      less = less;
     }
+      where
+        -- a link in use after the event was so before
+        less : AreUsedSince n ago (made ++ event ∷ [])
+        less place v there used_now =
+            let (channel, here, same) = alike channel_wire (link_after (made ++ event ∷ [])) w'.net.channels n.links
+            after.stands.links place v there in
+            let old = away.used place channel here
+            (used_so n (made ++ event ∷ []) w' after.stands after.claim.world.sound channel
+            (subst (IsUsed n.systems (made ++ event ∷ [])) (sym same) used_now)) in
+            let x = used_then n made then world_then keeps.stands place
+            (record { channel = old.old; here = old.here; used = old.used }) in
+            let one : x.spec ≡ v = same_there n.links place x.spec v x.there there in
+            used place v there (subst (λ u. IsUsed n.systems made (link_after made u)) one x.used)
 
-  -- the first does, in a network that has settled
-  pub loses_first : (start since most silent : ℕ) → HasRestedSo p start event.at then
-      → LosesNow n made event since most silent → IsLostTo d (made ++ event ∷ []) since most silent w'
-  loses_first start since most silent rest now =
+  -- in a network that has settled
+  pub losing_first : (start since most silent : ℕ) → HasRestedSo p start event.at then
+      → LosesNow n made event since most silent → IsLosing p since most silent then
+  losing_first start since most silent rest now =
       let over = rest.over in
       let here = now.now in
       let later = silent_since p event.at silent event.act now.unanswered in
       let less = now.delay in
       let delay : (sync_paths n made).delay ≡ delay_in then =
       ap (λ (x : SyncPaths). x.delay) (paths_stand n made then playable.network keeps.stands world_then.sound) in
-      let losing : IsLosing p since most silent then =
       sound_losing p start since most silent then keeps.claim.pace world_then keeps.claim.measured rest.sound rest.ready
       rest.silent (quiet_stands n made then playable.network keeps.stands world_then.sound now.calm).links now.off
       (omega (arith, at_time, here)) (omega (arith, over, here)) (omega (arith, later, here))
-      (omega (arith, less, delay)) in
-      lost_then since most silent losing (takes since most silent losing now.loses now.unanswered)
+      (omega (arith, less, delay))
+
+  -- the first does
+  pub loses_first : (ago : List Timed) (start since most silent : ℕ) → HasRestedSo p start event.at then
+      → AreUsedSince n ago made → LosesNow n made event since most silent
+      → IsLostTo d ago (made ++ event ∷ []) since most silent w'
+  loses_first ago start since most silent rest used now =
+      let over = rest.over in
+      let losing : IsLosing p since most silent then = losing_first start since most silent rest now in
+      lost_then since most silent losing ago used
+      (were_silent n ago start then (omega (arith, over, at_time)) rest.silent)
+      (takes since most silent losing now.loses now.unanswered)
 
   -- and more at that time
-  pub loses_more : (since most silent : ℕ) → IsLostAlways p since most silent then
-      → LosesMore n made event since silent → IsLostTo d (made ++ event ∷ []) since most silent w'
-  loses_more since most silent lost more =
+  pub loses_more : (ago : List Timed) (since most silent : ℕ) → IsLostAlways p since most silent then
+      → AreUsedSince n ago made → WereSilent n ago then → LosesMore n made event since silent
+      → IsLostTo d ago (made ++ event ∷ []) since most silent w'
+  loses_more ago since most silent lost used were more =
       let losing : IsLosing p since most silent then =
       lost_losing p since most silent then lost (at_time ∙ more.now) in
-      lost_then since most silent losing (elim more.more [
+      lost_then since most silent losing ago used were (elim more.more [
         | inl (loses, unanswered) ↦ takes since most silent losing loses unanswered
         | inr nothing ↦ spares since most silent losing nothing
       ])

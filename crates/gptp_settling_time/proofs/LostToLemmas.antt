@@ -23,32 +23,37 @@ use Rattle.gptp_invariants.proofs.WorldNewsLemmas.{silent_from_now}
 use Rattle.gptp_theorem.specs.PlayedLaws.{IsPlayable}
 use Rattle.gptp_theorem.proofs.SyncPathLemmas.{paths_stand}
 use Rattle.gptp_theorem.proofs.CalmKeptLemmas.{no_change}
-use Rattle.gptp_settling_time.specs.InTurn.{HasToldAll}
-use Rattle.gptp_settling_time.specs.Losses.{UpIsUsed}
+use Rattle.gptp_settling_time.specs.InTurn.{AreUsedSince, HasToldAll}
+use Rattle.gptp_settling_time.specs.Losses.{NoneSilent}
 use Rattle.gptp_settling_time.proofs.ClaimedToLemmas.{IsClaimedTo}
 use Rattle.gptp_settling_time.proofs.KeptToLemmas.{KeepsTo, keeps_act, keeps_later}
-use Rattle.gptp_settling_time.proofs.LeftToLemmas.{none_unanswered}
+use Rattle.gptp_settling_time.proofs.WereSilentLemmas.{WereSilent, none_silent_from, were_act, were_later}
 use Rattle.gptp_settling_time.proofs.LostClaimedLemmas.{IsLostAlways, lost_acts, lost_chooses, lost_claimed, lost_later, lost_now, lost_settles}
 
 -- A world of a document after these events, the last of which came at that time and took something away.
-pub record IsLostTo (d : DocumentState) (events : List Timed) (since most silent : ℕ) (w : WorldState) : Type 0 where
+pub record IsLostTo (d : DocumentState) (ago events : List Timed) (since most silent : ℕ) (w : WorldState)
+    : Type 0 where
   pub keeps : KeepsTo d events w
   pub is : IsLostAlways (pace_of d.network) since most silent w
+  pub were : WereSilent d.network ago w
+  pub less : AreUsedSince d.network ago events
 
-module _ (d : DocumentState) (events : List Timed) (since most silent : ℕ) where
+module _ (d : DocumentState) (ago events : List Timed) (since most silent : ℕ) where
   abbrev p : SettlingParams
   p = pace_of d.network
 
   pub lost_to_later : (w : WorldState) (time : ℕ) → w.time ≤ time → NothingBefore time w.net.pending
-      → IsLostTo d events since most silent w → IsLostTo d events since most silent (at time w)
+      → IsLostTo d ago events since most silent w → IsLostTo d ago events since most silent (at time w)
   lost_to_later w time later first so = record {
     keeps = keeps_later d events w time later first so.keeps;
     is = lost_later p since most silent time w later first so.is;
+    were = were_later d.network ago w time later so.were;
+    less = so.less;
   }
 
   pub lost_to_act : {F : Type 0} (answers : Bounds → ℕ → F → Option ℕ → F → Type 0) (t : ActTrace) (fate drawn : F)
       (w : WorldState) → IsNextAct w t.told.timed → WasDone answers t.told.timed fate drawn w t.after t.told.done
-      → IsLostTo d events since most silent w → IsLostTo d events since most silent t.after
+      → IsLostTo d ago events since most silent w → IsLostTo d ago events since most silent t.after
   lost_to_act answers t fate drawn w next was so =
       let timed = t.told.timed in
       let then = lost_later p since most silent timed.at w was.ready.timely.now was.ready.timely.first so.is in
@@ -56,9 +61,11 @@ module _ (d : DocumentState) (events : List Timed) (since most silent : ℕ) whe
         keeps = keeps_act d events answers t fate drawn w next was so.keeps;
         is = lost_acts p since most silent timed.act (at timed.at w) was.draws t.told.done t.after
             (no_change next.item timed.act w next.act) (next_octet next.item timed.act w next.act) was.acts then;
+        were = were_act d ago events answers t fate drawn w next was so.keeps so.were;
+        less = so.less;
       }
 
-  module _ (w : WorldState) (so : IsLostTo d events since most silent w) (playable : IsPlayable d)
+  module _ (w : WorldState) (so : IsLostTo d ago events since most silent w) (playable : IsPlayable d)
       (passed : suc (since + loss_span p (sync_paths d.network events) most) ≤ w.time) where
     late : suc (since + loss_span p (sync_paths_of w) most) ≤ w.time
     late =
@@ -70,15 +77,16 @@ module _ (d : DocumentState) (events : List Timed) (since most silent : ℕ) whe
     lost_to_chooses = lost_chooses p since most silent w so.is late
 
     -- it has settled
-    pub lost_to_settled : (silent ≤ w.time) ⊎ UpIsUsed d.network events → Settled w × IsBoundedWorld w
+    pub lost_to_settled : (silent ≤ w.time) ⊎ NoneSilent d.network ago events → Settled w × IsBoundedWorld w
     lost_to_settled (inl quiet) = lost_settles p since most silent w so.is late quiet
-    lost_to_settled (inr used) =
+    lost_to_settled (inr none) =
         lost_settles p since most w.time w
-        (lost_now p since most silent w so.is (none_unanswered d events w so.keeps w.time used)) late (omega arith)
+        (lost_now p since most silent w so.is (none_silent_from d ago events w so.keeps so.were none w.time)) late
+        (omega arith)
 
   -- once it has come to rest claims are made of all links always
-  pub lost_to_claimed : (w : WorldState) (start : ℕ) → IsLostTo d events since most silent w → IsPlayable d
-      → HasToldAll d.network events since most silent start w.time → IsClaimedTo d events start w
+  pub lost_to_claimed : (w : WorldState) (start : ℕ) → IsLostTo d ago events since most silent w → IsPlayable d
+      → HasToldAll d.network ago events since most silent start w.time → IsClaimedTo d events start w
   lost_to_claimed w start so playable rest =
       let later = rest.later in
       let over = rest.over in
@@ -88,7 +96,7 @@ module _ (d : DocumentState) (events : List Timed) (since most silent : ℕ) whe
             (omega (arith, later)) (silent_by rest.unlinked);
       }
     where
-      silent_by : (silent ≤ w.time) ⊎ UpIsUsed d.network events → AreSilentBy p start w
+      silent_by : (silent ≤ w.time) ⊎ NoneSilent d.network ago events → AreSilentBy p start w
       silent_by (inl past) =
           silent_from_now p start silent w so.is.standing.world so.is.standing.silent past
-      silent_by (inr used) = none_unanswered d events w so.keeps start used
+      silent_by (inr none) = none_silent_from d ago events w so.keeps so.were none start

@@ -21,7 +21,7 @@ use Rattle.gptp_invariants.proofs.WorldNewsCourseLemmas.{later_keeps}
 use Rattle.gptp_theorem.specs.PlayedLaws.{IsPlayable}
 use Rattle.gptp_theorem.proofs.CalmKeptLemmas.{no_change}
 use Rattle.gptp_settling_time.specs.Arrivals.{HasArrivedBy}
-use Rattle.gptp_settling_time.specs.InTurn.{Aging, AnyPast, ChoosesAfter, Cleared, Fallen, Gained, Heard, IsTakenAs, Left, Lost, Past, RestsFrom, Split, Starting, Turned, TurnedTree}
+use Rattle.gptp_settling_time.specs.InTurn.{Aging, AnyPast, ChoosesAfter, Cleared, Fallen, Gained, Heard, IsTakenAs, Left, Fewer, Lost, Past, RestsFrom, Split, Starting, Turned, TurnedTree}
 use Rattle.gptp_settling_time.proofs.AfterLemmas.{IsAfter, after_act, after_chooses, after_keeps, after_later}
 use Rattle.gptp_settling_time.proofs.KeptToLemmas.{KeepsTo}
 use Rattle.gptp_settling_time.proofs.NamedLemmas.{IsNamedFrom, comes_since, named_before, named_step}
@@ -131,9 +131,11 @@ chooses_as n events (Aging ago aged silent) time start stood rest (off, over) =
         | inr quiet ↦ inr (inl (omega (arith, quiet, later, over)))
       ],
     )
-chooses_as n events (Split ago gone silent) time start stood none (off, over) = absurd none
-chooses_as n events (Lost since most silent) time start stood rest (off, over) =
+chooses_as n events (Split ago gone silent) time start stood rest (off, over) =
     let later = rest.later in (off, omega (arith, later, over))
+chooses_as n events (Lost ago since most silent) time start stood rest (off, over) =
+    let later = rest.later in (off, omega (arith, later, over))
+chooses_as n events (Fewer ago since most silent) time start stood none (off, over) = absurd none
 
 -- it is so however the past is taken
 pub named_as : (d : DocumentState) (events : List Timed) (w : WorldState) (time : ℕ) (past seen : Past)

@@ -97,8 +97,8 @@ due_by_link : (p : SettlingParams) (gone : ℕ) (w : WorldState) → IsWorld p w
 due_by_link p gone w is limited j l f there member joins =
     let at = frame_from w j l f there member in
     let way = way_of w l.from l.to joins in
-    let one = one_way w is.sound is.encodable way.link at.link way.direction at.direction way.channel at.channel way.here
-    at.here (way.from ∙ ap (λ (z : Lane). z.from) at.lane_is) in
+    let one = one_way w is.sound is.encodable way.link at.link way.direction at.direction way.channel at.channel
+    way.here at.here (way.from ∙ ap (λ (z : Lane). z.from) at.lane_is) in
     let short : at.channel.bounds.max ≤ delay_in w =
     subst (λ (c : Channel). c.bounds.max ≤ delay_in w) one.same_channel
     (delay_of_used (live_stations w.stations) w.net.channels way.link way.channel way.here way.used) in

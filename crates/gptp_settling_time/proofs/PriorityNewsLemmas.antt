@@ -29,6 +29,7 @@ use Rattle.gptp_invariants.proofs.FailedOffLemmas.{off_told}
 use Rattle.gptp_settling_time.proofs.NewsSoonLemmas.{AreComing, IsNewsSoon, coming_goes_through}
 use Rattle.gptp_settling_time.proofs.ReactsLemmas.{Reacts, lives_as, reacts}
 use Rattle.gptp_settling_time.proofs.StandsStillLemmas.{off_still, set_still, last_still}
+use Rattle.gptp_settling_time.proofs.StaySilentLemmas.{AllStaySilent, stay_silent}
 
 -- ---- what stands after it stood before
 
@@ -96,6 +97,31 @@ module _ (w w' : WorldState) (r : Reacts w w') where
 
 -- ---- news
 
+module _ (p : SettlingParams) (owner value : ℕ) (w : WorldState) (draws : List Draw) (done : Done) (w' : WorldState)
+    (is : IsWorld p w) (live : Lives owner w) (octet : value < 256)
+    (acts : Acts (Changing (Priority1 owner value)) w draws done w') where
+  pub stay_priority : AllStaySilent p w w'
+  stay_priority at s =
+      let k = acts.1 in
+      let still = set_still value k.place k.station w k.is.here in
+      let clocks =
+      stays_clocks w _ (with_setup_stays value k.place k.station w k.is.here is.sound.wired.setups)
+      is.sound.wired.clocks in
+      record {
+        stood = stood_unanswered w w' (reacts p w is owner value live octet draws done w' acts) at s;
+        silent = λ time so. elim so [
+          | inl off ↦ inl (off_told at k.place (Priority value) (λ n. tt) (λ n. tt) _ draws w' clocks
+              (off_still w _ still at off) k.so)
+          | inr (sent, last, soon) ↦
+              inr (
+                sent,
+                last_told sent at k.place (Priority value) (λ n. tt) (λ s now n x x' same. same) _ draws w' clocks
+                    (last_still w _ still sent at last) k.so,
+                soon,
+              )
+        ];
+      }
+
 module _ (p : SettlingParams) (start owner value : ℕ) (w : WorldState) (draws : List Draw) (done : Done)
     (w' : WorldState) (is : IsWorld p w) (is' : IsWorld p w') (measured : LinkIsMeasured w) (live : Lives owner w)
     (silent : AreSilentBy p start w) (octet : value < 256)
@@ -104,23 +130,7 @@ module _ (p : SettlingParams) (start owner value : ℕ) (w : WorldState) (draws 
   r = reacts p w is owner value live octet draws done w' acts
 
   pub priority_silent : AreSilentBy p start w'
-  priority_silent at s =
-      let k = acts.1 in
-      let still = set_still value k.place k.station w k.is.here in
-      let clocks =
-      stays_clocks w _ (with_setup_stays value k.place k.station w k.is.here is.sound.wired.setups)
-      is.sound.wired.clocks in
-      elim (silent at (stood_unanswered w w' r at s)) [
-        | inl off ↦ inl (off_told at k.place (Priority value) (λ n. tt) (λ n. tt) _ draws w' clocks
-            (off_still w _ still at off) k.so)
-        | inr (sent, last, soon) ↦
-            inr (
-              sent,
-              last_told sent at k.place (Priority value) (λ n. tt) (λ s now n x x' same. same) _ draws w' clocks
-                  (last_still w _ still sent at last) k.so,
-              soon,
-            )
-      ]
+  priority_silent = stay_silent p start w w' (stay_priority p owner value w draws done w' is live octet acts) silent
 
   pub priority_ready : AreReadyBy p start w → AreReadyBy p start w'
   priority_ready ready at stands =

@@ -1,6 +1,7 @@
 -- What came over silent links has aged within the longest receipt timeout and the greatest delay of the links that were
 -- in use. Where no link is silent it has at once.
 use Rattle.std.proofs.Common.{◌≡◌, ◌≤◌, ◌==◌, ◌&&◌, ◌∷◌, ◌++◌, max, cond, ℕ, zero, suc, Bool, true, false, List, [], Some, slice_get, append-nil, append_assoc, refl, sym, ap, subst, ◌∙◌, inl, inr, arith}
+use Rattle.std.specs.Prelude.{if◌then◌else◌}
 use Rattle.std.proofs.lemmas.Bool.{eq-eqb}
 use Rattle.std.proofs.lemmas.Option.{same_Some}
 use Rattle.gptp_vector.specs.declared.port.PortId.{PortId}
@@ -12,16 +13,18 @@ use Rattle.gptp_scenario.specs.InUse.{greatest_delay, is_used, lives}
 use Rattle.gptp_scenario.specs.Network.{IsEnd, NetworkState, pace_of}
 use Rattle.gptp_scenario.specs.SettlingTime.{aging_span}
 use Rattle.gptp_scenario.specs.SyncWait.{sync_paths}
-use Rattle.gptp_scenario.specs.declared.change.Act.TheVariants.{Change as Changing}
-use Rattle.gptp_scenario.specs.declared.change.Change.TheVariants.{Fail}
+use Rattle.gptp_scenario.specs.declared.change.Act.{Act}
+use Rattle.gptp_scenario.specs.declared.change.Act.TheVariants.{Deliver, Expire, Change as Changing}
+use Rattle.gptp_scenario.specs.declared.change.Change.TheVariants.{LinkDown, LinkUp, LinkSet, Fail, Recover, Priority1, Inject}
 use Rattle.gptp_scenario.specs.declared.change.Timed.{Timed}
 use Rattle.gptp_scenario.specs.declared.network.LinkSpec.{LinkSpec}
 use Rattle.gptp_scenario.specs.declared.network.SystemSpec.{SystemSpec}
 use Rattle.gptp_lists.proofs.SystemSpecLemmas.{In-slice_get}
 use Rattle.gptp_network.proofs.PassLemmas.{passes_at}
 use Rattle.gptp_theorem.proofs.EventLemmas.{link_behind}
-use Rattle.gptp_settling_time.specs.HowSoon.{EachEvent, FailsHeardFirst}
-use Rattle.gptp_settling_time.specs.Losses.{AgesWithin, FailsHeard, LowersUnused, NoneSilent, UpIsUsed}
+use Rattle.gptp_settling_time.specs.Gains.{ChangesNothing}
+use Rattle.gptp_settling_time.specs.HowSoon.{EachEvent, FailsHeardFirst, IsDownToo}
+use Rattle.gptp_settling_time.specs.Losses.{AgesWithin, FailsHeard, NoneSilent, UpIsUsed}
 
 module _ (systems : List SystemSpec) (events : List Timed) where
   lives_from : (clock : ℕ) → IsLive systems events clock → lives systems events clock ≡ true
@@ -31,7 +34,7 @@ module _ (systems : List SystemSpec) (events : List Timed) where
       (let named = eq-eqb (clock_of live.system.identity) clock live.clock in let lived = live.live in rw (named, lived)
       refl)
 
-  used_from : (v : LinkSpec) → IsUsed systems events v → is_used systems events v ≡ true
+  pub used_from : (v : LinkSpec) → IsUsed systems events v → is_used systems events v ≡ true
   used_from v used =
       let up = used.up in
       let a = lives_from v.a.clock used.a in
@@ -86,28 +89,45 @@ pub failure_within : (n : NetworkState) (made : List Timed) (event : Timed) → 
     → AgesWithin n made (made ++ event ∷ []) event.at (aging_span (pace_of n) (sync_paths n made))
 failure_within n made event fails = fail_within n made event fails.clock fails.act
 
--- and where then links go down
-lowers_stay : (n : NetworkState) (made now : List Timed) → EachEvent (LowersUnused n) made now → (v : LinkSpec)
+-- as they do where a link goes down or comes up
+up_stays : (up test : Bool) (u : LinkSpec) → (if test then with_up up u else u).bounds.max ≡ u.bounds.max
+up_stays up true u = refl
+up_stays up false u = refl
+
+-- or where all stays as it stands
+repeats_stay : (n : NetworkState) (made : List Timed) (act : Act) → ChangesNothing n made act → (u : LinkSpec)
+    → (link_acted act u).bounds.max ≡ u.bounds.max
+repeats_stay n made (Deliver link direction) none u = absurd none
+repeats_stay n made (Expire number timer) none u = absurd none
+repeats_stay n made (Changing (LinkDown number port)) idle u = up_stays false (is_at number port u) u
+repeats_stay n made (Changing (LinkUp number port)) idle u = up_stays true (is_at number port u) u
+repeats_stay n made (Changing (LinkSet number port least most loss)) none u = absurd none
+repeats_stay n made (Changing (Fail number)) idle u = refl
+repeats_stay n made (Changing (Recover number)) idle u = refl
+repeats_stay n made (Changing (Priority1 number value)) idle u = refl
+repeats_stay n made (Changing (Inject number port octets)) idle u = refl
+
+down_stays : (n : NetworkState) (made now : List Timed) → EachEvent (IsDownToo n) made now → (v : LinkSpec)
     → (link_after (made ++ now) v).bounds.max ≡ (link_after made v).bounds.max
-lowers_stay n made [] each v = ap (λ es. (link_after es v).bounds.max) (append-nil made)
-lowers_stay n made (event ∷ now) (lowers, others) v =
+down_stays n made [] each v = ap (λ es. (link_after es v).bounds.max) (append-nil made)
+down_stays n made (event ∷ now) (down, others) v =
     ap (λ es. (link_after es v).bounds.max) (sym (append_assoc made (event ∷ []) now))
-    ∙ lowers_stay n (made ++ event ∷ []) now others v
-    ∙ ap (λ (u : LinkSpec). u.bounds.max)
-    (link_behind made event v ∙ ap (λ act. link_acted act (link_after made v)) lowers.act)
-    ∙ by (is_at lowers.clock lowers.port (link_after made v)) (link_after made v)
-  where
-    by : (test : Bool) (u : LinkSpec) → (cond test (with_up false u) u).bounds.max ≡ u.bounds.max
-    by true u = refl
-    by false u = refl
+    ∙ down_stays n (made ++ event ∷ []) now others v
+    ∙ ap (λ (u : LinkSpec). u.bounds.max) (link_behind made event v)
+    ∙ elim down [
+      | inl lowers ↦
+          ap (λ act. (link_acted act (link_after made v)).bounds.max) lowers.act
+          ∙ up_stays false (is_at lowers.clock lowers.port (link_after made v)) (link_after made v)
+      | inr repeats ↦ repeats_stay n made event.act repeats.0 (link_after made v)
+    ]
 
 pub failures_within : (n : NetworkState) (made now : List Timed) → FailsHeardFirst n made now
     → AgesWithin n made (made ++ now) (last_change (made ++ now)) (aging_span (pace_of n) (sync_paths n made))
 failures_within n made [] none = absurd none
-failures_within n made (event ∷ now) (fails, lowers) =
+failures_within n made (event ∷ now) (fails, down) =
     within_delay n made (made ++ event ∷ now) (last_change (made ++ event ∷ now)) (λ v.
     ap (λ es. (link_after es v).bounds.max) (sym (append_assoc made (event ∷ []) now))
-    ∙ lowers_stay n (made ++ event ∷ []) now lowers v
+    ∙ down_stays n (made ++ event ∷ []) now down v
     ∙ ap (λ (u : LinkSpec). u.bounds.max)
     (link_behind made event v ∙ ap (λ act. link_acted act (link_after made v)) fails.act))
 

@@ -2,6 +2,7 @@
 -- did.
 use Rattle.std.proofs.Common.{◌≡◌, ◌<◌, ◌≤◌, ℕ, suc, true, false, List, Some, slice_get, refl, sym, ap, subst, ◌∙◌, inl, inr, arith}
 use Rattle.std.proofs.lemmas.Option.{same_Some}
+use Rattle.gptp_lists.specs.Members.{In}
 use Rattle.gptp_lists.proofs.PlaceLemmas.{get-set_other, get-set_same, same_place}
 use Rattle.gptp_graph.specs.PathBound.{path_bound}
 use Rattle.gptp_graph.specs.Snapshot.{Joins, PortIdentity, Snapshot, port_of}
@@ -38,9 +39,16 @@ use Rattle.gptp_settling_time.proofs.FallAlwaysLemmas.{fallen_by, settles_by}
 use Rattle.gptp_settling_time.proofs.LeftClaimedLemmas.{HaveAskedLong}
 use Rattle.gptp_settling_time.proofs.LinkBetweenLemmas.{IsLinkBetween, SameSenders, between_down, between_kept, senders_kept}
 use Rattle.gptp_settling_time.proofs.LinkUpLemmas.{lane_set}
+use Rattle.gptp_settling_time.proofs.NamesItselfLemmas.{AllNameAlone, alone_kept}
 use Rattle.gptp_settling_time.proofs.OffForGoodLemmas.{GoOnOff, all_down}
+<<<<<<< HEAD
+use Rattle.gptp_settling_time.proofs.SplitAlwaysLemmas.{IsSplitAlways, MayStart, may_before, over_gone, seen_then, split_after, split_network, split_then, timed_now}
+use Rattle.gptp_settling_time.proofs.SplitLemmas.{IsCut, IsSplit, SplitSettles, SplitState, SplitsBack, timed_split}
+use Rattle.gptp_settling_time.proofs.SplitRestLemmas.{SplitNamesAlone}
+=======
 use Rattle.gptp_settling_time.proofs.SplitAlwaysLemmas.{IsSplitAlways, MayStart, may_before, seen_then, split_after, split_network, split_then}
 use Rattle.gptp_settling_time.proofs.SplitLemmas.{IsCut, IsSplit, IsTurned, SplitSettles, SplitState, SplitsBack, cut_times, turned_times}
+>>>>>>> w_line
 use Rattle.gptp_settling_time.proofs.UnusedDownLemmas.{asked', delay_taken, either, emptied, keeps, late_then, snapshot_taken, standing', tells, time}
 
 module _ (p : SettlingParams) (g : Snapshot) (By : PortIdentity → ℕ → Type 0) (failed gone silent owner port : ℕ)
@@ -296,3 +304,29 @@ module _ (p : SettlingParams) (g : Snapshot) (By : PortIdentity → ℕ → Type
     down_splits =
         split_then p g By failed gone silent w w' split standing_then asked_then goes sends same' links' by' late' on
         seen'
+
+  -- what has no steps still names its sender alone
+  pub alone_down : SplitNamesAlone p silent w → SplitNamesAlone p silent w'
+  alone_down names quiet' lapses =
+      subst (λ z. AllNameAlone says_announce z (view w')) (sym same')
+      (either p silent owner port w draws done w' is' measured' acts split.standing split.asked up dead
+      (λ v. AllNameAlone says_announce n (view v)) names_taken
+      (λ step. alone_kept says_announce n (view taken) (view w') (kept_taken lapses).calm kept_after.calm step
+      names_taken))
+    where
+      kept_after : IsAfterLoss n (view w')
+      kept_after =
+          subst (λ z. IsAfterLoss z (view w')) same'
+          (split_after p silent w' standing_then asked_then quiet' lapses late')
+
+      names_then : AllNameAlone says_announce n (view w)
+      names_then = subst (λ z. AllNameAlone says_announce z (view w)) split.same (names quiet lapses)
+
+      names_taken : AllNameAlone says_announce n (view taken)
+      names_taken = record {
+        lanes = λ j l f a at among said known. elim (is_emptied.lanes j l at) [
+          | inl stood ↦ names_then.lanes j l f a stood among said known
+          | inr (none, down) ↦ absurd (subst (In f) none among)
+        ];
+        stations = λ i s at live. names_then.stations i s (is_emptied.stations i s at live) live;
+      }

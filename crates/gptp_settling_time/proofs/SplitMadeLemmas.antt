@@ -1,5 +1,10 @@
+<<<<<<< HEAD
+-- A system fails that others hear, in a world of a document whose choice had stood, and so cuts trees off: they fall
+-- back. Behind that links go down of which an end has failed.
+=======
 -- A system fails that others hear, in a world of a document whose choice had stood, and so moves trees: they fall back.
 -- Behind that links go down of which an end has failed.
+>>>>>>> w_line
 use Rattle.std.proofs.Common.{◌≡◌, ◌<◌, ◌≤◌, ◌+◌, ◌∷◌, ◌++◌, ℕ, suc, List, [], sym, ap, subst, inl, inr, arith}
 use native.Mathlib.Decide.{dec_le}
 use Rattle.gptp_lists.specs.Members.{In}
@@ -51,8 +56,9 @@ use Rattle.gptp_settling_time.proofs.SettledSeenLemmas.{IsSettledSeen}
 use Rattle.gptp_settling_time.proofs.SilentDownLemmas.{over_down}
 use Rattle.gptp_settling_time.proofs.SilentLinksLemmas.{AgesOver, over_within}
 use Rattle.gptp_settling_time.proofs.SplitAlwaysLemmas.{IsSplitAlways}
-use Rattle.gptp_settling_time.proofs.SplitDownLemmas.{down_splits}
-use Rattle.gptp_settling_time.proofs.SplitFailLemmas.{split_begins}
+use Rattle.gptp_settling_time.proofs.SplitDownLemmas.{alone_down, down_splits}
+use Rattle.gptp_settling_time.proofs.SplitFailLemmas.{anew_begins}
+use Rattle.gptp_settling_time.proofs.SplitRestLemmas.{SplitNamesAlone, split_anew_begins}
 use Rattle.gptp_settling_time.proofs.SplitToLemmas.{GoesOver, IsSplitTo, over_gone, split_by}
 use Rattle.gptp_settling_time.proofs.UpPortsLemmas.{IsUpAt, by_up}
 use Rattle.gptp_settling_time.proofs.WereSilentLemmas.{WereSilent, were_down, were_failed}
@@ -147,8 +153,8 @@ gone_later n ago events failed gone (span, within, is) = omega (arith, is)
 
 module _ (d : DocumentState) (playable : IsPlayable d) (made : List Timed) (event : Timed) (then : WorldState)
     (draws : List Draw) (done : Done) (w' : WorldState) (acts : Acts event.act then draws done w')
-    (at_time : then.time ≡ event.at) (time : w'.time ≡ event.at) (keeps : KeepsTo d made then)
-    (after : KeepsTo d (made ++ event ∷ []) w') where
+    (at_time : then.time ≡ event.at) (time : w'.time ≡ event.at) (last : w'.last_change ≡ w'.time)
+    (keeps : KeepsTo d made then) (after : KeepsTo d (made ++ event ∷ []) w') where
   abbrev p : SettlingParams
   p = pace_of d.network
 
@@ -257,7 +263,7 @@ module _ (d : DocumentState) (playable : IsPlayable d) (made : List Timed) (even
           keeps = after;
           before = before;
           failed = then.time;
-          since = split_begins p x.clock then draws done w' world_then after.claim.world came lived seen_then rest.sound
+          since = anew_begins p x.clock then draws done w' world_then after.claim.world came lived seen_then rest.sound
               start keeps.claim.pace keeps.claim.measured past rest.ready quiet rest.silent
               (near_so d playable made then keeps x.few) (omega (arith, over, at_time)) names_now silent best each
               few_before few_then shorter_then (GoesOver n before made more then.time gone silent) gone
@@ -267,10 +273,9 @@ module _ (d : DocumentState) (playable : IsPlayable d) (made : List Timed) (even
               (GoesOver n before made more then.time gone silent) (view w')
               (λ port until unlinked over_it.
               goes_over n before made more then.time gone silent is_gone silent_is port until over_it) (by links))
-              (over_gone n before made more then.time gone silent) some late_then;
+              (over_gone n before made more then.time gone silent) some late_then last;
           were = were_failed n made x.clock then draws done w' world_then after.claim.world came lived keeps.stands
               quiet start past rest.silent;
-          some = some;
           unanswered = silent_is;
         }
 
@@ -296,9 +301,17 @@ module _ (d : DocumentState) (playable : IsPlayable d) (made : List Timed) (even
     down : IsSplitAlways p so.before (Over made gone) so.failed gone silent w'
     down =
         down_splits p so.before (Over made gone) so.failed gone silent y.clock y.port then
-        draws done w' after.claim.world after.claim.measured lowered so.since quiet_then
+        draws done w' after.claim.world after.claim.measured lowered so.since.split quiet_then
         (up_so n made then keeps.stands end y.up lowered.1.place lowered.1.channel lowered.1.is)
         (unused_so n made then keeps.stands world_then.sound end y.failed) falls.off
+
+    -- what has no steps still names its sender alone
+    names_down : SplitNamesAlone p silent w'
+    names_down =
+        alone_down p so.before (Over made gone) so.failed gone silent y.clock y.port then
+        draws done w' after.claim.world after.claim.measured lowered so.since.split quiet_then
+        (up_so n made then keeps.stands end y.up lowered.1.place lowered.1.channel lowered.1.is)
+        (unused_so n made then keeps.stands world_then.sound end y.failed) so.since.alone
 
     more_were : WereSilent n ago w'
     more_were =
@@ -322,32 +335,38 @@ module _ (d : DocumentState) (playable : IsPlayable d) (made : List Timed) (even
       keeps = after;
       before = so.before;
       failed = so.failed;
-      since = split_by p so.before (Over made gone) so.failed gone silent w' down (Over more gone) gone over_more
-          (over_gone n so.before ago more so.failed gone silent) (inl (omega arith));
+      since = split_anew_begins p so.before (Over more gone) so.failed gone silent w'
+          (split_by p so.before (Over made gone) so.failed gone silent w' down (Over more gone) gone over_more
+          (over_gone n so.before ago more so.failed gone silent) (inl (omega arith))) so.since.some names_down last;
       were = more_were;
-      some = so.some;
       unanswered = so.unanswered;
     }
 
-    -- it is gone sooner where faster links alone are silent still
-    pub split_sooner : (sooner : ℕ) → silent ≡ suc (event.at + silence_span p) → IsGoneBy n ago more event.at sooner
-        → IsSplitTo d ago more sooner silent w'
-    split_sooner sooner same is_gone =
-        let unanswered = so.unanswered in
-        let failed : event.at ≡ so.failed = omega (arith, same, unanswered) in
-        let gone_then = subst (λ t. IsGoneBy n ago more t sooner) failed is_gone in
-        let some = gone_later n ago more so.failed sooner gone_then in
-        record {
-          keeps = after;
-          before = so.before;
-          failed = so.failed;
-          since = split_by p so.before (Over made gone) so.failed gone silent w' down (Over more sooner) sooner
-              (λ links. by_map says_announce (snapshot_of w') (stay_of p) (Over more gone) (Over more sooner) (view w')
-              (λ port until unlinked is_over.
-              goes_over n so.before ago more so.failed sooner silent gone_then unanswered port until is_over.0)
-              (over_more links))
-              (over_gone n so.before ago more so.failed sooner silent) (inr (some, omega (arith, time, failed)));
-          were = more_were;
-          some = some;
-          unanswered = so.unanswered;
-        }
+  -- it is gone sooner where faster links alone are silent still
+  pub split_sooner : (ago : List Timed) (gone silent : ℕ) → IsSplitTo d ago more gone silent w' → (sooner : ℕ)
+      → silent ≡ suc (event.at + silence_span p) → IsGoneBy n ago more event.at sooner
+      → IsSplitTo d ago more sooner silent w'
+  split_sooner ago gone silent so sooner same is_gone =
+      let unanswered = so.unanswered in
+      let failed : event.at ≡ so.failed = omega (arith, same, unanswered) in
+      let gone_then = subst (λ t. IsGoneBy n ago more t sooner) failed is_gone in
+      let some = gone_later n ago more so.failed sooner gone_then in
+      record {
+        keeps = after;
+        before = so.before;
+        failed = so.failed;
+        since = split_anew_begins p so.before (GoesOver n so.before ago more so.failed sooner silent) so.failed sooner
+            silent w'
+            (split_by p so.before (GoesOver n so.before ago more so.failed gone silent) so.failed gone silent w'
+            so.since.split (GoesOver n so.before ago more so.failed sooner silent) sooner
+            (λ links. by_map says_announce (snapshot_of w') (stay_of p)
+            (GoesOver n so.before ago more so.failed gone silent)
+            (GoesOver n so.before ago more so.failed sooner silent) (view w')
+            (λ port until unlinked is_over.
+            goes_over n so.before ago more so.failed sooner silent gone_then unanswered port until is_over.0)
+            (so.since.split.by links))
+            (over_gone n so.before ago more so.failed sooner silent) (inr (some, omega (arith, time, failed)))) some
+            so.since.alone last;
+        were = so.were;
+        unanswered = so.unanswered;
+      }

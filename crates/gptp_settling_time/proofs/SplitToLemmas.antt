@@ -1,14 +1,15 @@
 -- Worlds of documents since a system failed that others hear, and so cut trees off.
-use Rattle.std.proofs.Common.{◌≡◌, ◌⊎◌, ◌<◌, ◌≤◌, ◌+◌, ◌*◌, ℕ, pred, suc, zero, refl, Option, List, inl, inr, arith}
+use Rattle.std.proofs.Common.{◌≡◌, ◌⊎◌, ◌<◌, ◌≤◌, ◌+◌, ◌*◌, ℕ, pred, suc, Option, List, subst, inl, inr, arith}
 use native.Mathlib.Decide.{dec_le}
 use Rattle.gptp_graph.specs.PathBound.{path_bound}
 use Rattle.gptp_graph.specs.Snapshot.{PortIdentity, Snapshot}
 use Rattle.gptp_links.specs.declared.bounds.Bounds.{Bounds}
-use Rattle.gptp_setup.specs.SettlingParams.{SettlingParams}
+use Rattle.gptp_setup.specs.SettlingParams.{SettlingParams, largest_interval}
 use Rattle.gptp_scenario.specs.Calm.{IsCalm, NothingLapses}
 use Rattle.gptp_scenario.specs.Network.{NetworkState, pace_of}
-use Rattle.gptp_scenario.specs.SettlingTime.{silence_span}
+use Rattle.gptp_scenario.specs.SettlingTime.{silence_span, way_span}
 use Rattle.gptp_scenario.specs.declared.change.Timed.{Timed}
+use Rattle.gptp_scenario.specs.declared.sync_wait.SyncPaths.{SyncPaths}
 use Rattle.gptp_model.specs.Acts.{at}
 use Rattle.gptp_model.specs.Course.{WasDone}
 use Rattle.gptp_model.specs.Pending.{NothingBefore}
@@ -20,18 +21,26 @@ use Rattle.gptp_network.specs.Document.{DocumentState}
 use Rattle.gptp_invariants.specs.ChoiceCalm.{HaveQuietLinks, delay_in}
 use Rattle.gptp_invariants.specs.ChoiceSettled.{ChoiceStands, Settled}
 use Rattle.gptp_invariants.specs.WorldBounded.{IsBoundedWorld}
+use Rattle.gptp_invariants.specs.WorldNews.{AreSilentBy}
 use Rattle.gptp_invariants.specs.WorldStanding.{snapshot_of}
+use Rattle.gptp_invariants.proofs.WorldNewsLemmas.{silent_from_now}
 use Rattle.gptp_theorem.specs.PlayedLaws.{IsPlayable}
 use Rattle.gptp_theorem.proofs.CalmLemmas.{quiet_stands}
 use Rattle.gptp_theorem.proofs.CalmKeptLemmas.{no_change}
+use Rattle.gptp_settling_time.specs.InTurn.{HasToldApart}
 use Rattle.gptp_settling_time.specs.Losses.{NoneSilent}
 use Rattle.gptp_settling_time.proofs.AgesByWorldLemmas.{WorldAgesBy}
 use Rattle.gptp_settling_time.proofs.AgingLemmas.{HeardNearer}
+use Rattle.gptp_settling_time.proofs.BecomesSoundLemmas.{nearer_echo}
+use Rattle.gptp_settling_time.proofs.ClaimedToLemmas.{IsClaimedTo}
+use Rattle.gptp_settling_time.proofs.GoesToLemmas.{paths_to}
 use Rattle.gptp_settling_time.proofs.KeptToLemmas.{KeepsTo, keeps_act, keeps_later}
 use Rattle.gptp_settling_time.proofs.WereSilentLemmas.{WereSilent, none_silent_from, were_act, were_later}
 use Rattle.gptp_settling_time.proofs.SilentLinksLemmas.{AgesOver}
-use Rattle.gptp_settling_time.proofs.SplitAlwaysLemmas.{GoesUntil, IsSplitAlways, MayStart, split_acts, split_later}
+use Rattle.gptp_settling_time.proofs.SplitAlwaysLemmas.{GoesUntil, IsSplitAlways, MayStart}
+use Rattle.gptp_settling_time.proofs.SplitRestLemmas.{IsSplitAnew, anew_acts, anew_later, one_before, settles_at, split_anew_claimed}
 use Rattle.gptp_settling_time.proofs.SplitSettlesLemmas.{split_chooses, split_settles}
+use Rattle.gptp_settling_time.proofs.ToldAnewLemmas.{told_by, way_in}
 
 -- What came over a silent link ages so. At ports that heard a nearer system it has aged by the time from which on it is
 -- gone, or ports without a link aren't capable from then on.
@@ -77,22 +86,27 @@ split_by p g By failed gone silent w is By' gone' by' is_gone' which = record {
           let since = is.at in inr (omega (arith, soon, some, since), omega (arith, now, since))
     ]
 
+-- so it is where traces are told anew later, if the time from which on it is gone is the same
+pub anew_by : (p : SettlingParams) (g : Snapshot) (By : PortIdentity → ℕ → Type 0) (failed gone silent : ℕ)
+    (w : WorldState) → IsSplitAnew p g By failed gone silent w → (By' : PortIdentity → ℕ → Type 0) → WorldAgesBy p By' w
+    → GoesUntil g By' gone ⊎ (silent ≤ gone) → IsSplitAnew p g By' failed gone silent w
+anew_by p g By failed gone silent w is By' by' is_gone' = record {
+  split = split_by p g By failed gone silent w is.split By' gone by' is_gone' (inl (omega arith));
+  some = is.some;
+  alone = is.alone;
+  tells = is.tells;
+}
+
 -- A world of a document after these events, by which trees were cut off as a system failed: what others hold of it is
 -- gone from a time on, and from another on ports without a link aren't capable.
 pub record IsSplitTo (d : DocumentState) (ago events : List Timed) (gone silent : ℕ) (w : WorldState) : Type 0 where
   pub keeps : KeepsTo d events w
   pub before : Snapshot
   pub failed : ℕ
-  pub since : IsSplitAlways (pace_of d.network) before (GoesOver d.network before ago events failed gone silent) failed
+  pub since : IsSplitAnew (pace_of d.network) before (GoesOver d.network before ago events failed gone silent) failed
       gone silent w
   pub were : WereSilent d.network ago w
-  pub some : failed < gone
   pub unanswered : silent ≡ suc (failed + silence_span (pace_of d.network))
-
--- what is later than some time is 1 ns later than another
-one_before : (gone failed : ℕ) → failed < gone → suc (pred gone) ≡ gone
-one_before zero failed less = absurd (omega (arith, less))
-one_before (suc now) failed less = refl
 
 module _ (d : DocumentState) (ago events : List Timed) (gone silent : ℕ) where
   pub split_to_later : (w : WorldState) (time : ℕ) → w.time ≤ time → NothingBefore time w.net.pending
@@ -101,10 +115,9 @@ module _ (d : DocumentState) (ago events : List Timed) (gone silent : ℕ) where
     keeps = keeps_later d events w time later first so.keeps;
     before = so.before;
     failed = so.failed;
-    since = split_later (pace_of d.network) so.before (GoesOver d.network so.before ago events so.failed gone silent)
+    since = anew_later (pace_of d.network) so.before (GoesOver d.network so.before ago events so.failed gone silent)
         so.failed gone silent time w later first so.since;
     were = were_later d.network ago w time later so.were;
-    some = so.some;
     unanswered = so.unanswered;
   }
 
@@ -115,16 +128,15 @@ module _ (d : DocumentState) (ago events : List Timed) (gone silent : ℕ) where
       let timed = t.told.timed in
       let p = pace_of d.network in
       let By = GoesOver d.network so.before ago events so.failed gone silent in
-      let then = split_later p so.before By so.failed gone silent timed.at w was.ready.timely.now was.ready.timely.first
+      let then = anew_later p so.before By so.failed gone silent timed.at w was.ready.timely.now was.ready.timely.first
       so.since in
       record {
         keeps = keeps_act d events answers t fate drawn w next was so.keeps;
         before = so.before;
         failed = so.failed;
-        since = split_acts p so.before By so.failed gone silent timed.act (at timed.at w) was.draws t.told.done t.after
+        since = anew_acts p so.before By so.failed gone silent timed.act (at timed.at w) was.draws t.told.done t.after
             (no_change next.item timed.act w next.act) (next_octet next.item timed.act w next.act) was.acts then;
         were = were_act d ago events answers t fate drawn w next was so.keeps so.were;
-        some = so.some;
         unanswered = so.unanswered;
       }
 
@@ -144,7 +156,7 @@ module _ (d : DocumentState) (ago events : List Timed) (gone silent : ℕ) where
     start = pred gone
 
     one : suc start ≡ gone
-    one = one_before gone so.failed so.some
+    one = one_before gone so.failed so.since.some
 
     may : gone ≤ suc start
     may = let same = one in omega (arith, same)
@@ -154,13 +166,57 @@ module _ (d : DocumentState) (ago events : List Timed) (gone silent : ℕ) where
 
     -- its choice stands
     pub split_to_chooses : ChoiceStands w
-    split_to_chooses = split_chooses p so.before By so.failed gone silent w so.since quiet off start may late_now
+    split_to_chooses = split_chooses p so.before By so.failed gone silent w so.since.split quiet off start may late_now
 
     -- it has settled
     pub split_to_settled : (silent ≤ w.time) ⊎ NoneSilent d.network ago events → Settled w × IsBoundedWorld w
     split_to_settled (inl now) =
-        split_settles p so.before By so.failed gone silent w so.since quiet off start may late_now silent
-        so.since.standing.silent now
+        split_settles p so.before By so.failed gone silent w so.since.split quiet off start may late_now silent
+        so.since.split.standing.silent now
     split_to_settled (inr none) =
-        split_settles p so.before By so.failed gone silent w so.since quiet off start may late_now w.time
+        split_settles p so.before By so.failed gone silent w so.since.split quiet off start may late_now w.time
         (none_silent_from d ago events w so.keeps so.were none w.time) (omega arith)
+
+  -- once it has come to rest claims are made of all links always
+  pub split_to_claimed : (w : WorldState) (start : ℕ) → IsSplitTo d ago events gone silent w → IsPlayable d
+      → HasToldApart d.network ago events gone silent start w.time → IsClaimedTo d events start w
+  split_to_claimed w start so playable rest = record {
+    keeps = so.keeps;
+    since = split_anew_claimed q so.before (GoesOver d.network so.before ago events so.failed gone silent) so.failed
+        gone silent w so.since
+        (quiet_stands d.network events w playable.network so.keeps.stands so.keeps.claim.world.sound rest.calm).links
+        rest.off changed told start later dark;
+  }
+    where
+      q : SettlingParams
+      q = pace_of d.network
+
+      -- nothing has changed since the system failed
+      changed : w.last_change ≡ so.failed
+      changed =
+          let last = so.keeps.stands.last in
+          let since = rest.since in
+          let unanswered = so.unanswered in
+          omega (arith, last, since, unanswered)
+
+      told : told_by q (settles_at gone w) w + largest_interval q < w.time
+      told =
+          let same = one_before gone so.failed so.since.some in
+          let over : gone + 2 * way_in w + nearer_echo q w + largest_interval q ≤ w.time =
+          subst (λ (u : SyncPaths). gone + 2 * way_span u + pred (pred u.systems) * (largest_interval q + u.delay)
+          + largest_interval q ≤ w.time) (paths_to d playable events w so.keeps) rest.told in
+          omega (arith, same, over)
+
+      later : w.last_change ≤ start
+      later =
+          let same = changed in
+          let some = so.since.some in
+          let over = rest.later in
+          omega (arith, same, some, over)
+
+      dark : AreSilentBy q start w
+      dark = elim rest.unlinked [
+        | inl now ↦
+            silent_from_now q start silent w so.keeps.claim.world so.since.split.standing.silent now
+        | inr none ↦ none_silent_from d ago events w so.keeps so.were none start
+      ]

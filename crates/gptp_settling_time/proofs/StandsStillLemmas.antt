@@ -46,6 +46,7 @@ use Rattle.gptp_settling_time.proofs.SameLinkLemmas.{StaysSameLink}
 use Rattle.gptp_settling_time.proofs.NewsSoonLemmas.{IsNewsFrom, from_silent, from_sound}
 use Rattle.gptp_settling_time.proofs.StandsLikeLemmas.{StandsLike, claims_like, from_like, news_like, turn_like_network}
 use Rattle.gptp_invariants.proofs.FailedLastAnsweredLemmas.{last_stays}
+use Rattle.gptp_settling_time.proofs.StaySilentLemmas.{AllStaySilent, stay_silent}
 
 -- a station but for the priority1 that it starts with
 abbrev pub plain : Station → Station
@@ -413,11 +414,17 @@ module _ (p : SettlingParams) (start : ℕ) (w w' : WorldState) (still : StandsS
   like : StandsLike w w'
   like = stands_like w w' still
 
+  pub stay_still : AllStaySilent p w w'
+  stay_still at s = record {
+    stood = unanswered_before w w' still at s;
+    silent = λ time is. elim is [
+      | inl off ↦ inl (off_still w w' still at off)
+      | inr (sent, last, soon) ↦ inr (sent, last_still w w' still sent at last, soon)
+    ];
+  }
+
   pub silent_then : AreSilentBy p start w → AreSilentBy p start w'
-  silent_then silent at s = elim (silent at (unanswered_before w w' still at s)) [
-    | inl off ↦ inl (off_still w w' still at off)
-    | inr (sent, last, soon) ↦ inr (sent, last_still w w' still sent at last, soon)
-  ]
+  silent_then = stay_silent p start w w' stay_still
 
   sound_then : IsSoundWorld w → IsSoundWorld w'
   sound_then sound =

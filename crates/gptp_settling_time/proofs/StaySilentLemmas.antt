@@ -1,10 +1,10 @@
 -- Ports beside failed systems that stay silent.
-use Rattle.std.proofs.Common.{ℕ, List, inl, inr}
+use Rattle.std.proofs.Common.{◌≡◌, ◌⊎◌, ℕ, true, List, Some, slice_get, inl, inr}
 use Rattle.gptp_links.specs.Fate.{Draw}
 use Rattle.gptp_setup.specs.SettlingParams.{SettlingParams}
 use Rattle.gptp_scenario.specs.declared.change.Act.{Act}
 use Rattle.gptp_model.specs.Acts.{Acts, at as at_time}
-use Rattle.gptp_model.specs.World.{WorldState}
+use Rattle.gptp_model.specs.World.{Channel, WorldState}
 use Rattle.gptp_model.specs.declared.done.Done.{Done}
 use Rattle.gptp_invariants.specs.ChoiceSeenLaws.{IsNoChange}
 use Rattle.gptp_invariants.specs.ChoiceSettlesAsMachine.{IsWorld}
@@ -12,6 +12,7 @@ use Rattle.gptp_invariants.specs.DelayLinkView.{LinkPlace}
 use Rattle.gptp_invariants.specs.DelayMeasured.{LinkIsMeasured}
 use Rattle.gptp_invariants.specs.FailedUnanswered.{StandsUnanswered}
 use Rattle.gptp_invariants.specs.WorldNews.{AreSilentBy, IsSilentBy}
+use Rattle.gptp_invariants.specs.WorldStanding.{channel_is_used, live_stations}
 use Rattle.gptp_invariants.proofs.DelayCapableKeptLemmas.{no_change}
 use Rattle.gptp_invariants.proofs.FailedLastAnsweredLemmas.{last_acts, last_later}
 use Rattle.gptp_invariants.proofs.FailedOffLemmas.{off_acts, off_later}
@@ -29,6 +30,16 @@ AllStaySilent p w w' = (at : LinkPlace) → StandsUnanswered at w' → StaysSile
 pub stay_silent : (p : SettlingParams) (start : ℕ) (w w' : WorldState) → AllStaySilent p w w' → AreSilentBy p start w
     → AreSilentBy p start w'
 stay_silent p start w w' stays silent at s = let x = stays at s in x.silent start (silent at x.stood)
+
+-- The link at this place was in use.
+pub record WasUsedIn (w : WorldState) (link : ℕ) : Type 0 where
+  pub channel : Channel
+  pub here : slice_get w.net.channels link ≡ Some channel
+  pub used : channel_is_used (live_stations w.stations) channel ≡ true
+
+-- As something is taken away the port there is off from whatever time on, or stays silent, or its link was in use.
+abbrev pub GoesSilent : SettlingParams → LinkPlace → WorldState → WorldState → Type 0
+GoesSilent p at w w' = ((start : ℕ) → IsSilentBy p start at w') ⊎ (StaysSilent p at w w' ⊎ WasUsedIn w at.link)
 
 -- time passes
 pub silent_time : (p : SettlingParams) (time : ℕ) (w : WorldState) → AllStaySilent p w (at_time time w)

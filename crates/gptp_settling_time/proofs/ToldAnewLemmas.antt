@@ -4,10 +4,8 @@ use Rattle.std.proofs.Common.{◌≡◌, ◌⊎◌, ◌<◌, ◌≤◌, ◌+◌,
 use native.Mathlib.Decide.{dec_lt}
 use Rattle.gptp_lists.specs.Members.{In}
 use Rattle.gptp_lists.proofs.SystemSpecLemmas.{In-parts}
-use Rattle.gptp_graph.specs.Best.{IsBest}
-use Rattle.gptp_graph.specs.Distance.{IsDistance}
 use Rattle.gptp_graph.specs.PathBound.{path_bound}
-use Rattle.gptp_graph.specs.Snapshot.{Adjacent, Snapshot, System, port_of}
+use Rattle.gptp_graph.specs.Snapshot.{Snapshot, port_of}
 use Rattle.gptp_graph.proofs.DistanceLemmas.{IsDistance-unique}
 use Rattle.gptp_graph.proofs.ExistenceLemmas.{distance_exists}
 use Rattle.gptp_graph.proofs.PathBoundLemmas.{IsDistance-within}
@@ -32,20 +30,19 @@ use Rattle.gptp_bmca_machine.proofs.SoundLemmas.{received_fits}
 use Rattle.gptp_invariants.specs.ChoiceCalm.{HaveQuietLinks, delay_in}
 use Rattle.gptp_invariants.specs.ChoiceSettlesAsMachine.{IsWorld}
 use Rattle.gptp_invariants.specs.ChoiceView.{says_announce, view}
+use Rattle.gptp_invariants.specs.WorldNews.{AreSilentBy}
 use Rattle.gptp_invariants.specs.WorldSound.{IsSoundWorld}
 use Rattle.gptp_invariants.specs.WorldStanding.{snapshot_of}
 use Rattle.gptp_invariants.proofs.ChoiceCalmKeptLemmas.{KeepsNetwork, links_quiet, same_paths}
 use Rattle.gptp_invariants.proofs.ChoiceCalmLemmas.{linked_interval}
 use Rattle.gptp_invariants.proofs.ChoiceSettlesAsMachineLemmas.{kept_back}
-use Rattle.gptp_invariants.proofs.WorldNewsLemmas.{silent_from_now}
 use Rattle.gptp_settling_time.proofs.AlwaysClaimedLemmas.{IsClaimedAlways, IsStanding}
 use Rattle.gptp_settling_time.proofs.AtRestLemmas.{facts_of}
 use Rattle.gptp_settling_time.proofs.BecomesSoundLemmas.{nearer_echo, same_time, sound_claimed}
 use Rattle.gptp_settling_time.proofs.DueLemmas.{due_by_interval}
-use Rattle.gptp_settling_time.proofs.LeftClaimedLemmas.{HaveAskedBy, HaveAskedLong, left_net, left_network, same_left}
-use Rattle.gptp_settling_time.proofs.MovedAlwaysLemmas.{calm_now}
-use Rattle.gptp_settling_time.proofs.NamesItselfLemmas.{AllNameItself}
-use Rattle.gptp_settling_time.proofs.RightBeginLemmas.{right_enters, root_right}
+use Rattle.gptp_settling_time.proofs.FitsLemmas.{UnlinkedHoldNothing}
+use Rattle.gptp_settling_time.proofs.LeftClaimedLemmas.{HaveAskedBy, HaveAskedLong, left_calm, left_net, left_network, same_left}
+use Rattle.gptp_settling_time.proofs.RightBeginLemmas.{right_enters}
 use Rattle.gptp_settling_time.proofs.RightKeptLemmas.{right_kept}
 use Rattle.gptp_settling_time.proofs.RightLemmas.{all_held_right}
 use Rattle.gptp_settling_time.proofs.SettledSeenLemmas.{IsSettledSeen, settled_in}
@@ -126,18 +123,14 @@ way_in w = pred (path_bound (snapshot_of w)) * delay_in w
 pub same_way : (w w' : WorldState) → KeepsNetwork w w' → way_in w' ≡ way_in w
 same_way w w' keeps = ap (λ (u : SyncPaths). pred u.systems * u.delay) (same_paths w w' keeps)
 
--- What is so of a world since a loss: links are at rest once a moment is over. The best of its systems was so in the
--- snapshot of before, and what names it in no steps names it alone.
-pub record SettlesOnce (p : SettlingParams) (g : Snapshot) (silent settled : ℕ) (w : WorldState) : Type 0 where
+-- What is so of a world since a loss: links are at rest once a moment is over, and what a best tells is right.
+pub record SettlesOnce (p : SettlingParams) (silent settled : ℕ) (w : WorldState) : Type 0 where
   pub standing : IsStanding p silent w
   pub asked : HaveAskedLong w
-  pub past : silent ≤ w.time
   pub near : AllAreNear (snapshot_of w)
   pub long : way_in w ≤ settled
-  pub was : (v u : ℕ) (best : System) → Adjacent (snapshot_of w) v u → IsBest (snapshot_of w) v best
-      → IsDistance (snapshot_of w) v 0 → IsBest g v best
-  pub itself : HaveQuietLinks p.params w → NothingLapses p.params
-      → AllNameItself says_announce (left_network p silent w) g (view w)
+  pub root : HaveQuietLinks p.params w → NothingLapses p.params → settled < w.time → (base : ℕ)
+      → LevelTellsRight says_announce (left_network p silent w) base (view w) 0
   pub state : HaveQuietLinks p.params w → NothingLapses p.params → settled < w.time
       → IsSettledState says_announce (left_network p silent w) (view w)
 
@@ -170,8 +163,8 @@ right_by p silent settled w late =
 
 -- ---- it goes on
 
-module _ (p : SettlingParams) (g : Snapshot) (silent settled : ℕ) (w w' : WorldState)
-    (once : SettlesOnce p g silent settled w) (once' : SettlesOnce p g silent settled w')
+module _ (p : SettlingParams) (silent settled : ℕ) (w w' : WorldState)
+    (once : SettlesOnce p silent settled w) (once' : SettlesOnce p silent settled w')
     (tells : TellsOnce p silent settled w) (keeps : KeepsNetwork w w')
     (step : MachineSteps says_announce (view w) (view w')) where
   abbrev n' : Network
@@ -214,10 +207,17 @@ module _ (p : SettlingParams) (g : Snapshot) (silent settled : ℕ) (w w' : Worl
           → (d : ℕ) → LevelTellsRight says_announce n' base (view w') d
       enters early wait =
           right_enters says_announce n' net once'.near base wait.time (view w) (view w')
-          (subst (λ z. Calm z (view w)) (sym same) (calm_now p silent w once.standing once.asked quiet once.past))
+          (subst (λ z. Calm z (view w)) (sym same) (left_calm p silent w once.standing once.asked quiet none))
           (omega (arith, early)) wait.is x'
           (λ port linked. linked_interval p w' world'.sound world'.known port linked)
-          (root_right says_announce g n' net once'.near (view w') x' once'.was (once'.itself quiet' off) base)
+          (once'.root quiet' off late' base)
+        where
+          -- the systems hold what they do then
+          none : UnlinkedHoldNothing (snapshot_of w) (view w)
+          none =
+              subst (λ h. UnlinkedHoldNothing h (view w)) (ap (λ (z : Network). z.graph) same)
+              (λ i s place r here.
+              x'.none i s place r (subst (λ (z : MachineState). slice_get z.stations i ≡ Some s) (sym wait.is) here))
 
       levels' : (d : ℕ) → LevelTellsRight says_announce n' base (view w') d
       levels' = elim (dec_lt settled w.time) [
@@ -264,17 +264,25 @@ module _ (p : SettlingParams) (g : Snapshot) (silent settled : ℕ) (w w' : Worl
 
 -- ---- rest
 
--- all have told traces anew by then, and what was in flight is gone too
+-- all have told traces anew by then, and what was in flight is gone too: where a path has several systems
 nearer_fits : (systems hop gone : ℕ) → 1 < systems → gone ≤ hop
     → pred (pred systems) * hop + gone ≤ pred systems * hop
 nearer_fits zero hop gone less soon = absurd (omega (arith, less))
 nearer_fits (suc zero) hop gone less soon = absurd (omega (arith, less))
 nearer_fits (suc (suc k)) hop gone less soon = omega (arith, soon)
 
-module _ (p : SettlingParams) (g : Snapshot) (silent start settled : ℕ) (w : WorldState)
-    (once : SettlesOnce p g silent settled w) (asked : HaveAskedBy start w) (tells : TellsOnce p silent settled w)
-    (several : 1 < path_bound (snapshot_of w)) (quiet : HaveQuietLinks p.params w) (off : NothingLapses p.params)
-    (over : settled + pred (path_bound (snapshot_of w)) * (largest_interval p + delay_in w) < w.time) where
+pub told_over : (p : SettlingParams) (settled : ℕ) (w : WorldState) → 1 < path_bound (snapshot_of w)
+    → settled + pred (path_bound (snapshot_of w)) * (largest_interval p + delay_in w) < w.time
+    → told_by p settled w + largest_interval p < w.time
+told_over p settled w several over =
+    let less = nearer_fits (path_bound (snapshot_of w)) (largest_interval p + delay_in w) (largest_interval p) several
+    (omega arith) in
+    omega (arith, over, less)
+
+module _ (p : SettlingParams) (silent start settled : ℕ) (w : WorldState)
+    (once : SettlesOnce p silent settled w) (asked : HaveAskedBy start w) (tells : TellsOnce p silent settled w)
+    (quiet : HaveQuietLinks p.params w) (off : NothingLapses p.params)
+    (gone_by : told_by p settled w + largest_interval p < w.time) where
   abbrev n : Network
   n = left_network p silent w
 
@@ -282,16 +290,10 @@ module _ (p : SettlingParams) (g : Snapshot) (silent start settled : ℕ) (w : W
   net_w = left_net p silent w once.standing.world
 
   late : settled < w.time
-  late = omega (arith, over)
-
-  gone_by : told_by p settled w + largest_interval p < w.time
-  gone_by =
-      let less = nearer_fits (path_bound (snapshot_of w)) (largest_interval p + delay_in w) (largest_interval p) several
-      (omega arith) in
-      omega (arith, over, less)
+  late = omega (arith, gone_by)
 
   told : told_by p settled w < w.time
-  told = let gone = gone_by in omega (arith, gone)
+  told = omega (arith, gone_by)
 
   x : IsSettledState says_announce n (view w)
   x = once.state quiet off late
@@ -302,9 +304,8 @@ module _ (p : SettlingParams) (g : Snapshot) (silent start settled : ℕ) (w : W
     lanes = λ j l at f a among said. elim (tells.flights quiet off told j l f a at among said) [
       | inl is ↦ is
       | inr old ↦
-          let gone = gone_by in
           let left = x.calm.left j l f at among in
-          absurd (omega (arith, old, left, gone))
+          absurd (omega (arith, old, left, gone_by))
     ];
     stations = all_held_right says_announce n net_w once.near (suc settled) (view w) x (tells.levels quiet off late)
         (right_by p silent settled w told);
@@ -321,10 +322,9 @@ module _ (p : SettlingParams) (g : Snapshot) (silent start settled : ℕ) (w : W
 
   seen : IsSettledSeen p w
   seen =
-      let long = once.long in settled_in p w n refl net_w x.calm invariant (omega (arith, long, over))
+      let long = once.long in settled_in p w n refl net_w x.calm invariant (omega (arith, long, late))
 
   -- claims are made of all links always
-  pub once_claimed : (begin : ℕ) → start ≤ begin → IsClaimedAlways p begin w
+  pub once_claimed : (begin : ℕ) → start ≤ begin → AreSilentBy p begin w → IsClaimedAlways p begin w
   once_claimed begin later =
       sound_claimed p start silent w once.standing once.asked asked sound seen off begin later
-      (silent_from_now p begin silent w once.standing.world once.standing.silent once.past)

@@ -20,6 +20,7 @@ use Rattle.gptp_bmca_machine.specs.SoundEverywhere.{IsSoundEverywhere}
 use Rattle.gptp_bmca_machine.specs.SoundLaws.{AllAreNear, IsSoundOnLinks, UnlinkedAreOff}
 use Rattle.gptp_bmca_machine.specs.Station.{MachineState, Port, Received, Reception, Station}
 use Rattle.gptp_bmca_machine.specs.TurnTree.{TurnsTree}
+use Rattle.gptp_bmca_machine.specs.Touch.{StationTouch}
 use Rattle.gptp_bmca_machine.proofs.FallBeginLemmas.{falling_begins, settles_begin}
 use Rattle.gptp_bmca_machine.proofs.FallLeaveLemmas.{TreeAnswers}
 use Rattle.gptp_bmca_machine.proofs.FallLemmas.{IsAftermath, IsFreeAt, off_hold_old}
@@ -41,8 +42,8 @@ module _ (says : Spelling) (n0 n : Network) (tree : List ℕ) (top other last ou
     (depth : ℕ → ℕ) (t : TurnsTree n0.graph n tree top other last out best base depth) (in_top : In top tree)
     (net0 : IsSettlingNetwork n0) (w : MachineState) (calm0 : Calm n0 w) (invariant0 : Invariant says n0 w)
     (late0 : settled_from n0 ≤ w.time) (near0 : AllAreNear n0.graph) (sound0 : IsSoundEverywhere says n0.graph w)
-    (named0 : FlightNames says n0.graph w) (same : SameWiring n0 n) (w' : MachineState) (lost place : ℕ)
-    (a : EndAnswers says n top lost place w w')
+    (named0 : FlightNames says n0.graph w) (same : SameWiring n0 n) (w' : MachineState) (touch : StationTouch)
+    (place : ℕ) (a : EndAnswers says n top touch place w w')
     (beside : (c : ℕ) (m : Station) → In c tree ⊎ (c ≡ out) → slice_get w'.stations (n.place c) ≡ Some m
     → n.place c ≢ place) (kept' : IsAfterLoss n w') (dark' : UnlinkedAreOff n.graph w') where
   abbrev g : Snapshot
@@ -69,25 +70,25 @@ module _ (says : Spelling) (n0 n : Network) (tree : List ℕ) (top other last ou
       up_whole g n tree top other last out best base depth t v u c in_v in_u
       (suc q, suc p, Joins-sym n.graph (port_of v (suc p)) (port_of u (suc q)) joins) higher whole root
 
-  beside_so : (c : ℕ) (m : Station) → In c (clocks n.graph) → Around (IsOf tree) (LeadsOut last out) c
+  beside_so : (c : ℕ) (m : Station) → In c (clocks n.graph) → Around (IsOf tree) (LeadsOut last out) c → c ≢ top
       → slice_get w'.stations (n.place c) ≡ Some m
       → n.place c ≢ place
-  beside_so c m known (inl in_c) at = beside c m (inl in_c) at
-  beside_so c m known (inr (v, (is_last, is_out))) at = beside c m (inr is_out) at
+  beside_so c m known (inl in_c) apart at = beside c m (inl in_c) at
+  beside_so c m known (inr (v, (is_last, is_out))) apart at = beside c m (inr is_out) at
 
   abbrev answer : TreeAnswers says n (Around (IsOf tree) (LeadsOut last out)) top w w'
-  answer = answers says n (Around (IsOf tree) (LeadsOut last out)) top lost place w w' a kept' (t.lives top in_top)
+  answer = answers says n (Around (IsOf tree) (LeadsOut last out)) top touch place w w' a kept' (t.lives top in_top)
       beside_so
 
   lanes_so : (p q : PortIdentity) (l' : Lane) → Joins n.graph p q → slice_get w'.lanes (n.lane p) ≡ Some l'
       → (l : Lane) × (slice_get w.lanes (n.lane p) ≡ Some l) × LaneStep a.s.clock a.sends l l'
-  lanes_so = lanes_then says n (Around (IsOf tree) (LeadsOut last out)) top lost place w w' a kept' (t.lives top in_top)
-      beside_so
+  lanes_so = lanes_then says n (Around (IsOf tree) (LeadsOut last out)) top touch place w w' a kept'
+      (t.lives top in_top) beside_so
 
   after : IsAftermath says g n w'
   after = record {
     kept = kept';
-    fits = fits' says n0 n top t.well t.left moved_top net0 w calm0 invariant0 late0 sound0 same w' lost place a kept';
+    fits = fits' says n0 n top t.well t.left moved_top net0 w calm0 invariant0 late0 sound0 same w' touch place a kept';
     dark = off_hold_old g n w' dark';
   }
 
@@ -105,7 +106,7 @@ module _ (says : Spelling) (n0 n : Network) (tree : List ℕ) (top other last ou
         → slice_get s.ports q ≡ Some pu → pu.held ≡ Received r → Whole t.ways out r.said
     held_left s pu r at there holds =
         let (live, clock) = lives_at n w' kept'.calm last (t.lives last t.in_last) s at in
-        let o = held_before says n0 n top t.well t.left moved_top net0 w calm0 invariant0 late0 sound0 same w' lost
+        let o = held_before says n0 n top t.well t.left moved_top net0 w calm0 invariant0 late0 sound0 same w' touch
         place a kept' (n.place last) s q r at live (pu, there, holds) in
         let named = o.clock ∙ clock in
         let over = subst (λ c. Joins g (port_of out (suc p)) (port_of c (suc q))) (sym named) joins0 in
@@ -122,7 +123,7 @@ module _ (says : Spelling) (n0 n : Network) (tree : List ℕ) (top other last ou
         ]
       where
         whole_at : (o : HeldBefore says n0 n top t.well t.left moved_top net0 w calm0 invariant0 late0 sound0 same w'
-            lost place a kept' s.clock q r) → Joins g (port_of out (suc p)) (port_of o.old.clock (suc q))
+            touch place a kept' s.clock q r) → Joins g (port_of out (suc p)) (port_of o.old.clock (suc q))
             → r.said.root ≡ best.identity → Whole g out r.said
         whole_at o over root =
             let came = sound0.stations o.i o.old o.at o.live q r o.holds in
@@ -174,14 +175,14 @@ module _ (says : Spelling) (n0 n : Network) (tree : List ℕ) (top other last ou
 
   held_sound : HeldIsSound g w'
   held_sound i s k r at live holds =
-      let o = held_before says n0 n top t.well t.left moved_top net0 w calm0 invariant0 late0 sound0 same w' lost place
+      let o = held_before says n0 n top t.well t.left moved_top net0 w calm0 invariant0 late0 sound0 same w' touch place
       a kept' i s k r at live holds in
       subst (λ c. CameSound g c (suc k) r) o.clock (sound0.stations o.i o.old o.at o.live k r o.holds)
 
   sound' : IsSoundOnLinks says g w'
   sound' = record {
     lanes = λ j l f c at among said joins. elim (flew says n0 n top t.well t.left moved_top net0 w calm0 invariant0
-        late0 sound0 same w' lost place a kept' j l f c at among said) [
+        late0 sound0 same w' touch place a kept' j l f c at among said) [
           | inl o ↦
               let is = sound0.lanes j o.l o.at f c o.among said in
               record {
@@ -208,11 +209,11 @@ module _ (says : Spelling) (n0 n : Network) (tree : List ℕ) (top other last ou
   tree_turns = record {
     back = record {
       after = after;
-      still = levels' says n0 n top t.well t.left moved_top net0 w calm0 invariant0 late0 sound0 same w' lost place a
+      still = levels' says n0 n top t.well t.left moved_top net0 w calm0 invariant0 late0 sound0 same w' touch place a
           kept';
       falling = falling_begins says n0 n (IsOf tree) (LeadsOut last out) top best best base depth
           (turns_moves g n tree top other last out best base depth t) net0 w calm0 invariant0 late0 came0 same w' in_top
-          answer lost refl lanes_so after dark' inward_so;
+          answer a.only lanes_so after dark' inward_so;
     };
     sound = sound';
   }
@@ -242,7 +243,7 @@ module _ (says : Spelling) (n0 n : Network) (tree : List ℕ) (top other last ou
         let (s, at, live, clock) = station_of g n t.well t.left w' after.kept after.fits.stations out lives in
         let apart : out ≢ top = λ is_top. t.outside (subst (λ c. In c tree) (sym is_top) in_top) in
         let stood = a.stood (n.place out) s at
-        (place_apart says n (Around (IsOf tree) (LeadsOut last out)) top lost place w w' a kept' (t.lives top in_top)
+        (place_apart says n (Around (IsOf tree) (LeadsOut last out)) top touch place w w' a kept' (t.lives top in_top)
         beside_so out s lives apart at) (beside out s (inr refl) at) in
         let one : rest.stand.u ≡ s =
         same_there w.stations (n.place out) rest.stand.u s
@@ -267,7 +268,7 @@ module _ (says : Spelling) (n0 n : Network) (tree : List ℕ) (top other last ou
   turn_settles over before times late = record {
     levels = settles_begin says n0 n (IsOf tree) (LeadsOut last out) top best best base depth
         (turns_moves g n tree top other last out best base depth t) net0 w calm0 invariant0 late0 came0 same w' in_top
-        answer lost refl lanes_so after dark' inward_so before
+        answer a.only lanes_so after dark' inward_so before
         (λ f. let room = times.room f in omega (arith, room, late));
     way = λ p k joins leads turned. absurd (not_turned p k joins leads turned);
   }

@@ -258,12 +258,35 @@ module _ (says : Spelling) (g : Snapshot) (n : Network) (tree : List ℕ) (top o
             (show_out says g n tree top other last out best base depth t start q p over_way leads (before o.d) wait w is
             has)) (settles.way q p over_way leads has) by_now
 
+<<<<<<< HEAD
+  -- within the tree
+  tree_link : (d v p u q : ℕ) → d < 255 → In v tree → In u tree → LeadsFarther n.graph d best v p u q
+      → LinkAtRest says (wiring n d best v p u q) w
+  tree_link d v p u q close in_v in_u leads =
+      let by_now = in_time d best v p u q leads in
+      let wait = delay says g n tree top other last out best base depth t start over before times d in
+      rests (before d) d best v p u q leads.joins (λ s at. tree_chooses d v s at in_v leads.here)
+      (ends_by g n m.well m.left (before d) d best v p u q leads.joins wait w is.back.after.kept
+      is.back.after.fits.stations
+      (show says g n (IsOf tree) (LeadsOut last out) top best best base depth m start before d v p u q close in_v in_u
+      leads wait w is.back.after is.back.falling (λ s pv at there not.
+      let chose = tree_chooses d v s at in_v leads.here in
+      let known_v = t.lives v in_v in
+      absurd (not (
+        (chose.root, chose.steps),
+        capable_at g n t.well t.left w is.back.after.kept is.back.after.fits.stations v p (port_of u (suc q)) s pv
+            known_v leads.joins at there,
+      )))
+      (inr (has_left says g n tree top other last out best base depth t start over before times w is u d in_u by_now))))
+      (settles.levels d v p u q close in_v in_u leads) by_now
+=======
     links : (d : ℕ) (c : System) (v p u q : ℕ) → d < 255 → LeadsFarther n.graph d c v p u q
         → LinkAtRest says (wiring n d c v p u q) w
     links d c v p u q close leads = by (in_dec v tree) (in_dec u tree)
       where
         back_over : Joins n.graph (port_of u (suc q)) (port_of v (suc p))
         back_over = Joins-sym n.graph (port_of v (suc p)) (port_of u (suc q)) leads.joins
+>>>>>>> w_line
 
         known_v : In v (clocks n.graph)
         known_v = Joins-clock n.graph (port_of v (suc p)) (port_of u (suc q)) t.well leads.joins

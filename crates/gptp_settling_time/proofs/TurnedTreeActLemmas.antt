@@ -54,6 +54,7 @@ use Rattle.gptp_bmca_machine.specs.TurnTree.{TurnsTree}
 use Rattle.gptp_bmca_machine.proofs.TurnLemmas.{TurnsBack}
 use Rattle.gptp_bmca_machine.proofs.TurnLevelLemmas.{TurnSettles}
 use Rattle.gptp_bmca_machine.proofs.TurnTreeLemmas.{beyond_out}
+use Rattle.gptp_bmca_machine.proofs.RestLemmas.{left_of}
 use Rattle.gptp_settling_time.specs.TreeLosses.{IsTurnedTree}
 use Rattle.gptp_settling_time.proofs.TreeEndLemmas.{TopAnswers, top_answers}
 use Rattle.gptp_settling_time.proofs.TreeTurnsLemmas.{tree_turns, turn_settles}
@@ -155,12 +156,18 @@ module _ (p : SettlingParams) (silent owner port : ℕ) (w : WorldState) (draws 
   turns =
       let less = less_then p w is acts.1.place channel here draws w' is' told seen near in
       record {
+<<<<<<< HEAD
+        well = stands_well w' is'.sound is'.between is'.encodable;
+        left = left_of (snapshot_of w) n (stands_well w is.sound is.between is.encodable) less.systems less.links;
+        stand = less.systems;
+=======
         well = well';
         left = record {
           graph = well;
           systems = less.systems;
           links = less.links;
         };
+>>>>>>> w_line
         lives = so.lives;
         was_best = so.was_best;
         is_best = so.is_best;
@@ -268,10 +275,10 @@ module _ (p : SettlingParams) (silent owner port : ℕ) (w : WorldState) (draws 
       (settles_by n w.time) (turn_times h n tree top other last out best base depth t w.time) (view w')) seen.graph
       (λ t near0 sound0 named0. (
         tree_turns says_announce seen.n n tree top other last out best base depth t so.in_top seen.net (view w)
-            seen.calm seen.invariant seen.late near0 sound0 named0 wired (view w') answers.lost answers.at
+            seen.calm seen.invariant seen.late near0 sound0 named0 wired (view w') answers.touch answers.at
             answers.answers (λ c m around at. beside_at kept' c m around at) kept' dark',
         turn_settles says_announce seen.n n tree top other last out best base depth t so.in_top seen.net (view w)
-            seen.calm seen.invariant seen.late near0 sound0 named0 wired (view w') answers.lost answers.at
+            seen.calm seen.invariant seen.late near0 sound0 named0 wired (view w') answers.touch answers.at
             answers.answers (λ c m around at. beside_at kept' c m around at) kept' dark' (fallen_by n w.time)
             (settles_by n w.time) (turn_times seen.n.graph n tree top other last out best base depth t w.time)
             (let time = answers.answers.time in omega (arith, time)),

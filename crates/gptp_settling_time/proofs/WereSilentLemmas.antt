@@ -19,7 +19,7 @@ use Rattle.gptp_model.specs.Acts.{Acts, at as at_time}
 use Rattle.gptp_model.specs.Changing.{GoesDownIf}
 use Rattle.gptp_model.specs.Course.{WasDone}
 use Rattle.gptp_model.specs.Views.{IsNextAct}
-use Rattle.gptp_model.specs.World.{Channel, WorldState, receiver, sender}
+use Rattle.gptp_model.specs.World.{WorldState, receiver, sender}
 use Rattle.gptp_model.specs.declared.done.Done.{Done}
 use Rattle.gptp_world.specs.Transitions.{ActTrace}
 use Rattle.gptp_network.specs.Document.{DocumentState}
@@ -30,17 +30,17 @@ use Rattle.gptp_invariants.specs.DelayLinkView.{LinkPlace}
 use Rattle.gptp_invariants.specs.DelayMeasured.{LinkIsMeasured}
 use Rattle.gptp_invariants.specs.FailedUnanswered.{StandsUnanswered}
 use Rattle.gptp_invariants.specs.WorldNews.{AreSilentBy, IsSilentBy}
-use Rattle.gptp_invariants.specs.WorldStanding.{channel_is_used, live_stations}
 use Rattle.gptp_invariants.proofs.WorldClaimLemmas.{claim_later}
 use Rattle.gptp_invariants.proofs.WorldNewsLemmas.{silent_from_now}
 use Rattle.gptp_invariants.proofs.WorldOutlineLemmas.{acts_time}
 use Rattle.gptp_theorem.proofs.CalmKeptLemmas.{no_change}
 use Rattle.gptp_theorem.specs.Reached.{StandsAsPlanned, channel_wire}
+use Rattle.gptp_settling_time.specs.InTurn.{AreUsedSince}
 use Rattle.gptp_settling_time.specs.Losses.{NoneSilent}
 use Rattle.gptp_settling_time.proofs.FailedAloneLemmas.{here_before, link_used, silent_still, stood_beside}
 use Rattle.gptp_settling_time.proofs.GainLemmas.{live_named, lives_so, used_as}
 use Rattle.gptp_settling_time.proofs.KeptToLemmas.{KeepsTo}
-use Rattle.gptp_settling_time.proofs.StaySilentLemmas.{AllStaySilent, silent_acts, silent_time}
+use Rattle.gptp_settling_time.proofs.StaySilentLemmas.{AllStaySilent, GoesSilent, WasUsedIn, silent_acts, silent_time}
 use Rattle.gptp_settling_time.proofs.TakenDownLemmas.{stay_down}
 
 -- the link at this place was in use after these events
@@ -151,22 +151,44 @@ module _ (n : NetworkState) (ago : List Timed) (w : WorldState) (draws : List Dr
       (stay_down (pace_of n) w is k.place k.channel k.is.here draws w' is'
       (subst (λ up. GoesDownIf up k.place k.channel (record w { last_change = w.time }) draws w') up k.so))
 
+-- something is taken away
+module _ (n : NetworkState) (ago made : List Timed) (less : AreUsedSince n ago made) (w w' : WorldState)
+    (later : w.time ≤ w'.time) (goes : (at : LinkPlace) → StandsUnanswered at w' → GoesSilent (pace_of n) at w w')
+    (used : (link : ℕ) → WasUsedIn w link → WasUsedAt n made link) where
+  pub were_lose : WereSilent n ago w → WereSilent n ago w'
+  were_lose were = record {
+    start = were.start;
+    over = let over = were.over in omega (arith, over, later);
+    each = λ at s. elim (goes at s) [
+      | inl any ↦ inl (any were.start)
+      | inr (inl stays) ↦
+          elim (were.each at stays.stood) [
+            | inl silent ↦ inl (stays.silent were.start silent)
+            | inr was ↦ inr was
+          ]
+      | inr (inr was) ↦
+          let x = used at.link was in
+          inr (record { spec = x.spec; there = x.there; used = less at.link x.spec x.there x.used })
+    ];
+  }
+
+-- what is in use in the world is so in the network
+pub used_then : (n : NetworkState) (made : List Timed) (w : WorldState) → IsWorld (pace_of n) w
+    → StandsAsPlanned n made w → (link : ℕ) → WasUsedIn w link → WasUsedAt n made link
+used_then n made w is stands link was =
+    let (v, there, same) = alike (link_after made) channel_wire n.links w.net.channels (sym stands.links) link
+    was.channel was.here in
+    record {
+      spec = v;
+      there = there;
+      used = subst (IsUsed n.systems made) (sym same) (used_as n made w stands is.sound was.channel was.used);
+    }
+
 -- a system fails, and that is the loss
 module _ (n : NetworkState) (made : List Timed) (number : ℕ) (w : WorldState) (draws : List Draw) (done : Done)
     (w' : WorldState) (is : IsWorld (pace_of n) w) (is' : IsWorld (pace_of n) w')
     (acts : Acts (Changing (Fail number)) w draws done w') (lives : acts.1.station.live ≡ true)
     (stands : StandsAsPlanned n made w) (quiet : HaveQuietLinks (pace_of n).params w) where
-  used_then : (link : ℕ) (channel : Channel) → slice_get w.net.channels link ≡ Some channel
-      → channel_is_used (live_stations w.stations) channel ≡ true → WasUsedAt n made link
-  used_then link channel here used =
-      let (v, there, same) = alike (link_after made) channel_wire n.links w.net.channels (sym stands.links) link channel
-      here in
-      record {
-        spec = v;
-        there = there;
-        used = subst (IsUsed n.systems made) (sym same) (used_as n made w stands is.sound channel used);
-      }
-
   pub were_failed : (start : ℕ) → start ≤ w.time → AreSilentBy (pace_of n) start w → WereSilent n made w'
   were_failed start over silent =
       let time = acts_time (Changing (Fail number)) w draws done w' acts in
@@ -175,9 +197,11 @@ module _ (n : NetworkState) (made : List Timed) (number : ℕ) (w : WorldState) 
         over = omega (arith, over, time);
         each = λ at s. elim (same_place at.answering acts.1.place) [
           | inl own ↦
-              inr (used_then at.link s.channel
-              (here_before (pace_of n) number w draws done w' is is' acts lives at s)
-              (link_used (pace_of n) number w draws done w' is is' acts lives at s own quiet))
+              inr (used_then n made w is stands at.link (record {
+                channel = s.channel;
+                here = here_before (pace_of n) number w draws done w' is is' acts lives at s;
+                used = link_used (pace_of n) number w draws done w' is is' acts lives at s own quiet;
+              }))
           | inr other ↦
               inl (silent_still (pace_of n) number w draws done w' is is' acts lives at s other start start
               (omega arith)

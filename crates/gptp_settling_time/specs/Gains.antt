@@ -83,6 +83,15 @@ ChangesNothing n events (Deliver link direction) = ⊥
 ChangesNothing n events (Expire number timer) = ⊥
 ChangesNothing n events (Changing change) = IsIdleAfter n events change
 
+-- The event leaves all as it stands: it changes nothing, and sets no priority1.
+abbrev pub Repeats : NetworkState → List Timed → Timed → Type 0
+Repeats n before event =
+    ChangesNothing n before event.act × ((number value : ℕ) → event.act ≡ Changing (Priority1 number value) → ⊥)
+
+-- so it does at the time of the event before
+abbrev pub RepeatsNow : NetworkState → List Timed → Timed → Type 0
+RepeatsNow n before event = Repeats n before event × (event.at ≡ last_change before)
+
 -- each event of a list takes nothing away, one after another
 abbrev pub AllTakeNothing : NetworkState → List Timed → List Timed → Type 0
 AllTakeNothing n before [] = ⊤

@@ -40,24 +40,24 @@ use Rattle.std.specs.Prelude.{◌≡◌, ◌<◌, ◌≤◌, ◌⊎◌, ◌+◌,
 use Rattle.gptp_lists.specs.Members.{In}
 use Rattle.gptp_setup.specs.Intervals.{interval_of}
 use Rattle.gptp_setup.specs.SettlingParams.{SettlingParams, largest_interval}
-use Rattle.gptp_scenario.specs.Calm.{IsCalm, IsLive, NothingLapses, last_change}
+use Rattle.gptp_scenario.specs.Calm.{IsCalm, NothingLapses, last_change}
 use Rattle.gptp_scenario.specs.Network.{NetworkState, pace_of}
 use Rattle.gptp_scenario.specs.SettlingAtOnce.{settling_span_at_once}
 use Rattle.gptp_scenario.specs.SettlingTime.{echo_span, loss_span, settling_span_with, silence_span, way_span}
 use Rattle.gptp_scenario.specs.SyncWait.{sync_paths}
 use Rattle.gptp_scenario.specs.declared.change.Act.{Act}
 use Rattle.gptp_scenario.specs.declared.change.Act.TheVariants.{Change as Changing}
-use Rattle.gptp_scenario.specs.declared.change.Change.TheVariants.{Fail, LinkDown, LinkUp}
+use Rattle.gptp_scenario.specs.declared.change.Change.TheVariants.{LinkDown, LinkUp}
 use Rattle.gptp_scenario.specs.declared.change.Timed.{Timed}
 use Rattle.gptp_scenario.specs.declared.sync_wait.SyncPaths.{SyncPaths}
 use Rattle.gptp_model.specs.World.{port_id}
 use Rattle.gptp_network.specs.Document.{DocumentState}
 use Rattle.gptp_network.specs.Snapshot.{events_by}
 use Rattle.gptp_settling_time.specs.Arrivals.{HasArrivedBy}
-use Rattle.gptp_settling_time.specs.Gains.{ChangesNothing, EndHasFailed, LeavesCapable, TakesNothing}
-use Rattle.gptp_settling_time.specs.InTurn.{AddsHeard, BettersClock, FlightIsGone, MakesNothing, NoneUsed, TellsNothing, UsedVaryLittle, WidensLink, turned_echo_span}
-use Rattle.gptp_settling_time.specs.Losses.{AgesWithin, CutsFarEnd, FailsFarEnd, FailsHeard, LeavesChoice, LosesAny, LowersLink, LowersUnused, NoneSilent, TurnsLink, UpIsUsed}
-use Rattle.gptp_settling_time.specs.TreeLosses.{FailsTrees, LowersTree, TurnsTreeLink}
+use Rattle.gptp_settling_time.specs.Gains.{ChangesNothing, EndHasFailed, LeavesCapable, Repeats, TakesNothing}
+use Rattle.gptp_settling_time.specs.InTurn.{AddsHeard, BettersClock, FlightIsGone, MakesNothing, NoneUsed, TakesAny, TellsNothing, UsedVaryLittle, WidensLink, turned_echo_span}
+use Rattle.gptp_settling_time.specs.Losses.{AgesWithin, CutsFarEnd, FailsFarEnd, FailsHeard, LeavesChoice, LosesAny, LowersLink, LowersUnused, MovesNoneInAll, NoneSilent, TurnsLink, UpIsUsed}
+use Rattle.gptp_settling_time.specs.TreeLosses.{FailsTrees, FallsTree, TurnsTreeLink}
 
 -- ---- times
 
@@ -103,6 +103,11 @@ IsHeardToo n next made event = AddsHeard n made event next ⊎ MakesNothing n ma
 abbrev pub IsGainToo : NetworkState → ℕ → List Timed → Timed → Type 0
 IsGainToo n next made event = IsGainEvent n next made event ⊎ MakesNothing n made event next
 
+-- Behind a failure of the same time: a link goes down that is up, and of which an end has failed; or all stays as it
+-- stands.
+abbrev pub IsDownToo : NetworkState → List Timed → Timed → Type 0
+IsDownToo n made event = LowersUnused n made event ⊎ Repeats n made event
+
 -- this is so of each of the events, by what stands just before it
 abbrev pub EachEvent : (List Timed → Timed → Type 0) → List Timed → List Timed → Type 0
 EachEvent Is made [] = ⊤
@@ -125,6 +130,24 @@ abbrev pub AfterIdleEvents : NetworkState → (List Timed → List Timed → Typ
 AfterIdleEvents n Are made [] = Are made []
 AfterIdleEvents n Are made (event ∷ events) =
     Are made (event ∷ events) ⊎ (IsIdleEvent n made event × AfterIdleEvents n Are (made ++ event ∷ []) events)
+
+-- What `Are` says is so of the first of the events, and the others repeat what stands then.
+abbrev pub BeforeRepeats : NetworkState → (List Timed → List Timed → Type 0) → List Timed → List Timed → Type 0
+BeforeRepeats n Are made events = (first : List Timed) × (others : List Timed) × (events ≡ first ++ others)
+    × EachEvent (Repeats n) (made ++ first) others
+    × Are made first
+
+-- So it is of those that are left behind the first ones, which make nothing of what stands. Or a link in use gets wider
+-- delays by the first event of all, in a calm network. It would have settled in time by these too: two more messages of
+-- it, and a way.
+abbrev pub BesideIdle : NetworkState → ℕ → ℕ → (List Timed → List Timed → Type 0) → List Timed → List Timed → Type 0
+BesideIdle n settled time Are made [] = ⊥
+BesideIdle n settled time Are made (event ∷ events) =
+    AfterIdleEvents n (BeforeRepeats n Are) made (event ∷ events)
+    ⊎ ((by : ℕ) × WidensLink n made event by
+    × (settled + 2 * by + way_span (sync_paths n (made ++ event ∷ [])) < time + way_span (sync_paths n made))
+    × IsCalm n (made ++ event ∷ [])
+    × AfterIdleEvents n (BeforeRepeats n Are) (made ++ event ∷ []) events)
 
 -- ---- sharp bounds
 
@@ -216,7 +239,15 @@ OneEvent Is made (event ∷ other ∷ events) = ⊥
 abbrev pub LowersOneLink : NetworkState → List Timed → List Timed → Type 0
 LowersOneLink n = OneEvent (LowersLink n)
 
--- and it so cuts off a far end
+-- By the first of them a link goes down, and no system is moved but such as are cut off. So it is of the others, or of
+-- their links an end has failed, or nothing is done.
+abbrev pub LowersLinks : NetworkState → List Timed → List Timed → Type 0
+LowersLinks n made [] = ⊥
+LowersLinks n made (event ∷ events) =
+    LowersLink n made event
+    × EachEvent (λ made event. IsDownToo n made event ⊎ LowersLink n made event) (made ++ event ∷ []) events
+
+-- and one so cuts off a far end
 abbrev pub CutsOneEnd : NetworkState → List Timed → List Timed → Type 0
 CutsOneEnd n = OneEvent (CutsFarEnd n)
 
@@ -225,11 +256,11 @@ abbrev pub TurnsOneLink : NetworkState → List Timed → List Timed → Type 0
 TurnsOneLink n = OneEvent (TurnsLink n)
 
 -- By the first of them a system fails that is the far end of each of its links. By the others links go down that are
--- up, and of which an end has failed.
+-- up, and of which an end has failed, or nothing is done.
 abbrev pub FailsEndFirst : NetworkState → List Timed → List Timed → Type 0
 FailsEndFirst n made [] = ⊥
 FailsEndFirst n made (event ∷ events) =
-    FailsFarEnd n made event × EachEvent (LowersUnused n) (made ++ event ∷ []) events
+    FailsFarEnd n made event × EachEvent (IsDownToo n) (made ++ event ∷ []) events
 
 -- how soon the roles stand after them
 abbrev pub RolesAfterFailure : NetworkState → List Timed → List Timed → ℕ → Type 0
@@ -237,11 +268,11 @@ RolesAfterFailure n made now roles =
     (NoneSilent n made (made ++ now) × (roles ≡ 0)) ⊎ (roles ≡ silence_span (pace_of n))
 
 -- By the first of them a system fails that others hear. By the others links go down that are up, and of which an end
--- has failed.
+-- has failed, or nothing is done.
 abbrev pub FailsHeardFirst : NetworkState → List Timed → List Timed → Type 0
 FailsHeardFirst n made [] = ⊥
 FailsHeardFirst n made (event ∷ events) =
-    FailsHeard n made event × EachEvent (LowersUnused n) (made ++ event ∷ []) events
+    FailsHeard n made event × EachEvent (IsDownToo n) (made ++ event ∷ []) events
 
 -- What others hold of it has aged so much later, or no port beside it is capable, whichever is sooner.
 abbrev pub HeldFor : NetworkState → List Timed → List Timed → ℕ → Type 0
@@ -271,10 +302,15 @@ AreLossEvents n made (event ∷ events) =
 abbrev pub LosesEvents : NetworkState → List Timed → List Timed → Type 0
 LosesEvents n = AfterIdleEvents n (AreLossEvents n)
 
--- by none of them a live system fails
-abbrev pub NoneFails : NetworkState → List Timed → List Timed → Type 0
-NoneFails n = EachEvent (λ made event. (number : ℕ) → event.act ≡ Changing (Fail number) → IsLive n.systems made number
-    → ⊥)
+-- behind an event that takes a system or a link away: another, or a link goes down of which an end has failed, or
+-- nothing is done
+abbrev pub IsTakenToo : NetworkState → List Timed → Timed → Type 0
+IsTakenToo n made event = TakesAny n made event ⊎ IsDownToo n made event
+
+-- the first of them takes a system or a link away, and the others are such
+abbrev pub TakesEvents : NetworkState → List Timed → List Timed → Type 0
+TakesEvents n made [] = ⊥
+TakesEvents n made (event ∷ events) = TakesAny n made event × EachEvent (IsTakenToo n) (made ++ event ∷ []) events
 
 -- the greatest delay of a link in use, before them or after them
 abbrev pub delay_between : NetworkState → List Timed → List Timed → ℕ
@@ -283,23 +319,23 @@ delay_between n made now = max (sync_paths n made).delay (sync_paths n (made ++ 
 -- after such a loss the roles stand so soon
 abbrev pub RolesAfterLoss : NetworkState → List Timed → List Timed → ℕ → ℕ → Type 0
 RolesAfterLoss n made now choice roles =
-    ((NoneFails n made now ⊎ UpIsUsed n (made ++ now)) × (roles ≡ choice))
+    (NoneSilent n made (made ++ now) × (roles ≡ choice))
     ⊎ (roles ≡ max choice (silence_span (pace_of n)))
 
 -- By the first of them a system fails, which so cuts trees off. By the others links go down that are up, and of which
--- an end has failed.
+-- an end has failed, or nothing is done.
 abbrev pub FailsTreesFirst : NetworkState → List Timed → List Timed → Type 0
 FailsTreesFirst n made [] = ⊥
 FailsTreesFirst n made (event ∷ events) =
-    FailsTrees n made event × EachEvent (LowersUnused n) (made ++ event ∷ []) events
+    FailsTrees n made event × EachEvent (IsDownToo n) (made ++ event ∷ []) events
 
 -- ---- what a loss asks for
 
--- After a link goes down by which no system is moved but such as are cut off, choice and roles stand at once; where it
+-- After links go down by which no system is moved but such as are cut off, choice and roles stand at once; where one
 -- cuts off its far end, as soon as where it moves one system.
 abbrev pub BoundsLowered : NetworkState → List Timed → List Timed → ℕ → ℕ → Type 0
 BoundsLowered n made now choice roles =
-    LowersOneLink n made now × (roles ≡ choice)
+    LowersLinks n made now × (roles ≡ choice)
     × ((choice ≡ 0) ⊎ (CutsOneEnd n made now × (choice ≡ 2 * way_span (sync_paths n (made ++ now)))))
 
 -- After a far end fails the choice stands at once. So do roles where no lost link is silent, as where it loses its
@@ -329,13 +365,21 @@ BoundsAnyLoss n made now choice roles =
     × (choice ≡ loss_span (pace_of n) (sync_paths n (made ++ now)) (delay_between n made now))
     × RolesAfterLoss n made now choice roles
 
+-- Where systems and links alone are taken away, no system is moved in all but such as are cut off, and no lost link is
+-- silent, choice and roles stand at once, whoever is moved between.
+abbrev pub BoundsTaken : NetworkState → List Timed → List Timed → ℕ → ℕ → Type 0
+BoundsTaken n made now choice roles =
+    TakesEvents n made now × MovesNoneInAll n made (made ++ now) × NoneSilent n made (made ++ now)
+    × (choice ≡ 0) × (roles ≡ 0)
+
 -- What the events of a time take away asks for so much: of the choice, and of the roles.
 abbrev pub BoundsLoss : NetworkState → List Timed → List Timed → ℕ → ℕ → Type 0
 BoundsLoss n made now choice roles =
     BoundsLowered n made now choice roles
     ⊎ (BoundsFailed n made now choice roles
     ⊎ (BoundsTurned n made now choice roles
-    ⊎ (BoundsHeard n made now choice roles ⊎ BoundsAnyLoss n made now choice roles)))
+    ⊎ (BoundsHeard n made now choice roles
+    ⊎ (BoundsAnyLoss n made now choice roles ⊎ BoundsTaken n made now choice roles))))
 
 -- The events of a time take something away, and ask for what `Asks` says. Nothing lapses for want of Sync. The network
 -- is calm, and the events come once the time before has come to rest, by one of its bounds.
@@ -345,8 +389,8 @@ LosesNext n events Then last time Asks =
     × NoneBetween events last time
     × IsCalm n (events_by time events)
     × NothingLapses n.params
-    × ((then : ℕ) × Then then × (last + then < time))
-    × Asks (events_by last events) (events_at time events)
+    × ((then : ℕ) × Then then × (last + then < time)
+    × BesideIdle n (last + then) time Asks (events_by last events) (events_at time events))
 
 -- What was sent until so much later than a time has arrived by another.
 abbrev pub HasArrivedNext : NetworkState → List Timed → ℕ → ℕ → ℕ → Type 0
@@ -367,12 +411,12 @@ TreeNext n Moves events Then last time Asks =
     × IsCalm n (events_by time events)
     × NothingLapses n.params
     × ComesAfterRest n events Then last time
-    × OneEvent Moves (events_by last events) (events_at time events)
+    × BeforeRepeats n (OneEvent Moves) (events_by last events) (events_at time events)
     × Asks (events_by time events)
 
--- a tree is cut off
+-- a tree falls back
 abbrev pub FallsNext : NetworkState → List Timed → (ℕ → Type 0) → ℕ → ℕ → (List Timed → Type 0) → Type 0
-FallsNext n = TreeNext n (LowersTree n)
+FallsNext n = TreeNext n (FallsTree n)
 
 -- a tree turns to its one way out
 abbrev pub TurnsNext : NetworkState → List Timed → (ℕ → Type 0) → ℕ → ℕ → (List Timed → Type 0) → Type 0
@@ -391,8 +435,8 @@ SplitsNext n events Then last time Asks =
     × IsCalm n (events_by time events)
     × NothingLapses n.params
     × ComesAfterRest n events Then last time
-    × FailsTreesFirst n (events_by last events) (events_at time events)
-    × Asks (events_by last events) (events_at time events)
+    × BeforeRepeats n (λ made now. FailsTreesFirst n made now × Asks made now) (events_by last events)
+    (events_at time events)
 
 -- Each tree drops the best of before within a way, once nothing is held of the failed system, and settles within
 -- another.
@@ -445,6 +489,14 @@ abbrev pub RestsTree : NetworkState → ℕ → List Timed → Type 0
 RestsTree n rest events =
     (gone : ℕ) × FlightIsGone n events gone × (rest ≡ max (2 * way_span (sync_paths n events)) gone)
 
+-- After trees were cut off, as a system failed, it has come to rest once right traces have been told by distance since
+-- they settled, and what was in flight is gone. Roles have to stand too.
+abbrev pub RestsSplit : NetworkState → ℕ → List Timed → List Timed → Type 0
+RestsSplit n rest made now =
+    (choice : ℕ) × (roles : ℕ) × BoundsSplit n choice roles made now
+    × (max roles (choice + max (echo_span (pace_of n) (sync_paths n (made ++ now))) (largest_interval (pace_of n)))
+    ≤ rest)
+
 -- By so much later than a time the network has come to rest, by the times before it, the latest first: it has settled,
 -- and nothing that is held, or in flight, names what is gone. The first time of all is 0. After a tree has turned right
 -- traces have to be told anew, as where one system is moved.
@@ -455,8 +507,10 @@ IsRestBoundAfter n events (last ∷ earlier) time rest =
     ⊎ (LosesNext n events (λ then. IsRestBoundAfter n events earlier last then) last time
     (λ made now. RestsAfterLoss n made now rest)
     ⊎ (FallsNext n events (λ then. IsRestBoundAfter n events earlier last then) last time (RestsTree n rest)
-    ⊎ TurnsNext n events (λ then. IsRestBoundAfter n events earlier last then) last time
-    (λ all. rest ≡ turned_echo_span n all)))
+    ⊎ (TurnsNext n events (λ then. IsRestBoundAfter n events earlier last then) last time
+    (λ all. rest ≡ turned_echo_span n all)
+    ⊎ SplitsNext n events (λ then. IsRestBoundAfter n events earlier last then) last time
+    (λ made now. RestsSplit n rest made now))))
 
 -- ---- bounds
 

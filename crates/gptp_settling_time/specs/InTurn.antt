@@ -22,7 +22,9 @@
 --   network has come to rest, as if all had been heard, once right traces have been told by distance since, what was in
 --   flight is gone, and ports without a link aren't capable.
 -- - Split: a system failed that others heard, and so cut trees off. What they hold of it goes. The network settles
---   twice the greatest delay for each system of a path but one later, once ports without a link aren't capable.
+--   twice the greatest delay for each system of a path but one later, once ports without a link aren't capable. It has
+--   come to rest, as if all had been heard, once right traces have been told by distance since and what was in flight
+--   is gone, if nothing has changed since the system failed.
 -- - Lost: anything was taken away at one time, whatever was moved. The network settles as one that has gained, once all
 --   that is held is told by live systems over links in use. It has come to rest then, as if all had been heard.
 --
@@ -48,7 +50,7 @@ use Rattle.gptp_lists.specs.Members.{In}
 use Rattle.gptp_vector.specs.declared.port.PortId.{PortId}
 use Rattle.gptp_links.specs.declared.bounds.Bounds.{Bounds}
 use Rattle.gptp_setup.specs.SettlingParams.{largest_interval}
-use Rattle.gptp_scenario.specs.Calm.{IsCalm, IsUsed, NothingLapses, last_change}
+use Rattle.gptp_scenario.specs.Calm.{IsCalm, IsLive, IsUsed, NothingLapses, last_change}
 use Rattle.gptp_scenario.specs.Change.{link_after}
 use Rattle.gptp_scenario.specs.Network.{IsEnd, NetworkState, pace_of}
 use Rattle.gptp_scenario.specs.SettlingAtOnce.{settling_span_at_once}
@@ -68,9 +70,9 @@ use Rattle.gptp_settling_time.specs.Arrivals.{HasArrivedBy}
 use Rattle.gptp_settling_time.specs.ChoiceAlone.{ChoiceStandsAs}
 use Rattle.gptp_settling_time.specs.Documents.{IsSettledAs}
 use Rattle.gptp_settling_time.specs.Exactly.{SettlesBy}
-use Rattle.gptp_settling_time.specs.Gains.{AreCapableAnyway, AreCapableNext, AreCapableStill, ChangesNothing, EndHasFailed, HasRested, IsDownAfter, IsNoWorse, JoinsLive, LeavesCapable, TakesNothing, UsesNoLink, exchanged_from}
-use Rattle.gptp_settling_time.specs.Losses.{AgesWithin, AreSilentAfter, CutsFarEnd, FailsFarEnd, FailsHeard, LeavesChoice, LosesAny, LowersLink, LowersUnused, NoneSilent, TurnsLink, UpIsUsed}
-use Rattle.gptp_settling_time.specs.TreeLosses.{FailsTrees, LowersTree, TurnsTreeLink}
+use Rattle.gptp_settling_time.specs.Gains.{AreCapableAnyway, AreCapableNext, AreCapableStill, ChangesNothing, EndHasFailed, HasRested, IsDownAfter, IsNoWorse, JoinsLive, LeavesCapable, RepeatsNow, TakesNothing, UsesNoLink, exchanged_from}
+use Rattle.gptp_settling_time.specs.Losses.{AgesWithin, AreSilentAfter, CutsFarEnd, FailsFarEnd, FailsHeard, LeavesChoice, LosesAny, LowersLink, LowersUnused, MovesNoneInAll, NoneSilent, TurnsLink, UpIsUsed}
+use Rattle.gptp_settling_time.specs.TreeLosses.{FailsTrees, FallsTree, TurnsTreeLink}
 
 -- What a network came from. The numbers are times, but for the second of a loss.
 pub data Past : Type 0 where
@@ -92,9 +94,11 @@ pub data Past : Type 0 where
   -- from the first on what is held of the failed system is gone; from the second on ports without a link aren't capable
   Aging : List Timed → ℕ → ℕ → Past
   Split : List Timed → ℕ → ℕ → Past
-  -- at the first something was taken away; what was in flight is gone so much later as the second says; from the third
-  -- on ports without a link aren't capable
-  Lost : ℕ → ℕ → ℕ → Past
+  -- At the first time something was taken away from what had settled after the first events; what was in flight is gone
+  -- so much later as the second says; from the third on ports without a link aren't capable.
+  Lost : List Timed → ℕ → ℕ → ℕ → Past
+  -- So it is here, where systems and links alone are taken away.
+  Fewer : List Timed → ℕ → ℕ → ℕ → Past
 
 -- ---- events at time 0
 
@@ -232,9 +236,9 @@ pub record TurnsCalm (n : NetworkState) (before : List Timed) (event : Timed) : 
   pub calm : IsCalm n before
   pub off : NothingLapses n.params
 
--- a link goes down that so cuts a tree off, in such a network
+-- a tree so falls back, in such a network
 pub record FallsCalm (n : NetworkState) (before : List Timed) (event : Timed) : Type 0 where
-  pub lowers : LowersTree n before event
+  pub falls : FallsTree n before event
   pub calm : IsCalm n before
   pub off : NothingLapses n.params
 
@@ -255,6 +259,17 @@ pub record LowersUnusedCalm (n : NetworkState) (before : List Timed) (event : Ti
   pub lowers : LowersUnused n before event
   pub calm : IsCalm n before
   pub off : NothingLapses n.params
+
+-- so it does, or all stays as it stands
+abbrev pub IsDownNow : NetworkState → List Timed → Timed → Type 0
+IsDownNow n before event = LowersUnusedCalm n before event ⊎ RepeatsNow n before event
+
+-- So it does where another link goes down by which no system is moved but such as are cut off. All that lived before the
+-- loss do, and ports without a link aren't capable any more.
+pub record LowersToo (n : NetworkState) (ago before : List Timed) (event : Timed) (silent : ℕ) : Type 0 where
+  pub lowers : LowersCalm n before event
+  pub lives : (number : ℕ) → IsLive n.systems ago number → IsLive n.systems before number
+  pub past : silent ≤ event.at
 
 -- A link goes down, or a far end fails, and the choice stands. Ports without a link aren't capable from the next time
 -- on. After a link that is the time before. After a system that fails it is when too many of their requests are lost.
@@ -361,7 +376,8 @@ LeadsToGain n before (TurnedTree silent time) event next = ⊥
 LeadsToGain n before (Cleared ago since silent right old) event next = ⊥
 LeadsToGain n before (Aging ago aged silent) event next = ⊥
 LeadsToGain n before (Split ago gone silent) event next = ⊥
-LeadsToGain n before (Lost since most silent) event next = ⊥
+LeadsToGain n before (Lost ago since most silent) event next = ⊥
+LeadsToGain n before (Fewer ago since most silent) event next = ⊥
 
 abbrev pub LeadsToHeard : NetworkState → List Timed → Past → Timed → ℕ → Type 0
 LeadsToHeard n before AnyPast event next =
@@ -388,7 +404,8 @@ LeadsToHeard n before (TurnedTree silent time) event next = ⊥
 LeadsToHeard n before (Cleared ago since silent right old) event next = ⊥
 LeadsToHeard n before (Aging ago aged silent) event next = ⊥
 LeadsToHeard n before (Split ago gone silent) event next = ⊥
-LeadsToHeard n before (Lost since most silent) event next = ⊥
+LeadsToHeard n before (Lost ago since most silent) event next = ⊥
+LeadsToHeard n before (Fewer ago since most silent) event next = ⊥
 
 -- a network that had settled is left so
 abbrev pub LeadsToLeft : NetworkState → List Timed → Past → Timed → List Timed → ℕ → Type 0
@@ -401,14 +418,15 @@ LeadsToLeft n before (Gained start) event ago next =
 LeadsToLeft n before (Heard start) event ago next =
     HasSettledHeard n before start event.at × (ago ≡ before) × LeavesStanding n before event start next
 LeadsToLeft n before (Left old silent) event ago next =
-    LowersUnusedCalm n before event × (ago ≡ old) × (next ≡ silent)
+    (IsDownNow n before event ⊎ LowersToo n old before event silent) × (ago ≡ old) × (next ≡ silent)
 LeadsToLeft n before (Turned silent time) event ago next = ⊥
 LeadsToLeft n before (Fallen silent time) event ago next = ⊥
 LeadsToLeft n before (TurnedTree silent time) event ago next = ⊥
 LeadsToLeft n before (Cleared made since silent right old) event ago next = ⊥
 LeadsToLeft n before (Aging old aged silent) event ago next = ⊥
 LeadsToLeft n before (Split old gone silent) event ago next = ⊥
-LeadsToLeft n before (Lost since most silent) event ago next = ⊥
+LeadsToLeft n before (Lost old since most silent) event ago next = ⊥
+LeadsToLeft n before (Fewer old since most silent) event ago next = ⊥
 
 -- in a network that had settled a system turns by it now
 abbrev pub TurnsNow : NetworkState → List Timed → Timed → ℕ → ℕ → ℕ → Type 0
@@ -424,13 +442,15 @@ LeadsToTurned n before (Gained start) event silent time =
 LeadsToTurned n before (Heard start) event silent time =
     HasSettledHeard n before start event.at × TurnsNow n before event start silent time
 LeadsToTurned n before (Left ago start) event silent time = ⊥
-LeadsToTurned n before (Turned start now) event silent time = ⊥
+LeadsToTurned n before (Turned start now) event silent time =
+    RepeatsNow n before event × (silent ≡ start) × (time ≡ now)
 LeadsToTurned n before (Fallen start now) event silent time = ⊥
 LeadsToTurned n before (TurnedTree start now) event silent time = ⊥
 LeadsToTurned n before (Cleared ago since start right old) event silent time = ⊥
 LeadsToTurned n before (Aging ago aged start) event silent time = ⊥
 LeadsToTurned n before (Split ago gone start) event silent time = ⊥
-LeadsToTurned n before (Lost since most start) event silent time = ⊥
+LeadsToTurned n before (Lost ago since most start) event silent time = ⊥
+LeadsToTurned n before (Fewer ago since most start) event silent time = ⊥
 
 -- In a network whose choice stands a tree is so moved by it now. What was sent before the choice stood has arrived.
 abbrev pub TreeNow : NetworkState → List Timed → Timed → Type 0 → ℕ → ℕ → ℕ → ℕ → Type 0
@@ -465,13 +485,14 @@ LeadsToCleared n before (Turned start now) event ago since silent right old = �
 LeadsToCleared n before (Fallen start now) event ago since silent right old = ⊥
 LeadsToCleared n before (TurnedTree start now) event ago since silent right old = ⊥
 LeadsToCleared n before (Cleared made start dark clean last) event ago since silent right old =
-    LowersUnusedCalm n before event × (clean ≤ event.at) × (ago ≡ made)
+    ((LowersUnusedCalm n before event × (clean ≤ event.at)) ⊎ RepeatsNow n before event) × (ago ≡ made)
     × ((since ≡ start) × (silent ≡ dark) × (right ≡ clean) × (old ≡ last))
 LeadsToCleared n before (Aging made aged dark) event ago since silent right old =
-    LowersUnusedCalm n before event × (ago ≡ made) × (silent ≡ dark)
+    IsDownNow n before event × (ago ≡ made) × (silent ≡ dark)
     × TellsAnew n (before ++ event ∷ []) event.at since right old
 LeadsToCleared n before (Split made gone dark) event ago since silent right old = ⊥
-LeadsToCleared n before (Lost start most dark) event ago since silent right old = ⊥
+LeadsToCleared n before (Lost made start most dark) event ago since silent right old = ⊥
+LeadsToCleared n before (Fewer made start most dark) event ago since silent right old = ⊥
 
 -- Where a silent link goes down too what came over it is gone. So all has aged sooner by these events, if others were
 -- faster. Ports beside the system are off by a time that says when it failed.
@@ -496,10 +517,17 @@ LeadsToAging n before (Fallen start now) event ago aged silent = ⊥
 LeadsToAging n before (TurnedTree start now) event ago aged silent = ⊥
 LeadsToAging n before (Cleared made since start right old) event ago aged silent = ⊥
 LeadsToAging n before (Aging old gone start) event ago aged silent =
-    LowersUnusedCalm n before event × (ago ≡ old) × (silent ≡ start)
+    IsDownNow n before event × (ago ≡ old) × (silent ≡ start)
     × ((aged ≡ gone) ⊎ AgesSooner n old (before ++ event ∷ []) aged start)
 LeadsToAging n before (Split old gone start) event ago aged silent = ⊥
-LeadsToAging n before (Lost since most start) event ago aged silent = ⊥
+LeadsToAging n before (Lost old since most start) event ago aged silent = ⊥
+LeadsToAging n before (Fewer old since most start) event ago aged silent = ⊥
+
+-- a link in use after these events was in use after those
+abbrev pub AreUsedSince : NetworkState → List Timed → List Timed → Type 0
+AreUsedSince n ago events = (place : ℕ) (v : LinkSpec) → slice_get n.links place ≡ Some v
+    → IsUsed n.systems events (link_after events v)
+    → IsUsed n.systems ago (link_after ago v)
 
 -- In a network that had settled something is taken away now. What is in flight comes within a greatest delay.
 pub record LosesNow (n : NetworkState) (before : List Timed) (event : Timed) (since most silent : ℕ) : Type 0 where
@@ -516,23 +544,61 @@ pub record LosesMore (n : NetworkState) (before : List Timed) (event : Timed) (s
       ⊎ MakesNothing n before event since
   pub now : event.at ≡ since
 
-abbrev pub LeadsToLost : NetworkState → List Timed → Past → Timed → ℕ → ℕ → ℕ → Type 0
-LeadsToLost n before AnyPast event since most silent =
-    HasSettledAnyhow n before event.at × LosesNow n before event since most silent
-LeadsToLost n before Starting event since most silent = ⊥
-LeadsToLost n before (Gained start) event since most silent =
-    HasSettledSince n before start event.at × LosesNow n before event since most silent
-LeadsToLost n before (Heard start) event since most silent =
-    HasSettledHeard n before start event.at × LosesNow n before event since most silent
-LeadsToLost n before (Left ago start) event since most silent = ⊥
-LeadsToLost n before (Turned start now) event since most silent = ⊥
-LeadsToLost n before (Fallen start now) event since most silent = ⊥
-LeadsToLost n before (TurnedTree start now) event since most silent = ⊥
-LeadsToLost n before (Cleared ago begun start right old) event since most silent = ⊥
-LeadsToLost n before (Aging ago aged start) event since most silent = ⊥
-LeadsToLost n before (Split ago gone start) event since most silent = ⊥
-LeadsToLost n before (Lost begun delay start) event since most silent =
-    LosesMore n before event since silent × (since ≡ begun) × (most ≡ delay) × (silent ≡ start)
+abbrev pub LeadsToLost : NetworkState → List Timed → Past → Timed → List Timed → ℕ → ℕ → ℕ → Type 0
+LeadsToLost n before AnyPast event ago since most silent =
+    HasSettledAnyhow n before event.at × AreUsedSince n ago before × LosesNow n before event since most silent
+LeadsToLost n before Starting event ago since most silent = ⊥
+LeadsToLost n before (Gained start) event ago since most silent =
+    HasSettledSince n before start event.at × AreUsedSince n ago before × LosesNow n before event since most silent
+LeadsToLost n before (Heard start) event ago since most silent =
+    HasSettledHeard n before start event.at × AreUsedSince n ago before × LosesNow n before event since most silent
+LeadsToLost n before (Left old start) event ago since most silent = ⊥
+LeadsToLost n before (Turned start now) event ago since most silent = ⊥
+LeadsToLost n before (Fallen start now) event ago since most silent = ⊥
+LeadsToLost n before (TurnedTree start now) event ago since most silent = ⊥
+LeadsToLost n before (Cleared made begun start right old) event ago since most silent = ⊥
+LeadsToLost n before (Aging old aged start) event ago since most silent = ⊥
+LeadsToLost n before (Split old gone start) event ago since most silent = ⊥
+LeadsToLost n before (Lost old begun delay start) event ago since most silent =
+    (LosesMore n before event since silent ⊎ RepeatsNow n before event) × (ago ≡ old) × (since ≡ begun)
+    × (most ≡ delay) × (silent ≡ start)
+LeadsToLost n before (Fewer old begun delay start) event ago since most silent = ⊥
+
+-- a system or a link is taken away
+abbrev pub TakesAny : NetworkState → List Timed → Timed → Type 0
+TakesAny n before event =
+    LosesAny n before event.act × ((number value : ℕ) → event.act ≡ Changing (Priority1 number value) → ⊥)
+
+-- in a network that had settled a system or a link is taken away now
+abbrev pub TakesNow : NetworkState → List Timed → Timed → List Timed → ℕ → ℕ → ℕ → Type 0
+TakesNow n before event ago since most silent =
+    (ago ≡ before) × LosesNow n before event since most silent × TakesAny n before event × (since < silent)
+
+-- At that time more may be, a link may go down of which an end has failed, and events come that change nothing.
+abbrev pub TakesMore : NetworkState → List Timed → Timed → ℕ → ℕ → Type 0
+TakesMore n before event since silent =
+    ((event.at ≡ since)
+    × ((TakesAny n before event × AreSilentAfter (pace_of n) event.at silent event.act) ⊎ LowersUnused n before event))
+    ⊎ RepeatsNow n before event
+
+abbrev pub LeadsToFewer : NetworkState → List Timed → Past → Timed → List Timed → ℕ → ℕ → ℕ → Type 0
+LeadsToFewer n before AnyPast event ago since most silent =
+    HasSettledAnyhow n before event.at × TakesNow n before event ago since most silent
+LeadsToFewer n before Starting event ago since most silent = ⊥
+LeadsToFewer n before (Gained start) event ago since most silent =
+    HasSettledSince n before start event.at × TakesNow n before event ago since most silent
+LeadsToFewer n before (Heard start) event ago since most silent =
+    HasSettledHeard n before start event.at × TakesNow n before event ago since most silent
+LeadsToFewer n before (Left old start) event ago since most silent = ⊥
+LeadsToFewer n before (Turned start now) event ago since most silent = ⊥
+LeadsToFewer n before (Fallen start now) event ago since most silent = ⊥
+LeadsToFewer n before (TurnedTree start now) event ago since most silent = ⊥
+LeadsToFewer n before (Cleared made begun start right old) event ago since most silent = ⊥
+LeadsToFewer n before (Aging old aged start) event ago since most silent = ⊥
+LeadsToFewer n before (Split old gone start) event ago since most silent = ⊥
+LeadsToFewer n before (Lost old begun delay start) event ago since most silent = ⊥
+LeadsToFewer n before (Fewer old begun delay start) event ago since most silent =
+    TakesMore n before event since silent × (ago ≡ old) × (since ≡ begun) × (most ≡ delay) × (silent ≡ start)
 
 -- What others hold of a system that failed at this time is gone by another: it has aged within a span, or the ports
 -- beside the system aren't capable from then on.
@@ -569,11 +635,12 @@ LeadsToSplit n before (TurnedTree start now) event ago gone silent = ⊥
 LeadsToSplit n before (Cleared made since start right old) event ago gone silent = ⊥
 LeadsToSplit n before (Aging old aged start) event ago gone silent = ⊥
 LeadsToSplit n before (Split old was start) event ago gone silent =
-    LowersUnusedCalm n before event × (ago ≡ old) × (silent ≡ start)
+    IsDownNow n before event × (ago ≡ old) × (silent ≡ start)
     × ((gone ≡ was)
     ⊎ ((start ≡ suc (event.at + silence_span (pace_of n)))
     × IsGoneBy n old (before ++ event ∷ []) event.at gone))
-LeadsToSplit n before (Lost since most start) event ago gone silent = ⊥
+LeadsToSplit n before (Lost old since most start) event ago gone silent = ⊥
+LeadsToSplit n before (Fewer old since most start) event ago gone silent = ⊥
 
 -- from a gain, and from what is heard, the start stays
 abbrev pub StaysFrom : Past → ℕ → Type 0
@@ -588,7 +655,8 @@ StaysFrom (TurnedTree silent time) next = ⊥
 StaysFrom (Cleared ago since silent right old) next = ⊥
 StaysFrom (Aging ago aged silent) next = ⊥
 StaysFrom (Split ago gone silent) next = ⊥
-StaysFrom (Lost since most silent) next = ⊥
+StaysFrom (Lost ago since most silent) next = ⊥
+StaysFrom (Fewer ago since most silent) next = ⊥
 
 -- nothing is told as the network starts, and this is the last event then
 abbrev pub StartsFrom : NetworkState → List Timed → Past → Timed → ℕ → Type 0
@@ -603,7 +671,8 @@ StartsFrom n before (TurnedTree silent time) event next = ⊥
 StartsFrom n before (Cleared ago since silent right old) event next = ⊥
 StartsFrom n before (Aging ago aged silent) event next = ⊥
 StartsFrom n before (Split ago gone silent) event next = ⊥
-StartsFrom n before (Lost since most silent) event next = ⊥
+StartsFrom n before (Lost ago since most silent) event next = ⊥
+StartsFrom n before (Fewer ago since most silent) event next = ⊥
 
 -- nothing is told as the network starts, nor after this event
 abbrev pub StartsStill : Past → Timed → Type 0
@@ -618,7 +687,8 @@ StartsStill (TurnedTree silent time) event = ⊥
 StartsStill (Cleared ago since silent right old) event = ⊥
 StartsStill (Aging ago aged silent) event = ⊥
 StartsStill (Split ago gone silent) event = ⊥
-StartsStill (Lost since most silent) event = ⊥
+StartsStill (Lost ago since most silent) event = ⊥
+StartsStill (Fewer ago since most silent) event = ⊥
 
 abbrev pub EventLeads : NetworkState → List Timed → Past → Timed → Past → Type 0
 EventLeads n before past event AnyPast = ⊤
@@ -631,19 +701,24 @@ EventLeads n before past event (Left ago next) = LeadsToLeft n before past event
 EventLeads n before past event (Turned silent time) = LeadsToTurned n before past event silent time
 EventLeads n before past event (Fallen silent time) =
     LeadsByTree n before past event (FallsCalm n before event) silent time
+    ⊎ (RepeatsNow n before event × (past ≡ Fallen silent time))
 EventLeads n before past event (TurnedTree silent time) =
     LeadsByTree n before past event (TurnsTreeCalm n before event) silent time
+    ⊎ (RepeatsNow n before event × (past ≡ TurnedTree silent time))
 EventLeads n before past event (Cleared ago since silent right old) =
     LeadsToCleared n before past event ago since silent right old
 EventLeads n before past event (Aging ago aged silent) = LeadsToAging n before past event ago aged silent
 EventLeads n before past event (Split ago gone silent) = LeadsToSplit n before past event ago gone silent
-EventLeads n before past event (Lost since most silent) = LeadsToLost n before past event since most silent
+EventLeads n before past event (Lost ago since most silent) =
+    LeadsToLost n before past event ago since most silent
+EventLeads n before past event (Fewer ago since most silent) =
+    LeadsToFewer n before past event ago since most silent
 
 -- ---- rest
 
 -- A cleared network has come to rest by a time, as one whose ports are capable from a start on. What was in flight is
--- gone. Ports without a link aren't capable any more, or no lost link is silent. And the greatest delay has passed since
--- the start for each system of a path but one.
+-- gone. Ports without a link aren't capable any more, or no lost link is silent. And the greatest delay has passed
+-- since the start for each system of a path but one.
 pub record HasCleared (n : NetworkState) (ago events : List Timed) (since silent old start time : ℕ) : Type 0 where
   pub calm : IsCalm n events
   pub off : NothingLapses n.params
@@ -697,13 +772,28 @@ pub record HasFallenBack (n : NetworkState) (events : List Timed) (fallen start 
   pub gone : fallen + flight < time
   pub over : HasSettledHeard n events start time
 
+-- A network from which trees were cut off, as a system failed, has come to rest by a time, as one whose ports are
+-- capable from a start on. Nothing has changed since. What others held of it was gone by a moment, and a way later, by
+-- that start, the trees had dropped the best of before. They settled within another way. Right traces have been told by
+-- distance since, and what was in flight is gone. Ports without a link aren't capable any more, or no lost link is
+-- silent. And the greatest delay has passed since the start for each system of a path but one.
+pub record HasToldApart (n : NetworkState) (ago events : List Timed) (gone silent start time : ℕ) : Type 0 where
+  pub calm : IsCalm n events
+  pub off : NothingLapses n.params
+  pub since : silent ≡ suc (last_change events + silence_span (pace_of n))
+  pub told : gone + 2 * way_span (sync_paths n events) + nearer_echo_span n events + largest_interval (pace_of n)
+      ≤ time
+  pub later : gone + way_span (sync_paths n events) ≤ start
+  pub unlinked : (silent ≤ time) ⊎ NoneSilent n ago events
+  pub over : HasSettledHeard n events start time
+
 -- A network that has lost at a time has come to rest by another, as one whose ports are capable from a start on. The
 -- greatest delay has passed since the start for each system of a path but one, and by then the choice stands. Ports
--- without a link aren't capable by the other time, or no link is up that isn't in use.
-pub record HasToldAll (n : NetworkState) (events : List Timed) (since most silent start time : ℕ) : Type 0 where
+-- without a link aren't capable by the other time, or no lost link is silent.
+pub record HasToldAll (n : NetworkState) (ago events : List Timed) (since most silent start time : ℕ) : Type 0 where
   pub off : NothingLapses n.params
   pub later : since + loss_span (pace_of n) (sync_paths n events) most < start + way_span (sync_paths n events)
-  pub unlinked : (silent ≤ time) ⊎ UpIsUsed n events
+  pub unlinked : (silent ≤ time) ⊎ NoneSilent n ago events
   pub over : HasSettledHeard n events start time
 
 -- By this time it has come to rest, as one whose ports are capable from this start on. A tree that turned had dropped
@@ -715,7 +805,8 @@ RestsFrom n events (TurnedTree silent turned) time start =
     HasToldAnew n events turned start time × (turned + way_span (sync_paths n events) < start)
 RestsFrom n events (Cleared ago since silent right old) time start = HasCleared n ago events since silent old start time
 RestsFrom n events (Aging ago aged silent) time start = HasAged n events aged silent start time
-RestsFrom n events (Lost since most silent) time start = HasToldAll n events since most silent start time
+RestsFrom n events (Split ago gone silent) time start = HasToldApart n ago events gone silent start time
+RestsFrom n events (Lost ago since most silent) time start = HasToldAll n ago events since most silent start time
 RestsFrom n events past time start = ⊥
 
 -- What the network is taken to come from as an event comes at this time: what it came from, or, once it has come to
@@ -747,7 +838,8 @@ BeginsBy n (TurnedTree silent time) = ⊥
 BeginsBy n (Cleared ago since silent right old) = ⊥
 BeginsBy n (Aging ago aged silent) = ⊥
 BeginsBy n (Split ago gone silent) = ⊥
-BeginsBy n (Lost since most silent) = ⊥
+BeginsBy n (Lost ago since most silent) = ⊥
+BeginsBy n (Fewer ago since most silent) = ⊥
 
 -- By this time a calm network has settled after these events. From any past the span has to pass, the sharper one where
 -- nothing lapses. Else ports become capable; then an announce interval passes where something may not be heard; and
@@ -783,10 +875,12 @@ SettlesAfter n events (Split ago gone silent) settled =
     NothingLapses n.params
     × (gone + 2 * way_span (sync_paths n events) ≤ settled)
     × ((silent ≤ settled) ⊎ NoneSilent n ago events)
-SettlesAfter n events (Lost since most silent) settled =
+SettlesAfter n events (Lost ago since most silent) settled =
     NothingLapses n.params
     × (suc (since + loss_span (pace_of n) (sync_paths n events) most) ≤ settled)
-    × ((silent ≤ settled) ⊎ UpIsUsed n events)
+    × ((silent ≤ settled) ⊎ NoneSilent n ago events)
+SettlesAfter n events (Fewer ago since most silent) settled =
+    NothingLapses n.params × MovesNoneInAll n ago events × NoneSilent n ago events
 
 -- By this time the choice stands after these events: as soon as it has settled, and at once in a network that is left.
 -- Where something ages it does once that is gone.
@@ -804,8 +898,10 @@ ChoosesAfter n events (Aging ago aged silent) settled =
     NothingLapses n.params × ((aged ≤ settled) ⊎ ((silent ≤ settled) ⊎ NoneSilent n ago events))
 ChoosesAfter n events (Split ago gone silent) settled =
     NothingLapses n.params × (gone + 2 * way_span (sync_paths n events) ≤ settled)
-ChoosesAfter n events (Lost since most silent) settled =
+ChoosesAfter n events (Lost ago since most silent) settled =
     NothingLapses n.params × (suc (since + loss_span (pace_of n) (sync_paths n events) most) ≤ settled)
+ChoosesAfter n events (Fewer ago since most silent) settled =
+    NothingLapses n.params × MovesNoneInAll n ago events × NoneSilent n ago events
 
 -- By a time a document has settled, or its choice stands, as `So` says of what it came from: each of its events up to
 -- another time leads from one past to the next.

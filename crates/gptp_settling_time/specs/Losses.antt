@@ -53,6 +53,14 @@ MovesNoneJoined n before event = (g g' : Snapshot) (v : ℕ) → StandsAfter n b
     → StandsAfter n (before ++ event ∷ []) g' → In v (clocks g')
     → IsUnmovedOrCutOff g g' v
 
+-- After more events no system is moved in all but such as are cut off from all others. The greatest delay of a link in
+-- use gets no greater, and no path longer.
+pub record MovesNoneInAll (n : NetworkState) (ago events : List Timed) : Type 0 where
+  pub moves : (g g' : Snapshot) (v : ℕ) → StandsAfter n ago g → StandsAfter n events g' → In v (clocks g')
+      → IsUnmovedOrCutOff g g' v
+  pub delay : (sync_paths n events).delay ≤ (sync_paths n ago).delay
+  pub paths : (sync_paths n events).systems ≤ (sync_paths n ago).systems
+
 -- After these events this one sets the priority1 of a system that lives, and the settled choice stays: no system is
 -- moved. So that system is nobody's best, before and after, or keeps its identity. No path has more than 255 systems.
 pub record LeavesChoice (n : NetworkState) (before : List Timed) (event : Timed) : Type 0 where

@@ -1,5 +1,5 @@
 -- Events that move a tree of systems: a link goes down, by which it is cut off from the best or turns to its one way
--- out, or a system fails, which cuts some off.
+-- out; the best gets a worse identity; or a system fails, which cuts some off.
 use Rattle.std.specs.Prelude.{◌≡◌, ◌⊎◌, ◌<◌, ◌≤◌, ◌+◌, ℕ, suc, List, [], ◌∷◌, ◌++◌, Some, slice_get}
 use Rattle.gptp_lists.specs.Members.{In}
 use Rattle.gptp_graph.specs.Best.{IsBest}
@@ -13,7 +13,7 @@ use Rattle.gptp_scenario.specs.Change.{link_after}
 use Rattle.gptp_scenario.specs.Network.{IsEnd, NetworkState}
 use Rattle.gptp_scenario.specs.SyncWait.{sync_paths}
 use Rattle.gptp_scenario.specs.declared.change.Act.TheVariants.{Change as Changing}
-use Rattle.gptp_scenario.specs.declared.change.Change.TheVariants.{Fail, LinkDown}
+use Rattle.gptp_scenario.specs.declared.change.Change.TheVariants.{Fail, LinkDown, Priority1}
 use Rattle.gptp_scenario.specs.declared.change.Timed.{Timed}
 use Rattle.gptp_scenario.specs.declared.network.LinkSpec.{LinkSpec}
 use Rattle.gptp_model.specs.World.{port_id}
@@ -63,6 +63,45 @@ pub record LowersTree (n : NetworkState) (before : List Timed) (event : Timed) :
   pub delay : (sync_paths n (before ++ event ∷ [])).delay ≤ (sync_paths n before).delay
   pub paths : (sync_paths n (before ++ event ∷ [])).systems ≤ (sync_paths n before).systems
   pub few : (sync_paths n before).systems ≤ 255
+
+-- From the first snapshot to the second the best of a tree of systems gets a worse identity: their best is `next` then,
+-- and all others are unmoved. Each was as far from the best of before, at the top, as its depth says. A link leads one
+-- deeper or less deep by one, and each system has one link at most to such as are less deep.
+pub record IsWorsenedTree (g g' : Snapshot) (top : ℕ) (best next : System) (depth : ℕ → ℕ) : Type 0 where
+  pub in_top : IsBest g' top next
+  pub others : (v : ℕ) → In v (clocks g') → (IsBest g' v next → ⊥) → IsUnmoved g g' v
+  pub worse : best.identity < next.identity
+  pub was_best : (v : ℕ) → IsBest g' v next → IsBest g v best
+  pub was : (v : ℕ) → IsBest g' v next → IsDistance g v (depth v)
+  pub first : depth top ≡ 0
+  pub steps : (v u : ℕ) → IsBest g' v next → Adjacent g' v u
+      → (depth u ≡ suc (depth v)) ⊎ (depth v ≡ suc (depth u))
+  pub single : (v p q : ℕ) (t u : PortIdentity) → Joins g' (port_of v p) t → Joins g' (port_of v q) u
+      → depth v ≡ suc (depth t.clock) → depth v ≡ suc (depth u.clock)
+      → p ≡ q
+
+-- after these events this one so worsens the best of a tree, the system with this clock
+abbrev pub WorsensTreeFrom : NetworkState → List Timed → Timed → ℕ → Type 0
+WorsensTreeFrom n before event top = (g g' : Snapshot) → StandsAfter n before g
+    → StandsAfter n (before ++ event ∷ []) g'
+    → (best : System) × (next : System) × (depth : ℕ → ℕ) × IsWorsenedTree g g' top best next depth
+
+-- After these events this one sets the priority1 of a live system and so worsens the best of a tree. The greatest delay
+-- of a link in use gets no greater, and no path longer. None had more than 255 systems.
+pub record WorsensTree (n : NetworkState) (before : List Timed) (event : Timed) : Type 0 where
+  pub clock : ℕ
+  pub value : ℕ
+  pub act : event.act ≡ Changing (Priority1 clock value)
+  pub octet : value < 256
+  pub live : IsLive n.systems before clock
+  pub worsens : WorsensTreeFrom n before event clock
+  pub delay : (sync_paths n (before ++ event ∷ [])).delay ≤ (sync_paths n before).delay
+  pub paths : (sync_paths n (before ++ event ∷ [])).systems ≤ (sync_paths n before).systems
+  pub few : (sync_paths n before).systems ≤ 255
+
+-- a tree so falls back: a link is lost by which it is cut off, or its best gets worse
+abbrev pub FallsTree : NetworkState → List Timed → Timed → Type 0
+FallsTree n before event = LowersTree n before event ⊎ WorsensTree n before event
 
 -- From the first snapshot to the second these systems are moved, and all others are unmoved. They have the best that
 -- they had, and each is farther from it. Before, each was as far as its depth says, from `base` on. The one at the top

@@ -196,7 +196,7 @@ choice_is d at choice above ([], inl (first, bounds)) =
 choice_is d at choice above ((last ∷ earlier), inl (late, between, bounds)) =
     choice_of d.network _ (events_by at d.events) choice above bounds
 choice_is d at choice above ([], inr (roles, none)) = absurd none
-choice_is d at choice above ((last ∷ earlier), inr (roles, inl (late, between, calm, off, before, loses))) =
+choice_is d at choice above ((last ∷ earlier), inr (roles, inl (late, between, calm, off, before))) =
     absurd (omega (arith, off, above))
 choice_is d at choice above ((last ∷ earlier), inr (roles, inr (inl (late, between, calm, off, before, one, asks)))) =
     absurd (omega (arith, off, above))
@@ -207,7 +207,7 @@ choice_is d at choice above (
     absurd (omega (arith, off, above))
 choice_is d at choice above (
   (last ∷ earlier),
-  inr (roles, inr (inr (inr (late, between, calm, off, before, one, asks)))),
+  inr (roles, inr (inr (inr (late, between, calm, off, before, fails)))),
 ) =
     absurd (omega (arith, off, above))
 

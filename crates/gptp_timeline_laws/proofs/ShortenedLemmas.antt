@@ -1,5 +1,5 @@
 -- A document without its events after a time.
-use Rattle.std.proofs.Common.{◌≡◌, inl, inr, ◌<◌, ◌≤◌, ◌+◌, ℕ, Bool, true, false, nat_le, List, [], ◌∷◌, refl, sym, ap, subst, arith}
+use Rattle.std.proofs.Common.{◌≡◌, inl, inr, ◌<◌, ◌≤◌, ◌+◌, ℕ, Bool, true, false, nat_le, List, [], ◌∷◌, suc, refl, sym, ap, subst, arith}
 use Rattle.std.specs.Prelude.{◌==◌, if◌then◌else◌}
 use Rattle.std.proofs.lemmas.Bool.{ne_eqb}
 use Rattle.std.proofs.lemmas.Bool.Decides.{nat_tests}
@@ -9,12 +9,12 @@ use Rattle.gptp_network.specs.Document.{DocumentState}
 use Rattle.gptp_network.specs.Events.{IsEvent}
 use Rattle.gptp_network.specs.Snapshot.{events_by}
 use Rattle.gptp_network.proofs.SnapshotLemmas.{from_filter}
-use Rattle.gptp_setup.specs.SettlingParams.{largest_interval}
 use Rattle.gptp_scenario.specs.Calm.{IsCalm, NothingLapses}
-use Rattle.gptp_scenario.specs.Network.{NetworkState, pace_of}
+use Rattle.gptp_scenario.specs.Network.{NetworkState}
 use Rattle.gptp_scenario.specs.declared.change.Timed.{Timed}
+use Rattle.gptp_settling_time.specs.Arrivals.{HasArrivedBy}
 use Rattle.gptp_settling_time.specs.TreeLosses.{LowersTree, TurnsTreeLink}
-use Rattle.gptp_settling_time.specs.HowSoon.{BoundsChoice, BoundsEvents, BoundsFirst, BoundsLoss, BoundsNext, BoundsSplit, BoundsStart, BoundsTree, FailsTreesFirst, IsChoiceAloneBound, IsChoiceBound, IsChoiceBoundAfter, IsLossBoundAfter, IsRestBoundAfter, LosesNext, NoneBetween, OneEvent, RestsAfterLoss, RestsTree, SplitsNext, TreeNext, events_at}
+use Rattle.gptp_settling_time.specs.HowSoon.{BeforeRepeats, BesideIdle, BoundsChoice, BoundsEvents, BoundsFirst, BoundsLoss, BoundsNext, BoundsSplit, BoundsStart, BoundsTree, FailsTreesFirst, HasArrivedNext, IsChoiceAloneBound, IsChoiceBound, IsChoiceBoundAfter, IsLossBoundAfter, IsRestBoundAfter, LosesNext, NoneBetween, OneEvent, RestsAfterLoss, RestsSplit, RestsTree, SplitsNext, TreeNext, events_at}
 use Rattle.gptp_settling_time.specs.InTurn.{turned_echo_span}
 use Rattle.gptp_theorem.specs.PlayedLaws.{IsPlayable}
 use Rattle.gptp_timeline.proofs.EventLemmas.{filter_each, filter_in_order}
@@ -100,54 +100,78 @@ module _ (n : NetworkState) (all : List Timed) (until : ℕ) where
     )
 
     -- what comes where the time before so stands, and this is so of the events
-    abbrev Comes : (ℕ → Type 0) → (ℕ → Type 0) → (List Timed → Type 0) → List Timed → Type 0
-    Comes So Passed Said events =
+    abbrev Comes : (ℕ → Type 0) → (List Timed → ℕ → Type 0) → List Timed → Type 0
+    Comes So Said events =
         (last < time)
         × NoneBetween events last time
         × IsCalm n (events_by time events)
         × NothingLapses n.params
-        × ((before : ℕ) × So before × Passed before)
-        × Said events
+        × ((before : ℕ) × So before × Said events before)
 
-    comes_by : (Passed : ℕ → Type 0) (Said : List Timed → Type 0)
-        → (last ≤ until → Said all → Said (events_by until all))
-        → Comes Then Passed Said all → Comes More Passed Said (events_by until all)
-    comes_by Passed Said short (late, between, calm, off, (before, bound, passed), said) = (
+    comes_by : (Said : List Timed → ℕ → Type 0)
+        → (last ≤ until → (before : ℕ) → Said all before → Said (events_by until all) before)
+        → Comes Then Said all → Comes More Said (events_by until all)
+    comes_by Said short (late, between, calm, off, (before, bound, said)) = (
       late,
       λ event member. between event (from_filter (λ (t : Timed). nat_le t.at until) event all member).0,
       subst (IsCalm n) (sym (by_sooner time until all le)) calm,
       off,
-      (before, more (omega (arith, late, le)) before bound, passed),
-      short (omega (arith, late, le)) said,
+      (before, more (omega (arith, late, le)) before bound, short (omega (arith, late, le)) before said),
     )
-
-    abbrev late_passed : ℕ → Type 0
-    late_passed before = last + before + largest_interval (pace_of n) < time
 
     loses_by : (Asks : List Timed → List Timed → Type 0) → LosesNext n all Then last time Asks
         → LosesNext n (events_by until all) More last time Asks
-    loses_by Asks =
-        comes_by (λ before. last + before < time) (λ events. Asks (events_by last events) (events_at time events))
-        (λ late. events_so Asks last time late le)
+    loses_by Asks (late, between, calm, off, (before, bound, over, beside)) =
+        let (late', between', calm', off', (before', bound', said)) =
+        comes_by (λ events rest. (last + rest < time)
+        × BesideIdle n (last + rest) time Asks (events_by last events) (events_at time events))
+        (λ soon rest said. (said.0, events_so (BesideIdle n (last + rest) time Asks) last time soon le said.1))
+        (late, between, calm, off, (before, bound, (over, beside))) in (
+          late',
+          between',
+          calm',
+          off',
+          (before', bound', said.0, said.1),
+        )
+
+    -- what was in flight has arrived
+    arrived_by : last ≤ until → (before : ℕ) → HasArrivedNext n all last before time
+        → HasArrivedNext n (events_by until all) last before time
+    arrived_by soon before (arrived, has, over) = (
+      arrived,
+      subst (λ es. HasArrivedBy n es (suc (last + before)) arrived) (sym (by_sooner last until all soon)) has,
+      over,
+    )
 
     splits_by : (Asks : List Timed → List Timed → Type 0) → SplitsNext n all Then last time Asks
         → SplitsNext n (events_by until all) More last time Asks
-    splits_by Asks (late, between, calm, off, before, fails, asks) =
-        let (late', between', calm', off', before', said) =
-        comes_by late_passed
-        (λ events. FailsTreesFirst n (events_by last events) (events_at time events)
-        × Asks (events_by last events) (events_at time events))
-        (λ soon. events_so (λ made now. FailsTreesFirst n made now × Asks made now) last time soon le)
-        (late, between, calm, off, before, (fails, asks)) in
-        (late', between', calm', off', before', said.0, said.1)
+    splits_by Asks (late, between, calm, off, before, fails) =
+        let (late', between', calm', off', before') =
+        comes_by (λ events rest. HasArrivedNext n events last rest time) arrived_by
+        (late, between, calm, off, before) in (
+          late',
+          between',
+          calm',
+          off',
+          before',
+          events_so (BeforeRepeats n (λ made now. FailsTreesFirst n made now × Asks made now)) last time
+              (omega (arith, late, le)) le fails,
+        )
 
     tree_by : (Is : List Timed → Timed → Type 0) (Asks : List Timed → Type 0) → TreeNext n Is all Then last time Asks
         → TreeNext n Is (events_by until all) More last time Asks
     tree_by Is Asks (late, between, calm, off, before, lowers, asks) =
-        let (late', between', calm', off', before', said) =
-        comes_by late_passed (λ events. OneEvent Is (events_by last events) (events_at time events))
-        (λ soon. events_so (OneEvent Is) last time soon le) (late, between, calm, off, before, lowers) in
-        (late', between', calm', off', before', said, subst Asks (sym (by_sooner time until all le)) asks)
+        let (late', between', calm', off', before') =
+        comes_by (λ events rest. HasArrivedNext n events last rest time) arrived_by
+        (late, between, calm, off, before) in (
+          late',
+          between',
+          calm',
+          off',
+          before',
+          events_so (BeforeRepeats n (OneEvent Is)) last time (omega (arith, late, le)) le lowers,
+          subst Asks (sym (by_sooner time until all le)) asks,
+        )
 
   rest_by : (earlier : List ℕ) (time rest : ℕ) → time ≤ until → IsRestBoundAfter n all earlier time rest
       → IsRestBoundAfter n (events_by until all) earlier time rest
@@ -164,11 +188,15 @@ module _ (n : NetworkState) (all : List Timed) (until : ℕ) where
       inr (inr (inl (tree_by (λ before. IsRestBoundAfter n all earlier last before)
       (λ before. IsRestBoundAfter n (events_by until all) earlier last before) last time le
       (λ soon before. rest_by earlier last before soon) (LowersTree n) (RestsTree n rest) falls)))
-  rest_by (last ∷ earlier) time rest le (inr (inr (inr turns))) =
-      inr (inr (inr (tree_by (λ before. IsRestBoundAfter n all earlier last before)
+  rest_by (last ∷ earlier) time rest le (inr (inr (inr (inl turns)))) =
+      inr (inr (inr (inl (tree_by (λ before. IsRestBoundAfter n all earlier last before)
       (λ before. IsRestBoundAfter n (events_by until all) earlier last before) last time le
       (λ soon before. rest_by earlier last before soon) (TurnsTreeLink n)
-      (λ events. rest ≡ turned_echo_span n events) turns)))
+      (λ events. rest ≡ turned_echo_span n events) turns))))
+  rest_by (last ∷ earlier) time rest le (inr (inr (inr (inr splits)))) =
+      inr (inr (inr (inr (splits_by (λ before. IsRestBoundAfter n all earlier last before)
+      (λ before. IsRestBoundAfter n (events_by until all) earlier last before) last time le
+      (λ soon before. rest_by earlier last before soon) (λ made now. RestsSplit n rest made now) splits))))
 
   bound_by : (earlier : List ℕ) (time choice : ℕ) → time ≤ until → IsChoiceBoundAfter n all earlier time choice
       → IsChoiceBoundAfter n (events_by until all) earlier time choice
