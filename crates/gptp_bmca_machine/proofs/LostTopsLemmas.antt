@@ -119,7 +119,7 @@ module _ (says : Spelling) (g : Snapshot) (n : Network) (lost : ℕ) (top : Side
               (Joins-sym g (port_of lost (suc p)) (port_of x (suc i)) joins) in
               let same : y ≡ station_system s =
               same_clock g y (station_system s) c.left.graph in_y
-              (c.left.systems (station_system s) (m.kept.calm.facts.stations (n.place x) s at live).known)
+              (loses.systems (station_system s) (m.kept.calm.facts.stations (n.place x) s at live).known)
               (is_port.clock ∙ sym clock) in
               let (pu, there) = member_there s.ports i (subst (λ (z : System). suc i ≤ z.ports) same is_port.last) in
               record { s = s; at = at; pu = pu; there = there }

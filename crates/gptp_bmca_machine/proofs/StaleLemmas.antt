@@ -26,7 +26,7 @@ use Rattle.gptp_bmca_machine.proofs.LevelLemmas.{places_of}
 use Rattle.gptp_bmca_machine.proofs.LinkStepLemmas.{AtLink, lives_at}
 use Rattle.gptp_bmca_machine.proofs.NearestLemmas.{came_fits, path_length, root_not_better}
 use Rattle.gptp_bmca_machine.proofs.PlaceLemmas.{same_there}
-use Rattle.gptp_bmca_machine.proofs.RestLemmas.{IsClear, bounded}
+use Rattle.gptp_bmca_machine.proofs.RestLemmas.{IsClear, bounded, was_itself}
 use Rattle.gptp_bmca_machine.proofs.ToldLemmas.{AllSay}
 use Rattle.gptp_bmca_machine.proofs.TraceLemmas.{whole_on, whole_own}
 use Rattle.gptp_bmca_machine.proofs.TwoTopsLemmas.{IsDeeper, Tree, beside, names_none, one_down}
@@ -291,7 +291,7 @@ module _ (says : Spelling) (n : Network) (next : System) (top : Side → ℕ) (d
     pub new_clear : s.root ≢ old → IsClear n.graph s
     new_clear left = record {
       rest = rest;
-      known = facts.known;
+      known = was_itself n.graph (station_system s) facts.known;
       held = λ i r holds. bounded n.graph s.clock (suc i) r (new_fits left i r holds);
     }
 

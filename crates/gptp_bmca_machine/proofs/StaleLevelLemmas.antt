@@ -11,6 +11,7 @@ use Rattle.gptp_graph.proofs.LinkLemmas.{Joins-sym}
 use Rattle.gptp_graph.proofs.PathBoundLemmas.{IsDistance-within}
 use Rattle.gptp_bmca_machine.specs.Acts.{MachineSteps}
 use Rattle.gptp_bmca_machine.specs.Clean.{CameFits}
+use Rattle.gptp_bmca_machine.specs.Facts.{station_system}
 use Rattle.gptp_bmca_machine.specs.Frame.{Spelling}
 use Rattle.gptp_bmca_machine.specs.Levels.{LeadsFarther}
 use Rattle.gptp_bmca_machine.specs.Link.{LinkSettles}
@@ -24,7 +25,7 @@ use Rattle.gptp_bmca_machine.proofs.LinkLemmas.{link_settled}
 use Rattle.gptp_bmca_machine.proofs.LinkStepLemmas.{AtLink, lives_at}
 use Rattle.gptp_bmca_machine.proofs.LinkTellsLemmas.{ends_so}
 use Rattle.gptp_bmca_machine.proofs.NearestLemmas.{came_fits, equal_within}
-use Rattle.gptp_bmca_machine.proofs.RestLemmas.{Chooses, IsClear, bounded, suc_settles, zero_settles}
+use Rattle.gptp_bmca_machine.proofs.RestLemmas.{Chooses, IsClear, bounded, suc_settles, was_itself, zero_settles}
 use Rattle.gptp_bmca_machine.proofs.StaleEndLemmas.{IsLimit, IsStaleState, free_then, tells_in_time}
 use Rattle.gptp_bmca_machine.proofs.StaleLemmas.{HeldBare, HeldOver, held_over, whole_worse}
 use Rattle.gptp_bmca_machine.proofs.StaleOrderLemmas.{AllStrong}
@@ -143,7 +144,7 @@ module _ (says : Spelling) (n : Network) (next : System) (top : Side → ℕ) (d
           let (live, clock) = lives_at n w stale.kept.calm v in_v.reached.1.begins s at in
           record {
             rest = (stale.kept.calm.stations (n.place v) s at live).at_rest;
-            known = (stale.kept.calm.facts.stations (n.place v) s at live).known;
+            known = was_itself n.graph (station_system s) (stale.kept.calm.facts.stations (n.place v) s at live).known;
             held = λ i r holds. bounded n.graph s.clock (suc i) r (fits_now v in_v s at i r holds);
           }
 
@@ -239,9 +240,10 @@ module _ (says : Spelling) (n : Network) (next : System) (top : Side → ℕ) (d
       -- the best of the tree does
       pub choose_zero : TreeChooses 0
       choose_zero v s at in_v here =
-          let clock = (lives_at n w stale.kept.calm v in_v.reached.1.begins s at).1 in
+          let (live, clock) = lives_at n w stale.kept.calm v in_v.reached.1.begins s at in
           zero_settles n.graph t.well s (clear_now v in_v s at) next
           (subst (λ c. IsBest n.graph c next) (sym clock) in_v)
+          (stale.kept.calm.facts.stations (n.place v) s at live).known
           (subst (λ c. IsDistance n.graph c 0) (sym clock) here)
 
       choose_next : (e : ℕ) → e < bound → before e ≤ w.time → TreeChooses e → TreeChooses (suc e)

@@ -200,7 +200,7 @@ module _ (g : Snapshot) (n : Network) (top : Side → ℕ) (best next : System) 
     pub base_some : (side : Side) → IsBest n.graph (top side) next → base ≢ 0
     base_some side in_top none =
         let (s, live, named) = system_of n.graph (top side) in_top.reached.1.begins in
-        let one = same_clock g s best c.left.graph (c.left.systems s live) (c.was_best (top side) in_top).live
+        let one = same_clock g s best c.left.graph (loses.systems s live) (c.was_best (top side) in_top).live
         (named ∙ sym clock) in
         let least = in_top.least s live
         (subst (Reaches n.graph (top side)) (sym named)
