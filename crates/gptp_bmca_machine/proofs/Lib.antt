@@ -73,6 +73,7 @@ pub mod LostLinkLemmas
 pub mod LostTopsLemmas
 pub mod LostTopsBeginLemmas
 pub mod TwoTopsBeginLemmas
+pub mod TopsAfterLemmas
 pub mod MovedEndLemmas
 pub mod TurnEndLemmas
 pub mod FailureTreesLemmas

@@ -6,6 +6,8 @@ use Rattle.gptp_lists.proofs.PlaceLemmas.{member_there}
 use Rattle.gptp_graph.specs.Best.{IsBest}
 use Rattle.gptp_graph.specs.Distance.{IsDistance}
 use Rattle.gptp_graph.specs.Snapshot.{IsLinked, Joins, PortIdentity, Snapshot, System, clocks, port_of}
+use Rattle.gptp_graph.proofs.BestLemmas.{IsBest-unique}
+use Rattle.gptp_graph.proofs.DistanceLemmas.{IsDistance-unique}
 use Rattle.gptp_graph.proofs.LinkLemmas.{Adjacent-clock, Joins-clock, Joins-sym}
 use Rattle.gptp_graph.proofs.SystemLemmas.{same_clock}
 use Rattle.gptp_bmca_machine.specs.Acts.{MachineSteps}
@@ -17,13 +19,14 @@ use Rattle.gptp_bmca_machine.specs.LossLaws.{EverythingFits, IsAfterLoss}
 use Rattle.gptp_bmca_machine.specs.Network.{Network}
 use Rattle.gptp_bmca_machine.specs.Station.{Disabled, HoldsAt, MachineState, Port, Received, Reception, Station}
 use Rattle.gptp_bmca_machine.specs.TwoTops.{Side, CutsOffTwice}
+use Rattle.gptp_bmca_machine.proofs.FallLemmas.{IsOldTold}
 use Rattle.gptp_bmca_machine.proofs.FallLeaveLemmas.{TreeAnswers, answers_or_stands}
 use Rattle.gptp_bmca_machine.proofs.LevelLemmas.{places_of}
 use Rattle.gptp_bmca_machine.proofs.LinkStepLemmas.{AtLink, LaneStands, lives_at}
 use Rattle.gptp_bmca_machine.proofs.LostPortLemmas.{HasLetGo, HoldsLast, IsLastState, StaysAsNamed, last_on}
 use Rattle.gptp_bmca_machine.proofs.PlaceLemmas.{received_injective, same_there}
 use Rattle.gptp_bmca_machine.proofs.ReactsLemmas.{held_from}
-use Rattle.gptp_bmca_machine.proofs.StaleLemmas.{BareDrop, BareHoldStale, IsStaleAtTop}
+use Rattle.gptp_bmca_machine.proofs.StaleLemmas.{BareDrop, IsStaleAtTop}
 use Rattle.gptp_bmca_machine.proofs.StandsLemmas.{stands_there}
 use Rattle.gptp_bmca_machine.proofs.StillLemmas.{still}
 use Rattle.gptp_bmca_machine.proofs.TwoTopsWayLemmas.{base_is, least_deep, top_far}
@@ -246,10 +249,24 @@ module _ (says : Spelling) (g : Snapshot) (n : Network) (lost : ℕ) (top : Side
                   let above = base_some x in_x lost_link.is_top in
                   omega (arith, told, above)
 
-    -- so is all that such ports hold
-    pub tops_dark : (w : MachineState) → IsTopsState w → TopsHold w
-        → BareHoldStale says n next top depth c.tree best.identity base c.worse w
-    tops_dark w m is x s i r in_x at holds bare = stale_at w m is x in_x s at i r holds bare
+      -- who told it isn't beside the top any more
+      pub told_before : IsOldTold g n x r.said
+      told_before = record {
+        from = lost;
+        beside = (
+          suc i,
+          suc lost_link.p,
+          Joins-sym g (port_of lost (suc lost_link.p)) (port_of x (suc i)) lost_link.joins,
+        );
+        gone = λ joined. loses.dead (Adjacent-clock n.graph x lost c.tree.well joined);
+        old = λ b d is_b here. (
+          stale_at.root ∙
+              ap (λ (z : System). z.identity)
+              (IsBest-unique g x best b c.left.graph (c.was_best x in_x) is_b),
+          stale_at.steps ∙ base_some x in_x lost_link.is_top ∙
+              IsDistance-unique g x (suc (pred base)) d c.left.graph (far_lost x in_x lost_link.is_top) here,
+        );
+      }
 
     -- ---- and what they hold after a step they held
 

@@ -39,3 +39,11 @@ pub record CutsOffTwice (g : Snapshot) (n : Network) (top : Side → ℕ) (best 
   pub near : (side : Side) (v : ℕ) → IsBest n.graph v next → base + depth side v < 255
   pub lost : (v u : ℕ) → IsBest n.graph v next → Adjacent g v u
       → Adjacent n.graph v u ⊎ ((side : Side) × (v ≡ top side))
+
+-- such a tree: its tops, its best, how far its tops were from the best of before, and how many links lead from either
+-- top to a system
+pub record TopsTree : Type 0 where
+  pub top : Side → ℕ
+  pub next : System
+  pub base : ℕ
+  pub depth : Side → ℕ → ℕ
