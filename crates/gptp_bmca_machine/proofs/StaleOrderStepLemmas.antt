@@ -369,11 +369,10 @@ module _ (says : Spelling) (n : Network) (next : System) (top : Side → ℕ) (d
               left_now : (HasChoice s' root_then d → ⊥) → IsLeft says n.graph n root_then d last v p u q w'
               left_now not_old = (
                 left',
-                elim (answers_or_stands says n (λ c. ⊤) v w w' m.kept.calm kept'.calm in_v.reached.1.begins step s' at')
-                    [
-                      | inl still_there ↦ absurd (not_old (is_old s' still_there))
-                      | inr z ↦ leaves_now left' is_old stays z
-                    ],
+                elim (answers_or_stands says n (λ c. ⊤) v w w' m.kept.calm kept'.calm in_v.reached.1.begins step s' at') [
+                  | inl still_there ↦ absurd (not_old (is_old s' still_there))
+                  | inr z ↦ leaves_now left' is_old stays z
+                ],
               )
                 where
                   left' : HasLeft n w' v root_then d

@@ -341,8 +341,8 @@ module _ (says : Spelling) (n : Network) (next : System) (top : Side → ℕ) (d
                   m.mixed u q v p in_u back strong (strongs u q v p in_u back strong) s pv at there) [
                     | inl h ↦ absurd (let both : Mine s.root s.steps ≡ Received h.r = sym mine ∙ h.holds in cc)
                     | inr (left, free) ↦ tell (λ other. not_both depth v u other strong) (λ other. (
-                        subst (λ x. HasLeft n w u root_then (base + depth x u))
-                            (sym (only_down depth u v strong other.side other.deeper)) left,
-                        free,
-                      ))
+                      subst (λ x. HasLeft n w u root_then (base + depth x u))
+                          (sym (only_down depth u v strong other.side other.deeper)) left,
+                      free,
+                    ))
                   ]
