@@ -50,7 +50,7 @@ use Rattle.gptp_lists.specs.Members.{In}
 use Rattle.gptp_vector.specs.declared.port.PortId.{PortId}
 use Rattle.gptp_links.specs.declared.bounds.Bounds.{Bounds}
 use Rattle.gptp_setup.specs.SettlingParams.{largest_interval}
-use Rattle.gptp_scenario.specs.Calm.{IsCalm, IsLive, IsUsed, NothingLapses, last_change}
+use Rattle.gptp_scenario.specs.Calm.{IsCalm, IsUsed, NothingLapses, last_change}
 use Rattle.gptp_scenario.specs.Change.{link_after}
 use Rattle.gptp_scenario.specs.Network.{IsEnd, NetworkState, pace_of}
 use Rattle.gptp_scenario.specs.SettlingAtOnce.{settling_span_at_once}
@@ -264,13 +264,6 @@ pub record LowersUnusedCalm (n : NetworkState) (before : List Timed) (event : Ti
 abbrev pub IsDownNow : NetworkState → List Timed → Timed → Type 0
 IsDownNow n before event = LowersUnusedCalm n before event ⊎ RepeatsNow n before event
 
--- So it does where another link goes down by which no system is moved but such as are cut off. All that lived before the
--- loss do, and ports without a link aren't capable any more.
-pub record LowersToo (n : NetworkState) (ago before : List Timed) (event : Timed) (silent : ℕ) : Type 0 where
-  pub lowers : LowersCalm n before event
-  pub lives : (number : ℕ) → IsLive n.systems ago number → IsLive n.systems before number
-  pub past : silent ≤ event.at
-
 -- A link goes down, or a far end fails, and the choice stands. Ports without a link aren't capable from the next time
 -- on. After a link that is the time before. After a system that fails it is when too many of their requests are lost.
 abbrev pub LeavesStanding : NetworkState → List Timed → Timed → ℕ → ℕ → Type 0
@@ -418,7 +411,7 @@ LeadsToLeft n before (Gained start) event ago next =
 LeadsToLeft n before (Heard start) event ago next =
     HasSettledHeard n before start event.at × (ago ≡ before) × LeavesStanding n before event start next
 LeadsToLeft n before (Left old silent) event ago next =
-    (IsDownNow n before event ⊎ LowersToo n old before event silent) × (ago ≡ old) × (next ≡ silent)
+    IsDownNow n before event × (ago ≡ old) × (next ≡ silent)
 LeadsToLeft n before (Turned silent time) event ago next = ⊥
 LeadsToLeft n before (Fallen silent time) event ago next = ⊥
 LeadsToLeft n before (TurnedTree silent time) event ago next = ⊥
