@@ -1,10 +1,5 @@
-<<<<<<< HEAD
--- A system fails that others hear, in a world of a document whose choice had stood, and so cuts trees off: they fall
--- back. Behind that links go down of which an end has failed.
-=======
 -- A system fails that others hear, in a world of a document whose choice had stood, and so moves trees: they fall back.
 -- Behind that links go down of which an end has failed.
->>>>>>> w_line
 use Rattle.std.proofs.Common.{◌≡◌, ◌<◌, ◌≤◌, ◌+◌, ◌∷◌, ◌++◌, ℕ, suc, List, [], sym, ap, subst, inl, inr, arith}
 use native.Mathlib.Decide.{dec_le}
 use Rattle.gptp_lists.specs.Members.{In}
