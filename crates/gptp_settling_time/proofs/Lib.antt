@@ -213,10 +213,12 @@ pub mod OffForGoodLemmas
 pub mod SplitLemmas
 pub mod SplitAlwaysLemmas
 pub mod SplitDownLemmas
+pub mod SplitLinksLemmas
 pub mod SplitSettlesLemmas
 pub mod SplitRestLemmas
 pub mod SplitFailLemmas
 pub mod SplitToLemmas
 pub mod SplitMadeLemmas
+pub mod MovedRestLemmas
 pub mod TurnedRestLemmas
 pub mod TurnedTreeRestLemmas
