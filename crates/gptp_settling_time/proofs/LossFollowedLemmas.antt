@@ -13,7 +13,8 @@ use Rattle.gptp_network.specs.Events.{AreInOrder}
 use Rattle.gptp_network.specs.Snapshot.{events_by}
 use Rattle.gptp_settling_time.specs.Arrivals.{HasArrivedBy}
 use Rattle.gptp_settling_time.specs.HowSoon.{BeforeRepeats, HasArrivedNext, IsDownToo, BoundsAging, BoundsAnyLoss, BoundsLoss, BoundsSplit, EachEvent, FailsTreesFirst, IsLossBoundAfter, LowersLinks, NoneBetween, OneEvent, events_at}
-use Rattle.gptp_settling_time.specs.InTurn.{Aging, BeginsBy, ChoosesAfter, Fallen, Fewer, LeadOn, Left, Lost, Past, SettlesAfter, Split, Starting, Turned, TurnedTree}
+use Rattle.gptp_settling_time.specs.Pasts.{Aging, Fallen, Fewer, Left, Lost, Past, Split, Starting, Turned, TurnedTree}
+use Rattle.gptp_settling_time.specs.InTurn.{BeginsBy, ChoosesAfter, LeadOn, SettlesAfter}
 use Rattle.gptp_settling_time.specs.Losses.{AgesWithin, FailsHeard, NoneSilent, TurnsLink}
 use Rattle.gptp_settling_time.specs.TreeLosses.{FallsTree, TurnsTreeLink}
 use Rattle.gptp_settling_time.proofs.BesideIdleLemmas.{LeadsTo, chooses_same, repeats_to, settles_same, split_now}

@@ -10,7 +10,10 @@ use Rattle.gptp_scenario.specs.SyncWait.{sync_paths}
 use Rattle.gptp_scenario.specs.declared.change.Timed.{Timed}
 use Rattle.gptp_settling_time.specs.Arrivals.{HasArrivedBy}
 use Rattle.gptp_settling_time.specs.HowSoon.{EachEvent, IsDownToo, TurnsUnused}
-use Rattle.gptp_settling_time.specs.InTurn.{AgesSooner, Aging, AnyPast, AreUsedSince, ChoosesAfter, Cleared, EventLeads, FailsCalm, FailsNow, Fallen, Gained, Heard, IsDownNow, IsGoneBy, LeadOn, LeadsByTree, Left, LosesNow, Fewer, Lost, LowersCalm, Past, SettlesAfter, Split, SplitsNow, Starting, Turned, TurnedTree, TurnsCalm}
+use Rattle.gptp_settling_time.specs.Pasts.{Aging, AnyPast, Cleared, Fallen, Gained, Heard, Left, Fewer, Lost, Past, Split, Starting, Turned, TurnedTree}
+use Rattle.gptp_settling_time.specs.EventKinds.{FailsCalm, FailsNow, IsDownNow, LowersCalm, TurnsCalm}
+use Rattle.gptp_settling_time.specs.Leads.{AgesSooner, AreUsedSince, EventLeads, IsGoneBy, LeadsByTree, LosesNow, SplitsNow}
+use Rattle.gptp_settling_time.specs.InTurn.{ChoosesAfter, LeadOn, SettlesAfter}
 use Rattle.gptp_settling_time.specs.Losses.{AgesWithin, FailsHeard, LowersLink}
 use Rattle.gptp_settling_time.specs.TreeLosses.{FailsTrees}
 use Rattle.gptp_settling_time.proofs.CalmLessLemmas.{down_calm as act_calm, failure_calm, lowers_calm, still_lives}

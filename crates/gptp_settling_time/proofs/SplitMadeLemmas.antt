@@ -34,7 +34,8 @@ use Rattle.gptp_theorem.proofs.AlikeLemmas.{best as alike_best, clock_among, dis
 use Rattle.gptp_theorem.proofs.CalmLemmas.{quiet_stands}
 use Rattle.gptp_theorem.proofs.SyncPathLemmas.{paths_stand}
 use Rattle.gptp_settling_time.specs.Arrivals.{HasArrivedBy}
-use Rattle.gptp_settling_time.specs.InTurn.{IsGoneBy, LowersUnusedCalm, SplitsNow}
+use Rattle.gptp_settling_time.specs.EventKinds.{LowersUnusedCalm}
+use Rattle.gptp_settling_time.specs.Leads.{IsGoneBy, SplitsNow}
 use Rattle.gptp_settling_time.specs.Losses.{LowersUnused}
 use Rattle.gptp_settling_time.specs.TreeLosses.{FailsTrees, IsTreeCutOff, IsTreeTurned, IsUnmovedOrInTree}
 use Rattle.gptp_settling_time.proofs.AgesByLemmas.{by_map}

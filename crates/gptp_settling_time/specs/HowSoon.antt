@@ -55,7 +55,9 @@ use Rattle.gptp_network.specs.Document.{DocumentState}
 use Rattle.gptp_network.specs.Snapshot.{events_by}
 use Rattle.gptp_settling_time.specs.Arrivals.{HasArrivedBy}
 use Rattle.gptp_settling_time.specs.Gains.{ChangesNothing, EndHasFailed, LeavesCapable, Repeats, TakesNothing}
-use Rattle.gptp_settling_time.specs.InTurn.{AddsHeard, BettersClock, FlightIsGone, MakesNothing, NoneUsed, TakesAny, TellsNothing, UsedVaryLittle, WidensLink, turned_echo_span}
+use Rattle.gptp_settling_time.specs.EventKinds.{AddsHeard, BettersClock, FlightIsGone, MakesNothing, NoneUsed, TellsNothing, UsedVaryLittle, WidensLink}
+use Rattle.gptp_settling_time.specs.Leads.{TakesAny}
+use Rattle.gptp_settling_time.specs.Rests.{turned_echo_span}
 use Rattle.gptp_settling_time.specs.Losses.{AgesWithin, CutsFarEnd, FailsFarEnd, FailsHeard, LeavesChoice, LosesAny, LowersLink, LowersUnused, MovesNoneInAll, NoneSilent, TurnsLink, UpIsUsed}
 use Rattle.gptp_settling_time.specs.TreeLosses.{FailsTrees, FallsTree, TurnsTreeLink}
 
