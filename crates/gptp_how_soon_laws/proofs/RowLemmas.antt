@@ -29,7 +29,7 @@ use Rattle.gptp_how_soon.specs.Times.{View, events_at, gained_at, ready_at, row_
 use Rattle.gptp_how_soon.specs.Tree.{cuts_tree_after}
 use Rattle.gptp_how_soon.specs.TurnedTree.{turns_tree_after}
 use Rattle.gptp_how_soon.specs.declared.bounds.Row.{Row}
-use Rattle.gptp_how_soon.specs.declared.bounds.Row.TheVariants.{AnyLosses, CutOff, FailedEnd, FailedHeard, FailureCutsOff, FailureCutsTrees, Gained, Lowered, SystemTurned, TreeCutOff, TreeTurned, Unchanged}
+use Rattle.gptp_how_soon.specs.declared.bounds.Row.TheVariants.{AnyLosses, CutOff, FailedEnd, FailedHeard, FailureCutsOff, FailureMovesTrees, Gained, Lowered, SystemTurned, TreeCutOff, TreeTurned, Unchanged}
 use Rattle.gptp_how_soon.specs.declared.bounds.Settling.{Settling}
 use Rattle.gptp_how_soon.specs.declared.bounds.SettlingTime.{SettlingTime}
 use Rattle.gptp_how_soon.specs.declared.kinds.Told.{Told}
@@ -89,7 +89,7 @@ module _ (n : NetworkState) (network : IsNetwork n) (events : List Timed) (b : S
     fails = is_failing_followed v.paths_before v.paths v.told && not v.moves.moved;
     far = v.moves.far;
     moved = v.moves.any_moved;
-    trees = is_failing_followed v.paths_before v.paths v.told && v.moves.trees_fall;
+    trees = is_failing_followed v.paths_before v.paths v.told && v.moves.trees_move;
     loss = list_any is_loss v.told;
     only = list_all brings_nothing v.told;
   }
@@ -528,14 +528,14 @@ module _ (n : NetworkState) (network : IsNetwork n) (events : List Timed) (b : S
     pub fails : FailsTreesFirst n made now
 
 <<<<<<< HEAD
-  pub failure_cuts : AreWell n (made ++ now) → row_at v ≡ FailureCutsTrees → FailsLate
+  pub failure_cuts : AreWell n (made ++ now) → row_at v ≡ FailureMovesTrees → FailsLate
   failure_cuts well row =
-      let (from, trees) = why FailureCutsTrees row in
+      let (from, trees) = why FailureMovesTrees row in
       let (keeps, one, cut, come) = late_by fails_first (cuts_trees_after n made (made ++ now)) trees in
       let x = keeps_so keeps in
 =======
   fails_late : is_from_rest v.longest at v.paths_before v.paths v.told (Some b) ≡ true → AreWell n (made ++ now)
-      → (is_failing_followed v.paths_before v.paths v.told && v.moves.trees_fall) ≡ true → FailsLate
+      → (is_failing_followed v.paths_before v.paths v.told && v.moves.trees_move) ≡ true → FailsLate
   fails_late from well trees =
       let (x, one, cut, longer) = late_by fails_first (moves_trees_after n made (made ++ now)) trees in
 >>>>>>> w_line

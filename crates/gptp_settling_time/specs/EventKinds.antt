@@ -2,7 +2,7 @@
 use Rattle.std.specs.Prelude.{◌≡◌, ◌<◌, ◌≤◌, ◌⊎◌, ◌+◌, ◌*◌, ℕ, ⊤, pred, suc, List, [], ◌∷◌, ◌++◌, Some, slice_get}
 use Rattle.gptp_vector.specs.declared.port.PortId.{PortId}
 use Rattle.gptp_setup.specs.SettlingParams.{largest_interval}
-use Rattle.gptp_scenario.specs.Calm.{IsCalm, IsLive, IsUsed, NothingLapses, last_change}
+use Rattle.gptp_scenario.specs.Calm.{IsCalm, IsUsed, NothingLapses, last_change}
 use Rattle.gptp_scenario.specs.Change.{link_after}
 use Rattle.gptp_scenario.specs.Network.{IsEnd, NetworkState, pace_of}
 use Rattle.gptp_scenario.specs.SettlingAtOnce.{settling_span_at_once}
@@ -181,13 +181,6 @@ pub record LowersUnusedCalm (n : NetworkState) (before : List Timed) (event : Ti
 -- so it does, or all stays as it stands
 abbrev pub IsDownNow : NetworkState → List Timed → Timed → Type 0
 IsDownNow n before event = LowersUnusedCalm n before event ⊎ RepeatsNow n before event
-
--- So it does where another link goes down by which no system is moved but such as are cut off. All that lived before the
--- loss do, and ports without a link aren't capable any more.
-pub record LowersToo (n : NetworkState) (ago before : List Timed) (event : Timed) (silent : ℕ) : Type 0 where
-  pub lowers : LowersCalm n before event
-  pub lives : (number : ℕ) → IsLive n.systems ago number → IsLive n.systems before number
-  pub past : silent ≤ event.at
 
 -- A link goes down, or a far end fails, and the choice stands. Ports without a link aren't capable from the next time
 -- on. After a link that is the time before. After a system that fails it is when too many of their requests are lost.

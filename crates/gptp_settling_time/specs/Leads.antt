@@ -32,7 +32,7 @@ use Rattle.gptp_settling_time.specs.Gains.{AreCapableAnyway, AreCapableNext, Are
 use Rattle.gptp_settling_time.specs.Losses.{AgesWithin, AreSilentAfter, LosesAny, LowersUnused}
 use Rattle.gptp_settling_time.specs.TreeLosses.{FailsTrees}
 use Rattle.gptp_settling_time.specs.Pasts.{Aging, AnyPast, Cleared, Fallen, Fewer, Gained, Heard, Left, Lost, Past, Split, Starting, Turned, TurnedTree}
-use Rattle.gptp_settling_time.specs.EventKinds.{AddsHeard, BettersClock, ClearsBy, FailsNow, FallsCalm, HasSettledAnyhow, HasSettledHeard, HasSettledSince, IsDownNow, LeavesSettled, LeavesStanding, LowersToo, LowersUnusedCalm, MakesNothing, StartsWith, TellsAnew, TellsNothing, TurnsCalm, TurnsTreeCalm, UsedVaryLittle, WidensFrom}
+use Rattle.gptp_settling_time.specs.EventKinds.{AddsHeard, BettersClock, ClearsBy, FailsNow, FallsCalm, HasSettledAnyhow, HasSettledHeard, HasSettledSince, IsDownNow, LeavesSettled, LeavesStanding, LowersUnusedCalm, MakesNothing, StartsWith, TellsAnew, TellsNothing, TurnsCalm, TurnsTreeCalm, UsedVaryLittle, WidensFrom}
 
 -- From any past the network has rested, and its ports are capable whatever came before. From a gain, and from what is
 -- heard, they were capable from another start on.
@@ -92,7 +92,7 @@ LeadsToLeft n before (Gained start) event ago next =
 LeadsToLeft n before (Heard start) event ago next =
     HasSettledHeard n before start event.at × (ago ≡ before) × LeavesStanding n before event start next
 LeadsToLeft n before (Left old silent) event ago next =
-    (IsDownNow n before event ⊎ LowersToo n old before event silent) × (ago ≡ old) × (next ≡ silent)
+    IsDownNow n before event × (ago ≡ old) × (next ≡ silent)
 LeadsToLeft n before (Turned silent time) event ago next = ⊥
 LeadsToLeft n before (Fallen silent time) event ago next = ⊥
 LeadsToLeft n before (TurnedTree silent time) event ago next = ⊥
