@@ -199,7 +199,7 @@ module _ (n : NetworkState) (network : IsNetwork n) (off : NothingLapses n.param
         so = (λ settled late. (off, leaves, none), λ settled late. (off, leaves, none));
       }
 
-  -- by one that cuts trees off, once what was sent before the choice stood has arrived
+  -- by one that moves trees, once what was sent before the choice stood has arrived
   split_leads : (made now : List Timed) (past : Past) (stood arrived : ℕ)
       → AllByRecursion (λ (t : Timed). t.at ≡ time) now → HasSettled n made past stood → last_change made < stood
       → HasArrivedBy n made stood arrived → arrived ≤ time → IsCalm n made → FailsTreesFirst n made now → BoundsSplit n

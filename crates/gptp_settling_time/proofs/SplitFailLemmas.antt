@@ -283,7 +283,6 @@ module _ (p : SettlingParams) (number : ℕ) (w : WorldState) (draws : List Draw
       turned_so t is = record {
         well = well';
         left = left';
-        stand = loses.systems;
         lives = is.lives;
         was_best = is.was_best;
         is_best = is.is_best;

@@ -21,7 +21,7 @@
 -- - By the one event a link goes down that so cuts a tree off, or turns one to its one way out, once what was sent
 --   before the time before had come to rest has arrived. Choice and roles ask for twice the greatest delay for each
 --   system of a path but one.
--- - By the first event a system fails and so cuts trees off, once that has arrived, and no other comes but such links.
+-- - By the first event a system fails and so moves trees, once that has arrived, and no other comes but such links.
 --   The choice asks for what others hold of it to age, and then for twice the greatest delay for each system of a path
 --   but one. Roles stand then too, once no port beside it is capable.
 -- - By several events systems and links are taken away, and no system is moved in all but such as are cut off. It is 0
@@ -320,7 +320,7 @@ RolesAfterLoss n made now choice roles =
     (NoneSilent n made (made ++ now) × (roles ≡ choice))
     ⊎ (roles ≡ max choice (silence_span (pace_of n)))
 
--- By the first of them a system fails, which so cuts trees off. By the others links go down that are up, and of which
+-- By the first of them a system fails, which so moves trees. By the others links go down that are up, and of which
 -- an end has failed, or nothing is done.
 abbrev pub FailsTreesFirst : NetworkState → List Timed → List Timed → Type 0
 FailsTreesFirst n made [] = ⊥
@@ -424,7 +424,7 @@ TurnsNext n = TreeNext n (TurnsTreeLink n)
 abbrev pub BoundsTree : NetworkState → ℕ → ℕ → List Timed → Type 0
 BoundsTree n choice roles events = (choice ≡ 2 * way_span (sync_paths n events)) × (roles ≡ choice)
 
--- By the first event of a time a system fails, which so cuts trees off, and they ask for what `Asks` says. Nothing
+-- By the first event of a time a system fails, which so moves trees, and they ask for what `Asks` says. Nothing
 -- lapses for want of Sync. The network is calm. What was sent before the time before had come to rest has arrived.
 abbrev pub SplitsNext : NetworkState → List Timed → (ℕ → Type 0) → ℕ → ℕ → (List Timed → List Timed → Type 0) → Type 0
 SplitsNext n events Then last time Asks =

@@ -286,7 +286,7 @@ abbrev pub IsGoneBy : NetworkState → List Timed → List Timed → ℕ → ℕ
 IsGoneBy n ago events failed gone = (span : ℕ) × AgesWithin n ago events failed span
     × (gone ≡ suc (failed + min span (silence_span (pace_of n))))
 
--- In a network whose choice stands a system fails now, and so cuts trees off. What was sent before the choice stood has
+-- In a network whose choice stands a system fails now, and so moves trees. What was sent before the choice stood has
 -- arrived.
 pub record SplitsNow (n : NetworkState) (before : List Timed) (event : Timed) (stood gone silent : ℕ) : Type 0 where
   pub fails : FailsTrees n before event
