@@ -13,7 +13,7 @@ use Rattle.gptp_settling_time.specs.Pasts.{Aging, AnyPast, Cleared, Fallen, Fewe
 use Rattle.gptp_settling_time.specs.Leads.{EventLeads, TakesMore, TakesNow}
 use Rattle.gptp_settling_time.specs.InTurn.{LeadOn}
 use Rattle.gptp_settling_time.specs.Losses.{AreSilentAfter}
-use Rattle.gptp_settling_time.proofs.LeadOnLemmas.{HasSettled}
+use Rattle.gptp_settling_time.proofs.SettledPastLemmas.{HasSettled}
 use Rattle.gptp_settling_time.proofs.LosesLeadLemmas.{long_silent}
 
 fewer_leads : (n : NetworkState) (made : List Timed) (event : Timed) (since most silent : ℕ) (past : Past)
