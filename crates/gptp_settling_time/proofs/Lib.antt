@@ -3,6 +3,7 @@ pub mod BetweenUnmovedLemmas
 pub mod NewsMeasuredLemmas
 pub mod OneCallLemmas
 pub mod TakenClaimedLemmas
+pub mod TakenClearedLemmas
 pub mod TakenDownLossLemmas
 pub mod TakenFailLossLemmas
 pub mod TakenLeadLemmas

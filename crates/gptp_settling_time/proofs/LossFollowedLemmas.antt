@@ -196,7 +196,7 @@ module _ (n : NetworkState) (network : IsNetwork n) (off : NothingLapses n.param
       by (inr (inr (inr (inr (inl any))))) = any_lost any
       by (inr (inr (inr (inr (inr (takes, leaves, none, are_0)))))) = record {
         last = Fewer earlier time (sync_paths n earlier).delay (silent_from n time);
-        lead = taken_lead n time earlier event now seen at then calm_then off takes;
+        lead = taken_lead n time earlier (event ∷ now) seen at has calm_then off takes;
         so = (λ settled late. (off, leaves, none), λ settled late. (off, leaves, none));
       }
 

@@ -175,7 +175,7 @@ disabled_from keep (helds.Received x) is = absurd cc
 pub place_within : (j : ℕ) (hs : List Held) (h : Held) → slice_get hs j ≡ Some h → j < length hs
 place_within j [] h there = absurd cc
 place_within zero (x ∷ hs) h there = omega arith
-pub place_within (suc j) (x ∷ hs) h there = let within = place_within j hs h there in omega (arith, within)
+place_within (suc j) (x ∷ hs) h there = let within = place_within j hs h there in omega (arith, within)
 
 -- the ends of a link between two systems differ, so one that is at this system is this one
 pub same_end : (channel : Channel) (way direction : Direction) → channel.a.clock ≢ channel.b.clock
