@@ -57,7 +57,7 @@ none_lost n made choice roles (inr (inl (fails, is_choice, after))) = fails
 none_lost n made choice roles (inr (inr (inl (turns, is_choice, same)))) = turns
 none_lost n made choice roles (inr (inr (inr (inl (fails, bounds))))) = fails
 none_lost n made choice roles (inr (inr (inr (inr (inl (any, is_choice, after)))))) = any
-none_lost n made choice roles (inr (inr (inr (inr (inr (takes, leaves, none)))))) = takes
+none_lost n made choice roles (inr (inr (inr (inr (inr (takes, leaves, none, is_choice, is_roles)))))) = takes
 
 module _ (n : NetworkState) (network : IsNetwork n) (off : NothingLapses n.params) (time choice roles : ℕ) where
   abbrev IsLostTo : List Timed → List Timed → Past → Type 0
@@ -194,7 +194,7 @@ module _ (n : NetworkState) (network : IsNetwork n) (off : NothingLapses n.param
           let more = le-max_right choice quiet in
           heard held quiet (omega (arith, is_later)) (omega (arith, roles_later, more)) fails others bounds
       by (inr (inr (inr (inr (inl any))))) = any_lost any
-      by (inr (inr (inr (inr (inr (takes, leaves, none, are_0)))))) = record {
+      by (inr (inr (inr (inr (inr (takes, leaves, none, is_choice, is_roles)))))) = record {
         last = Fewer earlier time (sync_paths n earlier).delay (silent_from n time);
         lead = taken_lead n time earlier (event ∷ now) seen at has calm_then off takes;
         so = (λ settled late. (off, leaves, none), λ settled late. (off, leaves, none));

@@ -151,8 +151,8 @@ module _ (n : NetworkState) (time : ℕ) where
   pub taken_rests : NothingLapses n.params → (made now : List Timed) (past : Past) (rest : ℕ) → AllNow now
       → HasSettled n made past time → IsCalm n made → IsCalm n (made ++ now) → RestsTaken n made now rest
       → IsLed n made now past (suc (time + rest))
-  taken_rests off made [] past rest at settled calm calm_now (none, by) = absurd none
-  taken_rests off made (event ∷ []) past rest at settled calm calm_now (none, by) = absurd none
+  taken_rests off made [] past rest at settled calm calm_now (none, leaves, few, used, long) = absurd none
+  taken_rests off made (event ∷ []) past rest at settled calm calm_now (none, leaves, few, used, long) = absurd none
   taken_rests off made (event ∷ other ∷ now) past rest (here, at) settled calm calm_now
       ((any, others), leaves, few, used, long) =
       let all : (made ++ event ∷ []) ++ other ∷ now ≡ made ++ event ∷ other ∷ now =
