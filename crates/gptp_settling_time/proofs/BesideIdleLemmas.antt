@@ -23,7 +23,8 @@ use Rattle.gptp_settling_time.specs.Rests.{HasToldAnew, RestsFrom}
 use Rattle.gptp_settling_time.specs.InTurn.{ChoosesAfter, LeadOn, SettlesAfter}
 use Rattle.gptp_settling_time.specs.Losses.{LowersUnused, MovesNoneInAll, NoneSilent, UpIsUsed}
 use Rattle.gptp_settling_time.proofs.CalmStillLemmas.{alike_calm, idle_calm}
-use Rattle.gptp_settling_time.proofs.LeadOnLemmas.{HasRested, HasSettled, idle_leads, idle_settled, leads_on, settled_later, since, widens_leads}
+use Rattle.gptp_settling_time.proofs.LeadOnLemmas.{idle_leads, idle_settled, since, widens_leads}
+use Rattle.gptp_settling_time.proofs.SettledPastLemmas.{HasRested, HasSettled, leads_on, settled_later}
 use Rattle.gptp_settling_time.proofs.LossRestLemmas.{last_at}
 use Rattle.gptp_settling_time.proofs.SamePathsLemmas.{StandSame, idle_same, paths_same, same_alike, same_back, same_itself, same_lives, same_on, stands_before}
 

@@ -25,7 +25,8 @@ use Rattle.gptp_settling_time.proofs.CalmStillLemmas.{alike_calm}
 use Rattle.gptp_settling_time.proofs.SamePathsLemmas.{StandSame, same_alike, same_back}
 use Rattle.gptp_settling_time.proofs.CutLemmas.{IsBy, all_by}
 use Rattle.gptp_settling_time.proofs.MomentLemmas.{all_at, last_by, parted}
-use Rattle.gptp_settling_time.proofs.LeadOnLemmas.{HasRested, HasSettled, IsLed, after_idle, any_leads, gains_led, heard_led, idle_led, lead_as, leads_on, led_as, settled_later, taken_later, wider_led}
+use Rattle.gptp_settling_time.proofs.LeadOnLemmas.{IsLed, after_idle, gains_led, heard_led, idle_led, lead_as, led_as, wider_led}
+use Rattle.gptp_settling_time.proofs.SettledPastLemmas.{HasRested, HasSettled, any_leads, leads_on, settled_later, taken_later}
 use Rattle.gptp_settling_time.proofs.LosesLeadLemmas.{any_rests}
 use Rattle.gptp_settling_time.proofs.LossLeadLemmas.{tree_leads}
 use Rattle.gptp_settling_time.proofs.LossRestLemmas.{cleared_led, last_at}

@@ -22,7 +22,8 @@ use Rattle.gptp_theorem.proofs.EventLemmas.{last_behind}
 use Rattle.gptp_settling_time.proofs.CalmLessLemmas.{fails_calm}
 use Rattle.gptp_settling_time.proofs.NamedLemmas.{arrives_later}
 use Rattle.gptp_settling_time.proofs.FollowedLemmas.{IsFollowedTo, besided, bound_calm, falls_on, followed, turns_on}
-use Rattle.gptp_settling_time.proofs.LeadOnLemmas.{HasSettled, lead_as, leads_on, taken_later}
+use Rattle.gptp_settling_time.proofs.LeadOnLemmas.{lead_as}
+use Rattle.gptp_settling_time.proofs.SettledPastLemmas.{HasSettled, leads_on, taken_later}
 use Rattle.gptp_settling_time.proofs.LosesLeadLemmas.{LosesBy, loses_by}
 use Rattle.gptp_settling_time.proofs.LossLeadLemmas.{IsLeftBy, dead_lead, heard_lead, loss_leads, splits_lead, turn_leads}
 use Rattle.gptp_settling_time.proofs.LossRestLemmas.{last_at}

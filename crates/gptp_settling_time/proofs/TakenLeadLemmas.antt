@@ -16,7 +16,8 @@ use Rattle.gptp_settling_time.specs.EventKinds.{nearer_echo_span}
 use Rattle.gptp_settling_time.specs.Leads.{EventLeads, TakesAny, TakesMore, TakesNow}
 use Rattle.gptp_settling_time.specs.InTurn.{LeadOn}
 use Rattle.gptp_settling_time.specs.Losses.{AreSilentAfter, MovesNoneInAll, UpIsUsed}
-use Rattle.gptp_settling_time.proofs.LeadOnLemmas.{HasSettled, IsLed}
+use Rattle.gptp_settling_time.proofs.LeadOnLemmas.{IsLed}
+use Rattle.gptp_settling_time.proofs.SettledPastLemmas.{HasSettled}
 use Rattle.gptp_settling_time.proofs.LosesLeadLemmas.{long_silent}
 use Rattle.gptp_settling_time.proofs.LossRestLemmas.{nearer_within}
 use Rattle.gptp_settling_time.proofs.SilentSpanLemmas.{up_none_silent}
