@@ -15,17 +15,10 @@ use Rattle.gptp_scenario.specs.declared.sync_wait.SyncPaths.{SyncPaths}
 use Rattle.gptp_network.specs.Snapshot.{events_by}
 use Rattle.gptp_how_soon.specs.Bounds.{is_hard_to_hear, gone_by, quiet_by}
 use Rattle.gptp_how_soon.specs.Chosen.{moves_joined}
-<<<<<<< HEAD
-use Rattle.gptp_how_soon.specs.CutTrees.{cuts_trees_after}
 use Rattle.gptp_how_soon.specs.Kinds.{are_heard, brings_nothing, fails_and_recovers, fails_first, is_better, is_gain, is_idle, is_loss, is_other, is_recovery, leaves_links, lowers_one, lowers_unused, makes_nothing, recovers, takes_one, begins_wider, first_wider_by, is_wider}
+use Rattle.gptp_how_soon.specs.MovedTrees.{moves_trees_after}
 use Rattle.gptp_how_soon.specs.Rest.{are_events_followed, are_losses_followed, are_recoveries_followed, are_turns_followed, heard_at_once, is_failing_followed, is_from_rest, is_lowering_followed, keeps_paths, rested, is_wider_followed, settles_wider_by}
 use Rattle.gptp_how_soon.specs.Times.{View, events_at, gained_at, has_come_after, loss_at, ready_at, row_at, view_at}
-=======
-use Rattle.gptp_how_soon.specs.Kinds.{are_heard, brings_nothing, fails_and_recovers, fails_first, is_better, is_failing, is_gain, is_idle, is_loss, is_other, is_recovery, leaves_links, lowers_one, lowers_unused, makes_nothing, recovers, takes_one, begins_wider, first_wider_by, is_wider}
-use Rattle.gptp_how_soon.specs.MovedTrees.{moves_trees_after}
-use Rattle.gptp_how_soon.specs.Rest.{are_events_followed, are_losses_followed, are_recoveries_followed, are_turns_followed, has_rested_for, heard_at_once, is_failing_followed, is_from_rest, is_lowering_followed, keeps_paths, leaves_silent, rested, is_wider_followed, settles_wider_by}
-use Rattle.gptp_how_soon.specs.Times.{View, events_at, gained_at, ready_at, row_at, view_at}
->>>>>>> w_line
 use Rattle.gptp_how_soon.specs.Tree.{cuts_tree_after}
 use Rattle.gptp_how_soon.specs.TurnedTree.{turns_tree_after}
 use Rattle.gptp_how_soon.specs.declared.bounds.Row.{Row}
@@ -46,20 +39,12 @@ use Rattle.gptp_how_soon_laws.proofs.ArrivedLemmas.{has_come_so, longest_within}
 use Rattle.gptp_how_soon_laws.proofs.GainLemmas.{AreFollowed, AreTurnsFollowed}
 use Rattle.gptp_how_soon_laws.proofs.GainedLemmas.{all_gained, all_heard, all_idle, all_wider}
 use Rattle.gptp_how_soon_laws.proofs.FailedLemmas.{fails_end_first, fails_heard_first, used_up}
-<<<<<<< HEAD
 use Rattle.gptp_how_soon_laws.proofs.CutOffLemmas.{cuts_far}
-use Rattle.gptp_how_soon_laws.proofs.CutTreesLemmas.{fails_trees_first}
+use Rattle.gptp_how_soon_laws.proofs.MovedTreesLemmas.{fails_trees_first}
 use Rattle.gptp_how_soon_laws.proofs.LoweredLemmas.{lowers_link, used_on}
 use Rattle.gptp_how_soon_laws.proofs.RepeatLemmas.{IsSame, LowersFirst, before_repeats, cut_seen, falls_seen, first_same, first_well, joined_seen, lowers_first, paths_seen, turned_seen, turns_seen, used_still}
 use Rattle.gptp_how_soon_laws.proofs.TreeEventLemmas.{lowers_one_tree, turns_tree_link}
 use Rattle.gptp_how_soon_laws.proofs.TurnedLemmas.{turns_link}
-=======
-use Rattle.gptp_how_soon_laws.proofs.CutOffLemmas.{cuts_one_end}
-use Rattle.gptp_how_soon_laws.proofs.MovedTreesLemmas.{fails_trees_first}
-use Rattle.gptp_how_soon_laws.proofs.LoweredLemmas.{GoesDown, lowers_one_link, one_as, used_on}
-use Rattle.gptp_how_soon_laws.proofs.TreeEventLemmas.{lowers_tree, turns_tree_by}
-use Rattle.gptp_how_soon_laws.proofs.TurnedLemmas.{turns_one_link}
->>>>>>> w_line
 use Rattle.gptp_how_soon_laws.proofs.UnmovedLemmas.{AreWell, all_still_unmoved}
 use Rattle.gptp_how_soon_laws.proofs.RowReasonLemmas.{ReasonOf, Tests, reason_of}
 use Rattle.gptp_how_soon_laws.proofs.SilentLemmas.{none_silent}
@@ -527,18 +512,11 @@ module _ (n : NetworkState) (network : IsNetwork n) (events : List Timed) (b : S
     pub come : HasCome rest
     pub fails : FailsTreesFirst n made now
 
-<<<<<<< HEAD
   pub failure_cuts : AreWell n (made ++ now) → row_at v ≡ FailureCutsTrees → FailsLate
   failure_cuts well row =
       let (from, trees) = why FailureCutsTrees row in
-      let (keeps, one, cut, come) = late_by fails_first (cuts_trees_after n made (made ++ now)) trees in
+      let (keeps, one, cut, come) = late_by fails_first (moves_trees_after n made (made ++ now)) trees in
       let x = keeps_so keeps in
-=======
-  fails_late : is_from_rest v.longest at v.paths_before v.paths v.told (Some b) ≡ true → AreWell n (made ++ now)
-      → (is_failing_followed v.paths_before v.paths v.told && v.moves.trees_fall) ≡ true → FailsLate
-  fails_late from well trees =
-      let (x, one, cut, longer) = late_by fails_first (moves_trees_after n made (made ++ now)) trees in
->>>>>>> w_line
       let rest = (from_rest from).rested in
       record {
         rest = rest;
