@@ -17,7 +17,7 @@ use Rattle.gptp_how_soon.specs.Silent.{any_silent}
 use Rattle.gptp_how_soon.specs.Times.{settling_time}
 use Rattle.gptp_how_soon.specs.Walk.{moves_seen, view_seen}
 use Rattle.gptp_how_soon.specs.declared.bounds.Row.{Row}
-use Rattle.gptp_how_soon.specs.declared.bounds.Row.TheVariants.{AnyLosses, AnyPast, CutOff, FailedEnd, FailedHeard, FailureCutsOff, FailureCutsTrees, Gained, Lowered, SystemTurned, TreeCutOff, TreeTurned, Unchanged}
+use Rattle.gptp_how_soon.specs.declared.bounds.Row.TheVariants.{AnyLosses, AnyPast, CutOff, FailedEnd, FailedHeard, FailureCutsOff, FailureMovesTrees, Gained, Lowered, SystemTurned, TreeCutOff, TreeTurned, Unchanged}
 use Rattle.gptp_how_soon.specs.declared.bounds.SettlingTime.{SettlingTime}
 use Rattle.gptp_how_soon.specs.declared.kinds.Told.{Told}
 use Rattle.gptp_how_soon.specs.declared.rest.Moves.{Moves}
@@ -50,8 +50,8 @@ same_row from_rest first before paths told moves =
         else if failing && not (asked_of moves (rest && (followed || lowering || failing))).moved
         then failed_row (asked_of moves (rest && (followed || lowering || failing))).far
         (asked_of moves (rest && (followed || lowering || failing))).any_moved
-        else if failing && (asked_of moves (rest && (followed || lowering || failing))).trees_fall
-        then FailureCutsTrees
+        else if failing && (asked_of moves (rest && (followed || lowering || failing))).trees_move
+        then FailureMovesTrees
         else if list_any is_loss told then if list_all brings_nothing told then AnyLosses else AnyPast
         else Gained)
         ≡ (if not rest then AnyPast else if first then Gained else if idle then Unchanged
@@ -61,7 +61,7 @@ same_row from_rest first before paths told moves =
         else if lowering && moves.falls then TreeCutOff
         else if lowering && moves.tree_turns then TreeTurned
         else if failing && not moves.moved then failed_row moves.far moves.any_moved
-        else if failing && moves.trees_fall then FailureCutsTrees
+        else if failing && moves.trees_move then FailureMovesTrees
         else if list_any is_loss told then if list_all brings_nothing told then AnyLosses else AnyPast
         else Gained)
     by false idle followed lowering failing = refl
@@ -76,7 +76,7 @@ same_row from_rest first before paths told moves =
 abbrev counts_held : Row → Bool
 counts_held FailedHeard = true
 counts_held FailureCutsOff = true
-counts_held FailureCutsTrees = true
+counts_held FailureMovesTrees = true
 counts_held row = false
 
 -- it counts only where it is asked whom events move
@@ -97,7 +97,7 @@ held_asked from_rest first before paths told moves =
         else if lowering && moves.falls then TreeCutOff
         else if lowering && moves.tree_turns then TreeTurned
         else if failing && not moves.moved then failed_row moves.far moves.any_moved
-        else if failing && moves.trees_fall then FailureCutsTrees
+        else if failing && moves.trees_move then FailureMovesTrees
         else if loses then if losses then AnyLosses else AnyPast
         else Gained)
         ≡ false
@@ -135,7 +135,7 @@ module _ (n : NetworkState) (at arrived : ℕ) (paths_before paths : SyncPaths) 
   held_apart SystemTurned held other is = refl
   held_apart TreeCutOff held other is = refl
   held_apart TreeTurned held other is = refl
-  held_apart FailureCutsTrees held other is = absurd cc
+  held_apart FailureMovesTrees held other is = absurd cc
   held_apart AnyLosses held other is = refl
   held_apart Gained held other is = refl
 

@@ -40,7 +40,7 @@ use Rattle.gptp_how_soon.specs.Silent.{is_heard_link, own_intervals}
 use Rattle.gptp_how_soon.specs.Times.{IsWatchedShortly, View, events_at, events_before, gained_at, heard_at, last_of, last_set, loss_at, row_at, settling_time, settling_times, settling_times_from, time_at, view_at}
 use Rattle.gptp_how_soon.specs.declared.bounds.Loss.{Loss}
 use Rattle.gptp_how_soon.specs.declared.bounds.Row.{Row}
-use Rattle.gptp_how_soon.specs.declared.bounds.Row.TheVariants.{AnyLosses, AnyPast, CutOff, FailedEnd, FailedHeard, FailureCutsOff, FailureCutsTrees, Gained, Lowered, SystemTurned, TreeCutOff, TreeTurned, Unchanged}
+use Rattle.gptp_how_soon.specs.declared.bounds.Row.TheVariants.{AnyLosses, AnyPast, CutOff, FailedEnd, FailedHeard, FailureCutsOff, FailureMovesTrees, Gained, Lowered, SystemTurned, TreeCutOff, TreeTurned, Unchanged}
 use Rattle.gptp_how_soon.specs.declared.bounds.SettlingTime.{SettlingTime}
 use Rattle.gptp_how_soon.specs.declared.kinds.Told.{Told}
 use Rattle.gptp_how_soon.proofs.SilentLemmas.{held_within}
@@ -161,7 +161,7 @@ module _ (n : NetworkState) (network : IsNetwork n) (paths : SyncPaths) (few : p
         by SystemTurned = let w = way in omega (arith, w)
         by TreeCutOff = let w = way in omega (arith, w)
         by TreeTurned = let w = way in omega (arith, w)
-        by FailureCutsTrees = cut_most
+        by FailureMovesTrees = cut_most
         by AnyLosses = roles_lost
         by Gained = early
 
@@ -190,7 +190,7 @@ module _ (n : NetworkState) (network : IsNetwork n) (paths : SyncPaths) (few : p
         by SystemTurned = let w = way in let e = echo in omega (arith, w, e)
         by TreeCutOff = let w = way in let g = gone paths short in omega (arith, w, g)
         by TreeTurned = let w = way in let e = echo in omega (arith, w, e)
-        by FailureCutsTrees =
+        by FailureMovesTrees =
             let w = way in let e = echo in let l = largest in let a = aged_most in
             quiet
             (aged_by loss + (2 * way_span paths + max (echo_span (pace_of n) paths) (largest_interval (pace_of n))))
@@ -217,7 +217,7 @@ module _ (n : NetworkState) (network : IsNetwork n) (paths : SyncPaths) (few : p
         by true SystemTurned = let w = way in let e = echo in omega (arith, w, e)
         by true TreeCutOff = let w = way in omega (arith, w)
         by true TreeTurned = let w = way in let e = echo in omega (arith, w, e)
-        by true FailureCutsTrees = let w = way in let e = echo in let a = aged_most in omega (arith, w, e, a)
+        by true FailureMovesTrees = let w = way in let e = echo in let a = aged_most in omega (arith, w, e, a)
         by true AnyLosses = let l = losses loss soon in omega (arith, l)
         by true Gained = omega (arith, early)
 

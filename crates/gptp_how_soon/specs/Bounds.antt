@@ -13,7 +13,7 @@ use Rattle.gptp_how_soon.specs.Kinds.{recovers}
 use Rattle.gptp_how_soon.specs.Links.{varies}
 use Rattle.gptp_how_soon.specs.declared.bounds.Loss.{Loss}
 use Rattle.gptp_how_soon.specs.declared.bounds.Row.{Row}
-use Rattle.gptp_how_soon.specs.declared.bounds.Row.TheVariants.{AnyLosses, AnyPast, CutOff, FailedEnd, FailedHeard, FailureCutsOff, FailureCutsTrees, Gained, Lowered, SystemTurned, TreeCutOff, TreeTurned, Unchanged}
+use Rattle.gptp_how_soon.specs.declared.bounds.Row.TheVariants.{AnyLosses, AnyPast, CutOff, FailedEnd, FailedHeard, FailureCutsOff, FailureMovesTrees, Gained, Lowered, SystemTurned, TreeCutOff, TreeTurned, Unchanged}
 use Rattle.gptp_how_soon.specs.declared.bounds.Settling.{Settling}
 use Rattle.gptp_how_soon.specs.declared.bounds.SettlingTime.{SettlingTime}
 use Rattle.gptp_how_soon.specs.declared.kinds.Told.{Told}
@@ -80,7 +80,7 @@ choice_of_row n loss paths FailureCutsOff gained = aged_by loss + 2 * way_span p
 choice_of_row n loss paths SystemTurned gained = 2 * way_span paths
 choice_of_row n loss paths TreeCutOff gained = 2 * way_span paths
 choice_of_row n loss paths TreeTurned gained = 2 * way_span paths
-choice_of_row n loss paths FailureCutsTrees gained = aged_by loss + 2 * way_span paths
+choice_of_row n loss paths FailureMovesTrees gained = aged_by loss + 2 * way_span paths
 choice_of_row n loss paths AnyLosses gained = any_loss_span n loss paths
 choice_of_row n loss paths Gained gained = gained
 
@@ -101,8 +101,8 @@ roles_of_row n loss paths FailureCutsOff gained = quiet_by n loss (choice_of_row
 roles_of_row n loss paths SystemTurned gained = choice_of_row n loss paths SystemTurned gained
 roles_of_row n loss paths TreeCutOff gained = choice_of_row n loss paths TreeCutOff gained
 roles_of_row n loss paths TreeTurned gained = choice_of_row n loss paths TreeTurned gained
-roles_of_row n loss paths FailureCutsTrees gained =
-    quiet_by n loss (choice_of_row n loss paths FailureCutsTrees gained)
+roles_of_row n loss paths FailureMovesTrees gained =
+    quiet_by n loss (choice_of_row n loss paths FailureMovesTrees gained)
 roles_of_row n loss paths AnyLosses gained = quiet_by n loss (any_loss_span n loss paths)
 roles_of_row n loss paths Gained gained = gained
 
@@ -143,7 +143,7 @@ sound_of_row n loss paths FailureCutsOff gained =
 sound_of_row n loss paths SystemTurned gained = 2 * way_span paths + echo_span (pace_of n) paths
 sound_of_row n loss paths TreeCutOff gained = max (2 * way_span paths) (gone_by n paths loss.used_before)
 sound_of_row n loss paths TreeTurned gained = 2 * way_span paths + echo_span (pace_of n) paths
-sound_of_row n loss paths FailureCutsTrees gained =
+sound_of_row n loss paths FailureMovesTrees gained =
     quiet_by n loss
     (aged_by loss + (2 * way_span paths + max (echo_span (pace_of n) paths) (largest_interval (pace_of n))))
 sound_of_row n loss paths AnyLosses gained = quiet_by n loss (any_loss_span n loss paths)
@@ -162,7 +162,7 @@ echo_of_row n paths FailedHeard = echo_span (pace_of n) paths
 echo_of_row n paths FailureCutsOff = echo_span (pace_of n) paths
 echo_of_row n paths SystemTurned = echo_span (pace_of n) paths
 echo_of_row n paths TreeTurned = echo_span (pace_of n) paths
-echo_of_row n paths FailureCutsTrees = echo_span (pace_of n) paths
+echo_of_row n paths FailureMovesTrees = echo_span (pace_of n) paths
 echo_of_row n paths row = 0
 
 abbrev pub echo_by : NetworkState → SyncPaths → Row → ℕ

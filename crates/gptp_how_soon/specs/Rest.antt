@@ -8,7 +8,7 @@ use Rattle.gptp_scenario.specs.SettlingTime.{way_span}
 use Rattle.gptp_scenario.specs.declared.sync_wait.SyncPaths.{SyncPaths}
 use Rattle.gptp_how_soon.specs.Kinds.{are_heard, begins_wider, brings_nothing, fails_and_recovers, fails_first, first_wider_by, is_better, is_gain, is_loss, is_other, is_recovery, is_wider, leaves_links, lowers_one, lowers_unused, makes_nothing, tells_nothing}
 use Rattle.gptp_how_soon.specs.declared.bounds.Row.{Row}
-use Rattle.gptp_how_soon.specs.declared.bounds.Row.TheVariants.{AnyLosses, AnyPast, CutOff, FailedEnd, FailedHeard, FailureCutsOff, FailureCutsTrees, Gained, Lowered, SystemTurned, TreeCutOff, TreeTurned, Unchanged}
+use Rattle.gptp_how_soon.specs.declared.bounds.Row.TheVariants.{AnyLosses, AnyPast, CutOff, FailedEnd, FailedHeard, FailureCutsOff, FailureMovesTrees, Gained, Lowered, SystemTurned, TreeCutOff, TreeTurned, Unchanged}
 use Rattle.gptp_how_soon.specs.declared.bounds.Settling.{Settling}
 use Rattle.gptp_how_soon.specs.declared.bounds.SettlingTime.{SettlingTime}
 use Rattle.gptp_how_soon.specs.declared.kinds.Told.{Told}
@@ -114,7 +114,7 @@ row_of from_rest first paths_before paths told moves =
     else if is_lowering_followed paths_before paths told && moves.falls then TreeCutOff
     else if is_lowering_followed paths_before paths told && moves.tree_turns then TreeTurned
     else if is_failing_followed paths_before paths told && not moves.moved then failed_row moves.far moves.any_moved
-    else if is_failing_followed paths_before paths told && moves.trees_fall then FailureCutsTrees
+    else if is_failing_followed paths_before paths told && moves.trees_move then FailureMovesTrees
     else if list_any is_loss told then if list_all brings_nothing told then AnyLosses else AnyPast
     else Gained
 
@@ -134,7 +134,7 @@ no_moves = record {
   turned = false;
   falls = false;
   tree_turns = false;
-  trees_fall = false;
+  trees_move = false;
   far = false;
   held = 0;
 }

@@ -119,7 +119,7 @@ moves_seen n w at = record {
   tree_turns = has_come_seen n w at
       && turns_tree (systems_in w.tables.nodes.items) (lost_seen w) (ends_in_use w.ends.items (used_now w))
       (chosen_before w) (chosen_now w);
-  trees_fall = has_come_seen n w at
+  trees_move = has_come_seen n w at
       && moves_trees (systems_in w.tables.nodes.items) (lost_seen w) (ends_in_use w.ends.items (used_now w))
       (chosen_before w) (chosen_now w);
   far = are_far w.systems_before.items (chosen_before w) (ends_in_use w.ends.items w.used_before.items) w.told.items;

@@ -80,8 +80,8 @@ pub enum Row {
     TreeCutOff,
     /// One link goes down so that moves a tree. Its systems keep their root, and get it by one other link.
     TreeTurned,
-    /// A system fails, and all that are moved are trees that it cuts off.
-    FailureCutsTrees,
+    /// A system fails, and all that are moved are trees: some are cut off, one may turn by one other link.
+    FailureMovesTrees,
     /// Some of its events are losses, the others make nothing of what stands, and no other row of a loss is so.
     AnyLosses,
     /// None of its events is a loss.
@@ -275,7 +275,7 @@ fn choice_by(network: &Network, loss: Loss, paths: SyncPaths, row: Row, gained: 
         Row::AnyPast => settling_span_at_once(network, paths),
         Row::Unchanged | Row::Lowered | Row::FailedEnd => 0,
         Row::FailedHeard => aged_by(loss),
-        Row::FailureCutsOff | Row::FailureCutsTrees => aged_by(loss) + 2 * way_span(paths),
+        Row::FailureCutsOff | Row::FailureMovesTrees => aged_by(loss) + 2 * way_span(paths),
         Row::CutOff | Row::SystemTurned | Row::TreeCutOff | Row::TreeTurned => 2 * way_span(paths),
         Row::AnyLosses => any_loss_span(network, loss, paths),
         Row::Gained => gained,
@@ -300,7 +300,7 @@ fn roles_by(network: &Network, loss: Loss, paths: SyncPaths, row: Row, gained: u
         Row::Unchanged | Row::Lowered => 0,
         Row::FailedEnd => quiet_by(network, loss, 0),
         Row::FailedHeard => quiet_by(network, loss, aged_by(loss)),
-        Row::FailureCutsOff | Row::FailureCutsTrees => {
+        Row::FailureCutsOff | Row::FailureMovesTrees => {
             quiet_by(network, loss, aged_by(loss) + 2 * way_span(paths))
         }
         Row::CutOff | Row::SystemTurned | Row::TreeCutOff | Row::TreeTurned => 2 * way_span(paths),
@@ -379,7 +379,7 @@ fn sound_by(network: &Network, loss: Loss, paths: SyncPaths, row: Row, gained: u
             aged.max(aged_echo_span(network, loss, paths))
         }
         Row::SystemTurned | Row::TreeTurned => 2 * way_span(paths) + echo_span(network, paths),
-        Row::FailureCutsTrees => {
+        Row::FailureMovesTrees => {
             network.well_formed();
             let told = echo_span(network, paths).max(interval_of(network.largest()));
             quiet_by(network, loss, aged_by(loss) + (2 * way_span(paths) + told))
@@ -407,7 +407,7 @@ fn retold_by(network: &Network, loss: Loss, paths: SyncPaths, row: Row, gained: 
         Row::Unchanged | Row::FailedEnd => 0,
         Row::Lowered => echo_span(network, paths),
         Row::FailedHeard => aged_by(loss) + echo_span(network, paths),
-        Row::FailureCutsOff | Row::FailureCutsTrees => {
+        Row::FailureCutsOff | Row::FailureMovesTrees => {
             aged_by(loss) + 2 * way_span(paths) + echo_span(network, paths)
         }
         Row::SystemTurned | Row::TreeTurned => echo_span(network, paths) + 2 * way_span(paths),

@@ -27,8 +27,8 @@ pub struct Moves {
     pub falls: bool,
     /// Whether then a tree turns by one other link.
     pub tree_turns: bool,
-    /// Whether then all that they move are trees that are cut off.
-    pub trees_fall: bool,
+    /// Whether then all that they move are trees: some are cut off, one may turn by one other link.
+    pub trees_move: bool,
     /// Whether those that they name were far ends.
     pub far: bool,
     /// For how long it counts what others hold of a system that fails, in ns; 0 where no link is left silent whose far
@@ -273,8 +273,8 @@ pub(crate) fn row_of(
         Row::TreeTurned
     } else if is_failing_followed(paths_before, paths, told) && !moves.moved {
         failed_row(moves.far, moves.any_moved)
-    } else if is_failing_followed(paths_before, paths, told) && moves.trees_fall {
-        Row::FailureCutsTrees
+    } else if is_failing_followed(paths_before, paths, told) && moves.trees_move {
+        Row::FailureMovesTrees
     } else if any_loss(told) {
         if all_bring_nothing(told) {
             Row::AnyLosses

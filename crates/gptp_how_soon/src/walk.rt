@@ -145,7 +145,7 @@ impl Walk {
             turned,
             falls: come && cuts_tree(&systems, &lost, &links, &before, &now),
             tree_turns: come && turns_tree(&systems, &lost, &links, &before, &now),
-            trees_fall: come && moves_trees(&systems, &lost, &links, &before, &now),
+            trees_move: come && moves_trees(&systems, &lost, &links, &before, &now),
             far: are_far(&self.systems_before, &before, &links_before, &self.told),
             held: held_among(network, own, &heard, &self.tables.standings),
         })
@@ -172,7 +172,7 @@ impl Walk {
                 turned: false,
                 falls: false,
                 tree_turns: false,
-                trees_fall: false,
+                trees_move: false,
                 far: false,
                 held: 0,
             })

@@ -26,7 +26,6 @@ use Rattle.gptp_topology.specs.After.{standing_then, standings_after, system_the
 use Rattle.gptp_topology.specs.Course.{cable_is_used, cable_of}
 use Rattle.gptp_topology.specs.declared.nodes.System.{System}
 use Rattle.gptp_how_soon.specs.Chosen.{any_joined_moved, any_moved, chosen_after, chosen_over, ends_in_use, ends_of, lost_ends, moves_joined, moves_some, used_ends}
-use Rattle.gptp_how_soon.specs.CutTrees.{cuts_trees, cuts_trees_after}
 use Rattle.gptp_how_soon.specs.Far.{all_cut_far_ends, cut_far_ends_after}
 use Rattle.gptp_how_soon.specs.Kinds.{is_idle, is_lowering, is_priority1, lowers_one, repeats}
 use Rattle.gptp_how_soon.specs.Links.{lost_among}
@@ -228,9 +227,6 @@ module _ (n : NetworkState) (made events more : List Timed) (same : IsSame n eve
 
   pub turns_seen : turns_tree_after n made more ≡ turns_tree_after n made events
   turns_seen i = turns_tree (systems i) (lost_seen i) (used_seen i) (chosen_after n made) (chosen_seen i)
-
-  pub splits_seen : cuts_trees_after n made more ≡ cuts_trees_after n made events
-  splits_seen i = cuts_trees (systems i) (lost_seen i) (used_seen i) (chosen_after n made) (chosen_seen i)
 
 -- ---- one link that goes down, and events behind it that repeat what stands
 

@@ -22,7 +22,7 @@ use Rattle.gptp_how_soon.specs.Times.{View, events_at, gained_at, has_come_after
 use Rattle.gptp_how_soon.specs.Tree.{cuts_tree_after}
 use Rattle.gptp_how_soon.specs.TurnedTree.{turns_tree_after}
 use Rattle.gptp_how_soon.specs.declared.bounds.Row.{Row}
-use Rattle.gptp_how_soon.specs.declared.bounds.Row.TheVariants.{AnyLosses, CutOff, FailedEnd, FailedHeard, FailureCutsOff, FailureCutsTrees, Gained, Lowered, SystemTurned, TreeCutOff, TreeTurned, Unchanged}
+use Rattle.gptp_how_soon.specs.declared.bounds.Row.TheVariants.{AnyLosses, CutOff, FailedEnd, FailedHeard, FailureCutsOff, FailureMovesTrees, Gained, Lowered, SystemTurned, TreeCutOff, TreeTurned, Unchanged}
 use Rattle.gptp_how_soon.specs.declared.bounds.Settling.{Settling}
 use Rattle.gptp_how_soon.specs.declared.bounds.SettlingTime.{SettlingTime}
 use Rattle.gptp_how_soon.specs.declared.kinds.Told.{Told}
@@ -74,7 +74,7 @@ module _ (n : NetworkState) (network : IsNetwork n) (events : List Timed) (b : S
     fails = is_failing_followed v.paths_before v.paths v.told && not v.moves.moved;
     far = v.moves.far;
     moved = v.moves.any_moved;
-    trees = is_failing_followed v.paths_before v.paths v.told && v.moves.trees_fall;
+    trees = is_failing_followed v.paths_before v.paths v.told && v.moves.trees_move;
     loss = list_any is_loss v.told;
     only = list_all brings_nothing v.told;
   }
@@ -512,9 +512,9 @@ module _ (n : NetworkState) (network : IsNetwork n) (events : List Timed) (b : S
     pub come : HasCome rest
     pub fails : FailsTreesFirst n made now
 
-  pub failure_cuts : AreWell n (made ++ now) → row_at v ≡ FailureCutsTrees → FailsLate
+  pub failure_cuts : AreWell n (made ++ now) → row_at v ≡ FailureMovesTrees → FailsLate
   failure_cuts well row =
-      let (from, trees) = why FailureCutsTrees row in
+      let (from, trees) = why FailureMovesTrees row in
       let (keeps, one, cut, come) = late_by fails_first (moves_trees_after n made (made ++ now)) trees in
       let x = keeps_so keeps in
       let rest = (from_rest from).rested in
