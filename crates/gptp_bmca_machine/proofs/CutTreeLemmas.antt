@@ -1,9 +1,5 @@
 -- A tree that the loss of a link cuts off is moved by it, without a way out.
-<<<<<<< HEAD
-use Rattle.std.proofs.Common.{◌≡◌, ◌⊎◌, ℕ, suc, ap, subst, inl, inr}
-=======
-use Rattle.std.proofs.Common.{◌≡◌, ◌⊎◌, ℕ, suc, ap, subst, inl, arith}
->>>>>>> w_line
+use Rattle.std.proofs.Common.{◌≡◌, ◌⊎◌, ℕ, suc, ap, subst, inl, inr, arith}
 use native.Mathlib.Decide.{ℕ_discrete}
 use Rattle.gptp_lists.specs.Members.{In}
 use Rattle.gptp_graph.specs.Best.{IsBest}
@@ -54,18 +50,16 @@ module _ (g : Snapshot) (n : Network) (top : ℕ) (best next : System) (base : �
   moves_off = record {
     well = t.well;
     left = t.left;
-<<<<<<< HEAD
+    ways = n.graph;
+    ways_well = t.well;
+    ways_left = nothing_lost n t.well;
+    ways_stand = λ s member. member;
     stand = λ s member. elim (t.stand s member) [
       | inl stood ↦ inl stood
       | inr is_top ↦ inr (is_top, λ v u none. none)
     ];
-=======
-    ways = n.graph;
-    ways_well = t.well;
-    ways_left = nothing_lost n t.well;
     tree_ways = λ v i q in_v joins. joins;
     far_now = λ v far around here. here;
->>>>>>> w_line
     lives = λ v in_v. in_v.reached.1.begins;
     within = λ v. elim (in_dec v (clocks n.graph)) [
       | no dead ↦ no (λ is. dead is.reached.1.begins)
@@ -97,7 +91,7 @@ module _ (g : Snapshot) (n : Network) (top : ℕ) (best next : System) (base : �
       → depth v ≡ suc (depth u) → Whole g v a → Whole n.graph v a ⊎ In u a.path
   off_whole v u a in_v in_u joined higher whole =
       whole_or_named g n (IsCutOff n next) LeadsNowhere top best next base depth moves_off u v joined in_u in_v higher
-      t.left.systems a whole (λ b z us none. absurd none)
+      a whole (λ b z us none. absurd none)
 
 module _ (g : Snapshot) (n : Network) (top : ℕ) (best next : System) (base : ℕ) (depth : ℕ → ℕ)
     (t : CutsTree g n top best next base depth) where

@@ -11,6 +11,7 @@ use Rattle.gptp_bmca_machine.specs.CutTree.{LosesSystem}
 use Rattle.gptp_bmca_machine.specs.LossLaws.{IsWhatIsLeft}
 use Rattle.gptp_bmca_machine.specs.Network.{Network}
 use Rattle.gptp_bmca_machine.specs.TurnTree.{HasWays}
+use Rattle.gptp_bmca_machine.proofs.RestLemmas.{left_of}
 
 -- ---- links but for those between two systems
 
@@ -128,20 +129,16 @@ module _ (g : Snapshot) (n : Network) (well : IsWellFormed n.graph) (left : IsWh
   unfolding ways_but
   failure_ways m bounds few = record {
     well = ways_well g top lost left.graph;
-    left = record {
-      graph = ways_well g top lost left.graph;
-      systems = left.systems;
-      links = λ p q joins. to_ways g top lost p q (left.links p q joins) (λ is. elim is [
-        | inl (a, b) ↦ loses.dead (subst (λ c. In c (clocks n.graph)) b
-            (Joins-clock n.graph q p well (Joins-sym n.graph p q joins)))
-        | inr (a, b) ↦ loses.dead (subst (λ c. In c (clocks n.graph)) a (Joins-clock n.graph p q well joins))
-      ]);
-    };
-    were = record {
-      graph = left.graph;
-      systems = λ s known. known;
-      links = λ p q joins. (from_ways g top lost p q joins).0;
-    };
+    left = left_of (ways_but g top lost) n (ways_well g top lost left.graph) loses.systems (λ p q joins.
+        to_ways g top lost p q (left.links p q joins) (λ is. elim is [
+          | inl (a, b) ↦ loses.dead (subst (λ c. In c (clocks n.graph)) b
+              (Joins-clock n.graph q p well (Joins-sym n.graph p q joins)))
+          | inr (a, b) ↦ loses.dead (subst (λ c. In c (clocks n.graph)) a (Joins-clock n.graph p q well joins))
+        ]));
+    were = left_of g (record n { graph = ways_but g top lost }) left.graph (λ s known. known)
+        (λ p q joins. (from_ways g top lost p q joins).0);
+    stands = loses.systems;
+    stood = λ s known. known;
     at_tree = λ v i q in_v joins. at_tree v i q in_v (from_ways g top lost (port_of v i) q joins);
     reach = m;
     paths = ways_paths g top lost m bounds;

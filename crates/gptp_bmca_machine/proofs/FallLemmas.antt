@@ -30,11 +30,7 @@ use Rattle.gptp_bmca_machine.proofs.MovedTreeLemmas.{Around, IsBeyond, LeadsDown
 use Rattle.gptp_bmca_machine.proofs.LinkStepLemmas.{AtLink, lives_at}
 use Rattle.gptp_bmca_machine.proofs.NearestLemmas.{came_fits, path_length, root_not_better, steps_not_fewer}
 use Rattle.gptp_bmca_machine.proofs.PlaceLemmas.{same_there}
-<<<<<<< HEAD
-use Rattle.gptp_bmca_machine.proofs.RestLemmas.{IsClear, bounded, root_above, steps_above, was_itself}
-=======
-use Rattle.gptp_bmca_machine.proofs.RestLemmas.{CameBounded, IsClear, bounded, root_above, steps_above}
->>>>>>> w_line
+use Rattle.gptp_bmca_machine.proofs.RestLemmas.{CameBounded, IsClear, bounded, root_above, steps_above, was_itself}
 use Rattle.gptp_bmca_machine.proofs.StillLemmas.{clear_at, still}
 use Rattle.gptp_bmca_machine.proofs.ToldLemmas.{AllSay, HoldsTold}
 use Rattle.gptp_bmca_machine.proofs.TraceLemmas.{whole_on, whole_own}
@@ -320,7 +316,7 @@ module _ (says : Spelling) (g : Snapshot) (n : Network) (Tree : ℕ → Type 0) 
       known = (m.kept.calm.facts.stations (n.place x) s at is_x.0).known
 
       known_then : In (station_system s) t.ways.systems
-      known_then = t.ways_left.systems (station_system s) known
+      known_then = t.ways_stand (station_system s) known
 
       -- it is clear in the snapshot of before
       pub was_clear : IsClear g s
@@ -404,13 +400,8 @@ module _ (says : Spelling) (g : Snapshot) (n : Network) (Tree : ℕ → Type 0) 
         pub free_clear : (HasChoice s best (base + depth x) → ⊥) → IsClear t.ways s
         free_clear not = record {
           rest = rest;
-<<<<<<< HEAD
-          known = was_itself n.graph (station_system s) known;
-          held = λ i r holds. bounded n.graph s.clock (suc i) r (free_fits not i r holds);
-=======
-          known = known_then;
+          known = was_itself t.ways (station_system s) known_then;
           held = λ i r holds. bounded t.ways s.clock (suc i) r (free_fits not i r holds);
->>>>>>> w_line
         }
 
         -- and by what is left it is clear

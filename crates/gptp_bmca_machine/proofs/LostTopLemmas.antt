@@ -41,21 +41,10 @@ module _ (says : Spelling) (g : Snapshot) (n : Network) (Tree : ℕ → Type 0) 
 
   -- the top wasn't the best of before
   not_zero : base ≡ 0 → ⊥
-<<<<<<< HEAD
-  not_zero none =
-      let clock = best_at_zero g top best t.left.graph (t.was_best top in_top) (top_far 0 none) in
-      let (s, live, named) = system_of n.graph top known in
-      let one = same_clock g s best t.left.graph (loses.systems s live) (t.was_best top in_top).live
-      (named ∙ sym clock) in
-      let least = in_top.least s live (subst (Reaches n.graph top) (sym named) (Reaches-self n.graph top known)) in
-      let identity = ap (λ (b : System). b.identity) one in
-      let worse = t.worse in
-      omega (arith, least, identity, worse)
-=======
   not_zero none = elim (t.worse top in_top) [
     | inl worse ↦
         let (s, live, named) = system_of n.graph top known in
-        let one = same_clock g s best t.left.graph (t.left.systems s live) (t.was_best top in_top).live
+        let one = same_clock g s best t.left.graph (loses.systems s live) (t.was_best top in_top).live
         (named ∙ sym clock) in
         let least = (t.best_now top in_top).least s live
         (subst (Reaches n.graph top) (sym named) (Reaches-self n.graph top known)) in
@@ -70,7 +59,6 @@ module _ (says : Spelling) (g : Snapshot) (n : Network) (Tree : ℕ → Type 0) 
     where
       clock : best.clock ≡ top
       clock = best_at_zero g top best t.left.graph (t.was_best top in_top) (top_far 0 none)
->>>>>>> w_line
 
   -- the failed system was nearer by one
   pub lost_far : (d : ℕ) → base ≡ suc d → IsDistance g lost d

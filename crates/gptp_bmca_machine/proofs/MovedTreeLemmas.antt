@@ -26,30 +26,22 @@ abbrev pub Around : (ℕ → Type 0) → (ℕ → ℕ → Type 0) → ℕ → Ty
 Around Tree Out u = Tree u ⊎ ((v : ℕ) × Out v u)
 
 -- Of what is left of a snapshot these systems are moved, a tree. Each was as far from its best as its depth says, from
-<<<<<<< HEAD
 -- `base` on; now its best is worse, or the same and farther. The one at the top lost links, or has another identity
 -- where no link leads out of the tree. Each other has one link to one that is less deep by one. One link at most leads
--- out of the tree.
-=======
--- `base` on; now its best is worse, or the same and farther. The one at the top lost links, and each other has one link
--- to one that is less deep by one. One link at most leads out of the tree. What is told since has its ways in a
--- snapshot that has all that is left, and of links of the tree no others; in it best and distances of the tree are the
--- same.
->>>>>>> w_line
+-- out of the tree. What is told since has its ways in a snapshot that has all that is left, and of links of the tree no
+-- others; in it best and distances of the tree are the same.
 pub record MovesTree (g : Snapshot) (n : Network) (Tree : ℕ → Type 0) (Out : ℕ → ℕ → Type 0) (top : ℕ)
     (best next : System) (base : ℕ) (depth : ℕ → ℕ) : Type 0 where
   pub well : IsWellFormed n.graph
   pub left : IsWhatIsLeft g n
-<<<<<<< HEAD
-  pub stand : (s : System) → In s n.graph.systems
-      → In s g.systems ⊎ ((s.clock ≡ top) × ((v u : ℕ) → Out v u → ⊥))
-=======
   pub ways : Snapshot
   pub ways_well : IsWellFormed ways
   pub ways_left : IsWhatIsLeft ways n
+  pub ways_stand : (s : System) → In s n.graph.systems → In s ways.systems
+  pub stand : (s : System) → In s ways.systems
+      → In s g.systems ⊎ ((s.clock ≡ top) × ((v u : ℕ) → Out v u → ⊥))
   pub tree_ways : (v i : ℕ) (q : PortIdentity) → Tree v → Joins ways (port_of v i) q → Joins n.graph (port_of v i) q
   pub far_now : (v far : ℕ) → Around Tree Out v → IsDistance n.graph v far → IsDistance ways v far
->>>>>>> w_line
   pub lives : (v : ℕ) → Tree v → In v (clocks n.graph)
   pub within : (v : ℕ) → Dec (Tree v)
   pub was_best : (v : ℕ) → Tree v → IsBest g v best
@@ -113,26 +105,14 @@ pub around : (Tree : ℕ → Type 0) (Out : ℕ → ℕ → Type 0) (depth : ℕ
 around Tree Out depth v u (inl (in_u, deeper)) = inl in_u
 around Tree Out depth v u (inr leads) = inr (v, leads)
 
-<<<<<<< HEAD
--- a trace of before is wholly clean where its way is left, and the system that it leads to as it was
-pub whole_left : (g : Snapshot) (n : Network) → IsWellFormed n.graph → IsWhatIsLeft g n → (v : ℕ) (a : Announce)
-    → (whole : Whole g v a)
-    → ((s : System) → In s n.graph.systems → s.clock ≡ whole.first.clock → In s g.systems)
-    → In v (clocks n.graph) → Route n.graph v whole.first.clock whole.others → Whole n.graph v a
-whole_left g n well left v a whole stands known route =
-    let last = Route-end n.graph v whole.first.clock whole.others well known route in
-    let (s, live, clock) = system_of n.graph whole.first.clock last in
-    let one = same_clock g s whole.first left.graph (stands s live clock) whole.known clock in
-=======
--- a trace of before is wholly clean where its way is left
-pub whole_left : (g h : Snapshot) → IsWellFormed g → IsWellFormed h → ((s : System) → In s h.systems → In s g.systems)
-    → (v : ℕ) (a : Announce) (whole : Whole g v a) → In v (clocks h) → Route h v whole.first.clock whole.others
-    → Whole h v a
-whole_left g h well well_h systems v a whole known route =
+-- a trace of before is wholly clean where its way is left, and the system that it leads to stands as it did
+pub whole_left : (g h : Snapshot) → IsWellFormed g → IsWellFormed h → (v : ℕ) (a : Announce) → (whole : Whole g v a)
+    → ((s : System) → In s h.systems → s.clock ≡ whole.first.clock → In s g.systems)
+    → In v (clocks h) → Route h v whole.first.clock whole.others → Whole h v a
+whole_left g h well well_h v a whole stands known route =
     let last = Route-end h v whole.first.clock whole.others well_h known route in
     let (s, live, clock) = system_of h whole.first.clock last in
-    let one = same_clock g s whole.first well (systems s live) whole.known clock in
->>>>>>> w_line
+    let one = same_clock g s whole.first well (stands s live clock) whole.known clock in
     record {
       others = whole.others;
       first = whole.first;
@@ -293,22 +273,18 @@ module _ (g : Snapshot) (n : Network) (Tree : ℕ → Type 0) (Out : ℕ → ℕ
         omega (arith, deep, zero_deep, deeper)
 
     -- So what comes from there over a way of before is of what is left, or names the system above.
-    pub whole_or_named : ((s : System) → In s t.ways.systems → In s g.systems) → (a : Announce)
-        → (whole : Whole g w a) → ((b z : ℕ) (us : List ℕ) → Out b z
+    pub whole_or_named : (a : Announce) → (whole : Whole g w a) → ((b z : ℕ) (us : List ℕ) → Out b z
         → Adjacent n.graph b z → Route g z whole.first.clock us → Different (b ∷ z ∷ us)
         → Route t.ways z whole.first.clock us) → Whole t.ways w a ⊎ In u a.path
-    whole_or_named systems a whole after = elim (in_dec u (w ∷ whole.others)) [
+    whole_or_named a whole after = elim (in_dec u (w ∷ whole.others)) [
       | yes names ↦ inr (named g w a whole u names)
-<<<<<<< HEAD
-      | no past ↦ inl (whole_left g n t.well t.left w a whole
+      | no past ↦ inl (whole_left g t.ways t.left.graph t.ways_well w a whole
           (λ s member same. elim (t.stand s member) [
             | inl stood ↦ stood
             | inr (is_top, none) ↦ absurd (not_at_top none whole.first.clock whole.others whole.way.route past
                 (sym same ∙ is_top))
-          ]) (t.lives w in_w)
-=======
-      | no past ↦ inl (whole_left g t.ways t.left.graph t.ways_well systems w a whole (ways_lives w (t.lives w in_w))
->>>>>>> w_line
+          ])
+          (ways_lives w (t.lives w in_w))
           (stays_left whole.first.clock after 0 w whole.others (λ i. w) in_w whole.way.route whole.way.different past))
     ]
 

@@ -20,11 +20,7 @@ use Rattle.gptp_bmca_machine.specs.Clean.{IsWorse, Whole, CameSound}
 use Rattle.gptp_bmca_machine.specs.Facts.{station_system, FollowsPort, IsLiveStationState}
 use Rattle.gptp_bmca_machine.specs.Network.{Network, IsSettlingNetwork, network_setting}
 use Rattle.gptp_bmca_machine.specs.Calm.{HasLane, Calm}
-<<<<<<< HEAD
-use Rattle.gptp_bmca_machine.specs.LossLaws.{IsWhatIsLeft, WasSystem}
-=======
-use Rattle.gptp_bmca_machine.specs.LossLaws.{EverythingFits, FlightFits, IsWhatIsLeft}
->>>>>>> w_line
+use Rattle.gptp_bmca_machine.specs.LossLaws.{EverythingFits, FlightFits, IsWhatIsLeft, WasSystem}
 use Rattle.gptp_bmca_machine.specs.SoundLaws.{IsSoundFrom, IsSoundOnLinks, UnlinkedAreOff, HasNews, AllIsWhole}
 use Rattle.gptp_bmca_machine.specs.Sound.{ReceivedFits}
 use Rattle.gptp_bmca_machine.proofs.NearestLemmas.{came_fits}

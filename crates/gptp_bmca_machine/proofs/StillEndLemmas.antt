@@ -10,6 +10,7 @@ use Rattle.gptp_graph.proofs.DistanceLemmas.{IsDistance-unique}
 use Rattle.gptp_graph.proofs.LinkLemmas.{Joins-clock, Joins-sym}
 use Rattle.gptp_bmca_machine.specs.Calm.{IsCalmPort}
 use Rattle.gptp_bmca_machine.specs.Clean.{CameFits, CameOverLink}
+use Rattle.gptp_bmca_machine.specs.Facts.{station_system}
 use Rattle.gptp_bmca_machine.specs.Frame.{Spelling}
 use Rattle.gptp_bmca_machine.specs.Levels.{LeadsFarther}
 use Rattle.gptp_bmca_machine.specs.LossLaws.{EverythingFits, IsAfterLoss, IsWhatIsLeft, Unmoved}
@@ -17,7 +18,7 @@ use Rattle.gptp_bmca_machine.specs.Network.{Network}
 use Rattle.gptp_bmca_machine.specs.Settled.{FollowsBest, HasBest, HasSettledRoles}
 use Rattle.gptp_bmca_machine.specs.Station.{HoldsAt, MachineState, Port, Reception, Station}
 use Rattle.gptp_bmca_machine.proofs.PortsSettledLemmas as by
-use Rattle.gptp_bmca_machine.proofs.RestLemmas.{CameBounded, Chooses, IsClear}
+use Rattle.gptp_bmca_machine.proofs.RestLemmas.{CameBounded, Chooses, IsClear, was_itself}
 use Rattle.gptp_bmca_machine.proofs.StillLemmas.{LeadsOn, StillSettles, best_was, chooses_still, far_was, told}
 
 -- what a port of a system at this distance holds of one that tells it
@@ -108,7 +109,7 @@ module _ (says : Spelling) (g : Snapshot) (n : Network) (well : IsWellFormed n.g
     still_clear : IsClear n.graph s
     still_clear = record {
       rest = (kept.calm.stations i s at live).at_rest;
-      known = (kept.calm.facts.stations i s at live).known;
+      known = was_itself n.graph (station_system s) (kept.calm.facts.stations i s at live).known;
       held = bounded_now;
     }
       where

@@ -23,16 +23,9 @@ use Rattle.gptp_bmca_machine.proofs.LinkEndsLemmas.{hearer_on}
 use Rattle.gptp_bmca_machine.proofs.MovedEndLemmas.{choose, tree_follows}
 use Rattle.gptp_bmca_machine.proofs.MovedLevelLemmas.{has_left}
 use Rattle.gptp_bmca_machine.proofs.MovedTreeLemmas.{MovesTree}
-<<<<<<< HEAD
-use Rattle.gptp_bmca_machine.proofs.NearestLemmas.{equal_within}
-use Rattle.gptp_bmca_machine.proofs.PortsSettledLemmas as by
-use Rattle.gptp_bmca_machine.proofs.RestLemmas.{CameBounded, Chooses, IsClear, is_master, was_itself}
-use Rattle.gptp_bmca_machine.proofs.StillLemmas.{LeadsOn, best_was, chooses_still, clear_at, far_was, told}
-=======
 use Rattle.gptp_bmca_machine.proofs.RestLemmas.{Chooses, IsClear, is_master}
 use Rattle.gptp_bmca_machine.proofs.StillEndLemmas.{Follows, has_settled, still_follows}
 use Rattle.gptp_bmca_machine.proofs.StillLemmas.{clear_at}
->>>>>>> w_line
 use Rattle.gptp_bmca_machine.proofs.TurnLemmas.{OutIsAt, TurnsBack, out_chooses, out_is, out_is_at}
 use Rattle.gptp_bmca_machine.proofs.TurnLevelLemmas.{Times, TurnSettles, tree_times, way_in, way_leads}
 use Rattle.gptp_bmca_machine.proofs.TurnOutLemmas.{mine, turned}
@@ -181,32 +174,11 @@ module _ (says : Spelling) (g : Snapshot) (n : Network) (tree : List ℕ) (top o
       pub system_is_clear : IsClear n.graph s
       system_is_clear = system_follows.clear
 
-<<<<<<< HEAD
-      still_clear : IsClear n.graph s
-      still_clear = record {
-        rest = (is.back.after.kept.calm.stations i s at live).at_rest;
-        known = was_itself n.graph (station_system s) (is.back.after.kept.calm.facts.stations i s at live).known;
-        held = bounded_now;
-      }
-        where
-          bounded_now : (place : ℕ) (r : Reception) → HoldsAt s place r → CameBounded n.graph s.clock (suc place) r
-          bounded_now place r holds = record {
-            over = over_link;
-            root = λ b best_b. fits.fits.root b (best_was g n t.well t.left s.clock b u_s best_b);
-            here = λ b far best_b root far_is. fits.fits.here b far (best_was g n t.well t.left s.clock b u_s best_b)
-                root
-                (far_was g n t.well t.left s.clock far u_s far_is);
-          }
-            where
-              fits : CameFits g s.clock (suc place) r
-              fits = is.back.after.fits.stations i s place r at live holds
-=======
     -- each near system has
     pub near_have_settled : n.bare ≤ n.off → NearHaveSettled n w
     near_have_settled bare i s at live (d, here, near) =
         has_settled n t.well w is.back.after.kept i s at live d here near bare
         (system_follows i s at live d here near)
->>>>>>> w_line
 
     -- and what any holds respects what is left; all are near
     pub system_clear : (i : ℕ) (s : Station) → slice_get w.stations i ≡ Some s → s.live ≡ true → IsClear n.graph s

@@ -85,13 +85,13 @@ module _ (g : Snapshot) (n : Network) (tree : List ℕ) (top other last out : �
   -- by them the best of the tree is the same
   pub best_told : (v : ℕ) → In v tree → IsBest t.ways v best
   best_told v in_v = record {
-    live = t.told.left.systems best (t.is_best v in_v).live;
+    live = t.told.stands best (t.is_best v in_v).live;
     reached = (
       (t.is_best v in_v).reached.0,
       path_on v best.clock (t.is_best v in_v).reached.0 (t.is_best v in_v).reached.1,
     );
     least = λ s known (us, path).
-        (t.was_best v in_v).least s (t.told.were.systems s known) (us, path_was v s.clock us path);
+        (t.was_best v in_v).least s (t.told.stood s known) (us, path_was v s.clock us path);
   }
 
   joined_told : Adjacent t.ways last out
@@ -180,19 +180,17 @@ module _ (g : Snapshot) (n : Network) (tree : List ℕ) (top other last out : �
   turns_moves = record {
     well = t.well;
     left = t.left;
-<<<<<<< HEAD
-    stand = λ s member. inl (t.stand s member);
-=======
     ways = t.ways;
     ways_well = t.told.well;
     ways_left = t.told.left;
+    ways_stand = t.told.stands;
+    stand = λ s member. inl (t.told.stood s member);
     tree_ways = t.told.at_tree;
     far_now = λ v far around here. elim around [
       | inl in_v ↦ far_told v far in_v here
       | inr (x, (is, to)) ↦
           subst (λ c. IsDistance t.ways c far) (sym to) (out_told far (subst (λ c. IsDistance n.graph c far) to here))
     ];
->>>>>>> w_line
     lives = t.lives;
     within = λ v. in_dec v tree;
     was_best = t.was_best;
@@ -260,14 +258,10 @@ module _ (g : Snapshot) (n : Network) (tree : List ℕ) (top other last out : �
   pub out_whole : (a : Announce) → Whole g out a → a.root ≡ best.identity → Whole t.ways out a ⊎ In last a.path
   out_whole a whole root = elim (in_dec last (out ∷ whole.others)) [
     | yes names ↦ inr (named g out a whole last names)
-<<<<<<< HEAD
-    | no past ↦ inl (whole_left g n t.well t.left out a whole (λ s member same. t.stand s member) out_lives
-        (subst (λ c. Route n.graph out c whole.others) (sym clock)
-=======
-    | no past ↦ inl (whole_left g t.ways t.left.graph t.told.well t.told.were.systems out a whole
+    | no past ↦ inl (whole_left g t.ways t.left.graph t.told.well out a whole
+        (λ s member same. t.told.stood s member)
         (live_before t.ways n t.well t.told.left out out_lives)
         (subst (λ c. Route t.ways out c whole.others) (sym clock)
->>>>>>> w_line
         (way_left out whole.others t.outside (subst (λ c. Route g out c whole.others) clock whole.way.route)
         whole.way.different past)))
   ]
@@ -282,7 +276,7 @@ module _ (g : Snapshot) (n : Network) (tree : List ℕ) (top other last out : �
       → depth v ≡ suc (depth u) → Whole g v a → a.root ≡ best.identity → Whole t.ways v a ⊎ In u a.path
   up_whole v u a in_v in_u joined higher whole root =
       whole_or_named g n (IsOf tree) (LeadsOut last out) top best best base depth turns_moves u v joined in_u in_v
-      higher t.told.were.systems a whole after
+      higher a whole after
     where
       clock : whole.first.clock ≡ best.clock
       clock =

@@ -61,19 +61,7 @@ pub record Tree : Type 0 where
   pub base : ℕ
   pub depth : ℕ → ℕ
 
-<<<<<<< HEAD
--- Each system that is left is unmoved, or one of a tree that is cut off.
-pub record CutsTrees (g : Snapshot) (n : Network) (best : System) (IsCut : Tree → Type 0) : Type 0 where
-  pub well : IsWellFormed n.graph
-  pub left : IsWhatIsLeft g n
-  pub each : (t : Tree) → IsCut t → CutsOff g n t.top best t.next t.base t.depth
-  pub tops : (t : Tree) → IsCut t → IsBest n.graph t.top t.next
-  pub all : (v : ℕ) → In v (clocks n.graph) → Unmoved g n v ⊎ ((t : Tree) × IsCut t × IsBest n.graph v t.next)
-
 -- The snapshot loses one system, and no link between two others. The others stand as they did.
-=======
--- The snapshot loses one system, and no link between two others.
->>>>>>> w_line
 pub record LosesSystem (g : Snapshot) (n : Network) (lost : ℕ) : Type 0 where
   pub dead : In lost (clocks n.graph) → ⊥
   pub systems : (s : System) → In s n.graph.systems → In s g.systems

@@ -9,12 +9,14 @@ use Rattle.gptp_bmca_machine.specs.Network.{Network}
 use Rattle.gptp_bmca_machine.specs.LossLaws.{IsWhatIsLeft, Unmoved}
 
 -- What is told since a loss has its ways in this snapshot: it has all that is left, nothing that wasn't there before,
--- and of links at systems of the tree those alone that are left. Where a link was lost alone it is what is left. Where
+-- each system as it was, and of links at systems of the tree those alone that are left. Where a link was lost alone it is what is left. Where
 -- a system failed it has that too, with its links to systems that aren't of the tree: what it told last is told on.
 pub record HasWays (g : Snapshot) (n : Network) (tree : List ℕ) (ways : Snapshot) : Type 0 where
   pub well : IsWellFormed ways
   pub left : IsWhatIsLeft ways n
   pub were : IsWhatIsLeft g (record n { graph = ways })
+  pub stands : (s : System) → In s n.graph.systems → In s ways.systems
+  pub stood : (s : System) → In s ways.systems → In s g.systems
   pub at_tree : (v i : ℕ) (q : PortIdentity) → In v tree → Joins ways (port_of v i) q → Joins n.graph (port_of v i) q
   pub reach : ℕ
   pub paths : BoundsPaths ways reach
@@ -28,7 +30,6 @@ pub record TurnsTree (g : Snapshot) (n : Network) (tree : List ℕ) (top other l
     (depth : ℕ → ℕ) : Type 0 where
   pub well : IsWellFormed n.graph
   pub left : IsWhatIsLeft g n
-  pub stand : (s : System) → In s n.graph.systems → In s g.systems
   pub lives : (v : ℕ) → In v tree → In v (clocks n.graph)
   pub was_best : (v : ℕ) → In v tree → IsBest g v best
   pub is_best : (v : ℕ) → In v tree → IsBest n.graph v best

@@ -28,7 +28,7 @@ use Rattle.gptp_how_soon.specs.declared.bounds.SettlingTime.{SettlingTime}
 use Rattle.gptp_how_soon.specs.declared.kinds.Told.{Told}
 use Rattle.gptp_settling_time.specs.Arrivals.{HasArrivedBy}
 use Rattle.gptp_settling_time.specs.HowSoon.{AreWiderEvents, BeforeRepeats, BoundsGains, EachEvent, FailsEndFirst, FailsHeardFirst, FailsTreesFirst, IsStillEvent, LosesEvents, OneEvent, RolesAfterLoss}
-use Rattle.gptp_settling_time.specs.InTurn.{FlightIsGone}
+use Rattle.gptp_settling_time.specs.EventKinds.{FlightIsGone}
 use Rattle.gptp_settling_time.specs.Losses.{CutsFarEnd, LowersLink, NoneSilent, TurnsLink}
 use Rattle.gptp_settling_time.specs.TreeLosses.{LowersTree, TurnsTreeLink}
 use Rattle.gptp_settling_time.proofs.CutLemmas.{all_by}

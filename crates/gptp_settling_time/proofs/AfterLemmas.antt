@@ -31,13 +31,15 @@ use Rattle.gptp_theorem.specs.PlayedLaws.{IsPlayable}
 use Rattle.gptp_theorem.proofs.CalmLemmas.{pace_stands, quiet_stands}
 use Rattle.gptp_theorem.proofs.SyncPathLemmas.{paths_stand}
 use Rattle.gptp_settling_time.specs.Exactly.{SettlesBy}
-use Rattle.gptp_settling_time.specs.InTurn.{Aging, AnyPast, BeginsBy, ChoosesAfter, Cleared, Fallen, Gained, Heard, IsTakenAs, Left, Fewer, Lost, Past, RestsFrom, SettlesAfter, Split, Starting, Turned, TurnedTree}
+use Rattle.gptp_settling_time.specs.Pasts.{Aging, AnyPast, Cleared, Fallen, Gained, Heard, Left, Fewer, Lost, Past, Split, Starting, Turned, TurnedTree}
+use Rattle.gptp_settling_time.specs.Rests.{IsTakenAs, RestsFrom}
+use Rattle.gptp_settling_time.specs.InTurn.{BeginsBy, ChoosesAfter, SettlesAfter}
 use Rattle.gptp_settling_time.proofs.AgingToLemmas.{IsAgingTo, aging_to_act, aging_to_chooses, aging_to_claimed, aging_to_later, aging_to_settled}
 use Rattle.gptp_settling_time.proofs.BegunLemmas.{begun_keeps}
 use Rattle.gptp_settling_time.proofs.ClaimedToLemmas.{IsClaimedTo, claimed_act, claimed_later, claimed_settled}
 use Rattle.gptp_settling_time.proofs.ClearedToLemmas.{IsClearedTo, cleared_left, cleared_to_act, cleared_to_claimed, cleared_to_later}
 use Rattle.gptp_settling_time.proofs.KeptToLemmas.{IsNewsTo, KeepsTo, keeps_act, keeps_later, news_act_to, news_later_to}
-use Rattle.gptp_settling_time.proofs.LeftToLemmas.{IsLeftSince, left_since_act, left_since_later, left_to_chooses, left_to_settled}
+use Rattle.gptp_settling_time.proofs.LeftToLemmas.{IsLeftTo, left_to_act, left_to_chooses, left_to_later, left_to_settled}
 use Rattle.gptp_settling_time.proofs.FallenToLemmas.{IsFallenTo, fallen_to_act, fallen_to_claimed, fallen_to_later, fallen_to_settled}
 use Rattle.gptp_settling_time.proofs.LostToLemmas.{IsLostTo, lost_to_act, lost_to_chooses, lost_to_claimed, lost_to_later, lost_to_settled}
 use Rattle.gptp_settling_time.proofs.TakenToLemmas.{IsTakenTo, taken_to_act, taken_to_chooses, taken_to_later, taken_to_settled}
@@ -54,7 +56,7 @@ IsAfter d events AnyPast w = KeepsTo d events w
 IsAfter d events Starting w = IsStartingTo d events w
 IsAfter d events (Gained start) w = IsNewsTo d start events w
 IsAfter d events (Heard start) w = IsClaimedTo d events start w
-IsAfter d events (Left ago start) w = IsLeftSince d ago events start w
+IsAfter d events (Left ago start) w = IsLeftTo d ago events start w
 IsAfter d events (Turned silent now) w = IsTurnedTo d events silent now w
 IsAfter d events (Fallen silent now) w = IsFallenTo d events silent now w
 IsAfter d events (TurnedTree silent now) w = IsTurnedTreeTo d events silent now w
@@ -70,7 +72,7 @@ module _ (d : DocumentState) (events : List Timed) where
   after_keeps Starting w so = so.keeps
   after_keeps (Gained start) w so = so.keeps
   after_keeps (Heard start) w so = so.keeps
-  after_keeps (Left ago start) w so = so.left.keeps
+  after_keeps (Left ago start) w so = so.keeps
   after_keeps (Turned silent now) w so = so.keeps
   after_keeps (Fallen silent now) w so = so.keeps
   after_keeps (TurnedTree silent now) w so = so.keeps
@@ -86,7 +88,7 @@ module _ (d : DocumentState) (events : List Timed) where
   after_later Starting w time later first so = starting_later d events w time later first so
   after_later (Gained start) w time later first so = news_later_to d events start w time later first so
   after_later (Heard start) w time later first so = claimed_later d events start w time later first so
-  after_later (Left ago start) w time later first so = left_since_later d ago events start w time later first so
+  after_later (Left ago start) w time later first so = left_to_later d ago events start w time later first so
   after_later (Turned silent now) w time later first so = turned_to_later d events silent now w time later first so
   after_later (Fallen silent now) w time later first so = fallen_to_later d events silent now w time later first so
   after_later (TurnedTree silent now) w time later first so =
@@ -113,7 +115,7 @@ module _ (d : DocumentState) (events : List Timed) where
   after_act answers (Heard start) t fate drawn w next was so = claimed_act d events start answers t fate drawn w next
       was so
   after_act answers (Left ago start) t fate drawn w next was so =
-      left_since_act d ago events start answers t fate drawn w next was so
+      left_to_act d ago events start answers t fate drawn w next was so
   after_act answers (Turned silent now) t fate drawn w next was so =
       turned_to_act d events silent now answers t fate drawn w next was so
   after_act answers (Fallen silent now) t fate drawn w next was so =
@@ -267,9 +269,9 @@ module _ (d : DocumentState) (playable : IsPlayable d) (all : List Timed) (calm 
   after_settles (Heard start) so (off, passed) =
       claimed_settled d all start w so playable calm off (omega (arith, passed, on))
   after_settles (Left ago silent) so (off, inl passed) =
-      left_to_settled d ago all silent w so.left playable calm off (inl (omega (arith, passed, on)))
+      left_to_settled d ago all silent w so playable calm off (inl (omega (arith, passed, on)))
   after_settles (Left ago silent) so (off, inr none) =
-      left_to_settled d ago all silent w so.left playable calm off (inr none)
+      left_to_settled d ago all silent w so playable calm off (inr none)
   after_settles (Turned silent now) so (off, passed) =
       turned_to_settled d all silent now w so playable calm off
       (subst (λ (x : SyncPaths). now + 1 + pred x.systems * x.delay ≤ w.time) (paths so.keeps)
@@ -310,7 +312,7 @@ module _ (d : DocumentState) (playable : IsPlayable d) (all : List Timed) (calm 
   after_chooses Starting so none = absurd none
   after_chooses (Gained start) so settles = choice_stands w (after_settles (Gained start) so settles).0
   after_chooses (Heard start) so settles = choice_stands w (after_settles (Heard start) so settles).0
-  after_chooses (Left ago silent) so off = left_to_chooses d ago all silent w so.left playable calm off
+  after_chooses (Left ago silent) so off = left_to_chooses d ago all silent w so playable calm off
   after_chooses (Turned silent now) so settles = choice_stands w (after_settles (Turned silent now) so settles).0
   after_chooses (Fallen silent now) so settles = choice_stands w (after_settles (Fallen silent now) so settles).0
   after_chooses (TurnedTree silent now) so settles =

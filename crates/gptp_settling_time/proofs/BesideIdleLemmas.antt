@@ -16,7 +16,11 @@ use Rattle.gptp_theorem.proofs.EventLemmas.{last_behind}
 use Rattle.gptp_settling_time.specs.Exactly.{SettlesBy}
 use Rattle.gptp_settling_time.specs.Gains.{Repeats, RepeatsNow}
 use Rattle.gptp_settling_time.specs.HowSoon.{AfterIdleEvents, BeforeRepeats, BesideIdle, EachEvent, IsDownToo}
-use Rattle.gptp_settling_time.specs.InTurn.{Aging, AnyPast, ChoosesAfter, Cleared, EventLeads, Fallen, FlightIsGone, Gained, HasToldAnew, Heard, LeadOn, Left, Fewer, Lost, Past, RestsFrom, SettlesAfter, Split, Starting, Turned, TurnedTree}
+use Rattle.gptp_settling_time.specs.Pasts.{Aging, AnyPast, Cleared, Fallen, Gained, Heard, Left, Fewer, Lost, Past, Split, Starting, Turned, TurnedTree}
+use Rattle.gptp_settling_time.specs.EventKinds.{FlightIsGone}
+use Rattle.gptp_settling_time.specs.Leads.{EventLeads}
+use Rattle.gptp_settling_time.specs.Rests.{HasToldAnew, RestsFrom}
+use Rattle.gptp_settling_time.specs.InTurn.{ChoosesAfter, LeadOn, SettlesAfter}
 use Rattle.gptp_settling_time.specs.Losses.{LowersUnused, MovesNoneInAll, NoneSilent, UpIsUsed}
 use Rattle.gptp_settling_time.proofs.CalmStillLemmas.{alike_calm, idle_calm}
 use Rattle.gptp_settling_time.proofs.LeadOnLemmas.{HasRested, HasSettled, idle_leads, idle_settled, leads_on, settled_later, since, widens_leads}

@@ -23,6 +23,7 @@ use Rattle.gptp_invariants.specs.ChoiceView.{says_announce, view}
 use Rattle.gptp_invariants.specs.DelayMeasured.{LinkIsMeasured}
 use Rattle.gptp_invariants.specs.WorldStanding.{channel_is_used, live_stations, snapshot_of}
 use Rattle.gptp_invariants.proofs.ChoiceCalmKeptLemmas.{KeepsNetwork, delay_kept, same_snapshot}
+use Rattle.gptp_invariants.proofs.WorldNewsLemmas.{ready_goes_through}
 use Rattle.gptp_invariants.proofs.WorldStandsLemmas.{stands_well}
 use Rattle.gptp_settling_time.specs.Losses.{IsUnmoved}
 use Rattle.gptp_settling_time.proofs.BegunLeftLemmas.{begins_left}
@@ -30,11 +31,12 @@ use Rattle.gptp_settling_time.proofs.AlwaysClaimedLemmas.{IsStanding}
 use Rattle.gptp_settling_time.proofs.FailedUpLemmas.{delay_set, used_set}
 use Rattle.gptp_settling_time.proofs.FitsLemmas.{IsLeftUnmoved, UnlinkedHoldNothing}
 use Rattle.gptp_settling_time.proofs.LeftClaimedLemmas.{HaveAskedBy, HaveAskedLong, IsLeftAlways, left_network, left_seen}
-use Rattle.gptp_settling_time.proofs.LoweredLemmas.{StandsReduced, StayOrAreAlone, asked_on as lowered_asked, less, told, wires}
+use Rattle.gptp_settling_time.proofs.LoweredLemmas.{StandsReduced, StayOrAreAlone, less, other, told, wires}
 use Rattle.gptp_settling_time.proofs.ReducedLemmas.{IsReduced}
 use Rattle.gptp_settling_time.proofs.SettledSeenLemmas.{IsSettledSeen}
-use Rattle.gptp_settling_time.proofs.TakenDownLemmas.{silent_down, told_keeps}
+use Rattle.gptp_settling_time.proofs.TakenDownLemmas.{silent_down, stood_down, told_keeps}
 use Rattle.gptp_settling_time.proofs.UnlinkedLemmas.{IsLeftSeen, LostAreFarther}
+use Rattle.gptp_settling_time.proofs.WidenedLemmas.{ready_first}
 
 module _ (p : SettlingParams) (before : Snapshot) (silent owner port : ℕ) (w : WorldState) (draws : List Draw)
     (done : Done) (w' : WorldState) (is' : IsWorld p w') (measured' : LinkIsMeasured w')
@@ -131,9 +133,21 @@ module _ (p : SettlingParams) (before : Snapshot) (silent owner port : ℕ) (w :
 
     -- ports at links have asked as they had
     pub asked_on : (since : ℕ) → HaveAskedBy since w → HaveAskedBy since w'
-    asked_on =
-        lowered_asked p silent owner port w draws done w' left.standing.pace is is' left.standing.measured measured' acts
-        up stands.time
+    asked_on since asked at s =
+        let (one, by, soon, x) = asked at
+        (stood_down p w is k.place k.channel k.is.here draws w' is' tells at s) in
+        let ready = ready_goes_through p by at (Changing (LinkDown owner port)) w w' draws done is.sound
+        left.standing.measured
+        (other p silent owner port w draws done w' left.standing.pace is is' left.standing.measured measured' acts up at
+        s) acts (inl (one, x.is)) in
+        let late = x.late in
+        let time = stands.time in
+        let (first, then) = ready_first p by w' is' (omega (arith, late, time)) at ready in (
+          first,
+          by,
+          soon,
+          record { is = then; late = omega (arith, late, time) },
+        )
 
     asked' : HaveAskedLong w'
     asked' at s =

@@ -35,7 +35,8 @@ use Rattle.gptp_settling_time.specs.Arrivals.{arrived_by}
 use Rattle.gptp_settling_time.specs.ExactInTurn.{ActsAreExactInTurn}
 use Rattle.gptp_settling_time.specs.Exactly.{AreExactFrom}
 use Rattle.gptp_settling_time.specs.Gains.{HasDelaysWithin}
-use Rattle.gptp_settling_time.specs.InTurn.{Aging, AnyPast, ChoosesAfter, ChoosesByEvents, Cleared, Fallen, Gained, Heard, Left, Fewer, Lost, Past, Split, Starting, Turned, TurnedTree}
+use Rattle.gptp_settling_time.specs.Pasts.{Aging, AnyPast, Cleared, Fallen, Gained, Heard, Left, Fewer, Lost, Past, Split, Starting, Turned, TurnedTree}
+use Rattle.gptp_settling_time.specs.InTurn.{ChoosesAfter, ChoosesByEvents}
 use Rattle.gptp_settling_time.proofs.AgingClaimedLemmas.{aging_measured}
 use Rattle.gptp_settling_time.proofs.SplitSettlesLemmas.{split_measured}
 use Rattle.gptp_settling_time.proofs.SplitToLemmas.{GoesOver}

@@ -27,7 +27,7 @@ use Rattle.gptp_theorem.specs.PlayedLaws.{IsPlayable}
 use Rattle.gptp_theorem.specs.Reached.{channel_wire}
 use Rattle.gptp_theorem.proofs.AlikeLemmas.{best as alike_best, clock_among, distance as alike_distance, turned}
 use Rattle.gptp_settling_time.specs.Arrivals.{HasArrivedBy}
-use Rattle.gptp_settling_time.specs.InTurn.{FallsCalm}
+use Rattle.gptp_settling_time.specs.EventKinds.{FallsCalm}
 use Rattle.gptp_settling_time.specs.TreeLosses.{FallsTree, IsCutTree, LowersTree}
 use Rattle.gptp_settling_time.proofs.FallActLemmas.{act_fallen}
 use Rattle.gptp_settling_time.proofs.FallAlwaysLemmas.{IsFallenAlways}

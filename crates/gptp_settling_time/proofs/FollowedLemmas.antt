@@ -13,7 +13,11 @@ use Rattle.gptp_network.specs.Events.{AreInOrder}
 use Rattle.gptp_network.specs.Snapshot.{events_by}
 use Rattle.gptp_settling_time.specs.Gains.{Repeats}
 use Rattle.gptp_settling_time.specs.HowSoon.{AreGainEvents, AreHeardEvents, AreReadyAtStart, AreStartEvents, BeforeRepeats, BesideIdle, BoundsEvents, BoundsStart, EachEvent, events_at, FailsTreesFirst, HasArrivedNext, IsRestBoundAfter, NoneBetween, OneEvent, RestsAfterLoss, RestsSplit}
-use Rattle.gptp_settling_time.specs.InTurn.{AnyPast, AreCapableSoon, BeginsBy, EventLeads, Fallen, FallsCalm, FlightIsGone, Gained, Heard, LeadOn, LeadsByTree, Past, RestsFrom, Starting, StartsWith, TellsNothing, TurnedTree, TurnsTreeCalm, UsedVaryLittle, turned_echo_span}
+use Rattle.gptp_settling_time.specs.Pasts.{AnyPast, Fallen, Gained, Heard, Past, Starting, TurnedTree}
+use Rattle.gptp_settling_time.specs.EventKinds.{AreCapableSoon, FallsCalm, FlightIsGone, StartsWith, TellsNothing, TurnsTreeCalm, UsedVaryLittle}
+use Rattle.gptp_settling_time.specs.Leads.{EventLeads, LeadsByTree}
+use Rattle.gptp_settling_time.specs.Rests.{RestsFrom, turned_echo_span}
+use Rattle.gptp_settling_time.specs.InTurn.{BeginsBy, LeadOn}
 use Rattle.gptp_settling_time.specs.TreeLosses.{FallsTree, TurnsTreeLink}
 use Rattle.gptp_theorem.proofs.EventLemmas.{last_behind}
 use Rattle.gptp_settling_time.proofs.BesideIdleLemmas.{LeadsTo, beside_idle, repeats_lead, repeats_same, repeats_to, rested_same, split_now}

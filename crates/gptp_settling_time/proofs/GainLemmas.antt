@@ -28,7 +28,7 @@ use Rattle.gptp_invariants.proofs.WorldSystemLemmas.{clock_lives, live_from}
 use Rattle.gptp_theorem.specs.Reached.{Shape, StandsAsPlanned, shape, shape_after, channel_wire}
 use Rattle.gptp_theorem.proofs.CalmLemmas.{IsMemberAt}
 use Rattle.gptp_settling_time.specs.Gains.{AllLiveAfter, EndHasFailed, IsDownAfter, IsGainAfter, IsIdleAfter, IsNoWorse, IsUpAfter, KeepsIdentity}
-use Rattle.gptp_settling_time.specs.InTurn.{VariesLittleAfter, IsWithin}
+use Rattle.gptp_settling_time.specs.EventKinds.{VariesLittleAfter, IsWithin}
 use Rattle.gptp_settling_time.specs.Idle.{IsIdle, IsUpAt, KeepsPriority, Lives}
 use Rattle.gptp_invariants.proofs.DelayClaimedCapableLemmas.{clock_has}
 

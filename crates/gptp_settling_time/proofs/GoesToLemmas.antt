@@ -10,7 +10,7 @@ use Rattle.gptp_network.specs.Document.{DocumentState}
 use Rattle.gptp_invariants.specs.ChoiceCalm.{sync_paths_of}
 use Rattle.gptp_theorem.specs.PlayedLaws.{IsPlayable}
 use Rattle.gptp_theorem.proofs.SyncPathLemmas.{paths_stand}
-use Rattle.gptp_settling_time.specs.InTurn.{FlightIsGone, nearer_echo_span}
+use Rattle.gptp_settling_time.specs.EventKinds.{FlightIsGone, nearer_echo_span}
 use Rattle.gptp_settling_time.proofs.BecomesSoundLemmas.{GoesBy, nearer_echo}
 use Rattle.gptp_settling_time.proofs.KeptToLemmas.{KeepsTo}
 use Rattle.gptp_settling_time.proofs.LeftToLemmas.{up_in_use}

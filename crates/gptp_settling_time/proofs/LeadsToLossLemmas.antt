@@ -16,10 +16,12 @@ use Rattle.gptp_network.specs.Document.{DocumentState}
 use Rattle.gptp_invariants.specs.WorldEncodableLaws.{SetsAnOctet}
 use Rattle.gptp_invariants.specs.ChoiceCalm.{HaveQuietLinks}
 use Rattle.gptp_invariants.specs.ChoiceView.{says_announce, view}
-use Rattle.gptp_invariants.specs.WorldStanding.{live_stations, snapshot_of}
+use Rattle.gptp_invariants.specs.WorldStanding.{snapshot_of}
 use Rattle.gptp_theorem.specs.PlayedLaws.{IsMade, IsPlayable}
 use Rattle.gptp_theorem.proofs.CalmLemmas.{quiet_stands}
-use Rattle.gptp_settling_time.specs.InTurn.{AgesSooner, Aging, AnyPast, AreUsedSince, Cleared, ClearsBy, EventLeads, FailsNow, Fallen, Fewer, Gained, Heard, IsDownNow, LeavesStanding, Left, LosesNow, Lost, LowersToo, LowersUnusedCalm, Past, Split, Starting, TakesNow, Turned, TurnedTree, TurnsNow}
+use Rattle.gptp_settling_time.specs.Pasts.{Aging, AnyPast, Cleared, Fallen, Fewer, Gained, Heard, Left, Lost, Past, Split, Starting, Turned, TurnedTree}
+use Rattle.gptp_settling_time.specs.EventKinds.{ClearsBy, FailsNow, IsDownNow, LeavesStanding, LowersUnusedCalm}
+use Rattle.gptp_settling_time.specs.Leads.{AgesSooner, AreUsedSince, EventLeads, LosesNow, TakesNow, TurnsNow}
 use Rattle.gptp_settling_time.proofs.AgingDownLemmas.{down_ages}
 use Rattle.gptp_settling_time.proofs.AgesByLemmas.{by_map}
 use Rattle.gptp_settling_time.proofs.AgesByWorldLemmas.{WorldAgesBy, aging_by}
@@ -28,22 +30,18 @@ use Rattle.gptp_settling_time.proofs.AgingToLemmas.{IsAgingTo}
 use Rattle.gptp_settling_time.proofs.SilentDownLemmas.{over_down}
 use Rattle.gptp_settling_time.proofs.SilentLinksLemmas.{AgesOver, over_within}
 use Rattle.gptp_settling_time.proofs.UpPortsLemmas.{IsUpAt, by_up}
-use Rattle.gptp_settling_time.proofs.GainLemmas.{found_so, unused_so, up_so}
+use Rattle.gptp_settling_time.proofs.GainLemmas.{unused_so, up_so}
 use Rattle.gptp_settling_time.proofs.DeadDownLemmas.{asked_on, dead_left, reduced as dead_reduced, snapshot_now}
 use Rattle.gptp_settling_time.proofs.KeptToLemmas.{KeepsTo}
-use Rattle.gptp_settling_time.proofs.LeftToLemmas.{IsLeftSince}
+use Rattle.gptp_settling_time.proofs.LeftToLemmas.{IsLeftTo}
 use Rattle.gptp_settling_time.proofs.TurnedToLemmas.{IsTurnedTo}
 use Rattle.gptp_settling_time.proofs.AfterLemmas.{IsAfter}
-use Rattle.gptp_settling_time.proofs.LossMadeLemmas.{HasRestedSo, aging_so, cleared_to, left_to, shorter_way, turned_so}
+use Rattle.gptp_settling_time.proofs.LossMadeLemmas.{HasRestedSo, aging_so, cleared_to, left_to, turned_so}
 use Rattle.gptp_settling_time.proofs.LostMadeLemmas.{loses_first, loses_more}
 use Rattle.gptp_settling_time.proofs.LostPowerLemmas.{told_anew}
 use Rattle.gptp_settling_time.proofs.LostToLemmas.{IsLostTo}
-use Rattle.gptp_graph.specs.Snapshot.{Snapshot, clocks}
-use Rattle.gptp_lists.specs.Members.{In}
-use Rattle.gptp_invariants.proofs.WorldSystemLemmas.{clock_from}
-use Rattle.gptp_settling_time.proofs.LoweredAgainLemmas.{lowered_again}
-use Rattle.gptp_settling_time.proofs.WorldMovesLemmas.{stays_joined}
-use Rattle.gptp_settling_time.specs.Losses.{AgesWithin, LowersLink, LowersUnused}
+use Rattle.gptp_graph.specs.Snapshot.{Snapshot}
+use Rattle.gptp_settling_time.specs.Losses.{AgesWithin, LowersUnused}
 use Rattle.gptp_settling_time.proofs.AgedLemmas.{aged_begins}
 use Rattle.gptp_settling_time.proofs.ClearedLemmas.{IsCleared}
 use Rattle.gptp_settling_time.proofs.ClearedToLemmas.{IsClearedTo}
@@ -71,9 +69,9 @@ module _ (d : DocumentState) (playable : IsPlayable d) (made : List Timed) (even
   -- ---- a link goes down, or a system fails
 
   loses : (ago : List Timed) (start next : ℕ) → HasRestedSo p start event.at then → ago ≡ made
-      → LeavesStanding n made event start next → IsLeftSince d ago more next w'
+      → LeavesStanding n made event start next → IsLeftTo d ago more next w'
   loses ago start next rest same leaves =
-      subst (λ es. IsLeftSince d es more next w') (sym same)
+      subst (λ es. IsLeftTo d es more next w') (sym same)
       (left_to d playable made event then draws done w' acts at_time time last keeps after start rest next leaves)
 
   turns : (start silent now : ℕ) → HasRestedSo p start event.at then → TurnsNow n made event start silent now
@@ -131,53 +129,8 @@ module _ (d : DocumentState) (playable : IsPlayable d) (made : List Timed) (even
       were_down n ago then draws done w' keeps.claim.world after.claim.world x.clock x.port came
       (up_so n made then keeps.stands (port_id x.clock x.port) x.up came.1.place came.1.channel came.1.is)
 
-  -- another link goes down by which no system is moved but such as are cut off
-  module _ (ago : List Timed) (silent : ℕ) (so : IsLeftSince d ago made silent then)
-      (too : LowersToo n ago made event silent) where
-    abbrev y : LowersLink n made event
-    y = too.lowers.lowers
-
-    went : Acts (Changing (LinkDown y.clock y.port)) then draws done w'
-    went = subst (λ act. Acts act then draws done w') y.act acts
-
-    stood_up : went.1.channel.up ≡ true
-    stood_up =
-        up_so n made then keeps.stands (port_id y.clock y.port) (λ place v there end. (y.used place v there end).up)
-        went.1.place went.1.channel went.1.is
-
-    known_still : (number : ℕ) → In number (clocks so.left.before) → In number (clocks (snapshot_of then))
-    known_still number member =
-        clock_from (live_stations then.stations) number
-        (found_so n made then keeps.stands keeps.claim.world.sound number (too.lives number (so.known number member)))
-
-    too_since : IsLeftAlways p so.left.before silent w'
-    too_since =
-        let past = too.past in
-        let late = so.left.since.late in
-        let less =
-        shorter_way d playable made event then draws done w' acts at_time time last keeps after y.delay y.paths in
-        lowered_again p so.left.before silent y.clock y.port then draws done w' after.claim.world after.claim.measured
-        went so.left.since
-        (quiet_stands n made then playable.network keeps.stands keeps.claim.world.sound too.lowers.calm).links
-        too.lowers.off stood_up (omega (arith, past, at_time))
-        (stays_joined d playable made event then w' keeps after y.moves) known_still
-        (omega (arith, late, less, time, at_time))
-
-    lowers_too : IsLeftSince d ago more silent w'
-    lowers_too = record {
-      left = record {
-        keeps = after;
-        before = so.left.before;
-        since = too_since;
-        were = were_down n ago then draws done w' keeps.claim.world after.claim.world y.clock y.port went stood_up
-            so.left.were;
-      };
-      known = so.known;
-    }
-
   pub leads_to_left : (past : Past) (ago : List Timed) (next : ℕ) → EventLeads n made past event (Left ago next)
-      → IsAfter d made past then → IsLeftSince d ago more next w'
-  unfolding left_repeated
+      → IsAfter d made past then → IsLeftTo d ago more next w'
   leads_to_left AnyPast ago next (settled, same, leaves) so =
       loses ago (last_change made + capability_span p) next
       (rested_any d playable made event then at_time keeps settled) same leaves
@@ -187,24 +140,17 @@ module _ (d : DocumentState) (playable : IsPlayable d) (made : List Timed) (even
   leads_to_left (Heard start) ago next (settled, same, leaves) so =
       loses ago start next (rested_heard d playable made event then at_time keeps start settled so.since) same leaves
   leads_to_left (Left old silent) ago next (falls, same_ago, same) so =
-      subst (λ es. IsLeftSince d es more next w') (sym same_ago)
-      (subst (λ t. IsLeftSince d old more t w') (sym same)
+      subst (λ es. IsLeftTo d es more next w') (sym same_ago)
+      (subst (λ t. IsLeftTo d old more t w') (sym same)
       (elim falls [
-        | inl (inl lowers) ↦ record {
-          left = record {
-            keeps = after;
-            before = so.left.before;
-            since = fallen_left so.left.before silent lowers so.left.since;
-            were = fallen_were old lowers so.left.were;
-          };
-          known = so.known;
+        | inl lowers ↦ record {
+          keeps = after;
+          before = so.before;
+          since = fallen_left so.before silent lowers so.since;
+          were = fallen_were old lowers so.were;
         }
-        | inl (inr repeats) ↦ record {
-          left = left_repeated d playable made event then draws done w' acts at_time keeps after repeats old silent
-              so.left;
-          known = so.known;
-        }
-        | inr too ↦ lowers_too old silent so too
+        | inr repeats ↦ left_repeated d playable made event then draws done w' acts at_time keeps after repeats old
+            silent so
       ]))
   leads_to_left (Turned silent now) ago next none so = absurd none
   leads_to_left (Fallen silent now) ago next none so = absurd none

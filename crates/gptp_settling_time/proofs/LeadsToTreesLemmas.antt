@@ -13,7 +13,9 @@ use Rattle.gptp_model.specs.World.{WorldState}
 use Rattle.gptp_network.specs.Document.{DocumentState}
 use Rattle.gptp_theorem.specs.PlayedLaws.{IsPlayable}
 use Rattle.gptp_settling_time.specs.Arrivals.{HasArrivedBy}
-use Rattle.gptp_settling_time.specs.InTurn.{Aging, AnyPast, Cleared, EventLeads, Fallen, FallsCalm, Gained, Heard, IsDownNow, LeadsByTree, Left, Fewer, Lost, Past, Split, SplitsNow, Starting, TreeNow, Turned, TurnedTree, TurnsTreeCalm}
+use Rattle.gptp_settling_time.specs.Pasts.{Aging, AnyPast, Cleared, Fallen, Gained, Heard, Left, Fewer, Lost, Past, Split, Starting, Turned, TurnedTree}
+use Rattle.gptp_settling_time.specs.EventKinds.{FallsCalm, IsDownNow, TurnsTreeCalm}
+use Rattle.gptp_settling_time.specs.Leads.{EventLeads, LeadsByTree, SplitsNow, TreeNow}
 use Rattle.gptp_settling_time.proofs.FallMadeLemmas.{fallen_to, falls_few}
 use Rattle.gptp_settling_time.proofs.FallenToLemmas.{IsFallenTo}
 use Rattle.gptp_settling_time.proofs.TurnedTreeMadeLemmas.{turned_tree_to}

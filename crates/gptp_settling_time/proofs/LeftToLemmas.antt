@@ -2,10 +2,9 @@
 use Rattle.std.proofs.Common.{◌≡◌, ◌≤◌, ◌⊎◌, ◌*◌, ℕ, zero, suc, pred, true, false, Option, List, slice_get, sym, ap, subst, ◌∙◌, inl, inr, arith}
 use Rattle.std.proofs.Math.Nat.{mul-le-mul_left, mul-le-mul_right}
 use Rattle.gptp_lists.proofs.MappedLemmas.{alike, same_there}
-use Rattle.gptp_lists.specs.Members.{In}
-use Rattle.gptp_graph.specs.Snapshot.{Snapshot, clocks}
+use Rattle.gptp_graph.specs.Snapshot.{Snapshot}
 use Rattle.gptp_links.specs.declared.bounds.Bounds.{Bounds}
-use Rattle.gptp_scenario.specs.Calm.{IsCalm, IsLive, IsUsed, NothingLapses}
+use Rattle.gptp_scenario.specs.Calm.{IsCalm, IsUsed, NothingLapses}
 use Rattle.gptp_scenario.specs.Change.{link_after}
 use Rattle.gptp_scenario.specs.Network.{pace_of}
 use Rattle.gptp_scenario.specs.declared.change.Timed.{Timed}
@@ -58,11 +57,6 @@ pub record IsLeftTo (d : DocumentState) (ago events : List Timed) (silent : ℕ)
   pub since : IsLeftAlways (pace_of d.network) before silent w
   pub were : WereSilent d.network ago w
 
--- each system that was there before lived after the events before
-pub record IsLeftSince (d : DocumentState) (ago events : List Timed) (silent : ℕ) (w : WorldState) : Type 0 where
-  pub left : IsLeftTo d ago events silent w
-  pub known : (number : ℕ) → In number (clocks left.before) → IsLive d.network.systems ago number
-
 -- no port is unanswered where each link that is up is in use
 pub answered_in_use : (p : SettlingParams) (w : WorldState) → IsWorld p w → UpIsInUse w → (start : ℕ)
     → AreSilentBy p start w
@@ -92,7 +86,7 @@ module _ (d : DocumentState) (events : List Timed) where
       answered_in_use (pace_of d.network) w keeps.claim.world (up_in_use w keeps used) start
 
 module _ (d : DocumentState) (ago events : List Timed) (silent : ℕ) where
-  left_to_later : (w : WorldState) (time : ℕ) → w.time ≤ time → NothingBefore time w.net.pending
+  pub left_to_later : (w : WorldState) (time : ℕ) → w.time ≤ time → NothingBefore time w.net.pending
       → IsLeftTo d ago events silent w → IsLeftTo d ago events silent (at time w)
   left_to_later w time later first so = record {
     keeps = keeps_later d events w time later first so.keeps;
@@ -101,7 +95,7 @@ module _ (d : DocumentState) (ago events : List Timed) (silent : ℕ) where
     were = were_later d.network ago w time later so.were;
   }
 
-  left_to_act : {F : Type 0} (answers : Bounds → ℕ → F → Option ℕ → F → Type 0) (t : ActTrace) (fate drawn : F)
+  pub left_to_act : {F : Type 0} (answers : Bounds → ℕ → F → Option ℕ → F → Type 0) (t : ActTrace) (fate drawn : F)
       (w : WorldState) → IsNextAct w t.told.timed → WasDone answers t.told.timed fate drawn w t.after t.told.done
       → IsLeftTo d ago events silent w → IsLeftTo d ago events silent t.after
   left_to_act answers t fate drawn w next was so =
@@ -115,19 +109,6 @@ module _ (d : DocumentState) (ago events : List Timed) (silent : ℕ) where
             (no_change next.item timed.act w next.act) (next_octet next.item timed.act w next.act) was.acts then;
         were = were_act d ago events answers t fate drawn w next was so.keeps so.were;
       }
-
-  pub left_since_later : (w : WorldState) (time : ℕ) → w.time ≤ time → NothingBefore time w.net.pending
-      → IsLeftSince d ago events silent w → IsLeftSince d ago events silent (at time w)
-  unfolding left_to_later
-  left_since_later w time later first so =
-      record { left = left_to_later w time later first so.left; known = so.known }
-
-  pub left_since_act : {F : Type 0} (answers : Bounds → ℕ → F → Option ℕ → F → Type 0) (t : ActTrace) (fate drawn : F)
-      (w : WorldState) → IsNextAct w t.told.timed → WasDone answers t.told.timed fate drawn w t.after t.told.done
-      → IsLeftSince d ago events silent w → IsLeftSince d ago events silent t.after
-  unfolding left_to_act
-  left_since_act answers t fate drawn w next was so =
-      record { left = left_to_act answers t fate drawn w next was so.left; known = so.known }
 
   module _ (w : WorldState) (so : IsLeftTo d ago events silent w) (playable : IsPlayable d)
       (calm : IsCalm d.network events) (off : NothingLapses d.network.params) where

@@ -104,7 +104,6 @@ pub mod LeftClaimedLemmas
 pub mod GoesDownLemmas
 pub mod ReducedLemmas
 pub mod BegunLeftLemmas
-pub mod LoweredAgainLemmas
 pub mod LoweredLemmas
 pub mod DeadDownLemmas
 pub mod CalmLessLemmas
@@ -214,10 +213,12 @@ pub mod OffForGoodLemmas
 pub mod SplitLemmas
 pub mod SplitAlwaysLemmas
 pub mod SplitDownLemmas
+pub mod SplitLinksLemmas
 pub mod SplitSettlesLemmas
 pub mod SplitRestLemmas
 pub mod SplitFailLemmas
 pub mod SplitToLemmas
 pub mod SplitMadeLemmas
+pub mod MovedRestLemmas
 pub mod TurnedRestLemmas
 pub mod TurnedTreeRestLemmas

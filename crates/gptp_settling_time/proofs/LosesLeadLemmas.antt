@@ -13,7 +13,9 @@ use Rattle.gptp_scenario.specs.declared.change.Change.TheVariants.{LinkDown, Lin
 use Rattle.gptp_scenario.specs.declared.change.Timed.{Timed}
 use Rattle.gptp_scenario.specs.declared.sync_wait.SyncPaths.{SyncPaths}
 use Rattle.gptp_settling_time.specs.HowSoon.{BoundsAnyLoss, EachEvent, IsLossToo, LosesEvents, RestsAfterAnyLoss, RolesAfterLoss, delay_between}
-use Rattle.gptp_settling_time.specs.InTurn.{AreUsedSince, Heard, LeadOn, Lost, Past}
+use Rattle.gptp_settling_time.specs.Pasts.{Heard, Lost, Past}
+use Rattle.gptp_settling_time.specs.Leads.{AreUsedSince}
+use Rattle.gptp_settling_time.specs.InTurn.{LeadOn}
 use Rattle.gptp_settling_time.specs.Losses.{AreSilentAfter, LosesAny, NoneSilent}
 use Rattle.gptp_settling_time.proofs.CalmStillLemmas.{idle_calm}
 use Rattle.gptp_settling_time.proofs.LeadOnLemmas.{HasSettled, IsLed, idle_leads, idle_settled, makes_nothing, same_paths, since}

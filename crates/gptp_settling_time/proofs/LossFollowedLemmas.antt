@@ -12,18 +12,19 @@ use Rattle.gptp_network.specs.Document.{DocumentState}
 use Rattle.gptp_network.specs.Events.{AreInOrder}
 use Rattle.gptp_network.specs.Snapshot.{events_by}
 use Rattle.gptp_settling_time.specs.Arrivals.{HasArrivedBy}
-use Rattle.gptp_settling_time.specs.HowSoon.{BeforeRepeats, HasArrivedNext, IsDownToo, BoundsAging, BoundsAnyLoss, BoundsLoss, BoundsSplit, EachEvent, FailsTreesFirst, IsLossBoundAfter, LowersLinks, NoneBetween, OneEvent, events_at}
-use Rattle.gptp_settling_time.specs.InTurn.{Aging, BeginsBy, ChoosesAfter, Fallen, Fewer, LeadOn, Left, Lost, Past, SettlesAfter, Split, Starting, Turned, TurnedTree}
-use Rattle.gptp_settling_time.specs.Losses.{AgesWithin, FailsHeard, NoneSilent, TurnsLink}
+use Rattle.gptp_settling_time.specs.HowSoon.{BeforeRepeats, HasArrivedNext, IsDownToo, BoundsAging, BoundsAnyLoss, BoundsLoss, BoundsSplit, EachEvent, FailsTreesFirst, IsLossBoundAfter, NoneBetween, OneEvent, events_at}
+use Rattle.gptp_settling_time.specs.Pasts.{Aging, Fallen, Fewer, Left, Lost, Past, Split, Starting, Turned, TurnedTree}
+use Rattle.gptp_settling_time.specs.InTurn.{BeginsBy, ChoosesAfter, LeadOn, SettlesAfter}
+use Rattle.gptp_settling_time.specs.Losses.{AgesWithin, FailsHeard, LowersLink, NoneSilent, TurnsLink}
 use Rattle.gptp_settling_time.specs.TreeLosses.{FallsTree, TurnsTreeLink}
 use Rattle.gptp_settling_time.proofs.BesideIdleLemmas.{LeadsTo, chooses_same, repeats_to, settles_same, split_now}
 use Rattle.gptp_theorem.proofs.EventLemmas.{last_behind}
-use Rattle.gptp_settling_time.proofs.CalmLessLemmas.{down_calm, fails_calm, still_lives}
+use Rattle.gptp_settling_time.proofs.CalmLessLemmas.{fails_calm}
 use Rattle.gptp_settling_time.proofs.NamedLemmas.{arrives_later}
 use Rattle.gptp_settling_time.proofs.FollowedLemmas.{IsFollowedTo, besided, bound_calm, falls_on, followed, turns_on}
 use Rattle.gptp_settling_time.proofs.LeadOnLemmas.{HasSettled, lead_as, leads_on, taken_later}
 use Rattle.gptp_settling_time.proofs.LosesLeadLemmas.{LosesBy, loses_by}
-use Rattle.gptp_settling_time.proofs.LossLeadLemmas.{IsLeftBy, dead_lead, fails_leads, heard_lead, lowered_lead, lowers_leads, splits_lead, turn_leads}
+use Rattle.gptp_settling_time.proofs.LossLeadLemmas.{IsLeftBy, dead_lead, heard_lead, loss_leads, splits_lead, turn_leads}
 use Rattle.gptp_settling_time.proofs.LossRestLemmas.{last_at}
 use Rattle.gptp_settling_time.proofs.MomentLemmas.{all_at, last_by, parted}
 use Rattle.gptp_settling_time.proofs.SamePathsLemmas.{StandSame}
@@ -75,26 +76,26 @@ module _ (n : NetworkState) (network : IsNetwork n) (off : NothingLapses n.param
       then = subst (HasSettled n earlier seen) (sym here) has
 
       -- by the first the network is left, and the others leave it so
-      left : (latest : ℕ) (x : IsLeftBy n earlier event seen latest)
+      left : (span : ℕ) (x : IsLeftBy n earlier event span seen)
           → LeadOn n (earlier ++ event ∷ []) (Left earlier x.silent) now (Left earlier x.silent)
           → ((settled : ℕ) → time + roles < settled
           → SettlesAfter n (earlier ++ event ∷ now) (Left earlier x.silent) settled) → IsLostTo earlier (event ∷ now)
           seen
-      left latest x others settles = record {
+      left span x others settles = record {
         last = Left earlier x.silent;
         lead = (seen, inl refl, Left earlier x.silent, x.leads, others);
         so = (settles, λ settled late. off);
       }
 
-      lowered : LowersLinks n earlier (event ∷ now) → IsLostTo earlier (event ∷ now) seen
-      lowered (lowers, others) =
-          let x = lowers_leads n earlier event seen then (record { lowers = lowers; calm = calm_then; off = off }) in
+      lowered : (rest : List Timed) → now ≡ rest → OneEvent (LowersLink n) earlier (event ∷ rest)
+          → IsLostTo earlier (event ∷ now) seen
+      lowered (other ∷ rest) same none = absurd none
+      lowered [] same lowers =
+          let x = loss_leads n earlier event 0 seen then
+          (inl (record { lowers = lowers; calm = calm_then; off = off }, refl)) in
           let over = x.over in
-          left event.at x
-          (lowered_lead n network off time earlier (earlier ++ event ∷ []) now x.silent
-          (down_calm n earlier event off calm_then lowers.clock lowers.port lowers.act)
-          (last_behind earlier event ∙ here) at.1 (omega (arith, over, here))
-          (λ number live. still_lives n earlier event lowers.clock lowers.port lowers.act number live) others)
+          left 0 x (subst (λ es. LeadOn n (earlier ++ event ∷ []) (Left earlier x.silent) es (Left earlier x.silent))
+          (sym same) refl)
           (λ settled late. (off, inl (omega (arith, over, here, late))))
 
       -- by the one event a system turns
@@ -169,12 +170,13 @@ module _ (n : NetworkState) (network : IsNetwork n) (off : NothingLapses n.param
           }
 
       by : BoundsLoss n earlier (event ∷ now) choice roles → IsLostTo earlier (event ∷ now) seen
-      by (inl (lowers, is_roles, is_choice)) = lowered lowers
+      by (inl (lowers, is_roles, is_choice)) = lowered now refl lowers
       by (inr (inl ((fails, others), is_choice, after))) =
           let span = silence_span (pace_of n) in
-          let x = fails_leads n earlier event seen then (record { fails = fails; calm = calm_then; off = off }) in
+          let x = loss_leads n earlier event span seen then
+          (inr (record { fails = fails; calm = calm_then; off = off }, refl)) in
           let over = x.over in
-          left (suc (event.at + span)) x
+          left span x
           (dead_lead n network off time earlier (earlier ++ event ∷ []) now x.silent
           (fails_calm n earlier event off calm_then fails) (last_behind earlier event ∙ here) at.1 others)
           (λ settled late. (

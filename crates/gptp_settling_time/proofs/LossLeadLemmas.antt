@@ -3,33 +3,39 @@ use Rattle.std.proofs.Common.{List, [], ap, append-nil, append_assoc, arith, inl
 use Rattle.std.specs.List.{AllByRecursion}
 use Rattle.std.proofs.Math.Nat.{le-max_left}
 use Rattle.gptp_setup.specs.SettlingParams.{largest_interval, longest_span}
-use Rattle.gptp_scenario.specs.Calm.{IsCalm, IsLive, NothingLapses, last_change}
+use Rattle.gptp_scenario.specs.Calm.{IsCalm, NothingLapses, last_change}
 use Rattle.gptp_scenario.specs.Network.{IsNetwork, NetworkState, pace_of}
 use Rattle.gptp_scenario.specs.SettlingTime.{aging_span, capability_span, silence_span}
 use Rattle.gptp_scenario.specs.SyncWait.{sync_paths}
 use Rattle.gptp_scenario.specs.declared.change.Timed.{Timed}
 use Rattle.gptp_settling_time.specs.Arrivals.{HasArrivedBy}
 use Rattle.gptp_settling_time.specs.HowSoon.{EachEvent, IsDownToo, TurnsUnused}
-use Rattle.gptp_settling_time.specs.InTurn.{AgesSooner, Aging, AnyPast, AreUsedSince, ChoosesAfter, Cleared, EventLeads, FailsCalm, FailsNow, Fallen, Gained, Heard, IsDownNow, IsGoneBy, LeadOn, LeadsByTree, Left, LosesNow, Fewer, Lost, LowersCalm, Past, SettlesAfter, Split, SplitsNow, Starting, Turned, TurnedTree, TurnsCalm}
-use Rattle.gptp_settling_time.specs.Losses.{AgesWithin, FailsHeard, LowersLink}
+use Rattle.gptp_settling_time.specs.Pasts.{Aging, AnyPast, Cleared, Fallen, Fewer, Gained, Heard, Left, Lost, Past, Split, Starting, Turned, TurnedTree}
+use Rattle.gptp_settling_time.specs.EventKinds.{FailsCalm, FailsNow, IsDownNow, LowersCalm, TurnsCalm}
+use Rattle.gptp_settling_time.specs.Leads.{AgesSooner, AreUsedSince, EventLeads, IsGoneBy, LeadsByTree, LosesNow, SplitsNow}
+use Rattle.gptp_settling_time.specs.InTurn.{ChoosesAfter, LeadOn, SettlesAfter}
+use Rattle.gptp_settling_time.specs.Losses.{AgesWithin, FailsHeard}
 use Rattle.gptp_settling_time.specs.TreeLosses.{FailsTrees}
-use Rattle.gptp_settling_time.proofs.CalmLessLemmas.{down_calm as act_calm, failure_calm, lowers_calm, still_lives}
+use Rattle.gptp_settling_time.proofs.CalmLessLemmas.{failure_calm, lowers_calm}
 use Rattle.gptp_theorem.proofs.EventLemmas.{last_behind}
 use Rattle.gptp_settling_time.proofs.CalmStillLemmas.{idle_calm}
-use Rattle.gptp_settling_time.proofs.SamePathsLemmas.{idle_paths, idle_same, same_lives, turned_paths}
+use Rattle.gptp_settling_time.proofs.SamePathsLemmas.{idle_paths, turned_paths}
 use Rattle.gptp_settling_time.proofs.LeadOnLemmas.{HasSettled}
 use Rattle.gptp_settling_time.proofs.SilentSpanLemmas.{fail_within, failure_within}
 
-module _ (n : NetworkState) (made : List Timed) (event : Timed) where
+module _ (n : NetworkState) (made : List Timed) (event : Timed) (roles : ℕ) where
   -- after a loss by which no system is moved the network is left so that its choice stands
-  pub record IsLeftBy (past : Past) (latest : ℕ) : Type 0 where
+  pub record IsLeftBy (past : Past) : Type 0 where
     pub silent : ℕ
     pub leads : EventLeads n made past event (Left made silent)
-    pub over : silent ≤ latest
+    pub over : silent ≤ suc (event.at + roles)
 
-  -- a link goes down
-  pub lowers_leads : (past : Past) → HasSettled n made past event.at → LowersCalm n made event → IsLeftBy past event.at
-  lowers_leads AnyPast settled lowers =
+  abbrev pub LosesCalm : Type 0
+  LosesCalm = (LowersCalm n made event × (roles ≡ 0))
+      ⊎ (FailsCalm n made event × (roles ≡ silence_span (pace_of n)))
+
+  pub loss_leads : (past : Past) → HasSettled n made past event.at → LosesCalm → IsLeftBy past
+  loss_leads AnyPast settled (inl (lowers, none)) =
       let passed = settled.passed in
       let over = le-max_left (capability_span (pace_of n)) (2 * largest_interval (pace_of n)
       + (sync_paths n made).systems * (longest_span (pace_of n) + (sync_paths n made).delay)) in
@@ -38,42 +44,35 @@ module _ (n : NetworkState) (made : List Timed) (event : Timed) where
         leads = (settled, refl, inl (lowers, refl));
         over = omega (arith, passed, over);
       }
-  lowers_leads Starting settled lowers = absurd settled
-  lowers_leads (Gained start) settled lowers =
+  loss_leads AnyPast settled (inr (fails, is)) = record {
+    silent = suc (event.at + silence_span (pace_of n));
+    leads = (settled, refl, inr (fails, refl));
+    over = omega (arith, is);
+  }
+  loss_leads Starting settled loses = absurd settled
+  loss_leads (Gained start) settled (inl (lowers, none)) =
       record { silent = start; leads = (settled, refl, inl (lowers, refl)); over = omega (arith, settled) }
-  lowers_leads (Heard start) settled lowers =
+  loss_leads (Gained start) settled (inr (fails, is)) = record {
+    silent = suc (event.at + silence_span (pace_of n));
+    leads = (settled, refl, inr (fails, refl));
+    over = omega (arith, is);
+  }
+  loss_leads (Heard start) settled (inl (lowers, none)) =
       record { silent = start; leads = (settled, refl, inl (lowers, refl)); over = omega (arith, settled) }
-  lowers_leads (Left ago silent) settled lowers = absurd settled
-  lowers_leads (Turned silent now) settled lowers = absurd settled
-  lowers_leads (Fallen silent now) settled lowers = absurd settled
-  lowers_leads (TurnedTree silent now) settled lowers = absurd settled
-  lowers_leads (Cleared ago begun silent right old) settled lowers = absurd settled
-  lowers_leads (Aging ago aged silent) settled lowers = absurd settled
-  lowers_leads (Split ago gone silent) settled lowers = absurd settled
-  lowers_leads (Lost ago since most silent) settled lowers = absurd settled
-  lowers_leads (Fewer ago since most silent) settled lowers = absurd settled
-
-  -- a far end fails
-  pub fails_leads : (past : Past) → HasSettled n made past event.at → FailsCalm n made event
-      → IsLeftBy past (suc (event.at + silence_span (pace_of n)))
-  fails_leads past settled fails =
-      record { silent = suc (event.at + silence_span (pace_of n)); leads = by past settled; over = omega arith }
-    where
-      by : (past : Past) → HasSettled n made past event.at
-          → EventLeads n made past event (Left made (suc (event.at + silence_span (pace_of n))))
-      by AnyPast settled = (settled, refl, inr (fails, refl))
-      by Starting settled = absurd settled
-      by (Gained start) settled = (settled, refl, inr (fails, refl))
-      by (Heard start) settled = (settled, refl, inr (fails, refl))
-      by (Left ago silent) settled = absurd settled
-      by (Turned silent now) settled = absurd settled
-      by (Fallen silent now) settled = absurd settled
-      by (TurnedTree silent now) settled = absurd settled
-      by (Cleared ago begun silent right old) settled = absurd settled
-      by (Aging ago aged silent) settled = absurd settled
-      by (Split ago gone silent) settled = absurd settled
-      by (Lost ago since most silent) settled = absurd settled
-      by (Fewer ago since most silent) settled = absurd settled
+  loss_leads (Heard start) settled (inr (fails, is)) = record {
+    silent = suc (event.at + silence_span (pace_of n));
+    leads = (settled, refl, inr (fails, refl));
+    over = omega (arith, is);
+  }
+  loss_leads (Left ago silent) settled loses = absurd settled
+  loss_leads (Turned silent now) settled loses = absurd settled
+  loss_leads (Fallen silent now) settled loses = absurd settled
+  loss_leads (TurnedTree silent now) settled loses = absurd settled
+  loss_leads (Cleared ago begun silent right old) settled loses = absurd settled
+  loss_leads (Aging ago aged silent) settled loses = absurd settled
+  loss_leads (Split ago gone silent) settled loses = absurd settled
+  loss_leads (Lost ago since most silent) settled loses = absurd settled
+  loss_leads (Fewer ago since most silent) settled loses = absurd settled
 
 -- after one by which a tree is so moved it is, where what was sent before the choice stood has arrived
 module _ (n : NetworkState) (made : List Timed) (event : Timed) (stood : ℕ) (later : last_change made < stood)
@@ -185,14 +184,6 @@ settles_chooses n events (Fewer ago since most silent) settled so = so
 
 -- ---- behind a failure links go down of which an end has failed, or all stays as it stands
 
--- who lives does behind it
-down_lives : (n : NetworkState) (network : IsNetwork n) (made : List Timed) (event : Timed) (number : ℕ)
-    → IsDownToo n made event → IsLive n.systems made number → IsLive n.systems (made ++ event ∷ []) number
-down_lives n network made event number (inl lowers) live =
-    still_lives n made event lowers.clock lowers.port lowers.act number live
-down_lives n network made event number (inr repeats) live =
-    same_lives n made (made ++ event ∷ []) (idle_same n network made event repeats) number live
-
 module _ (n : NetworkState) (network : IsNetwork n) (off : NothingLapses n.params) (time : ℕ) where
   abbrev AllNow : List Timed → Type 0
   AllNow = AllByRecursion (λ (t : Timed). t.at ≡ time)
@@ -230,42 +221,9 @@ module _ (n : NetworkState) (network : IsNetwork n) (off : NothingLapses n.param
     Left ago silent,
     inl refl,
     Left ago silent,
-    (inl (down_now made event calm last here down), refl, refl),
+    (down_now made event calm last here down, refl, refl),
     dead_lead ago (made ++ event ∷ []) now silent (down_calm made event down calm) (last_behind made event ∙ here) at
         others,
-  )
-
-  -- so it does where other links go down by which no system is moved but such as are cut off
-  pub lowered_lead : (ago made now : List Timed) (silent : ℕ) → IsCalm n made → last_change made ≡ time → AllNow now
-      → silent ≤ time
-      → ((number : ℕ) → IsLive n.systems ago number → IsLive n.systems made number)
-      → EachEvent (λ made event. IsDownToo n made event ⊎ LowersLink n made event) made now
-      → LeadOn n made (Left ago silent) now (Left ago silent)
-  lowered_lead ago made [] silent calm last at past lives each = refl
-  lowered_lead ago made (event ∷ now) silent calm last (here, at) past lives (inl down, others) = (
-    Left ago silent,
-    inl refl,
-    Left ago silent,
-    (inl (down_now made event calm last here down), refl, refl),
-    lowered_lead ago (made ++ event ∷ []) now silent (down_calm made event down calm) (last_behind made event ∙ here)
-        at past (λ number live. down_lives n network made event number down (lives number live)) others,
-  )
-  lowered_lead ago made (event ∷ now) silent calm last (here, at) past lives (inr lowers, others) = (
-    Left ago silent,
-    inl refl,
-    Left ago silent,
-    (
-      inr (record {
-        lowers = record { lowers = lowers; calm = calm; off = off };
-        lives = lives;
-        past = omega (arith, past, here);
-      }),
-      refl,
-      refl,
-    ),
-    lowered_lead ago (made ++ event ∷ []) now silent (act_calm n made event off calm lowers.clock lowers.port lowers.act)
-        (last_behind made event ∙ here) at past
-        (λ number live. still_lives n made event lowers.clock lowers.port lowers.act number (lives number live)) others,
   )
 
   -- so does one that is cleared

@@ -1,15 +1,12 @@
 -- A loss in a world of a document that has settled: it is left, or a system turns.
 use Rattle.std.proofs.Common.{List, Some, [], ap, arith, inl, inr, pred, refl, slice_get, subst, suc, sym, true, ℕ, ◌*◌, ◌++◌, ◌+◌, ◌<◌, ◌∙◌, ◌∷◌, ◌≡◌, ◌≤◌, ◌⊎◌}
 use Rattle.gptp_lists.proofs.MappedLemmas.{alike}
-use Rattle.gptp_lists.specs.Members.{In}
 use Rattle.gptp_graph.specs.PathBound.{path_bound}
-use Rattle.gptp_graph.specs.Snapshot.{clocks}
-use Rattle.gptp_invariants.proofs.WorldSystemLemmas.{clock_there}
 use Rattle.gptp_links.specs.declared.link.Direction.{Direction}
 use Rattle.gptp_links.specs.declared.link.Direction.TheVariants.{FromA, FromB}
 use Rattle.gptp_links.specs.Fate.{Draw}
 use Rattle.gptp_setup.specs.SettlingParams.{SettlingParams}
-use Rattle.gptp_scenario.specs.Calm.{IsCalm, IsLive, IsUsed, NothingLapses}
+use Rattle.gptp_scenario.specs.Calm.{IsCalm, NothingLapses, IsUsed}
 use Rattle.gptp_scenario.specs.Network.{NetworkState, pace_of, IsEnd}
 use Rattle.gptp_scenario.specs.SettlingTime.{aging_span, silence_span}
 use Rattle.gptp_scenario.specs.SyncWait.{sync_paths}
@@ -29,14 +26,15 @@ use Rattle.gptp_invariants.specs.ChoiceCalm.{HaveQuietLinks, delay_in, sync_path
 use Rattle.gptp_invariants.specs.ChoiceSettlesAsMachine.{IsWorld}
 use Rattle.gptp_invariants.specs.WorldNews.{AreReadyBy, AreSilentBy}
 use Rattle.gptp_invariants.specs.WorldSound.{IsSoundWorld}
-use Rattle.gptp_invariants.specs.WorldStanding.{live_stations, snapshot_of}
+use Rattle.gptp_invariants.specs.WorldStanding.{snapshot_of}
 use Rattle.gptp_invariants.proofs.WorldStandsLemmas.{stands_well}
 use Rattle.gptp_theorem.specs.PlayedLaws.{IsPlayable}
 use Rattle.gptp_theorem.specs.Reached.{channel_wire}
 use Rattle.gptp_theorem.proofs.CalmLemmas.{quiet_stands}
 use Rattle.gptp_theorem.proofs.SyncPathLemmas.{paths_stand}
-use Rattle.gptp_settling_time.specs.InTurn.{ClearsBy, ClearsFarEnd, ClearsTraces, CutsCalm, FailsCalm, FailsNow, FlightIsGone, LeavesStanding, LowersCalm, TurnsCalm, TurnsNow, nearer_echo_span}
-use Rattle.gptp_settling_time.proofs.GainLemmas.{lived_as, lives_so, up_so}
+use Rattle.gptp_settling_time.specs.EventKinds.{ClearsBy, ClearsFarEnd, ClearsTraces, CutsCalm, FailsCalm, FailsNow, FlightIsGone, LeavesStanding, LowersCalm, TurnsCalm, nearer_echo_span}
+use Rattle.gptp_settling_time.specs.Leads.{TurnsNow}
+use Rattle.gptp_settling_time.proofs.GainLemmas.{lives_so, up_so}
 use Rattle.gptp_settling_time.proofs.FailedAloneLemmas.{all_but, failed_left, less as failed_reduced, none_joined, ready_on as failed_ready}
 use Rattle.gptp_settling_time.proofs.AgedLemmas.{aged_begins}
 use Rattle.gptp_settling_time.proofs.AgesByWorldLemmas.{WorldAgesBy, aging_by}
@@ -46,7 +44,7 @@ use Rattle.gptp_settling_time.proofs.FailedHeardLemmas.{failed_aging}
 use Rattle.gptp_settling_time.proofs.GoesToLemmas.{echo_to, goes_to}
 use Rattle.gptp_settling_time.proofs.HoldSpanLemmas.{ages_over}
 use Rattle.gptp_settling_time.proofs.KeptToLemmas.{KeepsTo}
-use Rattle.gptp_settling_time.proofs.LeftToLemmas.{IsLeftSince, IsLeftTo, less_way, up_in_use}
+use Rattle.gptp_settling_time.proofs.LeftToLemmas.{IsLeftTo, less_way, up_in_use}
 use Rattle.gptp_settling_time.proofs.LostEndLemmas.{sound_reduced}
 use Rattle.gptp_settling_time.proofs.LostPowerLemmas.{told_anew}
 use Rattle.gptp_settling_time.proofs.LoweredLemmas.{act_left, ends, less as lowered_reduced, ready_on as lowered_ready, stay}
@@ -90,24 +88,6 @@ module _ (d : DocumentState) (playable : IsPlayable d) (made : List Timed) (even
   abbrev more : List Timed
   more = made ++ event ∷ []
 
-  paths_then : sync_paths n made ≡ sync_paths_of then
-  paths_then = paths_stand n made then playable.network keeps.stands keeps.claim.world.sound
-
-  paths_after : sync_paths n more ≡ sync_paths_of w'
-  paths_after = paths_stand n more w' playable.network after.stands after.claim.world.sound
-
-  -- the way that is left is no longer
-  pub shorter_way : (sync_paths n more).delay ≤ (sync_paths n made).delay
-      → (sync_paths n more).systems ≤ (sync_paths n made).systems
-      → pred (path_bound (snapshot_of w')) * delay_in w' ≤ pred (path_bound (snapshot_of then)) * delay_in then
-  shorter_way least fewer =
-      subst (λ (x : SyncPaths). pred x.systems * x.delay
-      ≤ pred (path_bound (snapshot_of then)) * delay_in then) paths_after
-      (subst (λ (x : SyncPaths). pred (sync_paths n more).systems * (sync_paths n more).delay
-      ≤ pred x.systems * x.delay) paths_then
-      (less_way (sync_paths n made).systems (sync_paths n more).systems (sync_paths n made).delay
-      (sync_paths n more).delay fewer least))
-
   module _ (start : ℕ) (rest : HasRestedSo p start event.at then) where
     world_then : IsWorld p then
     world_then = keeps.claim.world
@@ -116,12 +96,25 @@ module _ (d : DocumentState) (playable : IsPlayable d) (made : List Timed) (even
     seen_then calm off =
         rest.settled (quiet_stands n made then playable.network keeps.stands world_then.sound calm).links off
 
-    -- so it is over
+    paths_then : sync_paths n made ≡ sync_paths_of then
+    paths_then = paths_stand n made then playable.network keeps.stands world_then.sound
+
+    paths_after : sync_paths n more ≡ sync_paths_of w'
+    paths_after = paths_stand n more w' playable.network after.stands after.claim.world.sound
+
+    -- the way that is left is no longer
     way_over : (sync_paths n more).delay ≤ (sync_paths n made).delay
         → (sync_paths n more).systems ≤ (sync_paths n made).systems
         → pred (path_bound (snapshot_of w')) * delay_in w' ≤ w'.time
     way_over least fewer =
-        let less = shorter_way least fewer in
+        let less : pred (path_bound (snapshot_of w')) * delay_in w'
+        ≤ pred (path_bound (snapshot_of then)) * delay_in then =
+        subst (λ (x : SyncPaths). pred x.systems * x.delay
+        ≤ pred (path_bound (snapshot_of then)) * delay_in then) paths_after
+        (subst (λ (x : SyncPaths). pred (sync_paths n more).systems * (sync_paths n more).delay
+        ≤ pred x.systems * x.delay) paths_then
+        (less_way (sync_paths n made).systems (sync_paths n more).systems (sync_paths n made).delay
+        (sync_paths n more).delay fewer least)) in
         let over = rest.over in
         omega (arith, over, less, time)
 
@@ -449,14 +442,6 @@ module _ (d : DocumentState) (playable : IsPlayable d) (made : List Timed) (even
         subst (λ t. IsTurnedTo d more silent t w') (sym here)
         (subst (λ t. IsTurnedTo d more t event.at w') (sym by) (turned_to turns))
 
-    known_then : (number : ℕ) → In number (clocks (snapshot_of then)) → IsLive n.systems made number
-    known_then number member =
-        lived_as n made then keeps.stands world_then.sound number (clock_there (live_stations then.stations) number member)
-
-    pub left_to : (next : ℕ) → LeavesStanding n made event start next → IsLeftSince d made more next w'
-    unfolding lowered_to failed_to
-    left_to next (inl (lowers, same)) =
-        subst (λ time. IsLeftSince d made more time w') (sym same)
-        (record { left = lowered_to lowers; known = known_then })
-    left_to next (inr (fails, same)) =
-        record { left = failed_to fails next (omega (arith, same)); known = known_then }
+    pub left_to : (next : ℕ) → LeavesStanding n made event start next → IsLeftTo d made more next w'
+    left_to next (inl (lowers, same)) = subst (λ time. IsLeftTo d made more time w') (sym same) (lowered_to lowers)
+    left_to next (inr (fails, same)) = failed_to fails next (omega (arith, same))

@@ -27,7 +27,8 @@ use Rattle.gptp_theorem.specs.Reached.{channel_wire}
 use Rattle.gptp_theorem.proofs.CalmLemmas.{quiet_stands}
 use Rattle.gptp_theorem.proofs.SyncPathLemmas.{paths_stand}
 use Rattle.gptp_settling_time.specs.Gains.{ChangesNothing, EndHasFailed}
-use Rattle.gptp_settling_time.specs.InTurn.{AreUsedSince, LosesMore, LosesNow, MakesNothing, TurnsInVain}
+use Rattle.gptp_settling_time.specs.EventKinds.{MakesNothing, TurnsInVain}
+use Rattle.gptp_settling_time.specs.Leads.{AreUsedSince, LosesMore, LosesNow}
 use Rattle.gptp_settling_time.specs.Losses.{AreSilentAfter, LosesAny}
 use Rattle.gptp_settling_time.proofs.GainLemmas.{idle_so, lives_so, unused_so, up_so, used_so}
 use Rattle.gptp_settling_time.proofs.KeptToLemmas.{KeepsTo}

@@ -42,7 +42,6 @@ use Rattle.gptp_model.specs.declared.done.Done.{Done}
 use Rattle.gptp_model.specs.declared.station.Station.{Station}
 use Rattle.gptp_bmca_machine.specs.Calm.{Calm}
 use Rattle.gptp_bmca_machine.specs.Frame.{Lane}
-use Rattle.gptp_bmca_machine.specs.LossLaws.{EverythingFits}
 use Rattle.gptp_bmca_machine.specs.Network.{Network}
 use Rattle.gptp_bmca_machine.specs.RestLaws.{SameWiring}
 use Rattle.gptp_bmca_machine.specs.SoundLaws.{AllAreNear, UnlinkedAreOff}
@@ -69,7 +68,7 @@ use Rattle.gptp_settling_time.proofs.BegunLeftLemmas.{begins_left}
 use Rattle.gptp_settling_time.proofs.AlwaysClaimedLemmas.{AreHeard, IsStanding, same_start, start_calm, start_network}
 use Rattle.gptp_settling_time.proofs.FitsLemmas.{IsLeftUnmoved, UnlinkedHoldNothing, at_zero, joined_stays, lived}
 use Rattle.gptp_settling_time.proofs.GoesDownLemmas.{AreDisabled, GoesDownQuietly, goes_down_alone, goes_down_quietly, held_among, others_disabled, without}
-use Rattle.gptp_settling_time.proofs.LeftClaimedLemmas.{HaveAskedBy, HaveAskedLong, IsLeftAlways, asked_heard, left_network}
+use Rattle.gptp_settling_time.proofs.LeftClaimedLemmas.{HaveAskedLong, IsLeftAlways, asked_heard, left_network}
 use Rattle.gptp_settling_time.proofs.LinkStoodLemmas.{second_still}
 use Rattle.gptp_settling_time.proofs.LinkUpLemmas.{lane_set}
 use Rattle.gptp_settling_time.proofs.ReducedLemmas.{HoldsAsMuch, IsLess, IsReduced, IsReducedStation, NearerStay, holds_as_much, reduced_itself}
@@ -460,7 +459,7 @@ module _ (p : SettlingParams) (w : WorldState) (is : IsWorld p w) (place : ℕ) 
       }
 
   module _ (stay : StayOrAreAlone w w') where
-    pub left : IsLeftUnmoved g g'
+    left : IsLeftUnmoved g g'
     left = record {
       systems = less_then.systems;
       links = less_then.links;
@@ -542,8 +541,11 @@ module _ (p : SettlingParams) (w : WorldState) (is : IsWorld p w) (place : ℕ) 
         (sym keeps.systems) (Joins-clock g p q well joins)))
 
     module _ (next : ℕ) (pace : KeepPace p) (measured' : LinkIsMeasured w') (past : next ≤ w.time)
-        (way : pred (path_bound g') * delay_in w' ≤ w'.time) (silent : AreSilentBy p next w)
-        (asked : HaveAskedLong w') where
+        (way : pred (path_bound g') * delay_in w' ≤ w'.time) (sound : IsSoundWorld w) (ready' : AreReadyBy p next w')
+        (silent : AreSilentBy p next w) where
+      by_now : next ≤ w'.time
+      by_now = let time = told.time in omega (arith, past, time)
+
       standing_then : IsStanding p next w'
       standing_then = record {
         pace = pace;
@@ -552,35 +554,24 @@ module _ (p : SettlingParams) (w : WorldState) (is : IsWorld p w) (place : ℕ) 
         silent = silent_down p w is place channel here draws w' is' k next silent;
       }
 
+      asked_then : HaveAskedLong w'
+      asked_then at stands =
+          let (first, by) = ready_first p next w' is' by_now at (ready' at stands) in
+          let change = keeps.change in
+          (first, next, omega (arith, past, change), record { is = by; late = by_now })
+
       -- ports that no link is at are off
       unlinked_then : HaveQuietLinks p.params w' → UnlinkedHoldNothing g' (view w')
       unlinked_then quiet' i s place r there live none (q, at, holds) =
           let calm : Calm (start_network p 0 next w') (view w') =
-          start_calm p next w' standing_then (asked_heard p next w' asked) quiet' 0 in
-          let off : q.held ≡ Disabled =
-          ((calm.stations i s there live).ports place q at).unlinked (let time = told.time in omega (arith, past, time))
-          none in
+          start_calm p next w' standing_then (asked_heard p next w' asked_then) quiet' 0 in
+          let off : q.held ≡ Disabled = ((calm.stations i s there live).ports place q at).unlinked by_now none in
           absurd (let both : Received r ≡ Disabled = sym holds ∙ off in cc)
 
-      -- what is left fits a snapshot that all fitted
-      pub lowered_fits : (before : Snapshot) → IsWellFormed before → IsLeftUnmoved before g'
-          → EverythingFits says_announce before seen.n (view w) → LostAreFarther before g'
-          → IsLeftAlways p before next w'
-      lowered_fits before well_before still fits farther =
-          begins_left p before next w w' is' well_before seen less left still (wires (left_network p next w') refl)
-          fits standing_then asked unlinked_then near_then farther way
-
-      pub lowered_left : IsSoundWorld w → IsLeftAlways p g next w'
-      lowered_left sound = lowered_fits g well left (sound_fits p w seen sound) farther_then
-
-    -- so ports had asked
-    pub asked_then : (next : ℕ) → next ≤ w.time → AreReadyBy p next w' → HaveAskedLong w'
-    asked_then next past ready' at stands =
-        let time = told.time in
-        let change = keeps.change in
-        let by_now : next ≤ w'.time = omega (arith, past, time) in
-        let (first, by) = ready_first p next w' is' by_now at (ready' at stands) in
-        (first, next, omega (arith, past, change), record { is = by; late = by_now })
+      pub lowered_left : IsLeftAlways p g next w'
+      lowered_left =
+          begins_left p g next w w' is' well seen less left left (wires (left_network p next w') refl)
+          (sound_fits p w seen sound) standing_then asked_then unlinked_then near_then farther_then way
 
 -- ---- the act
 
@@ -620,17 +611,6 @@ module _ (p : SettlingParams) (next owner port : ℕ) (w : WorldState) (draws : 
         ready_goes_through p next at (Changing (LinkDown owner port)) w w' draws done is.sound measured (other at s)
         acts (ready at (stood_down p w is at_link.place at_link.channel at_link.is.here draws w' is' ends at s))
 
-    -- and have asked as they had
-    pub asked_on : w'.time ≡ w.time → (since : ℕ) → HaveAskedBy since w → HaveAskedBy since w'
-    asked_on time since asked at s =
-        let (one, by, soon, x) =
-        asked at (stood_down p w is at_link.place at_link.channel at_link.is.here draws w' is' ends at s) in
-        let ready = ready_goes_through p by at (Changing (LinkDown owner port)) w w' draws done is.sound measured
-        (other at s) acts (inl (one, x.is)) in
-        let late = x.late in
-        let (first, then) = ready_first p by w' is' (omega (arith, late, time)) at ready in
-        (first, by, soon, record { is = then; late = omega (arith, late, time) })
-
     module _ (seen : IsSettledSeen p w) (near : AllAreNear (snapshot_of w)) (quiet : HaveQuietLinks p.params w)
         (past : next ≤ w.time) (ready : AreReadyBy p next w) (silent : AreSilentBy p next w)
         (unmoved : (v : ℕ) → In v (clocks (snapshot_of w')) → IsUnmovedOrCutOff (snapshot_of w) (snapshot_of w') v)
@@ -658,6 +638,4 @@ module _ (p : SettlingParams) (next owner port : ℕ) (w : WorldState) (draws : 
             → IsLeftAlways p (snapshot_of w) next w'
         act_left way sound =
             lowered_left p w is at_link.place at_link.channel at_link.is.here draws w' is' ends seen near stay next
-            pace measured' past way silent
-            (asked_then p w is at_link.place at_link.channel at_link.is.here draws w' is' ends seen near stay next past
-            (ready_on ready)) sound
+            pace measured' past way sound (ready_on ready) silent

@@ -21,7 +21,9 @@ use Rattle.gptp_invariants.proofs.WorldNewsCourseLemmas.{later_keeps}
 use Rattle.gptp_theorem.specs.PlayedLaws.{IsPlayable}
 use Rattle.gptp_theorem.proofs.CalmKeptLemmas.{no_change}
 use Rattle.gptp_settling_time.specs.Arrivals.{HasArrivedBy}
-use Rattle.gptp_settling_time.specs.InTurn.{Aging, AnyPast, ChoosesAfter, Cleared, Fallen, Gained, Heard, IsTakenAs, Left, Fewer, Lost, Past, RestsFrom, Split, Starting, Turned, TurnedTree}
+use Rattle.gptp_settling_time.specs.Pasts.{Aging, AnyPast, Cleared, Fallen, Gained, Heard, Left, Fewer, Lost, Past, Split, Starting, Turned, TurnedTree}
+use Rattle.gptp_settling_time.specs.Rests.{IsTakenAs, RestsFrom}
+use Rattle.gptp_settling_time.specs.InTurn.{ChoosesAfter}
 use Rattle.gptp_settling_time.proofs.AfterLemmas.{IsAfter, after_act, after_chooses, after_keeps, after_later}
 use Rattle.gptp_settling_time.proofs.KeptToLemmas.{KeepsTo}
 use Rattle.gptp_settling_time.proofs.NamedLemmas.{IsNamedFrom, comes_since, named_before, named_step}

@@ -16,7 +16,7 @@ use Rattle.gptp_invariants.specs.ChoiceCalm.{delay_in, sync_paths_of}
 use Rattle.gptp_invariants.specs.WorldStanding.{snapshot_of}
 use Rattle.gptp_theorem.specs.PlayedLaws.{IsPlayable}
 use Rattle.gptp_theorem.proofs.SyncPathLemmas.{paths_stand}
-use Rattle.gptp_settling_time.specs.InTurn.{HasSettledAnyhow, HasSettledHeard, HasSettledSince}
+use Rattle.gptp_settling_time.specs.EventKinds.{HasSettledAnyhow, HasSettledHeard, HasSettledSince}
 use Rattle.gptp_settling_time.proofs.AlwaysClaimedLemmas.{IsClaimedAlways}
 use Rattle.gptp_settling_time.proofs.BegunLemmas.{rested_sound}
 use Rattle.gptp_settling_time.proofs.KeptToLemmas.{KeepsTo}

@@ -41,14 +41,9 @@ use Rattle.gptp_settling_time.proofs.LinkBetweenLemmas.{IsLinkBetween, SameSende
 use Rattle.gptp_settling_time.proofs.LinkUpLemmas.{lane_set}
 use Rattle.gptp_settling_time.proofs.NamesItselfLemmas.{AllNameAlone, alone_kept}
 use Rattle.gptp_settling_time.proofs.OffForGoodLemmas.{GoOnOff, all_down}
-<<<<<<< HEAD
-use Rattle.gptp_settling_time.proofs.SplitAlwaysLemmas.{IsSplitAlways, MayStart, may_before, over_gone, seen_then, split_after, split_network, split_then, timed_now}
-use Rattle.gptp_settling_time.proofs.SplitLemmas.{IsCut, IsSplit, SplitSettles, SplitState, SplitsBack, timed_split}
-use Rattle.gptp_settling_time.proofs.SplitRestLemmas.{SplitNamesAlone}
-=======
 use Rattle.gptp_settling_time.proofs.SplitAlwaysLemmas.{IsSplitAlways, MayStart, may_before, seen_then, split_after, split_network, split_then}
 use Rattle.gptp_settling_time.proofs.SplitLemmas.{IsCut, IsSplit, IsTurned, SplitSettles, SplitState, SplitsBack, cut_times, turned_times}
->>>>>>> w_line
+use Rattle.gptp_settling_time.proofs.SplitRestLemmas.{SplitNamesAlone}
 use Rattle.gptp_settling_time.proofs.UnusedDownLemmas.{asked', delay_taken, either, emptied, keeps, late_then, snapshot_taken, standing', tells, time}
 
 module _ (p : SettlingParams) (g : Snapshot) (By : PortIdentity → ℕ → Type 0) (failed gone silent owner port : ℕ)

@@ -38,11 +38,8 @@ use Rattle.gptp_bmca_machine.proofs.FallLemmas.{IsAftermath}
 use Rattle.gptp_bmca_machine.proofs.LossLemmas.{loss_fits}
 use Rattle.gptp_bmca_machine.proofs.LostBeginLemmas.{top_begins}
 use Rattle.gptp_bmca_machine.proofs.SettledLemmas.{network_whole}
-<<<<<<< HEAD
 use Rattle.gptp_bmca_machine.proofs.RestLemmas.{left_of}
-=======
 use Rattle.gptp_bmca_machine.proofs.TurnTreeLemmas.{IsOf, LeadsOut, turns_moves}
->>>>>>> w_line
 use Rattle.gptp_invariants.specs.ChoiceCalm.{HaveQuietLinks, delay_in, log_of}
 use Rattle.gptp_invariants.specs.ChoiceSettlesAsMachine.{IsWorld}
 use Rattle.gptp_invariants.specs.ChoiceView.{says_announce, view}
@@ -71,12 +68,8 @@ use Rattle.gptp_settling_time.proofs.NamesItselfLemmas.{whole_alone}
 use Rattle.gptp_settling_time.proofs.OffForGoodLemmas.{good_fails}
 use Rattle.gptp_settling_time.proofs.SettledSeenLemmas.{IsSettledSeen, always_seen, sound_fits}
 use Rattle.gptp_settling_time.proofs.SplitAlwaysLemmas.{GoesUntil, IsSplitAlways, MayStart, split_after, split_network}
-<<<<<<< HEAD
-use Rattle.gptp_settling_time.proofs.SplitLemmas.{IsSplit, SplitSettles, SplitState, SplitsBack}
-use Rattle.gptp_settling_time.proofs.SplitRestLemmas.{IsSplitAnew, SplitNamesAlone, split_anew_begins}
-=======
 use Rattle.gptp_settling_time.proofs.SplitLemmas.{IsSplit, SplitSettles, SplitState, SplitsBack, turned_times}
->>>>>>> w_line
+use Rattle.gptp_settling_time.proofs.SplitRestLemmas.{IsSplitAnew, SplitNamesAlone, split_anew_begins}
 
 module _ (p : SettlingParams) (number : ℕ) (w : WorldState) (draws : List Draw) (done : Done) (w' : WorldState)
     (is : IsWorld p w) (is' : IsWorld p w') (acts : Acts (Changing (Fail number)) w draws done w')
@@ -265,31 +258,7 @@ module _ (p : SettlingParams) (number : ℕ) (w : WorldState) (draws : List Draw
       cut_so t cut = record {
         well = well';
         left = left';
-<<<<<<< HEAD
-        each = λ t cut. record {
-          well = well';
-          left = left';
-          stand = λ s member. inl (loses.systems s member);
-          worse = cut.worse;
-          was_best = cut.was_best;
-          was = cut.was;
-          near = λ v in_v.
-              let was = cut.was v in_v in
-              let (far, there, close) = near v (IsDistance-clock g v (t.base + t.depth v) well was) in
-              let one = IsDistance-unique g v (t.base + t.depth v) far well was there in
-              omega (arith, one, close);
-          deep = λ v in_v.
-              deep_by g g' well well' t.top t.next t.base t.depth cut.first cut.was cut.lost n'.reach
-              (paths_bound p w' is') v in_v;
-          first = cut.first;
-          lost = cut.lost;
-          steps = cut.steps;
-          single = cut.single;
-          paths = paths_bound p w' is';
-          few = few;
-        };
-        tops = λ t cut. cut.in_top;
-=======
+        stand = λ s member. inl (loses.systems s member);
         worse = cut.worse;
         was_best = cut.was_best;
         was = cut.was;
@@ -314,6 +283,7 @@ module _ (p : SettlingParams) (number : ℕ) (w : WorldState) (draws : List Draw
       turned_so t is = record {
         well = well';
         left = left';
+        stand = loses.systems;
         lives = is.lives;
         was_best = is.was_best;
         is_best = is.is_best;
@@ -351,7 +321,6 @@ module _ (p : SettlingParams) (number : ℕ) (w : WorldState) (draws : List Draw
         cut_top = λ t cut. cut.in_top;
         turned = turned_so;
         turned_top = λ t turned. turned.in_top;
->>>>>>> w_line
         all = λ v known. elim (each v known) [
           | inl unmoved ↦ inl (unmoved_so v known unmoved)
           | inr in_tree ↦ inr in_tree
@@ -377,21 +346,12 @@ module _ (p : SettlingParams) (number : ℕ) (w : WorldState) (draws : List Draw
 
       module _ (By : PortIdentity → ℕ → Type 0) (gone : ℕ) (measured' : LinkIsMeasured w')
           (long : w.time + silence_span p < silent) (by : WorldAgesBy p By w')
-<<<<<<< HEAD
-          (is_gone : GoesUntil g By gone ⊎ (silent ≤ gone)) (later : w.time < gone)
-          (late' : delay_in w' ≤ w'.time) where
-        standing' : IsStanding p silent w'
-        standing' =
-            alone.standing_then p number w draws done w' is is' acts lives next silent pace measured measured' past
-            ready quiet silent_before long
-=======
           (is_gone : GoesUntil g By gone ⊎ (silent ≤ gone)) (later : w.time < gone) (late' : delay_in w' ≤ w'.time)
         where
           standing' : IsStanding p silent w'
           standing' =
               alone.standing_then p number w draws done w' is is' acts lives next silent pace measured measured' past
               ready quiet silent_before long
->>>>>>> w_line
 
           asked' : HaveAskedLong w'
           asked' =
@@ -496,69 +456,7 @@ module _ (p : SettlingParams) (number : ℕ) (w : WorldState) (draws : List Draw
                 let now = started start may in
                 (back' quiet' off start now, settles' quiet' off start now);
           }
-<<<<<<< HEAD
 
-          fits' : EverythingFits says_announce g n' (view w')
-          fits' = loss_fits says_announce n0 n' (view w) (view w') net0 loss
-
-          tops' : (t : Tree) → (cut : IsTreeCutOff g g' best t)
-              → HoldsAtTop says_announce g n' number best (IsTreeCutOff g g' best) cuts loses start (stay_of p) w.time
-              n0.most shorter split.long t cut (view w')
-          tops' t cut =
-              top_begins says_announce n0 n' net0 (view w) (view w') loss kept' number t.top best t.next t.base t.depth
-              loses (cuts.each t cut) cut.in_top
-              (λ q i joins l at. subst (λ k. slice_get (view w).lanes k ≡ Some l) refl
-              (lane_still (n'.lane (port_of number (suc q))) l at)) (stay_of p) (named_in p w is) shorter
-              (λ q i joins. stays_long (port_of number (suc q)) (port_of t.top (suc i)) joins)
-
-          after' : IsAftermath says_announce g n' (view w')
-          after' = record {
-            kept = kept';
-            fits = fits';
-            dark = dark_by says_announce g n' number best (IsTreeCutOff g g' best) cuts loses start (stay_of p) w.time
-                n0.most shorter split.long (view w') kept' fits' state' tops';
-          }
-
-          back' : SplitsBack p g split start (view w')
-          back' = record {
-            state = state';
-            back = fails_back says_announce n0 n' net0 (view w) (view w') loss after' best (IsTreeCutOff g g' best) cuts
-                start now;
-            tops = tops';
-          }
-
-          settles' : SplitSettles p g split start (view w')
-          settles' = inl (
-            omega (arith, now),
-            (λ t cut.
-                failing_settles says_announce n0 n' net0 (view w) (view w') loss after' t.top best t.next t.base t.depth
-                (cuts.each t cut) start (settles_by n' start) (λ f. omega arith)),
-          )
-
-        started : (start : ℕ) → MayStart gone w.time start w' → w'.time ≤ start
-        started start (inl soon) = let time = time_now in omega (arith, soon, later, time)
-        started start (inr (since, now)) = let time = time_now in omega (arith, since, time)
-
-        split_begins : IsSplitAlways p g By w.time gone silent w'
-        split_begins = record {
-          standing = standing';
-          asked = asked';
-          good = good_fails p number w draws done w' is is' acts lives next past ready quiet silent_before;
-          split = split;
-          at = refl;
-          same = refl;
-          by = by;
-          is_gone = is_gone;
-          begun = let time = time_now in omega (arith, time);
-          late = late';
-          links = links';
-          seen = λ quiet' off start may.
-              let now = started start may in
-              (back' quiet' off start now, settles' quiet' off start now);
-        }
-
-        -- and traces are told anew later
-        pub anew_begins : w'.last_change ≡ w'.time → IsSplitAnew p g By w.time gone silent w'
-        anew_begins = split_anew_begins p g By w.time gone silent w' split_begins later names_alone
-=======
->>>>>>> w_line
+          -- and traces are told anew later
+          pub anew_begins : w'.last_change ≡ w'.time → IsSplitAnew p g By w.time gone silent w'
+          anew_begins = split_anew_begins p g By w.time gone silent w' split_begins later names_alone

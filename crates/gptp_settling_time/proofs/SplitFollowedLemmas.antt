@@ -11,7 +11,8 @@ use Rattle.gptp_scenario.specs.SyncWait.{sync_paths}
 use Rattle.gptp_scenario.specs.declared.change.Timed.{Timed}
 use Rattle.gptp_settling_time.specs.Arrivals.{HasArrivedBy}
 use Rattle.gptp_settling_time.specs.HowSoon.{BoundsAging, FailsTreesFirst, RestsSplit}
-use Rattle.gptp_settling_time.specs.InTurn.{Heard, Past, Split, nearer_echo_span}
+use Rattle.gptp_settling_time.specs.Pasts.{Heard, Past, Split}
+use Rattle.gptp_settling_time.specs.EventKinds.{nearer_echo_span}
 use Rattle.gptp_settling_time.specs.Losses.{AgesWithin, NoneSilent}
 use Rattle.gptp_settling_time.proofs.BesideIdleLemmas.{LeadsTo}
 use Rattle.gptp_settling_time.proofs.LeadOnLemmas.{HasRested, HasSettled}

@@ -1,10 +1,5 @@
-<<<<<<< HEAD
--- A system fails that others hear, in a world of a document whose choice had stood, and so cuts trees off: they fall
--- back. Behind that links go down of which an end has failed.
-=======
 -- A system fails that others hear, in a world of a document whose choice had stood, and so moves trees: they fall back.
 -- Behind that links go down of which an end has failed.
->>>>>>> w_line
 use Rattle.std.proofs.Common.{◌≡◌, ◌<◌, ◌≤◌, ◌+◌, ◌∷◌, ◌++◌, ℕ, suc, List, [], sym, ap, subst, inl, inr, arith}
 use native.Mathlib.Decide.{dec_le}
 use Rattle.gptp_lists.specs.Members.{In}
@@ -39,7 +34,8 @@ use Rattle.gptp_theorem.proofs.AlikeLemmas.{best as alike_best, clock_among, dis
 use Rattle.gptp_theorem.proofs.CalmLemmas.{quiet_stands}
 use Rattle.gptp_theorem.proofs.SyncPathLemmas.{paths_stand}
 use Rattle.gptp_settling_time.specs.Arrivals.{HasArrivedBy}
-use Rattle.gptp_settling_time.specs.InTurn.{IsGoneBy, LowersUnusedCalm, SplitsNow}
+use Rattle.gptp_settling_time.specs.EventKinds.{LowersUnusedCalm}
+use Rattle.gptp_settling_time.specs.Leads.{IsGoneBy, SplitsNow}
 use Rattle.gptp_settling_time.specs.Losses.{LowersUnused}
 use Rattle.gptp_settling_time.specs.TreeLosses.{FailsTrees, IsTreeCutOff, IsTreeTurned, IsUnmovedOrInTree}
 use Rattle.gptp_settling_time.proofs.AgesByLemmas.{by_map}

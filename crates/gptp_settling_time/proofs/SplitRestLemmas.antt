@@ -1,4 +1,4 @@
--- A world since a failure that cut trees off: once it has settled, two ways after what was held is gone, traces are
+-- A world since a failure that moved trees: once it has settled, two ways after what was held is gone, traces are
 -- told anew. So claims are made of it as of one since news.
 use Rattle.std.proofs.Common.{◌≡◌, ◌<◌, ◌≤◌, ◌+◌, ◌*◌, ℕ, suc, pred, zero, List, refl, sym, ap, subst, ◌∙◌, inl, inr, arith}
 use Rattle.gptp_graph.specs.Snapshot.{PortIdentity, Snapshot}
@@ -61,19 +61,13 @@ pub record IsSplitAnew (p : SettlingParams) (g : Snapshot) (By : PortIdentity �
   pub alone : SplitNamesAlone p silent w
   pub tells : w.last_change ≡ failed → TellsOnce p silent (settles_at gone w) w
 
--- all systems that are left are near: those that weren't moved were, and paths in a tree are short
+-- all systems that are left are near: paths are short
 pub split_near : (p : SettlingParams) (g : Snapshot) (s : IsSplit p g) → AllAreNear s.n.graph
-split_near p g s v known = elim (s.cuts.all v known) [
-  | inl unmoved ↦
-      let (d, here, close) = s.near v (live_before g s.n s.cuts.well s.cuts.left v known) in
-      (d, unmoved.far d here, close)
-  | inr (t, cut, in_tree) ↦
-      let tree = s.cuts.each t cut in
-      let (d, here) = distance_exists s.n.graph v s.cuts.well known in
-      let within = IsDistance-within s.n.graph s.n.reach v d tree.paths here in
-      let few = tree.few in
-      (d, here, omega (arith, within, few))
-]
+split_near p g s v known =
+    let (d, here) = distance_exists s.n.graph v s.moves.well known in
+    let within = IsDistance-within s.n.graph s.n.reach v d s.moves.paths here in
+    let few = s.moves.few in
+    (d, here, omega (arith, within, few))
 
 module _ (p : SettlingParams) (g : Snapshot) (By : PortIdentity → ℕ → Type 0) (failed gone silent : ℕ)
     (w : WorldState) (split : IsSplitAlways p g By failed gone silent w) (some : failed < gone)
@@ -86,7 +80,6 @@ module _ (p : SettlingParams) (g : Snapshot) (By : PortIdentity → ℕ → Type
   state quiet off late =
       let one = one_before gone failed some in
       split_state p g By failed gone silent w split quiet off (pred gone) (omega (arith, one)) (omega (arith, late))
-      near
 
   -- so what a best tells is right
   root : HaveQuietLinks p.params w → NothingLapses p.params → settles_at gone w < w.time → (base : ℕ)

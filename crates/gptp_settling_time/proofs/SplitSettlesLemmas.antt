@@ -9,13 +9,6 @@ use Rattle.gptp_scenario.specs.Calm.{NothingLapses}
 use Rattle.gptp_scenario.specs.SettlingTime.{window_span}
 use Rattle.gptp_setup.specs.SettlingParams.{SettlingParams}
 use Rattle.gptp_model.specs.World.{WorldState}
-<<<<<<< HEAD
-use Rattle.gptp_bmca_machine.specs.Calm.{Calm}
-use Rattle.gptp_bmca_machine.specs.Levels.{Invariant}
-use Rattle.gptp_bmca_machine.specs.Network.{IsSettlingNetwork, Network, settled_from}
-use Rattle.gptp_bmca_machine.specs.SoundLaws.{AllAreNear}
-use Rattle.gptp_bmca_machine.proofs.SettledLemmas.{systems_bounded}
-=======
 use Rattle.gptp_bmca_machine.specs.Clean.{CameOverLink}
 use Rattle.gptp_bmca_machine.specs.LossLaws.{IsAfterLoss}
 use Rattle.gptp_bmca_machine.specs.Network.{Network}
@@ -23,7 +16,6 @@ use Rattle.gptp_bmca_machine.specs.Run.{NearHaveSettled}
 use Rattle.gptp_bmca_machine.specs.Station.{HoldsAt, Reception, Station as SeenStation}
 use Rattle.gptp_bmca_machine.proofs.FailureEndLemmas.{near_have_settled, system_clear}
 use Rattle.gptp_bmca_machine.proofs.RestLemmas.{IsClear, root_above, steps_above}
->>>>>>> w_line
 use Rattle.gptp_invariants.specs.ChoiceCalm.{HaveQuietLinks, delay_in}
 use Rattle.gptp_invariants.specs.ChoiceSettled.{ChoiceStands, Settled}
 use Rattle.gptp_invariants.specs.ChoiceSettlesAsMachine.{IsWorld}
@@ -36,24 +28,16 @@ use Rattle.gptp_invariants.proofs.ChoicePlaceLemmas.{station_there}
 use Rattle.gptp_invariants.proofs.WorldBoundedLemmas.{AreAbove, bounded_by}
 use Rattle.gptp_invariants.proofs.WorldStandsLemmas.{stands_well}
 use Rattle.gptp_settling_time.proofs.AlwaysClaimedLemmas.{IsStanding}
+use Rattle.gptp_settling_time.proofs.AtRestLemmas.{LinksAreAtRest}
 use Rattle.gptp_settling_time.proofs.EmptiedLemmas.{older_calm}
-<<<<<<< HEAD
-use Rattle.gptp_settling_time.proofs.FallAlwaysLemmas.{fallen_by}
-use Rattle.gptp_settling_time.proofs.LeftClaimedLemmas.{asked_ready, left_calm, left_net, left_network}
-use Rattle.gptp_settling_time.proofs.NewsMeasuredLemmas.{ready_measures}
-use Rattle.gptp_settling_time.proofs.SeenSettledLemmas.{seen_chooses, seen_settles}
-use Rattle.gptp_settling_time.proofs.SettledSeenLemmas.{IsSettledSeen, settled_in, stage_settled}
-use Rattle.gptp_settling_time.proofs.SplitAlwaysLemmas.{IsSplitAlways, none_now, timed_net, timed_now, timed_world}
-use Rattle.gptp_settling_time.proofs.SplitLemmas.{SplitSettles, SplitsBack}
-use Rattle.gptp_settling_time.proofs.TellsRightLemmas.{IsSettledState, settled_state}
-=======
 use Rattle.gptp_settling_time.proofs.FallAlwaysLemmas.{fallen_by, settles_by}
 use Rattle.gptp_settling_time.proofs.LeftClaimedLemmas.{asked_ready, left_calm, left_network}
 use Rattle.gptp_settling_time.proofs.NewsMeasuredLemmas.{ready_measures}
 use Rattle.gptp_settling_time.proofs.SeenSettledLemmas.{near_choose, near_settle}
 use Rattle.gptp_settling_time.proofs.SplitAlwaysLemmas.{IsSplitAlways, none_now, split_after, split_network}
 use Rattle.gptp_settling_time.proofs.SplitLemmas.{IsCut, IsTurned, SplitSettles, SplitsBack, cut_times, turned_times}
->>>>>>> w_line
+use Rattle.gptp_settling_time.proofs.SplitLinksLemmas.{failure_rests}
+use Rattle.gptp_settling_time.proofs.TellsRightLemmas.{IsSettledState}
 
 module _ (p : SettlingParams) (g : Snapshot) (By : PortIdentity → ℕ → Type 0) (failed gone silent : ℕ) (w : WorldState)
     (is : IsSplitAlways p g By failed gone silent w) (quiet : HaveQuietLinks p.params w) (off : NothingLapses p.params)
@@ -126,6 +110,23 @@ module _ (p : SettlingParams) (g : Snapshot) (By : PortIdentity → ℕ → Type
         (cut_times p g is.split start) (turned_times p g is.split start) (view w) seen.0.back seen.1 by_now over 0 from
         kept (omega arith)) dark_after
 
+  -- each link that leads farther is at rest
+  rest : LinksAreAtRest says_announce (split_network p silent w) (view w)
+  rest =
+      subst (λ z. LinksAreAtRest says_announce z (view w)) (sym is.same)
+      (failure_rests says_announce g is.split.n is.split.lost is.split.best (IsCut p g is.split start)
+      (IsTurned p g is.split start) is.split.moves start (fallen_by is.split.n start) (settles_by is.split.n start)
+      (cut_times p g is.split start) (turned_times p g is.split start) (view w) seen.0.back seen.1 by_now over)
+
+  pub split_state : IsSettledState says_announce (left_network p silent w) (view w)
+  split_state =
+      let none = none_now p g By failed gone silent w is quiet start seen.0 gone_now in
+      record {
+        calm = left_calm p silent w is.standing is.asked quiet none;
+        rest = record { chooses = rest.chooses; links = rest.links; farther = rest.farther };
+        none = none;
+      }
+
   -- its choice stands
   pub split_chooses : ChoiceStands w
   split_chooses =
@@ -139,27 +140,6 @@ module _ (p : SettlingParams) (g : Snapshot) (By : PortIdentity → ℕ → Type
         root_above (snapshot_of w) well s is_clear best is_best,
         steps_above (snapshot_of w) well s is_clear best is_best,
       )
-
-  -- each link that leads farther is at rest
-  split_seen : IsSettledSeen p w
-  split_seen = settled_in p w timed refl net calm invariant settled_by_now
-
-  pub split_state : AllAreNear (snapshot_of w) → IsSettledState says_announce (left_network p silent w) (view w)
-  split_state near =
-      let n = left_network p silent w in
-      let none = none_now p g By failed gone silent w is quiet start seen.0 gone_now in
-      settled_state says_announce n (left_net p silent w world) near (view w)
-      (left_calm p silent w is.standing is.asked quiet none)
-      (record {
-        sound = λ now. invariant.sound (omega arith);
-        levels = λ d best v pp u q close leads.
-            stage_settled p w split_seen n split_seen.graph (record {
-              place = split_seen.same.place;
-              lane = split_seen.same.lane;
-              log = split_seen.same.log;
-              interval = split_seen.same.interval;
-            }) d best v pp u q close leads;
-      }) (omega (arith, late)) none
 
   -- it has settled once ports without a link aren't capable
   pub split_settles : (from : ℕ) → AreSilentBy p from w → from ≤ w.time → Settled w × IsBoundedWorld w

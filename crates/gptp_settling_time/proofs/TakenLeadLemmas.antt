@@ -9,7 +9,9 @@ use Rattle.gptp_scenario.specs.SyncWait.{sync_paths}
 use Rattle.gptp_scenario.specs.declared.change.Timed.{Timed}
 use Rattle.gptp_theorem.proofs.EventLemmas.{last_behind}
 use Rattle.gptp_settling_time.specs.HowSoon.{EachEvent, IsTakenToo, TakesEvents}
-use Rattle.gptp_settling_time.specs.InTurn.{Aging, AnyPast, Cleared, EventLeads, Fallen, Fewer, Gained, Heard, LeadOn, Left, Lost, Past, Split, Starting, TakesMore, TakesNow, Turned, TurnedTree}
+use Rattle.gptp_settling_time.specs.Pasts.{Aging, AnyPast, Cleared, Fallen, Fewer, Gained, Heard, Left, Lost, Past, Split, Starting, Turned, TurnedTree}
+use Rattle.gptp_settling_time.specs.Leads.{EventLeads, TakesMore, TakesNow}
+use Rattle.gptp_settling_time.specs.InTurn.{LeadOn}
 use Rattle.gptp_settling_time.specs.Losses.{AreSilentAfter}
 use Rattle.gptp_settling_time.proofs.LeadOnLemmas.{HasSettled}
 use Rattle.gptp_settling_time.proofs.LosesLeadLemmas.{long_silent}

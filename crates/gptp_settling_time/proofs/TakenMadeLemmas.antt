@@ -31,7 +31,8 @@ use Rattle.gptp_invariants.specs.WorldStanding.{snapshot_of}
 use Rattle.gptp_invariants.proofs.WorldStandsLemmas.{stands_well}
 use Rattle.gptp_theorem.specs.PlayedLaws.{IsMade, IsPlayable}
 use Rattle.gptp_theorem.proofs.SyncPathLemmas.{paths_stand}
-use Rattle.gptp_settling_time.specs.InTurn.{LosesNow, MakesNothing, TakesAny, TurnsInVain}
+use Rattle.gptp_settling_time.specs.EventKinds.{MakesNothing, TurnsInVain}
+use Rattle.gptp_settling_time.specs.Leads.{LosesNow, TakesAny}
 use Rattle.gptp_settling_time.specs.Losses.{AreSilentAfter, LosesAny, LowersUnused}
 use Rattle.gptp_settling_time.proofs.AgingClaimedLemmas.{aging_network}
 use Rattle.gptp_settling_time.proofs.AgingStillLemmas.{IsEmptied, still_emptied, still_settled}

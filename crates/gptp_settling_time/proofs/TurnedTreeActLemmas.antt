@@ -156,18 +156,9 @@ module _ (p : SettlingParams) (silent owner port : ℕ) (w : WorldState) (draws 
   turns =
       let less = less_then p w is acts.1.place channel here draws w' is' told seen near in
       record {
-<<<<<<< HEAD
-        well = stands_well w' is'.sound is'.between is'.encodable;
-        left = left_of (snapshot_of w) n (stands_well w is.sound is.between is.encodable) less.systems less.links;
-        stand = less.systems;
-=======
         well = well';
-        left = record {
-          graph = well;
-          systems = less.systems;
-          links = less.links;
-        };
->>>>>>> w_line
+        left = left_of (snapshot_of w) n well less.systems less.links;
+        stand = less.systems;
         lives = so.lives;
         was_best = so.was_best;
         is_best = so.is_best;
@@ -178,8 +169,8 @@ module _ (p : SettlingParams) (silent owner port : ℕ) (w : WorldState) (draws 
         ways = snapshot_of w';
         told = record {
           well = well';
-          left = record { graph = well'; systems = λ s known. known; links = λ a b joins. joins };
-          were = record { graph = well; systems = less.systems; links = less.links };
+          left = left_of (snapshot_of w') n well' (λ s known. known) (λ a b joins. joins);
+          were = left_of (snapshot_of w) n well less.systems less.links;
           at_tree = λ v i q in_v joins. joins;
           reach = path_bound (snapshot_of w');
           paths = paths_bound p w' is';

@@ -55,7 +55,9 @@ use Rattle.gptp_network.specs.Document.{DocumentState}
 use Rattle.gptp_network.specs.Snapshot.{events_by}
 use Rattle.gptp_settling_time.specs.Arrivals.{HasArrivedBy}
 use Rattle.gptp_settling_time.specs.Gains.{ChangesNothing, EndHasFailed, LeavesCapable, Repeats, TakesNothing}
-use Rattle.gptp_settling_time.specs.InTurn.{AddsHeard, BettersClock, FlightIsGone, MakesNothing, NoneUsed, TakesAny, TellsNothing, UsedVaryLittle, WidensLink, turned_echo_span}
+use Rattle.gptp_settling_time.specs.EventKinds.{AddsHeard, BettersClock, FlightIsGone, MakesNothing, NoneUsed, TellsNothing, UsedVaryLittle, WidensLink}
+use Rattle.gptp_settling_time.specs.Leads.{TakesAny}
+use Rattle.gptp_settling_time.specs.Rests.{turned_echo_span}
 use Rattle.gptp_settling_time.specs.Losses.{AgesWithin, CutsFarEnd, FailsFarEnd, FailsHeard, LeavesChoice, LosesAny, LowersLink, LowersUnused, MovesNoneInAll, NoneSilent, TurnsLink, UpIsUsed}
 use Rattle.gptp_settling_time.specs.TreeLosses.{FailsTrees, FallsTree, TurnsTreeLink}
 
@@ -239,15 +241,7 @@ OneEvent Is made (event ∷ other ∷ events) = ⊥
 abbrev pub LowersOneLink : NetworkState → List Timed → List Timed → Type 0
 LowersOneLink n = OneEvent (LowersLink n)
 
--- By the first of them a link goes down, and no system is moved but such as are cut off. So it is of the others, or of
--- their links an end has failed, or nothing is done.
-abbrev pub LowersLinks : NetworkState → List Timed → List Timed → Type 0
-LowersLinks n made [] = ⊥
-LowersLinks n made (event ∷ events) =
-    LowersLink n made event
-    × EachEvent (λ made event. IsDownToo n made event ⊎ LowersLink n made event) (made ++ event ∷ []) events
-
--- and one so cuts off a far end
+-- and it so cuts off a far end
 abbrev pub CutsOneEnd : NetworkState → List Timed → List Timed → Type 0
 CutsOneEnd n = OneEvent (CutsFarEnd n)
 
@@ -331,11 +325,11 @@ FailsTreesFirst n made (event ∷ events) =
 
 -- ---- what a loss asks for
 
--- After links go down by which no system is moved but such as are cut off, choice and roles stand at once; where one
+-- After a link goes down by which no system is moved but such as are cut off, choice and roles stand at once; where it
 -- cuts off its far end, as soon as where it moves one system.
 abbrev pub BoundsLowered : NetworkState → List Timed → List Timed → ℕ → ℕ → Type 0
 BoundsLowered n made now choice roles =
-    LowersLinks n made now × (roles ≡ choice)
+    LowersOneLink n made now × (roles ≡ choice)
     × ((choice ≡ 0) ⊎ (CutsOneEnd n made now × (choice ≡ 2 * way_span (sync_paths n (made ++ now)))))
 
 -- After a far end fails the choice stands at once. So do roles where no lost link is silent, as where it loses its

@@ -15,7 +15,7 @@ use Rattle.gptp_scenario.specs.declared.change.Timed.{Timed}
 use Rattle.gptp_settling_time.specs.Arrivals.{HasArrivedBy}
 use Rattle.gptp_settling_time.specs.TreeLosses.{LowersTree, TurnsTreeLink}
 use Rattle.gptp_settling_time.specs.HowSoon.{BeforeRepeats, BesideIdle, BoundsChoice, BoundsEvents, BoundsFirst, BoundsLoss, BoundsNext, BoundsSplit, BoundsStart, BoundsTree, FailsTreesFirst, HasArrivedNext, IsChoiceAloneBound, IsChoiceBound, IsChoiceBoundAfter, IsLossBoundAfter, IsRestBoundAfter, LosesNext, NoneBetween, OneEvent, RestsAfterLoss, RestsSplit, RestsTree, SplitsNext, TreeNext, events_at}
-use Rattle.gptp_settling_time.specs.InTurn.{turned_echo_span}
+use Rattle.gptp_settling_time.specs.Rests.{turned_echo_span}
 use Rattle.gptp_theorem.specs.PlayedLaws.{IsPlayable}
 use Rattle.gptp_timeline.proofs.EventLemmas.{filter_each, filter_in_order}
 use Rattle.gptp_timeline.proofs.PastLemmas.{by_sooner}
