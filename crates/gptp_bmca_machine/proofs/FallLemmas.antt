@@ -406,7 +406,8 @@ module _ (says : Spelling) (g : Snapshot) (n : Network) (Tree : ℕ → Type 0) 
 
         -- and by what is left it is clear
         pub clear_left : (HasChoice s best (base + depth x) → ⊥) → IsClear n.graph s
-        clear_left not = record { rest = rest; known = known; held = bounded_left }
+        clear_left not =
+            record { rest = rest; known = was_itself n.graph (station_system s) known; held = bounded_left }
           where
             is_best : (b : System) → IsBest n.graph s.clock b → IsBest t.ways s.clock b
             is_best b is =

@@ -116,9 +116,10 @@ module _ (says : Spelling) (g : Snapshot) (n : Network) (Tree : ℕ → Type 0) 
       -- the best of the tree does
       pub choose_zero : over < w.time → TreeChooses 0
       choose_zero late v s at in_v here =
-          let is_v = (lives_at n w is.kept.calm v (t.lives v in_v) s at).1 in
+          let (live, is_v) = lives_at n w is.kept.calm v (t.lives v in_v) s at in
           zero_settles n.graph t.well s (clear_then v in_v late s at) next
           (subst (λ c. IsBest n.graph c next) (sym is_v) (t.best_now v in_v))
+          (is.kept.calm.facts.stations (n.place v) s at live).known
           (subst (λ c. IsDistance n.graph c 0) (sym is_v) here)
 
       choose_next : ToldIn w → (e : ℕ) → LevelSettles e w → before e ≤ w.time → TreeChooses e → TreeChooses (suc e)
