@@ -30,10 +30,11 @@ use Rattle.gptp_settling_time.specs.Arrivals.{HasArrivedBy}
 use Rattle.gptp_settling_time.specs.HowSoon.{AreWiderEvents, BeforeRepeats, BoundsGains, EachEvent, FailsEndFirst, FailsHeardFirst, FailsTreesFirst, IsStillEvent, LosesEvents, OneEvent, RolesAfterLoss}
 use Rattle.gptp_settling_time.specs.EventKinds.{FlightIsGone}
 use Rattle.gptp_settling_time.specs.Losses.{CutsFarEnd, LowersLink, NoneSilent, TurnsLink}
-use Rattle.gptp_settling_time.specs.TreeLosses.{LowersTree, TurnsTreeLink}
+use Rattle.gptp_settling_time.specs.TreeLosses.{FallsTree, TurnsTreeLink}
 use Rattle.gptp_settling_time.proofs.CutLemmas.{all_by}
 use Rattle.gptp_settling_time.proofs.LeadOnLemmas.{all_still}
 use Rattle.gptp_settling_time.proofs.MomentLemmas.{all_at}
+use Rattle.gptp_settling_time.proofs.SamePathsLemmas.{StandSame}
 use Rattle.gptp_how_soon_laws.proofs.AnyLossLemmas.{all_losses}
 use Rattle.gptp_how_soon_laws.proofs.ArrivedLemmas.{has_come_so, longest_within}
 use Rattle.gptp_how_soon_laws.proofs.GainLemmas.{AreFollowed, AreTurnsFollowed}
@@ -42,7 +43,7 @@ use Rattle.gptp_how_soon_laws.proofs.FailedLemmas.{fails_end_first, fails_heard_
 use Rattle.gptp_how_soon_laws.proofs.CutOffLemmas.{cuts_far}
 use Rattle.gptp_how_soon_laws.proofs.MovedTreesLemmas.{fails_trees_first}
 use Rattle.gptp_how_soon_laws.proofs.LoweredLemmas.{lowers_link, used_on}
-use Rattle.gptp_how_soon_laws.proofs.RepeatLemmas.{IsSame, LowersFirst, before_repeats, cut_seen, falls_seen, first_same, first_well, joined_seen, lowers_first, paths_seen, turned_seen, turns_seen, used_still}
+use Rattle.gptp_how_soon_laws.proofs.RepeatLemmas.{LowersFirst, before_repeats, cut_seen, falls_seen, first_same, first_well, joined_seen, lowers_first, paths_seen, turned_seen, turns_seen, used_still}
 use Rattle.gptp_how_soon_laws.proofs.TreeEventLemmas.{lowers_one_tree, turns_tree_link}
 use Rattle.gptp_how_soon_laws.proofs.TurnedLemmas.{turns_link}
 use Rattle.gptp_how_soon_laws.proofs.UnmovedLemmas.{AreWell, all_still_unmoved}
@@ -313,7 +314,7 @@ module _ (n : NetworkState) (network : IsNetwork n) (events : List Timed) (b : S
     pub few : (sync_paths n made).systems ≤ 255
 
   -- what stands behind it stands behind all
-  pub first_stays : (g : GoesFirst) → IsSame n (made ++ g.x.event ∷ []) (made ++ now)
+  pub first_stays : (g : GoesFirst) → StandSame n (made ++ g.x.event ∷ []) (made ++ now)
   first_stays g = first_same n network made now g.x
 
   pub same_paths : (g : GoesFirst) → sync_paths n (made ++ now) ≡ sync_paths n (made ++ g.x.event ∷ [])
@@ -456,7 +457,7 @@ module _ (n : NetworkState) (network : IsNetwork n) (events : List Timed) (b : S
 
   -- by which a tree is cut off
   pub record CutsLate (rest : HasComeToRest b at) : Type 0 where
-    pub comes : ComesLate (LowersTree n) rest
+    pub comes : ComesLate (FallsTree n) rest
     pub flight : FlightIsGone n (made ++ now) (gone_by n v.paths v.used_before)
 
   -- events of this kind come then, and paths get no longer
@@ -482,7 +483,7 @@ module _ (n : NetworkState) (network : IsNetwork n) (events : List Timed) (b : S
         rest,
         record {
           comes = record {
-            lowers = before_repeats n network made now g.x (OneEvent (LowersTree n)) one;
+            lowers = before_repeats n network made now g.x (OneEvent (FallsTree n)) (inl one);
             come = come rest;
           };
           flight = flight_all g;
