@@ -24,7 +24,6 @@ use Rattle.gptp_settling_time.proofs.MadeLemmas.{adds_later}
 use Rattle.gptp_settling_time.proofs.SamePathsLemmas.{idle_paths, priority_paths, turned_paths}
 use Rattle.gptp_settling_time.proofs.SettledPastLemmas.{HasRested, HasSettled, settled_later, taken_later, taken_on}
 
-
 -- a link that isn't used is turned in vain, where ports are capable from no later than then
 turns_in_vain : (n : NetworkState) (made : List Timed) (event : Timed) (start : ℕ) → start ≤ event.at → (act : Act)
     → TurnsUnused n made act → TurnsInVain n made event start act

@@ -1,8 +1,7 @@
 -- An event leads a world of a document from what its network came from to the next.
-use Rattle.std.proofs.Common.{List, Option, [], arith, inl, inr, refl, ℕ, ◌++◌, ◌+◌, ◌∷◌, ◌≡◌}
+use Rattle.std.proofs.Common.{List, Option, [], arith, inl, inr, refl, ℕ, ◌++◌, ◌∷◌, ◌≡◌}
 use Rattle.gptp_links.specs.declared.bounds.Bounds.{Bounds}
 use Rattle.gptp_setup.specs.SettlingParams.{SettlingParams}
-use Rattle.gptp_scenario.specs.Calm.{last_change}
 use Rattle.gptp_scenario.specs.Network.{NetworkState, pace_of}
 use Rattle.gptp_scenario.specs.declared.change.Timed.{Timed}
 use Rattle.gptp_model.specs.Acts.{at}

@@ -79,45 +79,45 @@ StayOrAreAlone w w' = (v : ℕ) → In v (clocks (snapshot_of w'))
 module _ (w : WorldState) (place : ℕ) (channel : Channel) (here : slice_get w.net.channels place ≡ Some channel)
     (draws : List Draw) (w' : WorldState)
     (k : TellsEnds PortDown channel (record w { net = taken_down place channel w.net; last_change = w.time }) draws w')
-    where
-  abbrev gone_down : WorldState
-  gone_down = record w { net = taken_down place channel w.net; last_change = w.time }
+  where
+    abbrev gone_down : WorldState
+    gone_down = record w { net = taken_down place channel w.net; last_change = w.time }
 
-  kept : KeepsNetwork gone_down w'
-  kept = told_keeps channel gone_down draws w' k
+    kept : KeepsNetwork gone_down w'
+    kept = told_keeps channel gone_down draws w' k
 
-  -- no link is there that wasn't
-  were_there : (link : ℕ) (other : Channel) → slice_get gone_down.net.channels link ≡ Some other
-      → IsThereToo w.net.channels link other
-  were_there link other there = elim (same_place link place) [
-    | inl same ↦
-        let one : other ≡ lost channel =
-        same_Some other (lost channel)
-        (sym there ∙ ap (slice_get (slice_set w.net.channels place (lost channel))) same
-        ∙ get-set_same w.net.channels place channel (lost channel) here) in
-        record {
-          new = channel;
-          here = ap (slice_get w.net.channels) same ∙ here;
-          a = ap (λ (c : Channel). c.a) (sym one);
-          b = ap (λ (c : Channel). c.b) (sym one);
-          up = λ on. absurd (let both : true ≡ false = sym on ∙ ap (λ (c : Channel). c.up) one in cc);
-        }
-    | inr apart ↦ record {
-      new = other;
-      here = sym (get-set_other w.net.channels place link (lost channel) apart) ∙ there;
-      a = refl;
-      b = refl;
-      up = λ on. on;
+    -- no link is there that wasn't
+    were_there : (link : ℕ) (other : Channel) → slice_get gone_down.net.channels link ≡ Some other
+        → IsThereToo w.net.channels link other
+    were_there link other there = elim (same_place link place) [
+      | inl same ↦
+          let one : other ≡ lost channel =
+          same_Some other (lost channel)
+          (sym there ∙ ap (slice_get (slice_set w.net.channels place (lost channel))) same
+          ∙ get-set_same w.net.channels place channel (lost channel) here) in
+          record {
+            new = channel;
+            here = ap (slice_get w.net.channels) same ∙ here;
+            a = ap (λ (c : Channel). c.a) (sym one);
+            b = ap (λ (c : Channel). c.b) (sym one);
+            up = λ on. absurd (let both : true ≡ false = sym on ∙ ap (λ (c : Channel). c.up) one in cc);
+          }
+      | inr apart ↦ record {
+        new = other;
+        here = sym (get-set_other w.net.channels place link (lost channel) apart) ∙ there;
+        a = refl;
+        b = refl;
+        up = λ on. on;
+      }
+    ]
+
+    pub down_less : IsLess (snapshot_of w) (snapshot_of w')
+    down_less = record {
+      systems = λ s member. subst (In s) kept.systems member;
+      links = λ a b joins.
+          links_more gone_down w (same_systems (live_stations w.stations)) were_there a b
+          (subst (λ h. Joins h a b) (same_snapshot gone_down w' kept) joins);
     }
-  ]
-
-  pub down_less : IsLess (snapshot_of w) (snapshot_of w')
-  down_less = record {
-    systems = λ s member. subst (In s) kept.systems member;
-    links = λ a b joins.
-        links_more gone_down w (same_systems (live_stations w.stations)) were_there a b
-        (subst (λ h. Joins h a b) (same_snapshot gone_down w' kept) joins);
-  }
 
 module _ (p : SettlingParams) (w : WorldState) (is : IsWorld p w) (place : ℕ) (channel : Channel)
     (here : slice_get w.net.channels place ≡ Some channel) (draws : List Draw) (w' : WorldState) (is' : IsWorld p w')

@@ -18,7 +18,7 @@ use Rattle.gptp_system.specs.declared.sending.Sending.{Sending}
 use Rattle.gptp_system.specs.Facts.{AreHeld, IsAtRest}
 use Rattle.gptp_system.specs.Input.{PortDown}
 use Rattle.gptp_system.specs.Measuring.{GoesDown, silenced}
-use Rattle.gptp_system.specs.State.{SystemState, change_at, clock}
+use Rattle.gptp_system.specs.State.{SystemState, change_at}
 use Rattle.gptp_model.specs.Act.{all_timers, in_state}
 use Rattle.gptp_model.specs.Changing.{CallsIfLive}
 use Rattle.gptp_model.specs.Sends.{SendsAll}

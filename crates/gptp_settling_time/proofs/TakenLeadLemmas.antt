@@ -1,6 +1,6 @@
 -- Several events of one time take systems or links away, whoever is moved between: where the network had settled they
 -- lead to one from which they were taken. Where each link that is up then is in use they lead to one that is cleared.
-use Rattle.std.proofs.Common.{List, [], ap, append_assoc, arith, inl, inr, max, pred, refl, subst, suc, sym, ℕ, ◌*◌, ◌++◌, ◌+◌, ◌<◌, ◌∙◌, ◌∷◌, ◌≡◌, ◌≤◌}
+use Rattle.std.proofs.Common.{List, [], ap, append_assoc, arith, inl, inr, max, pred, refl, subst, suc, sym, ℕ, ◌++◌, ◌+◌, ◌∙◌, ◌∷◌, ◌≡◌, ◌≤◌}
 use Rattle.std.proofs.Math.Nat.{le-max_left, mul-le-mul_left}
 use Rattle.std.specs.List.{AllByRecursion}
 use Rattle.gptp_setup.specs.SettlingParams.{largest_interval}

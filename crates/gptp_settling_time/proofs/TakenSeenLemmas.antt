@@ -44,44 +44,44 @@ module _ (says : Spelling) (g : Snapshot) (n n' : Network) (well' : IsWellFormed
     (systems : (s : System) → In s n'.graph.systems → In s n.graph.systems)
     (links : (p q : PortIdentity) → Joins n'.graph p q → Joins n.graph p q) (w w' : MachineState)
     (emptied : IsEmptied w w') (late : n.most ≤ w.time) (after' : IsAfterLoss n' w') (seen : IsTakenSeen says g n w)
-    where
-  less : IsWhatIsLeft g n
-  less = left_of g n well first_systems first_links
+  where
+    less : IsWhatIsLeft g n
+    less = left_of g n well first_systems first_links
 
-  less_left : IsWhatIsLeft g n'
-  less_left = record {
-    graph = less.graph;
-    systems = λ s member. less.systems s (systems s member);
-    links = λ a b joins. less.links a b (links a b joins);
-  }
+    less_left : IsWhatIsLeft g n'
+    less_left = record {
+      graph = less.graph;
+      systems = λ s member. less.systems s (systems s member);
+      links = λ a b joins. less.links a b (links a b joins);
+    }
 
-  fits' : EverythingFits says g n' w'
-  fits' = record {
-    lanes = λ j l f a there flies said known. elim (emptied.lanes j l there) [
-      | inl stood ↦
-          seen.fits.lanes j l f a stood flies said (known_on n'.graph n.graph systems links l.to.clock known)
-      | inr (none, down) ↦ absurd (subst (In f) none flies)
-    ];
-    stations = λ i s place r at live holds.
-        seen.fits.stations i s place r (emptied.stations i s at live) live holds;
-  }
+    fits' : EverythingFits says g n' w'
+    fits' = record {
+      lanes = λ j l f a there flies said known. elim (emptied.lanes j l there) [
+        | inl stood ↦
+            seen.fits.lanes j l f a stood flies said (known_on n'.graph n.graph systems links l.to.clock known)
+        | inr (none, down) ↦ absurd (subst (In f) none flies)
+      ];
+      stations = λ i s place r at live holds.
+          seen.fits.stations i s place r (emptied.stations i s at live) live holds;
+    }
 
-  itself' : AllNameItself says n' g w'
-  itself' = record {
-    lanes = λ j l f a there flies said known. elim (emptied.lanes j l there) [
-      | inl stood ↦
-          seen.itself.lanes j l f a stood flies said (known_on n'.graph n.graph systems links l.to.clock known)
-      | inr (none, down) ↦ absurd (subst (In f) none flies)
-    ];
-    stations = λ i s at live place r holds.
-        seen.itself.stations i s (emptied.stations i s at live) live place r holds;
-  }
+    itself' : AllNameItself says n' g w'
+    itself' = record {
+      lanes = λ j l f a there flies said known. elim (emptied.lanes j l there) [
+        | inl stood ↦
+            seen.itself.lanes j l f a stood flies said (known_on n'.graph n.graph systems links l.to.clock known)
+        | inr (none, down) ↦ absurd (subst (In f) none flies)
+      ];
+      stations = λ i s at live place r holds.
+          seen.itself.stations i s (emptied.stations i s at live) live place r holds;
+    }
 
-  pub taken_emptied : IsTakenSeen says g n' w'
-  taken_emptied = record {
-    fits = fits';
-    itself = itself';
-    still = still_emptied says g n n' well' same links
-        (λ v is. unmoved_between g n n' well' first_systems first_links systems links v is)
-        less_left w w' emptied late after' fits' seen.still;
-  }
+    pub taken_emptied : IsTakenSeen says g n' w'
+    taken_emptied = record {
+      fits = fits';
+      itself = itself';
+      still = still_emptied says g n n' well' same links
+          (λ v is. unmoved_between g n n' well' first_systems first_links systems links v is)
+          less_left w w' emptied late after' fits' seen.still;
+    }
