@@ -12,12 +12,12 @@ use Rattle.gptp_how_soon.specs.Far.{up_is_used}
 use Rattle.gptp_how_soon.specs.Bounds.{arrived_by, heard_by, ready, times_by}
 use Rattle.gptp_how_soon.specs.Kinds.{begins_wider, brings_nothing, is_loss, makes_nothing, sets_link}
 use Rattle.gptp_how_soon.specs.Links.{new_among}
-use Rattle.gptp_how_soon.specs.Rest.{are_losses_followed, asks_who_is_moved, failed_row, heard_at_once, is_failing_followed, is_from_rest, is_lowering_followed, no_moves, row_of}
+use Rattle.gptp_how_soon.specs.Rest.{are_losses_followed, asks_who_is_moved, failed_row, heard_at_once, is_failing_followed, is_from_rest, is_lowering_followed, is_worsening_followed, no_moves, row_of}
 use Rattle.gptp_how_soon.specs.Silent.{any_silent}
 use Rattle.gptp_how_soon.specs.Times.{settling_time}
 use Rattle.gptp_how_soon.specs.Walk.{moves_seen, view_seen}
 use Rattle.gptp_how_soon.specs.declared.bounds.Row.{Row}
-use Rattle.gptp_how_soon.specs.declared.bounds.Row.TheVariants.{AnyLosses, AnyPast, CutOff, FailedEnd, FailedHeard, FailureCutsOff, FailureMovesTrees, Gained, Lowered, SystemTurned, TreeCutOff, TreeTurned, Unchanged}
+use Rattle.gptp_how_soon.specs.declared.bounds.Row.TheVariants.{AnyLosses, AnyPast, CutOff, FailedEnd, FailedHeard, FailureCutsOff, FailureMovesTrees, Gained, Lowered, SystemTurned, TreeFalls, TreeTurned, Unchanged}
 use Rattle.gptp_how_soon.specs.declared.bounds.SettlingTime.{SettlingTime}
 use Rattle.gptp_how_soon.specs.declared.kinds.Told.{Told}
 use Rattle.gptp_how_soon.specs.declared.rest.Moves.{Moves}
@@ -38,19 +38,22 @@ same_row : (from_rest first : Bool) (before paths : SyncPaths) (told : List Told
 same_row from_rest first before paths told moves =
     by from_rest (list_all makes_nothing told || begins_wider told) (are_losses_followed before told)
     (is_lowering_followed before paths told) (is_failing_followed before paths told)
+    (is_worsening_followed before paths told)
   where
-    by : (rest idle followed lowering failing : Bool)
+    by : (rest idle followed lowering failing worse : Bool)
         → (if not rest then AnyPast else if first then Gained else if idle then Unchanged
-        else if followed && not (asked_of moves (rest && (followed || lowering || failing))).moved then Unchanged
-        else if lowering && not (asked_of moves (rest && (followed || lowering || failing))).moved
-        then if (asked_of moves (rest && (followed || lowering || failing))).cut then CutOff else Lowered
-        else if lowering && (asked_of moves (rest && (followed || lowering || failing))).turned then SystemTurned
-        else if lowering && (asked_of moves (rest && (followed || lowering || failing))).falls then TreeCutOff
-        else if lowering && (asked_of moves (rest && (followed || lowering || failing))).tree_turns then TreeTurned
-        else if failing && not (asked_of moves (rest && (followed || lowering || failing))).moved
-        then failed_row (asked_of moves (rest && (followed || lowering || failing))).far
-        (asked_of moves (rest && (followed || lowering || failing))).any_moved
-        else if failing && (asked_of moves (rest && (followed || lowering || failing))).trees_move
+        else if followed && not (asked_of moves (rest && (followed || lowering || failing || worse))).moved then Unchanged
+        else if lowering && not (asked_of moves (rest && (followed || lowering || failing || worse))).moved
+        then if (asked_of moves (rest && (followed || lowering || failing || worse))).cut then CutOff else Lowered
+        else if lowering && (asked_of moves (rest && (followed || lowering || failing || worse))).turned then SystemTurned
+        else if (lowering && (asked_of moves (rest && (followed || lowering || failing || worse))).falls)
+        || (worse && (asked_of moves (rest && (followed || lowering || failing || worse))).worsens)
+        then TreeFalls
+        else if lowering && (asked_of moves (rest && (followed || lowering || failing || worse))).tree_turns then TreeTurned
+        else if failing && not (asked_of moves (rest && (followed || lowering || failing || worse))).moved
+        then failed_row (asked_of moves (rest && (followed || lowering || failing || worse))).far
+        (asked_of moves (rest && (followed || lowering || failing || worse))).any_moved
+        else if failing && (asked_of moves (rest && (followed || lowering || failing || worse))).trees_move
         then FailureMovesTrees
         else if list_any is_loss told then if list_all brings_nothing told then AnyLosses else AnyPast
         else Gained)
@@ -58,17 +61,18 @@ same_row from_rest first before paths told moves =
         else if followed && not moves.moved then Unchanged
         else if lowering && not moves.moved then if moves.cut then CutOff else Lowered
         else if lowering && moves.turned then SystemTurned
-        else if lowering && moves.falls then TreeCutOff
+        else if (lowering && moves.falls) || (worse && moves.worsens) then TreeFalls
         else if lowering && moves.tree_turns then TreeTurned
         else if failing && not moves.moved then failed_row moves.far moves.any_moved
         else if failing && moves.trees_move then FailureMovesTrees
         else if list_any is_loss told then if list_all brings_nothing told then AnyLosses else AnyPast
         else Gained)
-    by false idle followed lowering failing = refl
-    by true idle true lowering failing = refl
-    by true idle false true failing = refl
-    by true idle false false true = refl
-    by true idle false false false = refl
+    by false idle followed lowering failing worse = refl
+    by true idle true lowering failing worse = refl
+    by true idle false true failing worse = refl
+    by true idle false false true worse = refl
+    by true idle false false false true = refl
+    by true idle false false false false = refl
 
 -- ---- what others hold
 
@@ -85,31 +89,32 @@ held_asked : (from_rest first : Bool) (before paths : SyncPaths) (told : List To
     → counts_held (row_of from_rest first before paths told moves) ≡ false
 held_asked from_rest first before paths told moves =
     by from_rest (are_losses_followed before told) (is_lowering_followed before paths told)
-    (is_failing_followed before paths told) first (list_all makes_nothing told || begins_wider told)
+    (is_failing_followed before paths told) (is_worsening_followed before paths told) first (list_all makes_nothing told || begins_wider told)
     (list_any is_loss told) (list_all brings_nothing told)
   where
-    by : (rest followed lowering failing starts idle loses losses : Bool)
-        → (rest && (followed || lowering || failing)) ≡ false
+    by : (rest followed lowering failing worse starts idle loses losses : Bool)
+        → (rest && (followed || lowering || failing || worse)) ≡ false
         → counts_held (if not rest then AnyPast else if starts then Gained else if idle then Unchanged
         else if followed && not moves.moved then Unchanged
         else if lowering && not moves.moved then if moves.cut then CutOff else Lowered
         else if lowering && moves.turned then SystemTurned
-        else if lowering && moves.falls then TreeCutOff
+        else if (lowering && moves.falls) || (worse && moves.worsens) then TreeFalls
         else if lowering && moves.tree_turns then TreeTurned
         else if failing && not moves.moved then failed_row moves.far moves.any_moved
         else if failing && moves.trees_move then FailureMovesTrees
         else if loses then if losses then AnyLosses else AnyPast
         else Gained)
         ≡ false
-    by false followed lowering failing starts idle loses losses none = refl
-    by true true lowering failing starts idle loses losses none = absurd cc
-    by true false true failing starts idle loses losses none = absurd cc
-    by true false false true starts idle loses losses none = absurd cc
-    by true false false false true idle loses losses none = refl
-    by true false false false false true loses losses none = refl
-    by true false false false false false true true none = refl
-    by true false false false false false true false none = refl
-    by true false false false false false false losses none = refl
+    by false followed lowering failing worse starts idle loses losses none = refl
+    by true true lowering failing worse starts idle loses losses none = absurd cc
+    by true false true failing worse starts idle loses losses none = absurd cc
+    by true false false true worse starts idle loses losses none = absurd cc
+    by true false false false true starts idle loses losses none = absurd cc
+    by true false false false false true idle loses losses none = refl
+    by true false false false false false true loses losses none = refl
+    by true false false false false false false true true none = refl
+    by true false false false false false false true false none = refl
+    by true false false false false false false false losses none = refl
 
 module _ (n : NetworkState) (at arrived : ℕ) (paths_before paths : SyncPaths) (used_before used silent calm sets : Bool)
     (gained : ℕ) where
@@ -133,7 +138,7 @@ module _ (n : NetworkState) (at arrived : ℕ) (paths_before paths : SyncPaths) 
   held_apart FailedHeard held other is = absurd cc
   held_apart FailureCutsOff held other is = absurd cc
   held_apart SystemTurned held other is = refl
-  held_apart TreeCutOff held other is = refl
+  held_apart TreeFalls held other is = refl
   held_apart TreeTurned held other is = refl
   held_apart FailureMovesTrees held other is = absurd cc
   held_apart AnyLosses held other is = refl

@@ -24,7 +24,7 @@ use Rattle.gptp_how_soon.specs.Silent.{own_intervals}
 use Rattle.gptp_how_soon.specs.Times.{View, events_at, gained_at, last_set, loss_at, ready_at, row_at, settling_time, settling_times, settling_times_from, time_at, view_at}
 use Rattle.gptp_how_soon.specs.declared.bounds.Loss.{Loss}
 use Rattle.gptp_how_soon.specs.declared.bounds.Row.{Row}
-use Rattle.gptp_how_soon.specs.declared.bounds.Row.TheVariants.{AnyLosses, AnyPast, CutOff, FailedEnd, FailedHeard, FailureCutsOff, FailureMovesTrees, Gained, Lowered, SystemTurned, TreeCutOff, TreeTurned, Unchanged}
+use Rattle.gptp_how_soon.specs.declared.bounds.Row.TheVariants.{AnyLosses, AnyPast, CutOff, FailedEnd, FailedHeard, FailureCutsOff, FailureMovesTrees, Gained, Lowered, SystemTurned, TreeFalls, TreeTurned, Unchanged}
 use Rattle.gptp_how_soon.specs.declared.bounds.Settling.{Settling}
 use Rattle.gptp_how_soon.specs.declared.bounds.SettlingTime.{SettlingTime}
 use Rattle.gptp_settling_time.specs.HowSoon.{BeforeRepeats, BesideIdle, BoundsAging, BoundsAnyLoss, BoundsChoice, BoundsEvents, BoundsLoss, BoundsSplit, BoundsStart, BoundsTree, CutsOneEnd, FailsEndFirst, FailsHeardFirst, FailsTreesFirst, HeldFor, IsChoiceBoundAfter, IsLossBoundAfter, IsRestBoundAfter, LosesEvents, LowersOneLink, NoneBetween, RestsAfterLoss, RestsOnceTold, RestsSplit, RestsTree, RolesAfterFailure, TreeNext, TurnsOneLink}
@@ -579,7 +579,7 @@ module _ (d : DocumentState) (playable : IsPlayable d) where
           rest,
           behind g (Losing way way) (inr (inr (inl (turns, ap (λ (p : SyncPaths). 2 * way_span p) same, refl)))),
         )
-    asks_by TreeCutOff row own =
+    asks_by TreeFalls row own =
         let (rest, tree) = tree_cut n playable.network all b at late well row in
         inr (inl ((rest, inl tree), refl, refl))
     asks_by TreeTurned row own =

@@ -29,7 +29,7 @@ use Rattle.gptp_how_soon.specs.Times.{View, events_at, gained_at, ready_at, row_
 use Rattle.gptp_how_soon.specs.Tree.{cuts_tree_after}
 use Rattle.gptp_how_soon.specs.TurnedTree.{turns_tree_after}
 use Rattle.gptp_how_soon.specs.declared.bounds.Row.{Row}
-use Rattle.gptp_how_soon.specs.declared.bounds.Row.TheVariants.{AnyLosses, CutOff, FailedEnd, FailedHeard, FailureCutsOff, FailureMovesTrees, Gained, Lowered, SystemTurned, TreeCutOff, TreeTurned, Unchanged}
+use Rattle.gptp_how_soon.specs.declared.bounds.Row.TheVariants.{AnyLosses, CutOff, FailedEnd, FailedHeard, FailureCutsOff, FailureMovesTrees, Gained, Lowered, SystemTurned, TreeFalls, TreeTurned, Unchanged}
 use Rattle.gptp_how_soon.specs.declared.bounds.Settling.{Settling}
 use Rattle.gptp_how_soon.specs.declared.bounds.SettlingTime.{SettlingTime}
 use Rattle.gptp_how_soon.specs.declared.kinds.Told.{Told}
@@ -486,9 +486,9 @@ module _ (n : NetworkState) (network : IsNetwork n) (events : List Timed) (b : S
       let (come_is, so) = and_parts come test both in
       (keeps, one, so, λ rest. has_come_so n made b at rest.settling rest.is come_is)
 
-  pub tree_cut : AreWell n (made ++ now) → row_at v ≡ TreeCutOff → (rest : HasComeToRest b at) × CutsLate rest
+  pub tree_cut : AreWell n (made ++ now) → row_at v ≡ TreeFalls → (rest : HasComeToRest b at) × CutsLate rest
   tree_cut well row =
-      let (from, falls) = why TreeCutOff row in
+      let (from, falls) = why TreeFalls row in
       let (keeps, lowers, tree, come) = late_by lowers_one (cuts_tree_after n made (made ++ now)) falls in
       let rest = (from_rest from).rested in
       let g = goes_first keeps lowers in
