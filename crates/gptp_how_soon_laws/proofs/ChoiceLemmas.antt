@@ -27,11 +27,11 @@ use Rattle.gptp_how_soon.specs.declared.bounds.Row.{Row}
 use Rattle.gptp_how_soon.specs.declared.bounds.Row.TheVariants.{AnyLosses, AnyPast, CutOff, FailedEnd, FailedHeard, FailureCutsOff, FailureMovesTrees, Gained, Lowered, SystemTurned, TreeFalls, TreeTurned, Unchanged}
 use Rattle.gptp_how_soon.specs.declared.bounds.Settling.{Settling}
 use Rattle.gptp_how_soon.specs.declared.bounds.SettlingTime.{SettlingTime}
-use Rattle.gptp_settling_time.specs.HowSoon.{BeforeRepeats, BesideIdle, BoundsAging, BoundsAnyLoss, BoundsChoice, BoundsEvents, BoundsLoss, BoundsSplit, BoundsStart, BoundsTree, CutsOneEnd, FailsEndFirst, FailsHeardFirst, FailsTreesFirst, HeldFor, IsChoiceBoundAfter, IsLossBoundAfter, IsRestBoundAfter, LosesEvents, LowersOneLink, NoneBetween, RestsAfterLoss, RestsOnceTold, RestsSplit, RestsTree, RolesAfterFailure, TreeNext, TurnsOneLink}
+use Rattle.gptp_settling_time.specs.HowSoon.{BeforeRepeats, BesideIdle, BoundsAging, BoundsAnyLoss, BoundsChoice, BoundsEvents, BoundsLoss, BoundsSplit, BoundsStart, BoundsTree, CutsOneEnd, FailsEndFirst, FailsHeardFirst, FailsTreesFirst, HeldFor, IsChoiceBoundAfter, IsLossBoundAfter, IsRestBoundAfter, LosesEvents, LowersOneLink, NoneBetween, RestsAfterLoss, RestsOnceTold, RestsSplit, RestsTree, RolesAfterFailure, TakesEvents, TreeNext, TurnsOneLink}
 use Rattle.gptp_settling_time.specs.EventKinds.{FlightIsGone}
 use Rattle.gptp_settling_time.specs.Rests.{turned_echo_span}
 use Rattle.gptp_settling_time.specs.Losses.{NoneSilent}
-use Rattle.gptp_settling_time.specs.TreeLosses.{LowersTree, TurnsTreeLink}
+use Rattle.gptp_settling_time.specs.TreeLosses.{FallsTree, TurnsTreeLink}
 use Rattle.gptp_settling_time.proofs.BesideIdleLemmas.{before_none}
 use Rattle.gptp_settling_time.proofs.MomentLemmas.{all_at, last_by, parted}
 use Rattle.gptp_settling_time.proofs.WellFormedLemmas.{after_well}
@@ -289,8 +289,10 @@ module _ (d : DocumentState) (playable : IsPlayable d) where
         some_of (TurnsOneLink n made) (λ none. none) events turns
     some_lost choice roles events (inr (inr (inr (inl (fails, aging))))) =
         some_of (FailsHeardFirst n made) (λ none. none) events fails
-    some_lost choice roles events (inr (inr (inr (inr (loses, is, later))))) =
+    some_lost choice roles events (inr (inr (inr (inr (inl (loses, is, later)))))) =
         some_of (LosesEvents n made) (λ none. none) events loses
+    some_lost choice roles events (inr (inr (inr (inr (inr (takes, more)))))) =
+        some_of (TakesEvents n made) (λ none. none) events takes
 
     some_rested : (sound : ℕ) (events : List Timed) → RestsAfterLoss n made events sound → events ≡ [] → ⊥
     some_rested sound events (inl (inl (cuts, gone))) = some_of (CutsOneEnd n made) (λ none. none) events cuts
@@ -361,7 +363,7 @@ module _ (d : DocumentState) (playable : IsPlayable d) where
           ),
         ))
     rests sound calm off (inr (inl (rest, tree, is))) =
-        inr (inr (inl (tree_next (LowersTree n) (RestsTree n sound) calm off rest tree.comes
+        inr (inr (inl (tree_next (FallsTree n) (RestsTree n sound) calm off rest tree.comes
         (gone_by n v.paths v.used_before, tree.flight, is))))
     rests sound calm off (inr (inr (inr (x, splits)))) =
         inr (inr (inr (inr (
@@ -505,7 +507,7 @@ module _ (d : DocumentState) (playable : IsPlayable d) where
           ),
         )
     lost s settles off (inr (inl ((rest, inl tree), choice, roles))) =
-        inr (inl (tree_next (LowersTree n) (BoundsTree n s.choice s.roles) settles.2.0 off rest tree.comes
+        inr (inl (tree_next (FallsTree n) (BoundsTree n s.choice s.roles) settles.2.0 off rest tree.comes
         (choice, roles)))
     lost s settles off (inr (inl ((rest, inr tree), choice, roles))) =
         inr (inr (inl (tree_next (TurnsTreeLink n) (BoundsTree n s.choice s.roles) settles.2.0 off rest tree
@@ -535,9 +537,10 @@ module _ (d : DocumentState) (playable : IsPlayable d) where
         let first = ages_first aged quiet events aging in omega (arith, same, roles_same, first)
     no_later choice roles events (inr (inr (inr (inl (fails, (aged, quiet, aging, inr (is, later))))))) =
         greater choice roles quiet later
-    no_later choice roles events (inr (inr (inr (inr (loses, is, inl (quiet, same)))))) = omega (arith, same)
-    no_later choice roles events (inr (inr (inr (inr (loses, is, inr later))))) =
+    no_later choice roles events (inr (inr (inr (inr (inl (loses, is, inl (quiet, same))))))) = omega (arith, same)
+    no_later choice roles events (inr (inr (inr (inr (inl (loses, is, inr later)))))) =
         greater choice roles (silence_span (pace_of n)) later
+    no_later choice roles events (inr (inr (inr (inr (inr (takes, moves, none, is, same)))))) = omega (arith, is)
 
     asked_later : (choice roles : ℕ) → Asks choice roles → choice ≤ roles
     asked_later choice roles (inl (rest, (first, others, split, each, loses))) = no_later choice roles first loses
@@ -624,7 +627,7 @@ module _ (d : DocumentState) (playable : IsPlayable d) where
     asks_by AnyLosses row own =
         let (rest, loses, roles) = losses n playable.network all b at late row in
         let span : ℕ = any_loss_span n loss v.paths in
-        inl (rest, alone (Losing span (quiet_by n loss span)) (inr (inr (inr (inr (loses, refl, roles span))))))
+        inl (rest, alone (Losing span (quiet_by n loss span)) (inr (inr (inr (inr (inl (loses, refl, roles span)))))))
 
     sooner_so : (s : Settling) → IsTelling n v s → IsChoiceBoundAfter n all (b.at ∷ earlier) at settled_by → IsSooner s
     sooner_so s it settles = elim (choice_or_own n loss v.paths (row_at v) (gained_at n v)) [
