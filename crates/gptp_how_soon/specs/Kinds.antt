@@ -195,15 +195,17 @@ abbrev pub first_wider_by : List Told → ℕ
 first_wider_by [] = 0
 first_wider_by (e ∷ es) = wider_by e
 
--- a link in use goes down by the first, and the others repeat what stands
-abbrev pub lowers_one : List Told → Bool
-lowers_one [] = false
-lowers_one (e ∷ es) = is_lowering e && list_all repeats es
+-- the first is of this kind, and the others repeat what stands
+abbrev pub begins_with : (Told → Bool) → List Told → Bool
+begins_with is_kind [] = false
+begins_with is_kind (e ∷ es) = is_kind e && list_all repeats es
 
--- a live system gets worse by the first, and the others repeat what stands
+-- so a link in use goes down, or a live system gets worse
+abbrev pub lowers_one : List Told → Bool
+lowers_one = begins_with is_lowering
+
 abbrev pub worsens_first : List Told → Bool
-worsens_first [] = false
-worsens_first (e ∷ es) = is_worsening e && list_all repeats es
+worsens_first = begins_with is_worsening
 
 -- A live system fails by the first. By the others links go down of which an end has failed, or they repeat what stands.
 abbrev pub is_down_too : Told → Bool
