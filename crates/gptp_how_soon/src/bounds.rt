@@ -82,6 +82,10 @@ pub enum Row {
     TreeTurned,
     /// A system fails, and all that are moved are trees: some are cut off, one may turn by one other link.
     FailureMovesTrees,
+    /// By the first event a link in use goes down or a system fails. So it is of the others, or links go down of which
+    /// an end has failed, or they repeat what stands. All together move no system, also none that is cut off, and leave
+    /// no link silent.
+    TakenAway,
     /// Some of its events are losses, the others make nothing of what stands, and no other row of a loss is so.
     AnyLosses,
     /// None of its events is a loss.
@@ -273,7 +277,7 @@ fn choice_by(network: &Network, loss: Loss, paths: SyncPaths, row: Row, gained: 
     }
     match row {
         Row::AnyPast => settling_span_at_once(network, paths),
-        Row::Unchanged | Row::Lowered | Row::FailedEnd => 0,
+        Row::Unchanged | Row::Lowered | Row::FailedEnd | Row::TakenAway => 0,
         Row::FailedHeard => aged_by(loss),
         Row::FailureCutsOff | Row::FailureMovesTrees => aged_by(loss) + 2 * way_span(paths),
         Row::CutOff | Row::SystemTurned | Row::TreeFalls | Row::TreeTurned => 2 * way_span(paths),
@@ -297,7 +301,7 @@ fn roles_by(network: &Network, loss: Loss, paths: SyncPaths, row: Row, gained: u
     }
     match row {
         Row::AnyPast => settling_span_at_once(network, paths),
-        Row::Unchanged | Row::Lowered => 0,
+        Row::Unchanged | Row::Lowered | Row::TakenAway => 0,
         Row::FailedEnd => quiet_by(network, loss, 0),
         Row::FailedHeard => quiet_by(network, loss, aged_by(loss)),
         Row::FailureCutsOff | Row::FailureMovesTrees => {
@@ -371,6 +375,7 @@ fn sound_by(network: &Network, loss: Loss, paths: SyncPaths, row: Row, gained: u
         Row::AnyPast => settling_span_at_once(network, paths),
         Row::Unchanged => 0,
         Row::Lowered => echo_span(network, paths).max(gone),
+        Row::TakenAway => echo_span(network, paths).max(gone_by(network, paths, loss.used)),
         Row::CutOff | Row::TreeFalls => (2 * way_span(paths)).max(gone),
         Row::FailedEnd => quiet_by(network, loss, gone_before),
         Row::FailedHeard => aged_echo_span(network, loss, paths),
@@ -405,7 +410,7 @@ fn retold_by(network: &Network, loss: Loss, paths: SyncPaths, row: Row, gained: 
     match row {
         Row::AnyPast => settling_span_at_once(network, paths),
         Row::Unchanged | Row::FailedEnd => 0,
-        Row::Lowered => echo_span(network, paths),
+        Row::Lowered | Row::TakenAway => echo_span(network, paths),
         Row::FailedHeard => aged_by(loss) + echo_span(network, paths),
         Row::FailureCutsOff | Row::FailureMovesTrees => {
             aged_by(loss) + 2 * way_span(paths) + echo_span(network, paths)
