@@ -291,7 +291,7 @@ module _ (d : DocumentState) (playable : IsPlayable d) where
         some_of (FailsHeardFirst n made) (λ none. none) events fails
     some_lost choice roles events (inr (inr (inr (inr (inl (loses, is, later)))))) =
         some_of (LosesEvents n made) (λ none. none) events loses
-    some_lost choice roles events (inr (inr (inr (inr (inr (takes, more)))))) =
+    some_lost choice roles events (inr (inr (inr (inr (inr (takes, moves, none, is, same)))))) =
         some_of (TakesEvents n made) (λ none. none) events takes
 
     some_rested : (sound : ℕ) (events : List Timed) → RestsAfterLoss n made events sound → events ≡ [] → ⊥

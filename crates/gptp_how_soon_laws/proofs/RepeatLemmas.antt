@@ -11,7 +11,6 @@ use Rattle.gptp_scenario.specs.Calm.{IsUsed}
 use Rattle.gptp_scenario.specs.Change.{link_after, system_after}
 use Rattle.gptp_scenario.specs.Network.{IsNetwork, NetworkState}
 use Rattle.gptp_scenario.specs.SyncWait.{sync_paths}
-use Rattle.gptp_scenario.specs.declared.calm.Standing.{Standing as State}
 use Rattle.gptp_scenario.specs.declared.change.Timed.{Timed}
 use Rattle.gptp_scenario.specs.declared.network.LinkSpec.{LinkSpec}
 use Rattle.gptp_scenario.specs.declared.network.SystemSpec.{SystemSpec}
@@ -73,21 +72,20 @@ each_same f g [] same = refl
 each_same f g (x ∷ xs) same =
     ap₂ (λ y ys. y ∷ ys) (same x (inl refl)) (each_same f g xs (λ y member. same y (inr member)))
 
--- a system of the network as it is seen
-abbrev seen_as : SystemSpec → State → System
-seen_as m s = record { clock = clock_of m.identity; identity = s.identity; lives = s.live }
-
 module _ (n : NetworkState) (events more : List Timed) (same : StandSame n events more) where
   live_same : (m : SystemSpec) → In m n.systems → (system_after more m).live ≡ (system_after events m).live
-  live_same m member = ap (λ (s : State). s.live) (same.systems m member)
+  live_same m member = ap (λ s. s.live) (same.systems m member)
 
   pub paths_seen : sync_paths n more ≡ sync_paths n events
   paths_seen = paths_same n events more (same_alike n events more same)
 
   pub systems_seen : systems_after n more ≡ systems_after n events
   systems_seen =
-      each_same (system_then more) (system_then events) n.systems
-      (λ m member. ap (seen_as m) (same.systems m member))
+      each_same (system_then more) (system_then events) n.systems (λ m member. λ i. record {
+            clock = clock_of m.identity;
+            identity = (same.systems m member i).identity;
+            lives = (same.systems m member i).live;
+          })
 
   pub standings_seen : standings_after n more ≡ standings_after n events
   standings_seen =
