@@ -1,6 +1,6 @@
 -- A priority1 by which the best of a tree gets worse does so as its event is told.
-use Rattle.std.proofs.Common.{◌≡◌, ◌≤◌, ◌⊎◌, ◌+◌, inr, ℕ, Bool, true, false, List, [], ◌∷◌, ◌++◌, filter, slice_get, refl, sym, ap, subst, ◌∙◌, append-nil, arith}
-use Rattle.std.specs.Prelude.{◌&&◌, not}
+use Rattle.std.proofs.Common.{◌≡◌, ◌≤◌, ◌⊎◌, ◌+◌, ℕ, true, false, List, [], ◌∷◌, ◌++◌, filter, slice_get, refl, sym, ap, subst, ◌∙◌, append-nil}
+use Rattle.std.specs.Prelude.{not}
 use Rattle.std.proofs.lemmas.Bool.{and_parts, eqb-true}
 use Rattle.gptp_lists.specs.Members.{In}
 use Rattle.gptp_lists.proofs.SystemSpecLemmas.{In-slice_get, from_map}
@@ -12,11 +12,8 @@ use Rattle.gptp_network.proofs.InUseLemmas.{live_there}
 use Rattle.gptp_network.proofs.SnapshotLemmas.{from_filter, with_clock}
 use Rattle.gptp_scenario.specs.Calm.{IsLive, IsUsed}
 use Rattle.gptp_scenario.specs.Change.{link_acted, link_after}
-use Rattle.gptp_scenario.specs.InUse.{lives}
 use Rattle.gptp_scenario.specs.Network.{IsNetwork, NetworkState}
 use Rattle.gptp_scenario.specs.SyncWait.{sync_paths}
-use Rattle.gptp_scenario.specs.declared.change.Act.TheVariants as acts
-use Rattle.gptp_scenario.specs.declared.change.Change.TheVariants as changes
 use Rattle.gptp_scenario.specs.declared.change.Timed.{Timed}
 use Rattle.gptp_scenario.specs.declared.network.LinkSpec.{LinkSpec}
 use Rattle.gptp_theorem.proofs.EventLemmas.{link_behind}
@@ -33,7 +30,7 @@ use Rattle.gptp_how_soon.specs.declared.chosen.Chosen.{Chosen}
 use Rattle.gptp_how_soon.specs.declared.chosen.Ends.{Ends}
 use Rattle.gptp_how_soon.proofs.ChosenLemmas.{IsAt, place_is}
 use Rattle.gptp_settling_time.specs.Losses.{UpIsUsed}
-use Rattle.gptp_settling_time.specs.TreeLosses.{IsWorsenedTree, WorsensTree, WorsensTreeFrom}
+use Rattle.gptp_settling_time.specs.TreeLosses.{IsWorsenedTree, WorsensTree}
 use Rattle.gptp_settling_time.proofs.SamePathsLemmas.{StandAlike, lives_same, priority_alike}
 use Rattle.gptp_how_soon_laws.proofs.FallsBelowLemmas.{FallsBelow, below_so, in_tree, is_top, others}
 use Rattle.gptp_how_soon_laws.proofs.LivesOnLemmas.{LivesOn, on_at}
@@ -76,11 +73,11 @@ module _ (n : NetworkState) (network : IsNetwork n) (made : List Timed) (event :
 
   same_used : (w : LinkSpec) → is_used_then n later w ≡ is_used_then n made w
   same_used w = λ i. cable_is_used (record {
-        at = 0;
-        cable = cable_of (stays w i);
-        a_lives = lives_same n made later alike.systems w.a.clock i;
-        b_lives = lives_same n made later alike.systems w.b.clock i;
-      })
+    at = 0;
+    cable = cable_of (stays w i);
+    a_lives = lives_same n made later alike.systems w.a.clock i;
+    b_lives = lives_same n made later alike.systems w.b.clock i;
+  })
 
   lost_none : (e : Ends) → In e (lost_ends n made later) → ⊥
   lost_none e listed =
