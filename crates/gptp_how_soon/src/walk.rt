@@ -1,6 +1,6 @@
 //! How a document stands at each time, as its events come.
 
-ghost use Rattle.std.specs.Prelude.{◌≡◌, ◌≤◌, if◌then◌else◌, IfOk, IfSome, OnOk};
+ghost use Rattle.std.specs.Prelude.{◌≡◌, ◌≤◌, ◌&&◌, if◌then◌else◌, IfOk, IfSome, OnOk};
 ghost use Rattle.gptp_network.specs.declared.keys.TheConstants.{LATEST_EVENT};
 ghost use Rattle.gptp_topology.specs.Tables.{AreMarked, marked_paths};
 ghost use Rattle.gptp_how_soon.specs.Times.{settling_time};
@@ -50,6 +50,13 @@ pub(crate) struct Walk {
     pub used_before: Vec<bool>,
     pub paths_before: SyncPaths,
     pub all_used_before: bool,
+}
+
+/// Whether two things are so, each of which is told.
+fn both(one: bool, other: bool) -> bool
+    ensures { result ≡ (one && other) }
+{
+    one && other
 }
 
 impl Walk {
@@ -139,16 +146,20 @@ impl Walk {
         let own = own_intervals(network, self.before, at);
         let heard = heard_links(alloc, &systems, &before, &self.used_before, &self.ends)?;
         let any_moved = any_moved(&systems, &before, &now);
+        let silent = any_silent(&self.used_before, &self.tables.standings);
         Ok(Moves {
             moved: any_counted(joined, &systems, &links, &before, &now),
             any_moved,
             cut: all_cut_far_ends(&systems, &before, &links_before, &links, &lost),
             turned,
-            falls: come && cuts_tree(&systems, &lost, &links, &before, &now),
-            worsens: come && worsens_best(&systems, &links, &before, &now, &self.told),
-            tree_turns: come && turns_tree(&systems, &lost, &links, &before, &now),
-            trees_move: come && moves_trees(&systems, &lost, &links, &before, &now),
-            taken: !any_moved && !any_silent(&self.used_before, &self.tables.standings),
+            falls: both(come, cuts_tree(&systems, &lost, &links, &before, &now)),
+            worsens: both(
+                come,
+                worsens_best(&systems, &links, &before, &now, &self.told),
+            ),
+            tree_turns: both(come, turns_tree(&systems, &lost, &links, &before, &now)),
+            trees_move: both(come, moves_trees(&systems, &lost, &links, &before, &now)),
+            taken: both(!any_moved, !silent),
             far: are_far(&self.systems_before, &before, &links_before, &self.told),
             held: held_among(network, own, &heard, &self.tables.standings),
         })
