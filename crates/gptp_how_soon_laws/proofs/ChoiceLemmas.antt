@@ -620,14 +620,14 @@ module _ (d : DocumentState) (playable : IsPlayable d) where
           rest,
           alone (Losing (aged_by loss + 2 * way_span v.paths) (quiet_by n loss (aged_by loss + 2 * way_span v.paths)))
               (inr (inr (inr (inl (
-            fails,
-            (
-              aged_by loss,
-              quiet_by n loss (aged_by loss),
-              aging (some_heard fails),
-              inr (refl, quiet_later (2 * way_span v.paths)),
-            ),
-          ))))),
+                fails,
+                (
+                  aged_by loss,
+                  quiet_by n loss (aged_by loss),
+                  aging (some_heard fails),
+                  inr (refl, quiet_later (2 * way_span v.paths)),
+                ),
+              ))))),
         )
     asks_by FailureMovesTrees row own =
         let x = failure_cuts n playable.network all b at late well row in
