@@ -6,7 +6,7 @@ use Rattle.std.specs.List.{AllByRecursion}
 use Rattle.std.proofs.lemmas.Bool.{eqb-false, eqb-true}
 use Rattle.std.proofs.lemmas.Bool.Decides.{nat_tests}
 use Rattle.gptp_lists.specs.Members.{In}
-use Rattle.gptp_lists.proofs.SystemSpecLemmas.{In-left, In-parts}
+use Rattle.gptp_lists.proofs.SystemSpecLemmas.{In-left, In-parts, slice_get-In}
 use Rattle.gptp_setup.specs.SettlingParams.{largest_interval, longest_span}
 use Rattle.gptp_scenario.specs.Calm.{IsCalm, NothingLapses, last_change}
 use Rattle.gptp_scenario.specs.Network.{NetworkState, pace_of}
@@ -17,28 +17,30 @@ use Rattle.gptp_scenario.specs.declared.sync_wait.SyncPaths.{SyncPaths}
 use Rattle.gptp_network.specs.Document.{DocumentState}
 use Rattle.gptp_network.specs.Snapshot.{events_by}
 use Rattle.gptp_network.proofs.SnapshotLemmas.{from_filter}
+use Rattle.gptp_invariants.specs.WorldEncodableLaws.{SetsAnOctet}
 use Rattle.gptp_theorem.specs.PlayedLaws.{IsPlayable}
 use Rattle.gptp_how_soon.specs.Bounds.{aged_by, aged_echo_span, any_loss_span, arrived_by, choice_by, choice_of_row, gone_by, quiet_by, roles_of_row, sound_by}
+use Rattle.gptp_how_soon.specs.Kinds.{is_lowering}
 use Rattle.gptp_how_soon.specs.Links.{longest_delay}
 use Rattle.gptp_how_soon.specs.Silent.{own_intervals}
 use Rattle.gptp_how_soon.specs.Times.{View, events_at, gained_at, last_set, loss_at, ready_at, row_at, settling_time, settling_times, settling_times_from, time_at, view_at}
 use Rattle.gptp_how_soon.specs.declared.bounds.Loss.{Loss}
 use Rattle.gptp_how_soon.specs.declared.bounds.Row.{Row}
-use Rattle.gptp_how_soon.specs.declared.bounds.Row.TheVariants.{AnyLosses, AnyPast, CutOff, FailedEnd, FailedHeard, FailureCutsOff, FailureMovesTrees, Gained, Lowered, SystemTurned, TreeCutOff, TreeTurned, Unchanged}
+use Rattle.gptp_how_soon.specs.declared.bounds.Row.TheVariants.{AnyLosses, AnyPast, CutOff, FailedEnd, FailedHeard, FailureCutsOff, FailureMovesTrees, Gained, Lowered, SystemTurned, TreeFalls, TreeTurned, Unchanged}
 use Rattle.gptp_how_soon.specs.declared.bounds.Settling.{Settling}
 use Rattle.gptp_how_soon.specs.declared.bounds.SettlingTime.{SettlingTime}
-use Rattle.gptp_settling_time.specs.HowSoon.{BeforeRepeats, BesideIdle, BoundsAging, BoundsAnyLoss, BoundsChoice, BoundsEvents, BoundsLoss, BoundsSplit, BoundsStart, BoundsTree, CutsOneEnd, FailsEndFirst, FailsHeardFirst, FailsTreesFirst, HeldFor, IsChoiceBoundAfter, IsLossBoundAfter, IsRestBoundAfter, LosesEvents, LowersOneLink, NoneBetween, RestsAfterLoss, RestsOnceTold, RestsSplit, RestsTree, RolesAfterFailure, TreeNext, TurnsOneLink}
+use Rattle.gptp_settling_time.specs.HowSoon.{BeforeRepeats, BesideIdle, BoundsAging, BoundsAnyLoss, BoundsChoice, BoundsEvents, BoundsLoss, BoundsSplit, BoundsStart, BoundsTree, CutsOneEnd, FailsEndFirst, FailsHeardFirst, FailsTreesFirst, HeldFor, IsChoiceBoundAfter, IsLossBoundAfter, IsRestBoundAfter, LosesEvents, LowersOneLink, NoneBetween, RestsAfterLoss, RestsOnceTold, RestsSplit, RestsTree, RolesAfterFailure, TakesEvents, TreeNext, TurnsOneLink}
 use Rattle.gptp_settling_time.specs.EventKinds.{FlightIsGone}
 use Rattle.gptp_settling_time.specs.Rests.{turned_echo_span}
 use Rattle.gptp_settling_time.specs.Losses.{NoneSilent}
-use Rattle.gptp_settling_time.specs.TreeLosses.{LowersTree, TurnsTreeLink}
+use Rattle.gptp_settling_time.specs.TreeLosses.{FallsTree, TurnsTreeLink}
 use Rattle.gptp_settling_time.proofs.BesideIdleLemmas.{before_none}
 use Rattle.gptp_settling_time.proofs.MomentLemmas.{all_at, last_by, parted}
 use Rattle.gptp_settling_time.proofs.WellFormedLemmas.{after_well}
 use Rattle.gptp_how_soon_laws.specs.Choice.{SettlingsAreChoiceBounds}
 use Rattle.gptp_how_soon_laws.proofs.FailedLemmas.{used_up}
 use Rattle.gptp_how_soon_laws.proofs.RowBoundLemmas.{HasOwnBounds, IsSoundSooner, IsTelling, bounds_choice, choice_or_own, past_row, sound_or_sooner, tells}
-use Rattle.gptp_how_soon_laws.proofs.RowLemmas.{ComesLate, CutsLate, FailsLate, GoesFirst, cut_off, failed, failure_cuts, gained, heard, losses, lowered, none_left, same_paths, tree_cut, tree_turned, turned, unchanged}
+use Rattle.gptp_how_soon_laws.proofs.RowLemmas.{ComesLate, FallsLate, FailsLate, GoesFirst, cut_off, failed, failure_cuts, gained, heard, losses, lowered, none_left, same_paths, tree_falls, tree_turned, turned, unchanged}
 use Rattle.gptp_how_soon_laws.proofs.RepeatLemmas.{before_repeats}
 use Rattle.gptp_how_soon_laws.proofs.RowTestLemmas.{HasComeToRest}
 use Rattle.gptp_how_soon_laws.proofs.SilentLemmas.{held_for, last_now, none_ages}
@@ -175,6 +177,12 @@ module _ (d : DocumentState) (playable : IsPlayable d) where
         after_well d playable events
         (λ t member. made_or_now t (subst (In t) are (In-left t events left member)))
 
+    -- each priority1 that is set is an octet
+    octets : (t : Timed) → In t now → SetsAnOctet t.act
+    octets t member =
+        let (place, there) = slice_get-In t all (from_filter (λ (u : Timed). u.at == at) t all member).0 in
+        playable.octets place t there
+
     -- it settles by this, whatever it loses
     abbrev settled_by : ℕ
     settled_by = choice_by n (loss_at v) v.paths (past_row (row_at v)) (gained_at n v)
@@ -289,8 +297,10 @@ module _ (d : DocumentState) (playable : IsPlayable d) where
         some_of (TurnsOneLink n made) (λ none. none) events turns
     some_lost choice roles events (inr (inr (inr (inl (fails, aging))))) =
         some_of (FailsHeardFirst n made) (λ none. none) events fails
-    some_lost choice roles events (inr (inr (inr (inr (loses, is, later))))) =
+    some_lost choice roles events (inr (inr (inr (inr (inl (loses, is, later)))))) =
         some_of (LosesEvents n made) (λ none. none) events loses
+    some_lost choice roles events (inr (inr (inr (inr (inr (takes, moves, none, is, same)))))) =
+        some_of (TakesEvents n made) (λ none. none) events takes
 
     some_rested : (sound : ℕ) (events : List Timed) → RestsAfterLoss n made events sound → events ≡ [] → ⊥
     some_rested sound events (inl (inl (cuts, gone))) = some_of (CutsOneEnd n made) (λ none. none) events cuts
@@ -308,9 +318,9 @@ module _ (d : DocumentState) (playable : IsPlayable d) where
     alone : (Are : List Timed → List Timed → Type 0) → Are made now → BeforeRepeats n Are made now
     alone Are is = before_none n Are made now is
 
-    behind : (g : GoesFirst n playable.network all b at late) (Are : List Timed → List Timed → Type 0)
+    behind : (g : GoesFirst n playable.network all b at late is_lowering) (Are : List Timed → List Timed → Type 0)
         → Are made (g.x.event ∷ []) → BeforeRepeats n Are made now
-    behind g Are is = before_repeats n playable.network made now g.x Are is
+    behind g Are is = before_repeats n playable.network is_lowering made now g.x Are is
 
     abbrev Resting : ℕ → List Timed → List Timed → Type 0
     Resting sound made now = RestsAfterLoss n made now sound
@@ -337,7 +347,7 @@ module _ (d : DocumentState) (playable : IsPlayable d) where
     abbrev Rests : ℕ → Type 0
     Rests sound =
         (HasComeToRest b at × BeforeRepeats n (Resting sound) made now)
-        ⊎ (((rest : HasComeToRest b at) × CutsLate n playable.network all b at late rest
+        ⊎ (((rest : HasComeToRest b at) × FallsLate n playable.network all b at late rest
         × (sound ≡ max (2 * way_span v.paths) (gone_by n v.paths v.used_before)))
         ⊎ (((rest : HasComeToRest b at) × ComesLate n playable.network all b at late (TurnsTreeLink n) rest
         × (sound ≡ turned_echo_span n (made ++ now)))
@@ -361,7 +371,7 @@ module _ (d : DocumentState) (playable : IsPlayable d) where
           ),
         ))
     rests sound calm off (inr (inl (rest, tree, is))) =
-        inr (inr (inl (tree_next (LowersTree n) (RestsTree n sound) calm off rest tree.comes
+        inr (inr (inl (tree_next (FallsTree n) (RestsTree n sound) calm off rest tree.comes
         (gone_by n v.paths v.used_before, tree.flight, is))))
     rests sound calm off (inr (inr (inr (x, splits)))) =
         inr (inr (inr (inr (
@@ -396,13 +406,13 @@ module _ (d : DocumentState) (playable : IsPlayable d) where
             inl (none_left n playable.network all b at late silent, subst (FlightIsGone n made) (sym same) flight)
     rests_by sound told (inr (inl (row, is))) =
         let (rest, (l, flight)) = lowered n playable.network all b at late well row in
-        let same = same_paths n playable.network all b at late l.first in
+        let same = same_paths n playable.network all b at late is_lowering l.first in
         let gone : ℕ = gone_by n v.paths v.used_before in
         let is_first = told ∙ is ∙ ap (λ (p : SyncPaths). max (echo_span (pace_of n) p) gone) same in
         inl (rest, behind l.first (Resting sound) (inl (inr (inr (inl (l.lowers, (gone, flight, is_first)))))))
     rests_by sound told (inr (inr (inl (row, is)))) =
         let x = cut_off n playable.network all b at late well row in
-        let same = same_paths n playable.network all b at late x.none.first in
+        let same = same_paths n playable.network all b at late is_lowering x.none.first in
         let gone : ℕ = gone_by n v.paths v.used_before in
         let is_first = told ∙ is ∙ ap (λ (p : SyncPaths). max (2 * way_span p) gone) same in
         inl (x.rested, behind x.none.first (Resting sound) (inl (inl (x.cuts, (gone, x.flight, is_first)))))
@@ -411,7 +421,7 @@ module _ (d : DocumentState) (playable : IsPlayable d) where
         inr (inr (inl (rest, tree, told ∙ is)))
     rests_by sound told (inr (inr (inr (inl (inl row, is))))) =
         let (rest, (g, turns)) = turned n playable.network all b at late well row in
-        let same = same_paths n playable.network all b at late g in
+        let same = same_paths n playable.network all b at late is_lowering g in
         let is_first = told ∙ is ∙ ap (λ (p : SyncPaths). 2 * way_span p + echo_span (pace_of n) p) same in
         inl (rest, behind g (Resting sound) (inl (inr (inr (inr (inl (turns, is_first)))))))
     rests_by sound told (inr (inr (inr (inr (inl (row, long)))))) =
@@ -444,7 +454,7 @@ module _ (d : DocumentState) (playable : IsPlayable d) where
           )),
         )
     rests_by sound told (inr (inr (inr (inr (inr (inr (inl (row, is)))))))) =
-        let (rest, tree) = tree_cut n playable.network all b at late well row in inr (inl (rest, tree, told ∙ is))
+        let (rest, tree) = tree_falls n playable.network all b at late well octets row in inr (inl (rest, tree, told ∙ is))
     rests_by sound told (inr (inr (inr (inr (inr (inr (inr (row, is)))))))) =
         let x = failure_cuts n playable.network all b at late well row in
         let echo : ℕ = max (echo_span (pace_of n) v.paths) (largest_interval (pace_of n)) in
@@ -481,7 +491,7 @@ module _ (d : DocumentState) (playable : IsPlayable d) where
     Asks choice roles =
         (HasComeToRest b at × BeforeRepeats n (Losing choice roles) made now)
         ⊎ ((((rest : HasComeToRest b at)
-        × (CutsLate n playable.network all b at late rest
+        × (FallsLate n playable.network all b at late rest
         ⊎ ComesLate n playable.network all b at late (TurnsTreeLink n) rest))
         × (choice ≡ 2 * way_span v.paths) × (roles ≡ choice))
         ⊎ (FailsLate n playable.network all b at late × BoundsSplit n choice roles made now))
@@ -505,7 +515,7 @@ module _ (d : DocumentState) (playable : IsPlayable d) where
           ),
         )
     lost s settles off (inr (inl ((rest, inl tree), choice, roles))) =
-        inr (inl (tree_next (LowersTree n) (BoundsTree n s.choice s.roles) settles.2.0 off rest tree.comes
+        inr (inl (tree_next (FallsTree n) (BoundsTree n s.choice s.roles) settles.2.0 off rest tree.comes
         (choice, roles)))
     lost s settles off (inr (inl ((rest, inr tree), choice, roles))) =
         inr (inr (inl (tree_next (TurnsTreeLink n) (BoundsTree n s.choice s.roles) settles.2.0 off rest tree
@@ -535,9 +545,10 @@ module _ (d : DocumentState) (playable : IsPlayable d) where
         let first = ages_first aged quiet events aging in omega (arith, same, roles_same, first)
     no_later choice roles events (inr (inr (inr (inl (fails, (aged, quiet, aging, inr (is, later))))))) =
         greater choice roles quiet later
-    no_later choice roles events (inr (inr (inr (inr (loses, is, inl (quiet, same)))))) = omega (arith, same)
-    no_later choice roles events (inr (inr (inr (inr (loses, is, inr later))))) =
+    no_later choice roles events (inr (inr (inr (inr (inl (loses, is, inl (quiet, same))))))) = omega (arith, same)
+    no_later choice roles events (inr (inr (inr (inr (inl (loses, is, inr later)))))) =
         greater choice roles (silence_span (pace_of n)) later
+    no_later choice roles events (inr (inr (inr (inr (inr (takes, moves, none, is, same)))))) = omega (arith, is)
 
     asked_later : (choice roles : ℕ) → Asks choice roles → choice ≤ roles
     asked_later choice roles (inl (rest, (first, others, split, each, loses))) = no_later choice roles first loses
@@ -557,7 +568,7 @@ module _ (d : DocumentState) (playable : IsPlayable d) where
     asks_by CutOff row own =
         let x = cut_off n playable.network all b at late well row in
         let way : ℕ = 2 * way_span v.paths in
-        let same = same_paths n playable.network all b at late x.none.first in
+        let same = same_paths n playable.network all b at late is_lowering x.none.first in
         inl (
           x.rested,
           behind x.none.first (Losing way way)
@@ -574,13 +585,13 @@ module _ (d : DocumentState) (playable : IsPlayable d) where
     asks_by SystemTurned row own =
         let (rest, (g, turns)) = turned n playable.network all b at late well row in
         let way : ℕ = 2 * way_span v.paths in
-        let same = same_paths n playable.network all b at late g in
+        let same = same_paths n playable.network all b at late is_lowering g in
         inl (
           rest,
           behind g (Losing way way) (inr (inr (inl (turns, ap (λ (p : SyncPaths). 2 * way_span p) same, refl)))),
         )
-    asks_by TreeCutOff row own =
-        let (rest, tree) = tree_cut n playable.network all b at late well row in
+    asks_by TreeFalls row own =
+        let (rest, tree) = tree_falls n playable.network all b at late well octets row in
         inr (inl ((rest, inl tree), refl, refl))
     asks_by TreeTurned row own =
         let (rest, tree) = tree_turned n playable.network all b at late well row in
@@ -600,14 +611,14 @@ module _ (d : DocumentState) (playable : IsPlayable d) where
           rest,
           alone (Losing (aged_by loss + 2 * way_span v.paths) (quiet_by n loss (aged_by loss + 2 * way_span v.paths)))
               (inr (inr (inr (inl (
-            fails,
-            (
-              aged_by loss,
-              quiet_by n loss (aged_by loss),
-              aging (some_heard fails),
-              inr (refl, quiet_later (2 * way_span v.paths)),
-            ),
-          ))))),
+                fails,
+                (
+                  aged_by loss,
+                  quiet_by n loss (aged_by loss),
+                  aging (some_heard fails),
+                  inr (refl, quiet_later (2 * way_span v.paths)),
+                ),
+              ))))),
         )
     asks_by FailureMovesTrees row own =
         let x = failure_cuts n playable.network all b at late well row in
@@ -624,7 +635,7 @@ module _ (d : DocumentState) (playable : IsPlayable d) where
     asks_by AnyLosses row own =
         let (rest, loses, roles) = losses n playable.network all b at late row in
         let span : ℕ = any_loss_span n loss v.paths in
-        inl (rest, alone (Losing span (quiet_by n loss span)) (inr (inr (inr (inr (loses, refl, roles span))))))
+        inl (rest, alone (Losing span (quiet_by n loss span)) (inr (inr (inr (inr (inl (loses, refl, roles span)))))))
 
     sooner_so : (s : Settling) → IsTelling n v s → IsChoiceBoundAfter n all (b.at ∷ earlier) at settled_by → IsSooner s
     sooner_so s it settles = elim (choice_or_own n loss v.paths (row_at v) (gained_at n v)) [

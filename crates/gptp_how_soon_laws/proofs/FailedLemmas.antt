@@ -50,11 +50,11 @@ use Rattle.gptp_how_soon.specs.declared.kinds.Kind.{Kind}
 use Rattle.gptp_how_soon.specs.declared.kinds.Kind.TheVariants.{Gain, Idle, Loss, Other, Unused, Wider}
 use Rattle.gptp_how_soon.specs.declared.kinds.Told.{Told}
 use Rattle.gptp_how_soon.specs.declared.kinds.What.{What}
-use Rattle.gptp_settling_time.proofs.SamePathsLemmas.{is_end, lives_not, map_same, turned_paths}
+use Rattle.gptp_settling_time.proofs.SamePathsLemmas.{idle_same, is_end, lives_not, map_same, turned_paths}
 use Rattle.gptp_how_soon_laws.proofs.KindLemmas.{told}
 use Rattle.gptp_how_soon_laws.proofs.ToldLemmas.{failure_is, loss_fails, unused_lowers}
 use Rattle.gptp_how_soon_laws.proofs.LoweredLemmas.{joined_by}
-use Rattle.gptp_how_soon_laws.proofs.RepeatLemmas.{paths_seen, repeat_same, repeats_by, stands_seen}
+use Rattle.gptp_how_soon_laws.proofs.RepeatLemmas.{paths_seen, repeats_by, stands_seen}
 use Rattle.gptp_how_soon_laws.proofs.UnmovedLemmas.{AreWell, none_joined_there, unmoved_at}
 
 -- what is so of all is so of each
@@ -382,7 +382,7 @@ module _ (n : NetworkState) (network : IsNetwork n) where
       → StandsAfter n (made ++ event ∷ []) h
   stands_too h made event (inl lowers) stands = stands_less n network made event lowers h stands
   stands_too h made event (inr repeats) stands =
-      stands_seen n made (made ++ event ∷ []) (repeat_same n network made event repeats) h stands
+      stands_seen n made (made ++ event ∷ []) (idle_same n network made event repeats) h stands
 
   stands_all : (h : Snapshot) (made now : List Timed) → EachEvent (IsDownToo n) made now → StandsAfter n made h
       → StandsAfter n (made ++ now) h
@@ -396,7 +396,7 @@ module _ (n : NetworkState) (network : IsNetwork n) where
   paths_too made event (inl lowers) =
       turned_paths n made event (subst (TurnsUnused n made) (sym lowers.act) lowers.failed)
   paths_too made event (inr repeats) =
-      paths_seen n made (made ++ event ∷ []) (repeat_same n network made event repeats)
+      paths_seen n made (made ++ event ∷ []) (idle_same n network made event repeats)
 
   paths_all : (made now : List Timed) → EachEvent (IsDownToo n) made now
       → sync_paths n (made ++ now) ≡ sync_paths n made
