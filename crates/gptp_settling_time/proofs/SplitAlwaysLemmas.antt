@@ -143,6 +143,15 @@ module _ (p : SettlingParams) (silent : ℕ) (w : WorldState) (standing : IsStan
       graph : snapshot_of w ≡ s.n.graph
       graph = ap (λ (z : Network). z.graph) same
 
+-- what is held at ports without a link came over one of before, where what ages there does
+linked_by : (p : SettlingParams) (g : Snapshot) (By : PortIdentity → ℕ → Type 0) (w : WorldState) → WorldAgesBy p By w
+    → ((port : PortIdentity) (until : ℕ) → By port until → IsLinked g port) → (n : Network)
+    → snapshot_of w ≡ n.graph → HaveQuietLinks p.params w → HeldWereLinked g n (view w)
+linked_by p g By w by linked n graph quiet i s place r at live none holds =
+    let (until, is_by, over) = (by quiet).held i s place r at live holds
+    (λ link. none (subst (λ h. IsLinked h (port_of s.clock (suc place))) graph link)) in
+    linked (port_of s.clock (suc place)) until is_by
+
 -- so it is of a world of which that is claimed
 module _ (p : SettlingParams) (g : Snapshot) (By : PortIdentity → ℕ → Type 0) (failed gone silent : ℕ) (w : WorldState)
     (is : IsSplitAlways p g By failed gone silent w) (quiet : HaveQuietLinks p.params w) (start : ℕ)
@@ -151,6 +160,13 @@ module _ (p : SettlingParams) (g : Snapshot) (By : PortIdentity → ℕ → Type
   none_now =
       none_held p silent w is.standing is.asked quiet g is.split is.same start splits
       (hearers_none p silent w is.standing is.asked quiet g By gone is.by is.is_gone now)
+
+-- what is held at ports without a link came over one of before
+pub linked_now : (p : SettlingParams) (g : Snapshot) (By : PortIdentity → ℕ → Type 0) (failed gone silent : ℕ)
+    (w : WorldState) (is : IsSplitAlways p g By failed gone silent w) → HaveQuietLinks p.params w
+    → HeldWereLinked g is.split.n (view w)
+linked_now p g By failed gone silent w is quiet = linked_by p g By w is.by is.linked is.split.n
+    (ap (λ (z : Network). z.graph) is.same) quiet
 
 -- ---- what comes of it
 
@@ -169,12 +185,8 @@ module _ (p : SettlingParams) (g : Snapshot) (By : PortIdentity → ℕ → Type
   graph' : snapshot_of w' ≡ n.graph
   graph' = ap (λ (z : Network). z.graph) same'
 
-  -- what is held at ports without a link came over one of before
   linked' : HaveQuietLinks p.params w' → HeldWereLinked g n (view w')
-  linked' quiet' i u place r at live none holds =
-      let (until, is_by, over) = (by' quiet').held i u place r at live holds
-      (λ linked. none (subst (λ h. IsLinked h (port_of u.clock (suc place))) graph' linked)) in
-      is.linked (port_of u.clock (suc place)) until is_by
+  linked' = linked_by p g By w' by' is.linked n graph'
 
   pub may_before : (start : ℕ) → MayStart gone s.since start w' → MayStart gone s.since start w
   may_before start may = elim may [

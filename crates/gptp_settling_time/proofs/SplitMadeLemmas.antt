@@ -5,7 +5,7 @@ use native.Mathlib.Decide.{dec_le}
 use Rattle.gptp_lists.specs.Members.{In}
 use Rattle.gptp_graph.specs.Best.{IsBest}
 use Rattle.gptp_graph.specs.PathBound.{path_bound}
-use Rattle.gptp_graph.specs.Snapshot.{PortIdentity, Snapshot, System, clocks, port_of}
+use Rattle.gptp_graph.specs.Snapshot.{IsLinked, PortIdentity, Snapshot, System, clocks, port_of}
 use Rattle.gptp_links.specs.Fate.{Draw}
 use Rattle.gptp_setup.specs.SettlingParams.{SettlingParams, largest_interval}
 use Rattle.gptp_scenario.specs.Network.{NetworkState, pace_of}
@@ -28,6 +28,7 @@ use Rattle.gptp_invariants.specs.ChoiceSettlesAsMachine.{IsWorld}
 use Rattle.gptp_invariants.specs.ChoiceView.{says_announce, view}
 use Rattle.gptp_invariants.specs.WorldStanding.{snapshot_of}
 use Rattle.gptp_invariants.proofs.WorldGreatestDelayLemmas.{delay_short}
+use Rattle.gptp_invariants.proofs.WorldStandsLemmas.{stands_well}
 use Rattle.gptp_theorem.specs.AlikeLaws.{AreAlike}
 use Rattle.gptp_theorem.specs.PlayedLaws.{IsPlayable}
 use Rattle.gptp_theorem.proofs.AlikeLemmas.{best as alike_best, clock_among, distance as alike_distance, turned}
@@ -50,7 +51,7 @@ use Rattle.gptp_settling_time.proofs.LossMadeLemmas.{HasRestedSo}
 use Rattle.gptp_settling_time.proofs.NamedLemmas.{IsNamedFrom}
 use Rattle.gptp_settling_time.proofs.SettledSeenLemmas.{IsSettledSeen}
 use Rattle.gptp_settling_time.proofs.SilentDownLemmas.{over_down}
-use Rattle.gptp_settling_time.proofs.SilentLinksLemmas.{AgesOver, over_within}
+use Rattle.gptp_settling_time.proofs.SilentLinksLemmas.{AgesOver, over_linked, over_within}
 use Rattle.gptp_settling_time.proofs.SplitAlwaysLemmas.{IsSplitAlways}
 use Rattle.gptp_settling_time.proofs.SplitDownLemmas.{alone_down, down_splits}
 use Rattle.gptp_settling_time.proofs.SplitFailLemmas.{anew_begins}
@@ -130,10 +131,11 @@ in_tree_alike g h g' h' before now best v (inr (inr (t, is, in_v))) =
 -- what is gone by then has aged, or ports without a link aren't capable from then on
 goes_over : (n : NetworkState) (before : Snapshot) (ago events : List Timed) (failed gone silent : ℕ)
     → IsGoneBy n ago events failed gone → silent ≡ suc (failed + silence_span (pace_of n)) → (port : PortIdentity)
-    (until : ℕ) → AgesOver n before ago events failed port until
+    (until : ℕ) → AgesOver n before ago events failed port until → IsLinked before port
     → GoesOver n before ago events failed gone silent port until
-goes_over n before ago events failed gone silent (span, within, is) unanswered port until over = (
+goes_over n before ago events failed gone silent (span, within, is) unanswered port until over linked = (
   over,
+  linked,
   (λ heard. elim (dec_le span (silence_span (pace_of n))) [
     | yes short ↦
         let less = over_within n before ago events failed span within port until heard over in
@@ -258,6 +260,7 @@ module _ (d : DocumentState) (playable : IsPlayable d) (made : List Timed) (even
         record {
           keeps = after;
           before = before;
+          stood = λ g stands. alike_so d playable made then keeps g stands;
           failed = then.time;
           since = anew_begins p x.clock then draws done w' world_then after.claim.world came lived seen_then rest.sound
               start keeps.claim.pace keeps.claim.measured past rest.ready quiet rest.silent
@@ -268,7 +271,10 @@ module _ (d : DocumentState) (playable : IsPlayable d) (made : List Timed) (even
               (λ links. by_map says_announce (snapshot_of w') (stay_of p) (AgesOver n before made more then.time)
               (GoesOver n before made more then.time gone silent) (view w')
               (λ port until unlinked over_it.
-              goes_over n before made more then.time gone silent is_gone silent_is port until over_it) (by links))
+              goes_over n before made more then.time gone silent is_gone silent_is port until over_it
+              (over_linked n made event x.clock x.act then w' playable.network keeps.stands world_then.sound
+              (stands_well then world_then.sound world_then.between world_then.encodable) after.stands
+              after.claim.world.sound then.time port until over_it)) (by links)) (λ port until is. is.1)
               (over_gone n before made more then.time gone silent) some late_then last;
           were = were_failed n made x.clock then draws done w' world_then after.claim.world came lived keeps.stands
               quiet start past rest.silent;
@@ -323,6 +329,7 @@ module _ (d : DocumentState) (playable : IsPlayable d) (made : List Timed) (even
           over_down n ago made event y w' after.stands after.claim.world.sound after.claim.world.encodable so.before
               so.failed port until is_over.0 is_up,
           is_over.1,
+          is_over.2,
         ))
         (by_up p w' after.claim.world (Over made gone) down.by links)
 
@@ -330,10 +337,12 @@ module _ (d : DocumentState) (playable : IsPlayable d) (made : List Timed) (even
     split_on = record {
       keeps = after;
       before = so.before;
+      stood = so.stood;
       failed = so.failed;
       since = split_anew_begins p so.before (Over more gone) so.failed gone silent w'
           (split_by p so.before (Over made gone) so.failed gone silent w' down (Over more gone) gone over_more
-          (over_gone n so.before ago more so.failed gone silent) (inl (omega arith))) so.since.some names_down last;
+          (λ port until is. is.1) (over_gone n so.before ago more so.failed gone silent) (inl (omega arith))) names_down
+          last;
       were = more_were;
       unanswered = so.unanswered;
     }
@@ -350,6 +359,7 @@ module _ (d : DocumentState) (playable : IsPlayable d) (made : List Timed) (even
       record {
         keeps = after;
         before = so.before;
+        stood = so.stood;
         failed = so.failed;
         since = split_anew_begins p so.before (GoesOver n so.before ago more so.failed sooner silent) so.failed sooner
             silent w'
@@ -359,9 +369,9 @@ module _ (d : DocumentState) (playable : IsPlayable d) (made : List Timed) (even
             (GoesOver n so.before ago more so.failed gone silent)
             (GoesOver n so.before ago more so.failed sooner silent) (view w')
             (λ port until unlinked is_over.
-            goes_over n so.before ago more so.failed sooner silent gone_then unanswered port until is_over.0)
-            (so.since.split.by links))
-            (over_gone n so.before ago more so.failed sooner silent) (inr (some, omega (arith, time, failed)))) some
+            goes_over n so.before ago more so.failed sooner silent gone_then unanswered port until is_over.0 is_over.1)
+            (so.since.split.by links)) (λ port until is. is.1)
+            (over_gone n so.before ago more so.failed sooner silent) (inr (some, omega (arith, time, failed))))
             so.since.alone last;
         were = so.were;
         unanswered = so.unanswered;

@@ -21,6 +21,7 @@ use Rattle.gptp_theorem.proofs.AlikeLemmas.{clock_among, turned, best as alike_b
 use Rattle.gptp_theorem.proofs.SnapshotLemmas.{snapshots_stand}
 use Rattle.gptp_theorem.proofs.SyncPathLemmas.{paths_stand}
 use Rattle.gptp_settling_time.specs.Losses.{IsCutOff, IsFarEnd, IsTurned, IsUnmoved, IsUnmovedOrCutOff, MovesNone, MovesNoneJoined, TurnsSystem}
+use Rattle.gptp_settling_time.specs.TreeLosses.{CutsAllBeyond, GetsWorse}
 use Rattle.gptp_settling_time.proofs.KeptToLemmas.{KeepsTo}
 
 -- a system is unmoved between two snapshots that is so between others of the same systems and links
@@ -41,6 +42,32 @@ joins_alike g h alike_is p q =
 pub adjacent_alike : (g h : Snapshot) → AreAlike g h → (v u : ℕ) → Adjacent g v u → Adjacent h v u
 adjacent_alike g h alike_is v u (m, q, joins) =
     (m, q, joins_alike g h alike_is (port_of v m) (port_of u q) joins)
+
+-- a system gets a worse best where it does in others of the same systems and links
+worse_alike : (g h g' h' : Snapshot) → AreAlike g h → AreAlike g' h' → (v : ℕ) → GetsWorse h h' v → GetsWorse g g' v
+worse_alike g h g' h' before now v worse = record {
+  best = worse.best;
+  next = worse.next;
+  was = alike_best h g (turned g h before) v worse.best worse.was;
+  is = alike_best h' g' (turned g' h' now) v worse.next worse.is;
+  worse = worse.worse;
+}
+
+-- and so does all beyond a failed one
+pub beyond_alike : (g h g' h' : Snapshot) → AreAlike g h → AreAlike g' h' → CutsAllBeyond h h' → CutsAllBeyond g g'
+beyond_alike g h g' h' before now cuts = record {
+  each = λ v known. elim (cuts.each v (clock_among g' h' now v known)) [
+    | inl unmoved ↦ inl (unmoved_alike g h g' h' before now v unmoved)
+    | inr worse ↦ inr (worse_alike g h g' h' before now v worse)
+  ];
+  beyond = λ from to joins known bare nearer.
+      worse_alike g h g' h' before now to.clock
+      (cuts.beyond from to (joins_alike g h before from to joins) (clock_among g' h' now to.clock known)
+      (λ linked. bare (let (u, link) = linked in (u, joins_alike h' g' (turned g' h' now) to u link)))
+      (λ near far from_near to_far.
+      nearer near far (alike_distance h g (turned g h before) from.clock near from_near)
+      (alike_distance h g (turned g h before) to.clock far to_far)));
+}
 
 far_alike : (g h : Snapshot) → AreAlike g h → (v : ℕ) → IsFarEnd h v → IsFarEnd g v
 far_alike g h alike_is v is_far u far near joined away close =
