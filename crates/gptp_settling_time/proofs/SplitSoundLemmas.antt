@@ -1,6 +1,6 @@
 -- A system failed, and each system that is moved got a worse best, so did each that lost its link to a nearer one. What
 -- an unmoved system says stays sound, and what is in flight is once trees have left their old choices.
-use Rattle.std.proofs.Common.{◌≡◌, ◌⊎◌, ◌<◌, ◌≤◌, ◌+◌, ℕ, suc, true, Some, slice_get, refl, sym, ap, subst, inl, inr, arith}
+use Rattle.std.proofs.Common.{◌≡◌, ◌⊎◌, ◌<◌, ◌+◌, ℕ, suc, true, Some, slice_get, refl, sym, ap, subst, inl, inr, arith}
 use Rattle.gptp_lists.specs.Members.{In}
 use Rattle.gptp_graph.specs.Best.{IsBest}
 use Rattle.gptp_graph.specs.Distance.{IsDistance}
@@ -26,7 +26,7 @@ use Rattle.gptp_bmca_machine.specs.Station.{HoldsAt, MachineState, Reception, St
 use Rattle.gptp_bmca_machine.proofs.CutTreeLemmas.{IsCutOff, LeadsNowhere, moves_off}
 use Rattle.gptp_bmca_machine.proofs.FailureTreesLemmas.{FallBack}
 use Rattle.gptp_bmca_machine.proofs.FallHeldLemmas.{holds_in_tree, old_in_time}
-use Rattle.gptp_bmca_machine.proofs.FallLemmas.{HasChoice, HeldFree, choice_dec, free_holds, is_moved, says_whole}
+use Rattle.gptp_bmca_machine.proofs.FallLemmas.{HasChoice, HeldFree, free_holds, is_moved, says_whole}
 use Rattle.gptp_bmca_machine.proofs.PlaceLemmas.{same_there}
 use Rattle.gptp_bmca_machine.proofs.SoundEverywhereLemmas.{may_say}
 use Rattle.gptp_bmca_machine.proofs.StillLemmas.{chooses_still, live_before}
