@@ -140,6 +140,8 @@ pub mod FallMadeLemmas
 pub mod WorsenedActLemmas
 pub mod WorsenedMadeLemmas
 pub mod WorsenedTracesLemmas
+pub mod FartherLemmas
+pub mod FartherAfterLemmas
 pub mod NamedAfterLemmas
 pub mod TurnsDownLemmas
 pub mod TurnedToLemmas

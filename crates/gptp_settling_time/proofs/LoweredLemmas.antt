@@ -219,7 +219,7 @@ disabled_from keep helds.Aged is = absurd cc
 disabled_from keep (helds.Mine root steps) is = absurd cc
 disabled_from keep (helds.Received x) is = absurd cc
 
-place_within : (j : ℕ) (hs : List Held) (h : Held) → slice_get hs j ≡ Some h → j < length hs
+pub place_within : (j : ℕ) (hs : List Held) (h : Held) → slice_get hs j ≡ Some h → j < length hs
 place_within j [] h there = absurd cc
 place_within zero (x ∷ hs) h there = omega arith
 place_within (suc j) (x ∷ hs) h there = let within = place_within j hs h there in omega (arith, within)
