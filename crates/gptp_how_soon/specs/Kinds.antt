@@ -208,6 +208,19 @@ fails_first (e ∷ es) = is_failing e && list_all is_down_too es
 abbrev pub takes_one : List Told → Bool
 takes_one told = lowers_one told || fails_first told
 
+-- A link in use goes down by the first, or a live system fails. So it is of the others, or they are as beside one that
+-- fails. There is one more at least: one alone is taken away as above.
+abbrev pub takes_any : Told → Bool
+takes_any e = is_loss e && not (is_priority1 e)
+
+abbrev pub taken_too : Told → Bool
+taken_too e = takes_any e || is_down_too e
+
+abbrev pub takes_several : List Told → Bool
+takes_several [] = false
+takes_several (e ∷ []) = false
+takes_several (e ∷ f ∷ es) = takes_any e && list_all taken_too (f ∷ es)
+
 -- the system with this clock recovers
 abbrev pub recovers : List Told → ℕ → Bool
 recovers told clock = list_any (is_recovery_of clock) told

@@ -323,6 +323,81 @@ fn an_end_station_may_be_left_without_a_link(rt: HostRuntime) -> Result<(), Fail
 }
 
 #[test]
+fn losses_that_move_no_system_together_cost_nothing(rt: HostRuntime) -> Result<(), Fail> {
+    // Each of b, c and d has a link to a. In the row before the last c is farther then; in the last two links are left
+    // silent.
+    for (case, events, bound) in [
+        (
+            "two links go down",
+            &[("link_down", "b", "2"), ("link_down", "d", "2")] as &[(&str, &str, &str)],
+            (0, 0),
+        ),
+        (
+            "two links go down, and one of them again",
+            &[
+                ("link_down", "b", "2"),
+                ("link_down", "d", "2"),
+                ("link_down", "c", "2"),
+            ] as &[(&str, &str, &str)],
+            (0, 0),
+        ),
+        (
+            "two lose their power",
+            &[
+                ("fail", "b", ""),
+                ("link_down", "b", "1"),
+                ("link_down", "b", "2"),
+                ("fail", "d", ""),
+                ("link_down", "d", "1"),
+                ("link_down", "d", "2"),
+            ] as &[(&str, &str, &str)],
+            (0, 0),
+        ),
+        (
+            "one loses its links, is moved so, and fails",
+            &[
+                ("link_down", "a", "2"),
+                ("link_down", "b", "2"),
+                ("link_down", "d", "2"),
+                ("fail", "c", ""),
+            ] as &[(&str, &str, &str)],
+            (0, 0),
+        ),
+        (
+            "one is moved",
+            &[("link_down", "a", "2"), ("link_down", "d", "2")] as &[(&str, &str, &str)],
+            (13_000_002_870, 13_000_002_870),
+        ),
+        (
+            "one hangs behind a link that goes down",
+            &[("link_down", "b", "2"), ("fail", "d", "")] as &[(&str, &str, &str)],
+            (10_000_002_050, 11_000_000_000),
+        ),
+    ] {
+        let mut text = String::new(rt.alloc());
+        for (kind, clock, port) in events {
+            writeln!(
+                text,
+                "[[event]]\nat = 30000000000\nkind = \"{kind}\"\nclock = \"000000000000000{clock}\""
+            )?;
+            if !port.is_empty() {
+                writeln!(text, "port = {port}")?;
+            }
+        }
+        let links = &[
+            ("a", "1", "b", "1"),
+            ("a", "2", "c", "1"),
+            ("a", "3", "d", "1"),
+            ("b", "2", "c", "2"),
+            ("c", "3", "d", "2"),
+        ];
+        let times = joined(rt.alloc(), &["a", "b", "c", "d"], links, text.as_str())?;
+        assert_eq!(rt; bounds(&times, 30_000_000_000), Some(bound), "{case}");
+    }
+    Ok(())
+}
+
+#[test]
 fn other_losses_cost_a_turn_for_each_system_of_a_path(rt: HostRuntime) -> Result<(), Fail> {
     // Three announce intervals and a delay for each, an interval, and a way. The link from a to b is wider first.
     for (case, events, bound) in [

@@ -2,7 +2,7 @@
 
 ghost use Rattle.std.specs.Prelude.{◌≡◌, ◌++◌, ◌∷◌, [], false, OnOk};
 ghost use Rattle.std.specs.List.{list_all, list_any};
-ghost use Rattle.gptp_how_soon.specs.Kinds.{are_heard, begins_wider, brings_nothing, first_wider_by, is_wider, kind_of_link_set, wider_by, fails_and_recovers, fails_first, is_fail, is_failing, is_recover, is_better, is_down_too, is_failure_of_same, is_gain, is_link_down, is_lowering, is_unused, leaves_links, lowers_one, lowers_unused, makes_nothing, tells_nothing, is_heard_too, is_idle, is_loss, is_other, is_priority1, is_link_up, is_recovery, is_recovery_of, kind_of, kind_of_change, kind_of_failure, kind_of_link_down, kind_of_link_up, kind_of_priority1, kind_of_recovery, recovers, repeats, sets_bounds, sets_link, is_link_set, takes_one, told_by, what_of, what_of_change};
+ghost use Rattle.gptp_how_soon.specs.Kinds.{are_heard, begins_wider, brings_nothing, first_wider_by, is_wider, kind_of_link_set, wider_by, fails_and_recovers, fails_first, is_fail, is_failing, is_recover, is_better, is_down_too, is_failure_of_same, is_gain, is_link_down, is_lowering, is_unused, leaves_links, lowers_one, lowers_unused, makes_nothing, tells_nothing, is_heard_too, is_idle, is_loss, is_other, is_priority1, is_link_up, is_recovery, is_recovery_of, kind_of, kind_of_change, kind_of_failure, kind_of_link_down, kind_of_link_up, kind_of_priority1, kind_of_recovery, recovers, repeats, sets_bounds, sets_link, is_link_set, taken_too, takes_any, takes_one, takes_several, told_by, what_of, what_of_change};
 
 use gptp_scenario::{Act, Change};
 use gptp_topology::{Standing, System, is_used, named};
@@ -513,6 +513,37 @@ pub(crate) fn takes_one(told: &[Told]) -> bool
     ensures { result ≡ takes_one told.now }
 {
     lowers_one(told) || fails_first(told)
+}
+
+/// Whether a link in use goes down by it, or a live system fails.
+fn takes_any(told: &Told) -> bool
+    ensures { result ≡ takes_any told.now }
+{
+    is_loss(told) && !is_priority1(told)
+}
+
+/// Whether it is so, or a link goes down by it of which an end has failed, or it repeats what stands.
+fn taken_too(told: &Told) -> bool
+    ensures { result ≡ taken_too told.now }
+{
+    takes_any(told) || is_down_too(told)
+}
+
+/// Whether each of these events is so.
+fn all_taken_too(told: &[Told]) -> bool
+    ensures { result ≡ list_all taken_too told.now }
+{
+    told.iter().all(|one| taken_too(one))
+}
+
+/// Whether links and systems are taken away by these events, one by the first of several.
+pub(crate) fn takes_several(told: &[Told]) -> bool
+    ensures { result ≡ takes_several told.now }
+{
+    match told.split_first() {
+        Some((first, others)) => !others.is_empty() && takes_any(first) && all_taken_too(others),
+        None => false,
+    }
 }
 
 /// Whether each of these events changes nothing.

@@ -2,13 +2,13 @@
 
 ghost use Rattle.std.specs.Prelude.{◌≡◌, ◌≤◌, ◌+◌, ◌*◌, ◌&&◌, ◌||◌, nat_le, nat_lt};
 ghost use Rattle.gptp_scenario.specs.SettlingTime.{way_span};
-ghost use Rattle.gptp_how_soon.specs.Rest.{are_events_followed, are_losses_followed, are_recoveries_followed, are_turns_followed, asks_who_is_moved, heard_at_once, is_failing_followed, failed_row, has_come, is_from_rest, is_lowering_followed, is_wider_followed, keeps_paths, rested, row_of, settles_wider_by};
+ghost use Rattle.gptp_how_soon.specs.Rest.{are_events_followed, are_losses_followed, are_recoveries_followed, are_turns_followed, asks_who_is_moved, heard_at_once, is_failing_followed, failed_row, has_come, is_from_rest, is_lowering_followed, is_taking_followed, is_wider_followed, keeps_paths, rested, row_of, settles_wider_by};
 
 use crate::bounds::{Row, SettlingTime, way_span};
 use crate::kinds::{
     Told, all_bring_nothing, all_leave_links, all_make_nothing, all_tell_nothing, any_better,
     any_gain, any_loss, any_lowers_unused, any_other, any_recovery, any_wider, are_heard,
-    begins_wider, fails_and_recovers, fails_first, first_wider_by, lowers_one,
+    begins_wider, fails_and_recovers, fails_first, first_wider_by, lowers_one, takes_several,
 };
 use gptp_scenario::SyncPaths;
 
@@ -29,6 +29,8 @@ pub struct Moves {
     pub tree_turns: bool,
     /// Whether then all that they move are trees: some are cut off, one may turn by one other link.
     pub trees_move: bool,
+    /// Whether they move none, also none that is cut off, and leave no link silent.
+    pub taken: bool,
     /// Whether those that they name were far ends.
     pub far: bool,
     /// For how long it counts what others hold of a system that fails, in ns; 0 where no link is left silent whose far
@@ -214,6 +216,13 @@ fn is_failing_followed(paths_before: SyncPaths, paths: SyncPaths, told: &[Told])
     keeps_paths(paths_before, paths) && fails_first(told)
 }
 
+/// Whether links and systems that are taken away are followed.
+fn is_taking_followed(paths_before: SyncPaths, paths: SyncPaths, told: &[Told]) -> bool
+    ensures { result ≡ is_taking_followed paths_before paths told.now }
+{
+    keeps_paths(paths_before, paths) && takes_several(told)
+}
+
 /// Whether it counts whom its events move.
 pub(crate) fn asks_who_is_moved(
     from_rest: bool,
@@ -226,7 +235,8 @@ pub(crate) fn asks_who_is_moved(
     from_rest
         && (are_losses_followed(paths_before, told)
             || is_lowering_followed(paths_before, paths, told)
-            || is_failing_followed(paths_before, paths, told))
+            || is_failing_followed(paths_before, paths, told)
+            || is_taking_followed(paths_before, paths, told))
 }
 
 /// What is known of a time at which a system fails and none is moved but such as are cut off, by whether the one that
@@ -275,6 +285,8 @@ pub(crate) fn row_of(
         failed_row(moves.far, moves.any_moved)
     } else if is_failing_followed(paths_before, paths, told) && moves.trees_move {
         Row::FailureMovesTrees
+    } else if is_taking_followed(paths_before, paths, told) && moves.taken {
+        Row::TakenAway
     } else if any_loss(told) {
         if all_bring_nothing(told) {
             Row::AnyLosses

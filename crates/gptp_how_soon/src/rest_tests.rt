@@ -119,6 +119,41 @@ fn events_come_from_rest_soon_after_a_loss(rt: HostRuntime) -> Result<(), Fail> 
 }
 
 #[test]
+fn events_come_from_rest_soon_after_several_losses(rt: HostRuntime) -> Result<(), Fail> {
+    // Two links go down that nobody's choice comes by. One comes up again as the network rests, or 1 ns later.
+    for (case, next, choice) in [
+        ("too soon", 32_000_001_230, 15_000_002_870),
+        ("from rest", 32_000_001_231, 1_000_003_050),
+    ] {
+        let mut text = String::new(rt.alloc());
+        for (at, kind, clock) in [
+            (30_000_000_000, "link_down", "b"),
+            (30_000_000_000, "link_down", "d"),
+            (next, "link_up", "b"),
+        ] {
+            writeln!(
+                text,
+                "[[event]]\nat = {at}\nkind = \"{kind}\"\nclock = \"000000000000000{clock}\"\nport = 2"
+            )?;
+        }
+        let links = &[
+            ("a", "1", "b", "1"),
+            ("a", "2", "c", "1"),
+            ("a", "3", "d", "1"),
+            ("b", "2", "c", "2"),
+            ("c", "3", "d", "2"),
+        ];
+        let times = joined(rt.alloc(), &["a", "b", "c", "d"], links, text.as_str())?;
+        assert_eq!(rt;
+            rests(&times, 30_000_000_000, next),
+            Some((2_000_001_230, choice)),
+            "{case}"
+        );
+    }
+    Ok(())
+}
+
+#[test]
 fn events_come_from_rest_soon_after_lost_power(rt: HostRuntime) -> Result<(), Fail> {
     let times = ring(
         rt.alloc(),

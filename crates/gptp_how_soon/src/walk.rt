@@ -138,14 +138,16 @@ impl Walk {
         let come = has_come(announce_interval(network), delay, arrived, self.before, at);
         let own = own_intervals(network, self.before, at);
         let heard = heard_links(alloc, &systems, &before, &self.used_before, &self.ends)?;
+        let any_moved = any_moved(&systems, &before, &now);
         Ok(Moves {
             moved: any_counted(joined, &systems, &links, &before, &now),
-            any_moved: any_moved(&systems, &before, &now),
+            any_moved,
             cut: all_cut_far_ends(&systems, &before, &links_before, &links, &lost),
             turned,
             falls: come && cuts_tree(&systems, &lost, &links, &before, &now),
             tree_turns: come && turns_tree(&systems, &lost, &links, &before, &now),
             trees_move: come && moves_trees(&systems, &lost, &links, &before, &now),
+            taken: !any_moved && !any_silent(&self.used_before, &self.tables.standings),
             far: are_far(&self.systems_before, &before, &links_before, &self.told),
             held: held_among(network, own, &heard, &self.tables.standings),
         })
@@ -173,6 +175,7 @@ impl Walk {
                 falls: false,
                 tree_turns: false,
                 trees_move: false,
+                taken: false,
                 far: false,
                 held: 0,
             })

@@ -14,55 +14,42 @@ use Rattle.gptp_scenario.specs.declared.change.Timed.{Timed}
 use Rattle.gptp_scenario.specs.declared.sync_wait.SyncPaths.{SyncPaths}
 use Rattle.gptp_network.specs.Snapshot.{events_by}
 use Rattle.gptp_how_soon.specs.Bounds.{is_hard_to_hear, gone_by, quiet_by}
-use Rattle.gptp_how_soon.specs.Chosen.{moves_joined}
-<<<<<<< HEAD
-use Rattle.gptp_how_soon.specs.CutTrees.{cuts_trees_after}
-use Rattle.gptp_how_soon.specs.Kinds.{are_heard, brings_nothing, fails_and_recovers, fails_first, is_better, is_gain, is_idle, is_loss, is_other, is_recovery, leaves_links, lowers_one, lowers_unused, makes_nothing, recovers, takes_one, begins_wider, first_wider_by, is_wider}
-use Rattle.gptp_how_soon.specs.Rest.{are_events_followed, are_losses_followed, are_recoveries_followed, are_turns_followed, heard_at_once, is_failing_followed, is_from_rest, is_lowering_followed, keeps_paths, rested, is_wider_followed, settles_wider_by}
-use Rattle.gptp_how_soon.specs.Times.{View, events_at, gained_at, has_come_after, loss_at, ready_at, row_at, view_at}
-=======
-use Rattle.gptp_how_soon.specs.Kinds.{are_heard, brings_nothing, fails_and_recovers, fails_first, is_better, is_failing, is_gain, is_idle, is_loss, is_other, is_recovery, leaves_links, lowers_one, lowers_unused, makes_nothing, recovers, takes_one, begins_wider, first_wider_by, is_wider}
+use Rattle.gptp_how_soon.specs.Chosen.{moves_joined, moves_some}
+use Rattle.gptp_how_soon.specs.Kinds.{are_heard, brings_nothing, fails_and_recovers, fails_first, is_better, is_gain, is_idle, is_loss, is_other, is_recovery, leaves_links, lowers_one, lowers_unused, makes_nothing, recovers, takes_one, takes_several, begins_wider, first_wider_by, is_wider}
 use Rattle.gptp_how_soon.specs.MovedTrees.{moves_trees_after}
-use Rattle.gptp_how_soon.specs.Rest.{are_events_followed, are_losses_followed, are_recoveries_followed, are_turns_followed, has_rested_for, heard_at_once, is_failing_followed, is_from_rest, is_lowering_followed, keeps_paths, leaves_silent, rested, is_wider_followed, settles_wider_by}
-use Rattle.gptp_how_soon.specs.Times.{View, events_at, gained_at, ready_at, row_at, view_at}
->>>>>>> w_line
+use Rattle.gptp_how_soon.specs.Rest.{are_events_followed, are_losses_followed, are_recoveries_followed, are_turns_followed, heard_at_once, is_failing_followed, is_from_rest, is_lowering_followed, is_taking_followed, keeps_paths, rested, is_wider_followed, settles_wider_by}
+use Rattle.gptp_how_soon.specs.Times.{View, events_at, gained_at, has_come_after, loss_at, ready_at, row_at, view_at}
 use Rattle.gptp_how_soon.specs.Tree.{cuts_tree_after}
 use Rattle.gptp_how_soon.specs.TurnedTree.{turns_tree_after}
 use Rattle.gptp_how_soon.specs.declared.bounds.Row.{Row}
-use Rattle.gptp_how_soon.specs.declared.bounds.Row.TheVariants.{AnyLosses, CutOff, FailedEnd, FailedHeard, FailureCutsOff, FailureMovesTrees, Gained, Lowered, SystemTurned, TreeCutOff, TreeTurned, Unchanged}
+use Rattle.gptp_how_soon.specs.declared.bounds.Row.TheVariants.{AnyLosses, CutOff, FailedEnd, FailedHeard, FailureCutsOff, FailureMovesTrees, Gained, Lowered, SystemTurned, TakenAway, TreeCutOff, TreeTurned, Unchanged}
 use Rattle.gptp_how_soon.specs.declared.bounds.Settling.{Settling}
 use Rattle.gptp_how_soon.specs.declared.bounds.SettlingTime.{SettlingTime}
 use Rattle.gptp_how_soon.specs.declared.kinds.Told.{Told}
 use Rattle.gptp_settling_time.specs.Arrivals.{HasArrivedBy}
-use Rattle.gptp_settling_time.specs.HowSoon.{AreWiderEvents, BeforeRepeats, BoundsGains, EachEvent, FailsEndFirst, FailsHeardFirst, FailsTreesFirst, IsStillEvent, LosesEvents, OneEvent, RolesAfterLoss}
+use Rattle.gptp_settling_time.specs.HowSoon.{AreWiderEvents, BeforeRepeats, BoundsGains, EachEvent, FailsEndFirst, FailsHeardFirst, FailsTreesFirst, IsStillEvent, LosesEvents, OneEvent, RolesAfterLoss, TakesSeveral}
 use Rattle.gptp_settling_time.specs.EventKinds.{FlightIsGone}
-use Rattle.gptp_settling_time.specs.Losses.{CutsFarEnd, LowersLink, NoneSilent, TurnsLink}
-use Rattle.gptp_settling_time.specs.TreeLosses.{LowersTree, TurnsTreeLink}
+use Rattle.gptp_settling_time.specs.Losses.{CutsFarEnd, LowersLink, MovesNoneInAll, NoneSilent, TurnsLink}
+use Rattle.gptp_settling_time.specs.TreeLosses.{FallsTree, TurnsTreeLink}
 use Rattle.gptp_settling_time.proofs.CutLemmas.{all_by}
 use Rattle.gptp_settling_time.proofs.LeadOnLemmas.{all_still}
 use Rattle.gptp_settling_time.proofs.MomentLemmas.{all_at}
+use Rattle.gptp_settling_time.proofs.SamePathsLemmas.{StandSame}
 use Rattle.gptp_how_soon_laws.proofs.AnyLossLemmas.{all_losses}
 use Rattle.gptp_how_soon_laws.proofs.ArrivedLemmas.{has_come_so, longest_within}
 use Rattle.gptp_how_soon_laws.proofs.GainLemmas.{AreFollowed, AreTurnsFollowed}
 use Rattle.gptp_how_soon_laws.proofs.GainedLemmas.{all_gained, all_heard, all_idle, all_wider}
 use Rattle.gptp_how_soon_laws.proofs.FailedLemmas.{fails_end_first, fails_heard_first, used_up}
-<<<<<<< HEAD
 use Rattle.gptp_how_soon_laws.proofs.CutOffLemmas.{cuts_far}
-use Rattle.gptp_how_soon_laws.proofs.CutTreesLemmas.{fails_trees_first}
+use Rattle.gptp_how_soon_laws.proofs.MovedTreesLemmas.{fails_trees_first}
 use Rattle.gptp_how_soon_laws.proofs.LoweredLemmas.{lowers_link, used_on}
-use Rattle.gptp_how_soon_laws.proofs.RepeatLemmas.{IsSame, LowersFirst, before_repeats, cut_seen, falls_seen, first_same, first_well, joined_seen, lowers_first, paths_seen, turned_seen, turns_seen, used_still}
+use Rattle.gptp_how_soon_laws.proofs.RepeatLemmas.{LowersFirst, before_repeats, cut_seen, falls_seen, first_same, first_well, joined_seen, lowers_first, paths_seen, turned_seen, turns_seen, used_still}
 use Rattle.gptp_how_soon_laws.proofs.TreeEventLemmas.{lowers_one_tree, turns_tree_link}
 use Rattle.gptp_how_soon_laws.proofs.TurnedLemmas.{turns_link}
-=======
-use Rattle.gptp_how_soon_laws.proofs.CutOffLemmas.{cuts_one_end}
-use Rattle.gptp_how_soon_laws.proofs.MovedTreesLemmas.{fails_trees_first}
-use Rattle.gptp_how_soon_laws.proofs.LoweredLemmas.{GoesDown, lowers_one_link, one_as, used_on}
-use Rattle.gptp_how_soon_laws.proofs.TreeEventLemmas.{lowers_tree, turns_tree_by}
-use Rattle.gptp_how_soon_laws.proofs.TurnedLemmas.{turns_one_link}
->>>>>>> w_line
 use Rattle.gptp_how_soon_laws.proofs.UnmovedLemmas.{AreWell, all_still_unmoved}
 use Rattle.gptp_how_soon_laws.proofs.RowReasonLemmas.{ReasonOf, Tests, reason_of}
 use Rattle.gptp_how_soon_laws.proofs.SilentLemmas.{none_silent}
+use Rattle.gptp_how_soon_laws.proofs.TakenAwayLemmas.{several_taken, several_unmoved}
 use Rattle.gptp_how_soon_laws.proofs.RowTestLemmas.{HasComeToRest, at_most, counts_all, counts_joined, failing_takes, leaves_all, lowering_takes, not_both, over_before, rested_so}
 
 module _ (n : NetworkState) (network : IsNetwork n) (events : List Timed) (b : SettlingTime) (at : ℕ)
@@ -90,6 +77,7 @@ module _ (n : NetworkState) (network : IsNetwork n) (events : List Timed) (b : S
     far = v.moves.far;
     moved = v.moves.any_moved;
     trees = is_failing_followed v.paths_before v.paths v.told && v.moves.trees_move;
+    taken = is_taking_followed v.paths_before v.paths v.told && v.moves.taken;
     loss = list_any is_loss v.told;
     only = list_all brings_nothing v.told;
   }
@@ -328,7 +316,7 @@ module _ (n : NetworkState) (network : IsNetwork n) (events : List Timed) (b : S
     pub few : (sync_paths n made).systems ≤ 255
 
   -- what stands behind it stands behind all
-  pub first_stays : (g : GoesFirst) → IsSame n (made ++ g.x.event ∷ []) (made ++ now)
+  pub first_stays : (g : GoesFirst) → StandSame n (made ++ g.x.event ∷ []) (made ++ now)
   first_stays g = first_same n network made now g.x
 
   pub same_paths : (g : GoesFirst) → sync_paths n (made ++ now) ≡ sync_paths n (made ++ g.x.event ∷ [])
@@ -471,7 +459,7 @@ module _ (n : NetworkState) (network : IsNetwork n) (events : List Timed) (b : S
 
   -- by which a tree is cut off
   pub record CutsLate (rest : HasComeToRest b at) : Type 0 where
-    pub comes : ComesLate (LowersTree n) rest
+    pub comes : ComesLate (FallsTree n) rest
     pub flight : FlightIsGone n (made ++ now) (gone_by n v.paths v.used_before)
 
   -- events of this kind come then, and paths get no longer
@@ -497,7 +485,7 @@ module _ (n : NetworkState) (network : IsNetwork n) (events : List Timed) (b : S
         rest,
         record {
           comes = record {
-            lowers = before_repeats n network made now g.x (OneEvent (LowersTree n)) one;
+            lowers = before_repeats n network made now g.x (OneEvent (FallsTree n)) (inl one);
             come = come rest;
           };
           flight = flight_all g;
@@ -527,18 +515,11 @@ module _ (n : NetworkState) (network : IsNetwork n) (events : List Timed) (b : S
     pub come : HasCome rest
     pub fails : FailsTreesFirst n made now
 
-<<<<<<< HEAD
   pub failure_cuts : AreWell n (made ++ now) → row_at v ≡ FailureMovesTrees → FailsLate
   failure_cuts well row =
       let (from, trees) = why FailureMovesTrees row in
-      let (keeps, one, cut, come) = late_by fails_first (cuts_trees_after n made (made ++ now)) trees in
+      let (keeps, one, cut, come) = late_by fails_first (moves_trees_after n made (made ++ now)) trees in
       let x = keeps_so keeps in
-=======
-  fails_late : is_from_rest v.longest at v.paths_before v.paths v.told (Some b) ≡ true → AreWell n (made ++ now)
-      → (is_failing_followed v.paths_before v.paths v.told && v.moves.trees_move) ≡ true → FailsLate
-  fails_late from well trees =
-      let (x, one, cut, longer) = late_by fails_first (moves_trees_after n made (made ++ now)) trees in
->>>>>>> w_line
       let rest = (from_rest from).rested in
       record {
         rest = rest;
@@ -567,6 +548,31 @@ module _ (n : NetworkState) (network : IsNetwork n) (events : List Timed) (b : S
   -- no lost link is left silent
   pub none_left : v.silent ≡ false → NoneSilent n made (made ++ now)
   none_left = none_silent n made (made ++ now)
+
+  -- Or several links and systems are taken away, no system is moved, and no lost link is left silent.
+  pub record TakesAway : Type 0 where
+    pub rested : HasComeToRest b at
+    pub takes : TakesSeveral n made now
+    pub leaves : MovesNoneInAll n made (made ++ now)
+    pub none : NoneSilent n made (made ++ now)
+    pub few : (sync_paths n made).systems ≤ 255
+
+  pub taken : AreWell n (made ++ now) → row_at v ≡ TakenAway → TakesAway
+  taken well row =
+      let (from, is) = why TakenAway row in
+      let (followed, still) = and_parts (is_taking_followed v.paths_before v.paths v.told) v.moves.taken is in
+      let (keeps, several) = and_parts (keeps_paths v.paths_before v.paths) (takes_several v.told) followed in
+      let (stays, loud) = and_parts (not (moves_some n made (made ++ now))) (not v.silent) still in
+      let x = keeps_so keeps in
+      let takes = several_taken n network made now several in
+      record {
+        rested = (from_rest from).rested;
+        takes = takes;
+        leaves = several_unmoved n network made now well takes (not-true (moves_some n made (made ++ now)) stays) x.delay
+            x.paths;
+        none = none_left (not-true v.silent loud);
+        few = x.few;
+      }
 
   -- Or there are losses, and nothing is brought. Then roles stand with the choice; or, where a lost link is silent, no
   -- sooner than the port at its live end isn't capable any more.

@@ -3,6 +3,7 @@ pub mod BetweenUnmovedLemmas
 pub mod NewsMeasuredLemmas
 pub mod OneCallLemmas
 pub mod TakenClaimedLemmas
+pub mod TakenClearedLemmas
 pub mod TakenDownLossLemmas
 pub mod TakenFailLossLemmas
 pub mod TakenLeadLemmas
@@ -104,6 +105,7 @@ pub mod LeftClaimedLemmas
 pub mod GoesDownLemmas
 pub mod ReducedLemmas
 pub mod BegunLeftLemmas
+pub mod PortDownLemmas
 pub mod LoweredLemmas
 pub mod DeadDownLemmas
 pub mod CalmLessLemmas
@@ -140,8 +142,7 @@ pub mod FallMadeLemmas
 pub mod WorsenedActLemmas
 pub mod WorsenedMadeLemmas
 pub mod WorsenedTracesLemmas
-pub mod FartherLemmas
-pub mod FartherAfterLemmas
+pub mod OnwardLemmas
 pub mod NamedAfterLemmas
 pub mod TurnsDownLemmas
 pub mod TurnedToLemmas
@@ -156,8 +157,10 @@ pub mod ClearsLemmas
 pub mod FarEndLemmas
 pub mod LostEndLemmas
 pub mod SoundButOldLemmas
+pub mod SettledPastLemmas
 pub mod LeadOnLemmas
 pub mod LossLeadLemmas
+pub mod LeadsToClearedLemmas
 pub mod LossRestLemmas
 pub mod SplitFollowedLemmas
 pub mod RightStageLemmas

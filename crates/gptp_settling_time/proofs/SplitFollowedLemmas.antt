@@ -15,7 +15,7 @@ use Rattle.gptp_settling_time.specs.Pasts.{Heard, Past, Split}
 use Rattle.gptp_settling_time.specs.EventKinds.{nearer_echo_span}
 use Rattle.gptp_settling_time.specs.Losses.{AgesWithin, NoneSilent}
 use Rattle.gptp_settling_time.proofs.BesideIdleLemmas.{LeadsTo}
-use Rattle.gptp_settling_time.proofs.LeadOnLemmas.{HasRested, HasSettled}
+use Rattle.gptp_settling_time.proofs.SettledPastLemmas.{HasRested, HasSettled}
 use Rattle.gptp_settling_time.proofs.LossLeadLemmas.{splits_lead}
 use Rattle.gptp_settling_time.proofs.LossRestLemmas.{last_at, nearer_within}
 use Rattle.gptp_settling_time.proofs.SilentSpanLemmas.{none_silent}

@@ -1,12 +1,12 @@
--- Once the roles of a world stand it announces only to systems that are farther, or as far with the higher clock; once
--- what was sent before has arrived all that is in flight leads so.
+-- Once the choice of a world stands it announces over links only to systems that are farther, or as far with the higher
+-- clock; once what was sent before has arrived all that is in flight leads so.
 use Rattle.std.proofs.Common.{◌≡◌, ◌⊎◌, ◌<◌, ◌≤◌, ℕ, suc, true, List, Some, length, slice_get, refl, sym, ap, subst, ◌∙◌, inl, inr, arith}
 use Rattle.gptp_lists.specs.Members.{In}
 use Rattle.gptp_lists.proofs.SystemSpecLemmas.{In-parts}
 use Rattle.gptp_graph.specs.Distance.{IsDistance, IsNear}
 use Rattle.gptp_graph.specs.SettledRole.{IsMasterPort, IsSettledRole}
 use Rattle.gptp_graph.specs.SettledRole as roles
-use Rattle.gptp_graph.specs.Snapshot.{IsWellFormed, Joins, PortIdentity, Snapshot, clocks, port_of}
+use Rattle.gptp_graph.specs.Snapshot.{IsLinked, IsWellFormed, Joins, PortIdentity, Snapshot, clocks, port_of}
 use Rattle.gptp_graph.proofs.DistanceLemmas.{IsDistance-unique}
 use Rattle.gptp_graph.proofs.LinkLemmas.{Joins-clock}
 use Rattle.gptp_receipt.specs.declared.held.Held.{Held}
@@ -22,14 +22,14 @@ use Rattle.gptp_bmca_machine.specs.Reacts.{IsMasterAt}
 use Rattle.gptp_bmca_machine.specs.SoundLaws.{AllAreNear}
 use Rattle.gptp_bmca_machine.specs.Station.{MachineState, Mine, Port, Station}
 use Rattle.gptp_bmca_machine.specs.Touch.{StationTouch}
-use Rattle.gptp_invariants.specs.ChoiceSettled.{IsSettledSystem, Settled, graph_role}
+use Rattle.gptp_invariants.specs.ChoiceSettled.{ChoiceStands, HasSettledChoice, graph_role}
 use Rattle.gptp_invariants.specs.ChoiceSettlesAsMachine.{IsWorld}
-use Rattle.gptp_invariants.specs.ChoiceView.{held_view, says_announce, station_view, view}
+use Rattle.gptp_invariants.specs.ChoiceView.{held_view, says_announce, span_at, station_view, view}
 use Rattle.gptp_invariants.specs.WorldStanding.{snapshot_of}
 use Rattle.gptp_invariants.proofs.ChoiceCalmKeptLemmas.{KeepsNetwork, same_snapshot}
 use Rattle.gptp_invariants.proofs.ChoicePlaceLemmas.{port_from, station_from}
 use Rattle.gptp_invariants.proofs.WorldStandsLemmas.{stands_well}
-use Rattle.gptp_settling_time.proofs.LoweredLemmas.{place_within}
+use Rattle.gptp_settling_time.proofs.PortDownLemmas.{place_within}
 use Rattle.gptp_settling_time.proofs.NamedLemmas.{ComesSince}
 
 -- ---- of the machine
@@ -104,30 +104,32 @@ master_leads g from to wf is joins d e here there =
 
 -- ---- of worlds
 
--- a port that is seen as master, and has its settled role, is master by the snapshot
-module _ (g : Snapshot) (station : WorldStation) (settled : IsSettledSystem g station.system)
+-- a port on a link that is seen as master is master by the snapshot, where the choice stands
+module _ (g : Snapshot) (station : WorldStation) (settled : HasSettledChoice g station.system)
     (places : length station.system.held ≡ length station.system.ports) where
   abbrev s : SystemState
   s = station.system
 
   master_by : (i root steps : ℕ) (h : Held) → slice_get s.held i ≡ Some h
-      → held_view (span_at s) h ≡ Mine root steps → IsMasterPort g (port_of (clock s) (suc i))
-  master_by i root steps helds.Disabled stands is = absurd cc
-  master_by i root steps helds.Aged stands is = absurd cc
-  master_by i root steps (helds.Received r) stands is = absurd cc
-  master_by i root steps (helds.Mine a b) stands is =
+      → held_view (span_at s) h ≡ Mine root steps → IsLinked g (port_of (clock s) (suc i))
+      → IsMasterPort g (port_of (clock s) (suc i))
+  master_by i root steps helds.Disabled stands is linked = absurd cc
+  master_by i root steps helds.Aged stands is linked = absurd cc
+  master_by i root steps (helds.Received r) stands is linked = absurd cc
+  master_by i root steps (helds.Mine a b) stands is linked =
       let within = place_within i s.held (helds.Mine a b) stands in
       let role : graph_role (role_at s (suc i)) ≡ roles.Master = rw (stands) refl in
       (subst (IsSettledRole g (port_of (clock s) (suc i))) role
-      (settled.roles (suc i) (record { least = omega arith; most = omega (arith, within, places) }))).2
+      (settled.roles (suc i) (record { least = omega arith; most = omega (arith, within, places) }) linked)).2
 
-  pub master_at : (number : ℕ) → IsMasterAt (station_view station) number
+  master_at : (number : ℕ) → IsMasterAt (station_view station) number → IsLinked g (port_of (clock s) number)
       → IsMasterPort g (port_of (clock s) number)
-  master_at number (i, q, is, there, mine) =
+  master_at number (i, q, is, there, mine) linked =
       let port = port_from (span_at s) s.held s.ports i q there in
       subst (λ k. IsMasterPort g (port_of (clock s) k)) (sym is)
       (master_by i s.root s.steps port.held port.held_there
-      (ap (λ (x : Port). x.held) (sym port.is) ∙ mine))
+      (ap (λ (x : Port). x.held) (sym port.is) ∙ mine)
+      (subst (λ k. IsLinked g (port_of (clock s) k)) is linked))
 
 -- what is in flight on links and comes at this time, or later, leads so
 abbrev pub IsOnwardFrom : ℕ → WorldState → Type 0
@@ -141,8 +143,7 @@ module _ (time late : ℕ) where
       absurd (omega (arith, sent, early))
 
   module _ (w w' : WorldState) (p : SettlingParams) (is' : IsWorld p w') (keeps : KeepsNetwork w w')
-      (near : AllAreNear (snapshot_of w')) (since : ComesSince time late w') (stands : time ≤ w'.time → Settled w')
-    where
+      (near : AllAreNear (snapshot_of w')) (since : ComesSince time late w') (stands : time ≤ w'.time → ChoiceStands w') where
     wf : IsWellFormed (snapshot_of w')
     wf = stands_well w' is'.sound is'.between is'.encodable
 
@@ -162,10 +163,11 @@ module _ (time late : ℕ) where
         master_leads (snapshot_of w') l.from l.to wf
         (subst (IsMasterPort (snapshot_of w')) (sym from_is)
         (master_at (snapshot_of w') x.station settled places number
-        (subst (λ (z : Station). IsMasterAt z number) x.is master)))
+        (subst (λ (z : Station). IsMasterAt z number) x.is master)
+        (l.to, subst (λ q. Joins (snapshot_of w') q l.to) from_is joins)))
         joins
 
-    -- every step keeps that, where the roles stand from that time on
+    -- every step keeps that, where the choice stands from that time on
     pub onward_step : MachineSteps says_announce (view w) (view w') → IsOnwardFrom late w → IsOnwardFrom late w'
     onward_step step onward =
         onward_kept says_announce (snapshot_of w') late (view w) (view w') step masters
