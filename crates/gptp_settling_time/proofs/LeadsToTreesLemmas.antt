@@ -67,18 +67,21 @@ module _ (d : DocumentState) (playable : IsPlayable d) (made : List Timed) (even
         tree_now (last_change made + capability_span p) stood silent now
         (λ arrived later quiet. rested_any d playable made event then at_time keeps
         (record { calm = settled.calm; passed = omega (arith, passed, later, quiet) }))
-        (λ later moves arrived arrives. (named stood arrived (calm moves) (few moves) (inl (off moves, passed)) later arrives).0) tree
+        (λ later moves arrived arrives.
+        (named stood arrived (calm moves) (few moves) (inl (off moves, passed)) later arrives).0) tree
     leads_by_tree Starting silent now none named so = absurd none
     leads_by_tree (Gained start) silent now (stood, settled, tree) named so =
         tree_now start stood silent now
         (λ arrived later quiet. rested_gained d playable made event then at_time keeps start
         (omega (arith, settled, later, quiet)) so.news)
-        (λ later moves arrived arrives. (named stood arrived (calm moves) (few moves) (inl (off moves, settled)) later arrives).0) tree
+        (λ later moves arrived arrives.
+        (named stood arrived (calm moves) (few moves) (inl (off moves, settled)) later arrives).0) tree
     leads_by_tree (Heard start) silent now (stood, settled, tree) named so =
         tree_now start stood silent now
         (λ arrived later quiet. rested_heard d playable made event then at_time keeps start
         (omega (arith, settled, later, quiet)) so.since)
-        (λ later moves arrived arrives. (named stood arrived (calm moves) (few moves) (off moves, settled) later arrives).0) tree
+        (λ later moves arrived arrives.
+        (named stood arrived (calm moves) (few moves) (off moves, settled) later arrives).0) tree
     leads_by_tree (Left ago start) silent now none named so = absurd none
     leads_by_tree (Turned start was) silent now none named so = absurd none
     leads_by_tree (Fallen start was) silent now none named so = absurd none
