@@ -142,6 +142,7 @@ pub mod FallMadeLemmas
 pub mod WorsenedActLemmas
 pub mod WorsenedMadeLemmas
 pub mod WorsenedTracesLemmas
+pub mod OnwardLemmas
 pub mod NamedAfterLemmas
 pub mod TurnsDownLemmas
 pub mod TurnedToLemmas
@@ -219,6 +220,8 @@ pub mod SplitAlwaysLemmas
 pub mod SplitDownLemmas
 pub mod SplitTracesLemmas
 pub mod SplitSoundLemmas
+pub mod TopsDeepLemmas
+pub mod TopsRestLemmas
 pub mod SplitLinksLemmas
 pub mod SplitSettlesLemmas
 pub mod SplitRestLemmas

@@ -1,6 +1,6 @@
 -- A system fails that others hear, in a world of a document whose choice had stood, and so moves trees: they fall back.
 -- Behind that links go down of which an end has failed.
-use Rattle.std.proofs.Common.{◌≡◌, ◌<◌, ◌≤◌, ◌+◌, ◌∷◌, ◌++◌, ℕ, suc, List, [], sym, ap, subst, inl, inr, arith}
+use Rattle.std.proofs.Common.{◌≡◌, ◌<◌, ◌≤◌, ◌+◌, ◌∷◌, ◌++◌, ℕ, suc, List, [], sym, ap, subst, inl, inr, arith, min}
 use native.Mathlib.Decide.{dec_le}
 use Rattle.gptp_lists.specs.Members.{In}
 use Rattle.gptp_graph.specs.Best.{IsBest}
@@ -23,6 +23,7 @@ use Rattle.gptp_network.specs.Document.{DocumentState}
 use Rattle.gptp_network.proofs.ExistenceLemmas.{stands_after}
 use Rattle.gptp_bmca_machine.specs.CutTree.{Tree}
 use Rattle.gptp_bmca_machine.specs.FailureTrees.{Turning}
+use Rattle.gptp_bmca_machine.specs.TwoTops.{First, Second, TopsTree}
 use Rattle.gptp_invariants.specs.ChoiceCalm.{HaveQuietLinks, delay_in, sync_paths_of}
 use Rattle.gptp_invariants.specs.ChoiceSettlesAsMachine.{IsWorld}
 use Rattle.gptp_invariants.specs.ChoiceView.{says_announce, view}
@@ -38,7 +39,7 @@ use Rattle.gptp_settling_time.specs.Arrivals.{HasArrivedBy}
 use Rattle.gptp_settling_time.specs.EventKinds.{LowersUnusedCalm}
 use Rattle.gptp_settling_time.specs.Leads.{IsGoneBy, SplitsNow}
 use Rattle.gptp_settling_time.specs.Losses.{LowersUnused}
-use Rattle.gptp_settling_time.specs.TreeLosses.{FailsTrees, IsTreeCutOff, IsTreeTurned, IsUnmovedOrInTree}
+use Rattle.gptp_settling_time.specs.TreeLosses.{FailsTrees, IsTreeCutOff, IsTreeTurned, IsUnmovedOrInTree, IsTreeCutTwice}
 use Rattle.gptp_settling_time.proofs.AgesByLemmas.{by_map}
 use Rattle.gptp_settling_time.proofs.AgesByWorldLemmas.{WorldAgesBy}
 use Rattle.gptp_settling_time.proofs.AgingClaimedLemmas.{stay_of}
@@ -60,6 +61,8 @@ use Rattle.gptp_settling_time.proofs.SplitToLemmas.{GoesOver, IsSplitTo, over_go
 use Rattle.gptp_settling_time.proofs.UpPortsLemmas.{IsUpAt, by_up}
 use Rattle.gptp_settling_time.proofs.WereSilentLemmas.{WereSilent, were_down, were_failed}
 use Rattle.gptp_settling_time.proofs.WorldMovesLemmas.{adjacent_alike, alike_so, joins_alike, near_so, unmoved_alike}
+use Rattle.gptp_settling_time.proofs.OnwardLemmas.{IsOnwardFrom}
+use Rattle.gptp_bmca_machine.proofs.TwoTopsBeginLemmas.{FlightLeads}
 
 -- a tree is so cut off between two snapshots where it is between others of the same systems and links
 cut_off_alike : (g h g' h' : Snapshot) → AreAlike g h → AreAlike g' h' → (best : System) (t : Tree)
@@ -77,6 +80,33 @@ cut_off_alike g h g' h' before now best t cut = record {
   steps = λ v u in_v joined. cut.steps v u (to_h v in_v) (adjacent_alike g' h' now v u joined);
   single = λ v p q a b one two.
       cut.single v p q a b (joins_alike g' h' now (port_of v p) a one) (joins_alike g' h' now (port_of v q) b two);
+}
+  where
+    back : AreAlike h g
+    back = turned g h before
+
+    to_h : (v : ℕ) → IsBest g' v t.next → IsBest h' v t.next
+    to_h v is = alike_best g' h' now v t.next is
+
+-- so is one with two tops
+twice_alike : (g h g' h' : Snapshot) → AreAlike g h → AreAlike g' h' → (best : System) (t : TopsTree)
+    → IsTreeCutTwice h h' best t → IsTreeCutTwice g g' best t
+twice_alike g h g' h' before now best t cut = record {
+  in_top = λ side. alike_best h' g' (turned g' h' now) (t.top side) t.next (cut.in_top side);
+  worse = cut.worse;
+  was_best = λ v in_v. alike_best h g back v best (cut.was_best v (to_h v in_v));
+  was = λ v in_v.
+      alike_distance h g back v (t.base + min (t.depth First v) (t.depth Second v)) (cut.was v (to_h v in_v));
+  near = λ side v in_v. cut.near side v (to_h v in_v);
+  first = cut.first;
+  lost = λ v u in_v joined. elim (cut.lost v u (to_h v in_v) (adjacent_alike g h before v u joined)) [
+    | inl left ↦ inl (adjacent_alike h' g' (turned g' h' now) v u left)
+    | inr is_top ↦ inr is_top
+  ];
+  steps = λ side v u in_v joined. cut.steps side v u (to_h v in_v) (adjacent_alike g' h' now v u joined);
+  single = λ side v p q a b in_v one two.
+      cut.single side v p q a b (to_h v in_v) (joins_alike g' h' now (port_of v p) a one)
+      (joins_alike g' h' now (port_of v q) b two);
 }
   where
     back : AreAlike h g
@@ -125,8 +155,14 @@ in_tree_alike : (g h g' h' : Snapshot) → AreAlike g h → AreAlike g' h' → (
 in_tree_alike g h g' h' before now best v (inl unmoved) = inl (unmoved_alike g h g' h' before now v unmoved)
 in_tree_alike g h g' h' before now best v (inr (inl (t, cut, in_v))) =
     inr (inl (t, cut_off_alike g h g' h' before now best t cut, alike_best h' g' (turned g' h' now) v t.next in_v))
-in_tree_alike g h g' h' before now best v (inr (inr (t, is, in_v))) =
-    inr (inr (t, turned_alike g h g' h' before now best t is, in_v))
+in_tree_alike g h g' h' before now best v (inr (inr (inl (t, is, in_v)))) =
+    inr (inr (inl (t, turned_alike g h g' h' before now best t is, in_v)))
+in_tree_alike g h g' h' before now best v (inr (inr (inr (t, cut, in_v)))) =
+    inr (inr (inr (
+      t,
+      twice_alike g h g' h' before now best t cut,
+      alike_best h' g' (turned g' h' now) v t.next in_v,
+    )))
 
 -- what is gone by then has aged, or ports without a link aren't capable from then on
 goes_over : (n : NetworkState) (before : Snapshot) (ago events : List Timed) (failed gone silent : ℕ)
@@ -166,7 +202,8 @@ module _ (d : DocumentState) (playable : IsPlayable d) (made : List Timed) (even
   world_then = keeps.claim.world
 
   module _ (start : ℕ) (rest : HasRestedSo p start event.at then) (stood gone silent : ℕ)
-      (splits : SplitsNow n made event stood gone silent) (named : IsNamedFrom splits.arrived then) where
+      (splits : SplitsNow n made event stood gone silent) (named : IsNamedFrom splits.arrived then)
+      (onward : IsOnwardFrom splits.arrived then) where
     abbrev x : FailsTrees n made event
     x = splits.fails
 
@@ -235,6 +272,13 @@ module _ (d : DocumentState) (playable : IsPlayable d) (made : List Timed) (even
         let since = splits.quiet in
         named j l f a best at among said joins is_best (omega (arith, left, at_time, since))
 
+    -- and leads onward
+    onward_now : FlightLeads says_announce (snapshot_of then) (view then)
+    onward_now j l f a d e at among said joins =
+        let left = seen_then.calm.left j l f at among in
+        let since = splits.quiet in
+        onward j l f a at among said joins (omega (arith, left, at_time, since)) d e
+
     -- ---- the act
 
     came : Acts (Changing (Fail x.clock)) then draws done w'
@@ -264,7 +308,7 @@ module _ (d : DocumentState) (playable : IsPlayable d) (made : List Timed) (even
           failed = then.time;
           since = anew_begins p x.clock then draws done w' world_then after.claim.world came lived seen_then rest.sound
               start keeps.claim.pace keeps.claim.measured past rest.ready quiet rest.silent
-              (near_so d playable made then keeps x.few) (omega (arith, over, at_time)) names_now silent best each
+              (near_so d playable made then keeps x.few) (omega (arith, over, at_time)) names_now onward_now silent best each
               few_before few_then shorter_then (GoesOver n before made more then.time gone silent) gone
               after.claim.measured
               (omega (arith, silent_is))
