@@ -50,7 +50,7 @@ use Rattle.gptp_settling_time.proofs.LeftClaimedLemmas.{HaveAskedBy, HaveAskedLo
 use Rattle.gptp_settling_time.proofs.NearEndLemmas.{near_ends_hold_none, near_ends_stay}
 use Rattle.gptp_settling_time.proofs.LinkBetweenLemmas.{IsLinkBetween, SameSenders, between_kept, lane_between, senders_kept}
 use Rattle.gptp_settling_time.proofs.OffForGoodLemmas.{AreOffForGood, GoOnOff, good_acts, good_later, stays_disabled}
-use Rattle.gptp_settling_time.proofs.SplitLemmas.{IsCut, IsSplit, IsTurned, SplitSettles, SplitState, SplitStaysOff, SplitsBack, split_settles_on, splits_on}
+use Rattle.gptp_settling_time.proofs.SplitLemmas.{IsCut, IsSplit, IsTurned, IsTwice, SplitSettles, SplitState, SplitStaysOff, SplitsBack, split_settles_on, splits_on}
 use Rattle.gptp_settling_time.proofs.SplitSoundLemmas.{AllSayStill, HeldWereLinked, all_tell, still_kept}
 use Rattle.gptp_settling_time.proofs.ToldAnewLemmas.{FlightsAreSound, flights_kept}
 
@@ -305,15 +305,15 @@ module _ (p : SettlingParams) (g : Snapshot) (By : PortIdentity → ℕ → Type
     module _ (cuts : CutsAllBeyond g n.graph) where
       pub says_then : AllSayStill says_announce g n x → AllSayStill says_announce g n (view w')
       says_then =
-          still_kept says_announce g n s.lost s.best (IsCut p g s start) (IsTurned p g s start) s.moves start s.near
-          cuts x (view w') was.0.back back'.back (linked' quiet') step
+          still_kept says_announce g n s.lost s.best (IsCut p g s start) (IsTurned p g s start) (IsTwice p g s start)
+          s.moves start s.near cuts (λ t is. is) x (view w') was.0.back back'.back (linked' quiet') step
 
       pub flights_then : AllSayStill says_announce g n (view w') → fallen_by n start < w'.time → (old : ℕ)
           → FlightsAreSound says_announce n.graph old x → FlightsAreSound says_announce n.graph old (view w')
       flights_then says' late old =
           flights_kept says_announce n.graph old x (view w')
-          (all_tell says_announce g n s.lost s.best (IsCut p g s start) (IsTurned p g s start) s.moves start s.near cuts
-          (view w') back'.back (linked' quiet') says' late) step
+          (all_tell says_announce g n s.lost s.best (IsCut p g s start) (IsTurned p g s start) (IsTwice p g s start)
+          s.moves start s.near cuts (λ t is. is) (view w') back'.back (linked' quiet') says' late) step
 
 -- ---- every step keeps it
 
@@ -356,14 +356,14 @@ module _ (p : SettlingParams) (g : Snapshot) (By : PortIdentity → ℕ → Type
       seen_then p g By failed gone silent w w' is standing' asked' goes (senders_kept w w' keeps) same_then links_then
       by_then late_then on quiet quiet' off start may (view w).lanes (is.seen quiet off start before) step
 
-  abbrev s : IsSplit p g
-  s = is.split
+  abbrev made : IsSplit p g
+  made = is.split
 
   now : gone ≤ suc (pred gone)
   now = let one = one_before gone failed is.some in omega (arith, one)
 
-  says' : CutsAllBeyond g s.n.graph → HaveQuietLinks p.params w' → NothingLapses p.params
-      → AllSayStill says_announce g s.n (view w')
+  says' : CutsAllBeyond g made.n.graph → HaveQuietLinks p.params w' → NothingLapses p.params
+      → AllSayStill says_announce g made.n (view w')
   says' cuts quiet' off =
       let quiet = quiet_before quiet' in
       says_then p g By failed gone silent w w' is standing' asked' goes (senders_kept w w' keeps) same_then links_then
@@ -371,8 +371,8 @@ module _ (p : SettlingParams) (g : Snapshot) (By : PortIdentity → ℕ → Type
       (is.seen quiet off (pred gone) (inl now)) step cuts (is.says cuts quiet off)
 
   -- what is in flight before that is due by then
-  due_before : (old : ℕ) → IsGoneBy p (left_by p g s gone) old w → HaveQuietLinks p.params w → NothingLapses p.params
-      → w.time ≤ left_by p g s gone → AreDueBy old w
+  due_before : (old : ℕ) → IsGoneBy p (left_by p g made gone) old w → HaveQuietLinks p.params w → NothingLapses p.params
+      → w.time ≤ left_by p g made gone → AreDueBy old w
   due_before old (inl interval) quiet off early j l f a at among said =
       let due = due_by_interval p w is.standing.world j l f a at among said in omega (arith, interval, early, due)
   due_before old (inr (used, delay)) quiet off early j l f a at among said = elim (kept.calm.facts.fresh j l f at among
@@ -386,13 +386,13 @@ module _ (p : SettlingParams) (g : Snapshot) (By : PortIdentity → ℕ → Type
             absurd (omega (arith, old_one, left, begun))
       ]
     where
-      kept : IsAfterLoss s.n (view w)
+      kept : IsAfterLoss made.n (view w)
       kept = (is.seen quiet off (pred gone) (inl now)).0.back.after.kept
 
-  flights' : CutsAllBeyond g s.n.graph → w'.last_change ≡ failed → (old : ℕ) → IsGoneBy p (left_by p g s gone) old w'
-      → HaveQuietLinks p.params w' → NothingLapses p.params → left_by p g s gone < w'.time
-      → FlightsAreSound says_announce s.n.graph old (view w')
-  flights' cuts since old is_old quiet' off late' = elim (dec_lt (left_by p g s gone) w.time) [
+  flights' : CutsAllBeyond g made.n.graph → w'.last_change ≡ failed → (old : ℕ) → IsGoneBy p (left_by p g made gone) old w'
+      → HaveQuietLinks p.params w' → NothingLapses p.params → left_by p g made gone < w'.time
+      → FlightsAreSound says_announce made.n.graph old (view w')
+  flights' cuts since old is_old quiet' off late' = elim (dec_lt (left_by p g made gone) w.time) [
     | yes late ↦
         flights_then p g By failed gone silent w w' is standing' asked' goes (senders_kept w w' keeps) same_then
         links_then by_then late_then on quiet quiet' off (pred gone) (inl now) (view w).lanes
@@ -404,16 +404,16 @@ module _ (p : SettlingParams) (g : Snapshot) (By : PortIdentity → ℕ → Type
       quiet : HaveQuietLinks p.params w
       quiet = quiet_before quiet'
 
-      old_before : IsGoneBy p (left_by p g s gone) old w' → IsGoneBy p (left_by p g s gone) old w
+      old_before : IsGoneBy p (left_by p g made gone) old w' → IsGoneBy p (left_by p g made gone) old w
       old_before (inl interval) = inl interval
       old_before (inr (used, delay)) =
           inr (
             use_kept w' w (kept_back w w' keeps) used,
-            subst (λ most. left_by p g s gone + most ≤ old) (delay_kept w w' keeps) delay,
+            subst (λ most. left_by p g made gone + most ≤ old) (delay_kept w w' keeps) delay,
           )
 
-      by : w.time ≤ left_by p g s gone → MachineSteps says_announce (view w) (view w')
-          → FlightsAreSound says_announce s.n.graph old (view w')
+      by : w.time ≤ left_by p g made gone → MachineSteps says_announce (view w) (view w')
+          → FlightsAreSound says_announce made.n.graph old (view w')
       by early (inl wait) = λ j l f a at among said.
           inr (due_before old (old_before is_old) quiet off early j l f a
           (subst (λ (y : MachineState). slice_get y.lanes j ≡ Some l) wait.is at) among said)

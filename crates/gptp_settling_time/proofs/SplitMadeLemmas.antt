@@ -60,35 +60,11 @@ use Rattle.gptp_settling_time.proofs.SplitRestLemmas.{SplitNamesAlone, split_ane
 use Rattle.gptp_settling_time.proofs.SplitToLemmas.{GoesOver, IsSplitTo, over_gone, split_by}
 use Rattle.gptp_settling_time.proofs.UpPortsLemmas.{IsUpAt, by_up}
 use Rattle.gptp_settling_time.proofs.WereSilentLemmas.{WereSilent, were_down, were_failed}
-use Rattle.gptp_settling_time.proofs.WorldMovesLemmas.{adjacent_alike, alike_so, joins_alike, near_so, unmoved_alike}
+use Rattle.gptp_settling_time.proofs.WorldMovesLemmas.{adjacent_alike, alike_so, cut_off_alike, joins_alike, near_so, unmoved_alike}
 use Rattle.gptp_settling_time.proofs.OnwardLemmas.{IsOnwardFrom}
 use Rattle.gptp_bmca_machine.proofs.TwoTopsBeginLemmas.{FlightLeads}
 
--- a tree is so cut off between two snapshots where it is between others of the same systems and links
-cut_off_alike : (g h g' h' : Snapshot) → AreAlike g h → AreAlike g' h' → (best : System) (t : Tree)
-    → IsTreeCutOff h h' best t → IsTreeCutOff g g' best t
-cut_off_alike g h g' h' before now best t cut = record {
-  in_top = alike_best h' g' (turned g' h' now) t.top t.next cut.in_top;
-  worse = cut.worse;
-  was_best = λ v in_v. alike_best h g back v best (cut.was_best v (to_h v in_v));
-  was = λ v in_v. alike_distance h g back v (t.base + t.depth v) (cut.was v (to_h v in_v));
-  first = cut.first;
-  lost = λ v u in_v joined. elim (cut.lost v u (to_h v in_v) (adjacent_alike g h before v u joined)) [
-    | inl left ↦ inl (adjacent_alike h' g' (turned g' h' now) v u left)
-    | inr is_top ↦ inr is_top
-  ];
-  steps = λ v u in_v joined. cut.steps v u (to_h v in_v) (adjacent_alike g' h' now v u joined);
-  single = λ v p q a b one two.
-      cut.single v p q a b (joins_alike g' h' now (port_of v p) a one) (joins_alike g' h' now (port_of v q) b two);
-}
-  where
-    back : AreAlike h g
-    back = turned g h before
-
-    to_h : (v : ℕ) → IsBest g' v t.next → IsBest h' v t.next
-    to_h v is = alike_best g' h' now v t.next is
-
--- so is one with two tops
+-- a tree with two tops is so cut off between two snapshots where it is between others of the same systems and links
 twice_alike : (g h g' h' : Snapshot) → AreAlike g h → AreAlike g' h' → (best : System) (t : TopsTree)
     → IsTreeCutTwice h h' best t → IsTreeCutTwice g g' best t
 twice_alike g h g' h' before now best t cut = record {

@@ -40,7 +40,7 @@ use Rattle.gptp_settling_time.proofs.LeftClaimedLemmas.{left_net, left_network}
 use Rattle.gptp_settling_time.proofs.NamesItselfLemmas.{AllNameAlone, alone_kept}
 use Rattle.gptp_settling_time.proofs.RightBeginLemmas.{alone_right}
 use Rattle.gptp_settling_time.proofs.SplitAlwaysLemmas.{IsSplitAlways, left_by, linked_now, one_before, split_acts, split_after, split_later, split_network}
-use Rattle.gptp_settling_time.proofs.SplitLemmas.{IsCut, IsSplit, IsTurned, SplitsBack}
+use Rattle.gptp_settling_time.proofs.SplitLemmas.{IsCut, IsSplit, IsTurned, IsTwice, SplitsBack}
 use Rattle.gptp_settling_time.proofs.SplitSettlesLemmas.{split_state}
 use Rattle.gptp_settling_time.proofs.SplitSoundLemmas.{all_hold}
 use Rattle.gptp_settling_time.proofs.TellsRightLemmas.{IsSettledState, LevelTellsRight}
@@ -213,8 +213,9 @@ module _ (p : SettlingParams) (g : Snapshot) (By : PortIdentity → ℕ → Type
               absurd (omega (arith, due, left, gone_by))
         ];
     stations = all_hold says_announce g n is.split.split.lost is.split.split.best
-        (IsCut p g is.split.split (pred gone)) (IsTurned p g is.split.split (pred gone)) is.split.split.moves (pred gone)
-        is.split.split.near cuts (view w) back.back (linked_now p g By failed gone silent w is.split quiet)
+        (IsCut p g is.split.split (pred gone)) (IsTurned p g is.split.split (pred gone))
+        (IsTwice p g is.split.split (pred gone)) is.split.split.moves (pred gone) is.split.split.near cuts (λ t cut. cut)
+        (view w) back.back (linked_now p g By failed gone silent w is.split quiet)
         (is.split.says cuts quiet off) left_now
         (subst (λ (z : Network). (i : ℕ) (s : SeenStation) (place : ℕ) (r : Reception) (from : PortIdentity)
         → slice_get (view w).stations i ≡ Some s → s.live ≡ true → HoldsAt s place r

@@ -1,5 +1,5 @@
--- A system failed, and each system that is moved got a worse best, so did each that lost its link to a nearer one. What
--- an unmoved system says stays sound, and what is in flight is once trees have left their old choices.
+-- A system failed, and all beyond it is cut off. What an unmoved system says stays sound, and what is in flight is once
+-- trees have left their old choices.
 use Rattle.std.proofs.Common.{◌≡◌, ◌⊎◌, ◌<◌, ◌+◌, ℕ, suc, true, Some, slice_get, refl, sym, ap, subst, inl, inr, arith}
 use Rattle.gptp_lists.specs.Members.{In}
 use Rattle.gptp_graph.specs.Best.{IsBest}
@@ -23,21 +23,21 @@ use Rattle.gptp_bmca_machine.specs.Reacts.{IsMasterAt, IsOwn}
 use Rattle.gptp_bmca_machine.specs.SoundEverywhere.{IsSoundSent, StationIsSound}
 use Rattle.gptp_bmca_machine.specs.SoundLaws.{AllAreNear}
 use Rattle.gptp_bmca_machine.specs.Station.{HoldsAt, MachineState, Reception, Station}
+use Rattle.gptp_bmca_machine.specs.TwoTops.{TopsTree}
 use Rattle.gptp_bmca_machine.proofs.CutTreeLemmas.{IsCutOff, LeadsNowhere, moves_off}
 use Rattle.gptp_bmca_machine.proofs.FailureTreesLemmas.{FallBack}
 use Rattle.gptp_bmca_machine.proofs.FallHeldLemmas.{holds_in_tree, old_in_time}
-use Rattle.gptp_bmca_machine.proofs.FallLemmas.{HasChoice, HeldFree, free_holds, is_moved, says_whole}
+use Rattle.gptp_bmca_machine.proofs.FallLemmas.{HasChoice, HeldFree, free_holds, says_whole}
 use Rattle.gptp_bmca_machine.proofs.PlaceLemmas.{same_there}
 use Rattle.gptp_bmca_machine.proofs.SoundEverywhereLemmas.{may_say}
 use Rattle.gptp_bmca_machine.proofs.StillLemmas.{chooses_still, live_before}
-use Rattle.gptp_bmca_machine.proofs.TurnTreeLemmas.{IsOf, LeadsOut, turns_moves}
-use Rattle.gptp_settling_time.specs.TreeLosses.{CutsAllBeyond}
+use Rattle.gptp_settling_time.specs.TreeLosses.{CutsAllBeyond, IsTreeCutOff}
 use Rattle.gptp_settling_time.proofs.AtRestLemmas.{TellsSettled, either}
 use Rattle.gptp_settling_time.proofs.ClaimLemmas.{EachAnnounce, HoldsOnly, each_kept}
 use Rattle.gptp_settling_time.proofs.FallAlwaysLemmas.{fallen_by, falls_within}
 use Rattle.gptp_settling_time.proofs.NearEndLemmas.{near_holds_none}
 use Rattle.gptp_settling_time.proofs.SoundButOldLemmas.{says_followed}
-use Rattle.gptp_settling_time.proofs.SplitTracesLemmas.{SaysSoundOrLong, none_worse, worse_beside}
+use Rattle.gptp_settling_time.proofs.SplitTracesLemmas.{GetsWorse, SaysSoundOrLong, none_worse, stays_or_worse, worse_beside}
 use Rattle.gptp_settling_time.proofs.ToldAnewLemmas.{AllTellSound}
 
 -- what an unmoved system says is sound, or has too many steps
@@ -55,10 +55,30 @@ HeldWereLinked g n w = (i : ℕ) (s : Station) (place : ℕ) (r : Reception) →
     → IsLinked g (port_of s.clock (suc place))
 
 module _ (says : Spelling) (g : Snapshot) (n : Network) (lost : ℕ) (best : System) (IsCut : Tree → Type 0)
-    (IsTurned : Turning → Type 0) (moves : FailureMoves g n lost best IsCut IsTurned) (start : ℕ) (near : AllAreNear g)
-    (cuts : CutsAllBeyond g n.graph) where
+    (IsTurned : Turning → Type 0) (IsTwice : TopsTree → Type 0)
+    (moves : FailureMoves g n lost best IsCut IsTurned IsTwice) (start : ℕ) (near : AllAreNear g)
+    (cuts : CutsAllBeyond g n.graph) (cut_is : (t : Tree) → IsTreeCutOff g n.graph best t → IsCut t) where
   abbrev Back : MachineState → Type 0
-  Back = FallBack says g n lost best IsCut IsTurned moves start
+  Back = FallBack says g n lost best IsCut IsTurned IsTwice moves start
+
+  -- each live system is unmoved, or in a tree with one top
+  in_tree : (v : ℕ) → In v (clocks n.graph) → Unmoved g n v ⊎ ((t : Tree) × IsCut t × IsBest n.graph v t.next)
+  in_tree v lives = elim (cuts.each v lives) [
+    | inl stays ↦ inl (record { live = lives; best = stays.best; far = stays.far })
+    | inr (b, t, is, in_v) ↦
+        let worse : GetsWorse g n.graph v =
+        record { best = b; next = t.next; was = is.was_best v in_v; is = in_v; worse = is.worse } in
+        let one : b ≡ best = IsBest-unique g v b best moves.left.graph (is.was_best v in_v) (was worse) in
+        inr (t, cut_is t (subst (λ c. IsTreeCutOff g n.graph c t) one is), in_v)
+  ]
+    where
+      was : GetsWorse g n.graph v → IsBest g v best
+      was worse = elim (moves.all v lives) [
+        | inl stays ↦ absurd (none_worse g n moves.well moves.left v worse stays)
+        | inr (inl (t, is, in_v)) ↦ (moves.cut t is).was_best v in_v
+        | inr (inr (inl (t, is, in_v))) ↦ (moves.turned t is).was_best v in_v
+        | inr (inr (inr (t, is, in_v))) ↦ (moves.twice t is).was_best v in_v
+      ]
 
   -- ---- what an unmoved system holds
 
@@ -95,7 +115,7 @@ module _ (says : Spelling) (g : Snapshot) (n : Network) (lost : ℕ) (best : Sys
               from = u;
               joins = joins;
               source = subst (λ q. r.said.source ≡ q) same came.source;
-              stays = elim (cuts.each u.clock lives) [
+              stays = elim (stays_or_worse g n.graph cuts u.clock lives) [
                 | inl unmoved ↦ record { live = lives; best = unmoved.best; far = unmoved.far }
                 | inr worse ↦ absurd (none_worse g n moves.well moves.left s.clock
                     (worse_beside g n moves.well moves.left u.clock s.clock (u.port, suc place, joins) worse) stays)
@@ -114,8 +134,8 @@ module _ (says : Spelling) (g : Snapshot) (n : Network) (lost : ℕ) (best : Sys
                     near_holds_none says g n moves.well moves.left w back.after.kept back.after.fits.stations
                     back.still i s place r u d at live stays here close joins farther holds
                 | inr nearer ↦
-                    none_worse g n moves.well moves.left s.clock
-                    (cuts.beyond u (port_of s.clock (suc place)) joins known none nearer) stays
+                    cuts.beyond u (port_of s.clock (suc place)) joins known none nearer
+                    (record { best = stays.best; far = stays.far })
               ]
             ]
 
@@ -195,27 +215,11 @@ module _ (says : Spelling) (g : Snapshot) (n : Network) (lost : ℕ) (best : Sys
         let within = falls_within n start (t.depth s.clock) ((moves.cut t is).deep s.clock in_s) in
         omega (arith, by, within, late)
 
-    -- none turns
-    none_turns : (v : ℕ) → In v (clocks n.graph) → (t : Turning) → IsTurned t → In v t.tree → ⊥
-    none_turns v lives t is in_v = elim (cuts.each v lives) [
-      | inl unmoved ↦
-          is_moved says g n (IsOf t.tree) (LeadsOut t.last t.out) t.top best best t.base t.depth
-          (turns_moves g n t.tree t.top lost t.last t.out best t.base t.depth (moves.turned t is)) start v in_v
-          (record { live = lives; best = unmoved.best; far = unmoved.far })
-      | inr worse ↦
-          let was = ap (λ (b : System). b.identity)
-          (IsBest-unique g v worse.best best moves.left.graph worse.was ((moves.turned t is).was_best v in_v)) in
-          let now = ap (λ (b : System). b.identity)
-          (IsBest-unique n.graph v worse.next best moves.well worse.is ((moves.turned t is).is_best v in_v)) in
-          let less = worse.worse in
-          omega (arith, was, now, less)
-    ]
-
     -- all that is told is sound
     pub all_tell : AllTellSound n.graph w
-    all_tell s i port a at live own = elim (moves.all s.clock lives) [
+    all_tell s i port a at live own = elim (in_tree s.clock lives) [
       | inl stays ↦ tells_still w back linked i s at live stays (all.stations i s at live) port a own
-      | inr (inl (t, is, in_s)) ↦ record {
+      | inr (t, is, in_s) ↦ record {
         sender = lives;
         source = own.source;
         sound = inr (says_whole says g n (IsCutOff n t.next) LeadsNowhere t.top best t.next t.base t.depth
@@ -225,7 +229,6 @@ module _ (says : Spelling) (g : Snapshot) (n : Network) (lost : ℕ) (best : Sys
             (moves_off g n t.top best t.next t.base t.depth (moves.cut t is)) start w back.after (back.cut t is) s.clock
             in_s) (has_left t is s (at_place w back linked i s at live) in_s) port a own);
       }
-      | inr (inr (t, is, in_s)) ↦ absurd (none_turns s.clock lives t is in_s)
     ]
       where
         lives : In s.clock (clocks n.graph)
@@ -237,10 +240,9 @@ module _ (says : Spelling) (g : Snapshot) (n : Network) (lost : ℕ) (best : Sys
         → Joins n.graph from (port_of s.clock (suc place))
         → (far : ℕ) × TellsSettled n.graph from.clock far r.said) → (i : ℕ) (s : Station)
         → slice_get w.stations i ≡ Some s → s.live ≡ true → StationIsSound n.graph s
-    all_hold settled i s at live place r holds = elim (moves.all s.clock (known w back linked i s at live)) [
+    all_hold settled i s at live place r holds = elim (in_tree s.clock (known w back linked i s at live)) [
       | inl stays ↦ unmoved stays
-      | inr (inl (t, is, in_s)) ↦ in_tree t is in_s
-      | inr (inr (t, is, in_s)) ↦ absurd (none_turns s.clock (known w back linked i s at live) t is in_s)
+      | inr (t, is, in_s) ↦ of_tree t is in_s
     ]
       where
         there : slice_get w.stations (n.place s.clock) ≡ Some s
@@ -265,8 +267,8 @@ module _ (says : Spelling) (g : Snapshot) (n : Network) (lost : ℕ) (best : Sys
                   ];
             }
 
-        in_tree : (t : Tree) → IsCut t → IsBest n.graph s.clock t.next → CameSound n.graph s.clock (suc place) r
-        in_tree t is in_s = record {
+        of_tree : (t : Tree) → IsCut t → IsBest n.graph s.clock t.next → CameSound n.graph s.clock (suc place) r
+        of_tree t is in_s = record {
           from = port_of h.v (suc h.p);
           joins = h.joins;
           source = h.source;

@@ -1,5 +1,5 @@
--- A system fails. What an unmoved system says by a shortest way didn't pass it, where each system that lost its link to a
--- nearer one got a worse best. So that is sound of what is left.
+-- A system fails, and all beyond it is cut off. What an unmoved system says by a shortest way didn't pass it, so that is
+-- sound of what is left.
 use Rattle.std.proofs.Common.{◌≡◌, ◌⊎◌, ◌<◌, ◌≤◌, ℕ, suc, List, [], ◌∷◌, length, refl, sym, ap, subst, ◌∙◌, inl, inr, arith}
 use native.Mathlib.Decide.{dec_le, dec_lt}
 use Rattle.gptp_lists.specs.Members.{In}
@@ -20,7 +20,8 @@ use Rattle.gptp_bmca_machine.specs.LossLaws.{IsWhatIsLeft, Unmoved}
 use Rattle.gptp_bmca_machine.specs.Network.{Network}
 use Rattle.gptp_bmca_machine.proofs.MovedTreeLemmas.{whole_left}
 use Rattle.gptp_bmca_machine.proofs.StillLemmas.{adjacent_before, best_was, live_before}
-use Rattle.gptp_settling_time.specs.TreeLosses.{CutsAllBeyond, GetsWorse}
+use Rattle.gptp_settling_time.specs.Losses.{IsUnmoved}
+use Rattle.gptp_settling_time.specs.TreeLosses.{CutsAllBeyond}
 
 -- it has more steps than the system has, so that nobody that it tells is so near by it
 abbrev pub IsTooLong : Snapshot → ℕ → Announce → Type 0
@@ -29,6 +30,28 @@ IsTooLong g u a = (far : ℕ) → IsDistance g u far → far < a.steps
 -- what the system says is sound, or it has too many steps
 abbrev pub SaysSoundOrLong : Snapshot → ℕ → Announce → Type 0
 SaysSoundOrLong g u a = (IsWorse g u a ⊎ Whole g u a) ⊎ IsTooLong g u a
+
+-- From the first snapshot to the second the system gets a worse best.
+pub record GetsWorse (g g' : Snapshot) (v : ℕ) : Type 0 where
+  pub best : System
+  pub next : System
+  pub was : IsBest g v best
+  pub is : IsBest g' v next
+  pub worse : best.identity < next.identity
+
+-- each live system is unmoved, or gets a worse best
+pub stays_or_worse : (g g' : Snapshot) → CutsAllBeyond g g' → (v : ℕ) → In v (clocks g')
+    → IsUnmoved g g' v ⊎ GetsWorse g g' v
+stays_or_worse g g' cuts v known = elim (cuts.each v known) [
+  | inl stays ↦ inl stays
+  | inr (best, t, is, in_v) ↦ inr (record {
+    best = best;
+    next = t.next;
+    was = is.was_best v in_v;
+    is = in_v;
+    worse = is.worse;
+  })
+]
 
 module _ (g : Snapshot) (n : Network) (well' : IsWellFormed n.graph) (left : IsWhatIsLeft g n) where
   -- who gets a worse best isn't unmoved
@@ -88,11 +111,15 @@ module _ (g : Snapshot) (n : Network) (well' : IsWellFormed n.graph) (left : IsW
               | inr worse ↦ inr (worse_beside x v (Adjacent-sym n.graph v x joined) worse)
             ]
         by rest (inr is_lost) =
-            inr (cuts.beyond (port_of x k) (port_of v i) (Joins-sym g (port_of v i) (port_of x k) joins) known bare
-            (λ near far x_at v_at.
-            let one = IsDistance-unique g x near (length us) left.graph x_at there in
-            let two = IsDistance-unique g v far d left.graph v_at here in
-            inl (omega (arith, one, two, long))))
+            elim (stays_or_worse g n.graph cuts v known) [
+              | inr worse ↦ inr worse
+              | inl stays ↦
+                  absurd (cuts.beyond (port_of x k) (port_of v i) (Joins-sym g (port_of v i) (port_of x k) joins) known
+                  bare (λ near far x_at v_at.
+                  let one = IsDistance-unique g x near (length us) left.graph x_at there in
+                  let two = IsDistance-unique g v far d left.graph v_at here in
+                  inl (omega (arith, one, two, long))) stays)
+            ]
           where
             bare : IsLinked n.graph (port_of v i) → ⊥
             bare (to, left_on) =

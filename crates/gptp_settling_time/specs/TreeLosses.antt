@@ -241,21 +241,14 @@ MovesTreesFrom n before event = (g g' : Snapshot) → StandsAfter n before g
     → StandsAfter n (before ++ event ∷ []) g'
     → (best : System) × ((v : ℕ) → In v (clocks g') → IsUnmovedOrInTree g g' best v)
 
--- From the first snapshot to the second the system gets a worse best.
-pub record GetsWorse (g g' : Snapshot) (v : ℕ) : Type 0 where
-  pub best : System
-  pub next : System
-  pub was : IsBest g v best
-  pub is : IsBest g' v next
-  pub worse : best.identity < next.identity
-
--- From the first snapshot to the second each system that is moved gets a worse best. So does each live system that lost
--- its link to one that was nearer to the best, or as near with the lower clock.
+-- From the first snapshot to the second each live system is unmoved, or one of a tree with one top that is cut off. None
+-- is unmoved that lost its link to one that was nearer to the best, or as near with the lower clock.
 pub record CutsAllBeyond (g g' : Snapshot) : Type 0 where
-  pub each : (v : ℕ) → In v (clocks g') → IsUnmoved g g' v ⊎ GetsWorse g g' v
+  pub each : (v : ℕ) → In v (clocks g') → IsUnmoved g g' v
+      ⊎ ((best : System) × (t : Tree) × IsTreeCutOff g g' best t × IsBest g' v t.next)
   pub beyond : (from to : PortIdentity) → Joins g from to → In to.clock (clocks g') → (IsLinked g' to → ⊥)
       → ((near far : ℕ) → IsDistance g from.clock near → IsDistance g to.clock far
-      → (near < far) ⊎ ((near ≡ far) × (from.clock < to.clock))) → GetsWorse g g' to.clock
+      → (near < far) ⊎ ((near ≡ far) × (from.clock < to.clock))) → IsUnmoved g g' to.clock → ⊥
 
 -- so it is from after the first of these events to after the second
 abbrev pub CutsAllBeyondFrom : NetworkState → List Timed → List Timed → Type 0
