@@ -43,7 +43,7 @@ use Rattle.gptp_settling_time.proofs.LinkUpLemmas.{lane_set}
 use Rattle.gptp_settling_time.proofs.NamesItselfLemmas.{AllNameAlone, alone_kept}
 use Rattle.gptp_settling_time.proofs.OffForGoodLemmas.{GoOnOff, all_down}
 use Rattle.gptp_settling_time.proofs.SplitAlwaysLemmas.{IsSplitAlways, MayStart, left_by, may_before, one_before, says_then, seen_then, split_after, split_network, split_then}
-use Rattle.gptp_settling_time.proofs.SplitLemmas.{IsCut, IsSplit, IsTurned, SplitSettles, SplitState, SplitsBack, cut_times, turned_times}
+use Rattle.gptp_settling_time.proofs.SplitLemmas.{IsCut, IsSplit, IsTurned, IsTwice, SplitSettles, SplitState, SplitsBack, cut_times, tops_times, turned_times}
 use Rattle.gptp_settling_time.proofs.SplitRestLemmas.{SplitNamesAlone}
 use Rattle.gptp_settling_time.proofs.SplitSoundLemmas.{AllSayStill}
 use Rattle.gptp_settling_time.proofs.ToldAnewLemmas.{FlightsAreSound}

@@ -505,8 +505,8 @@ RestsSplit n rest made now =
     (choice : ℕ) × (roles : ℕ) × BoundsSplit n choice roles made now
     × ((max roles (choice + max (echo_span (pace_of n) (sync_paths n (made ++ now))) (largest_interval (pace_of n)))
     ≤ rest)
-    ⊎ (CutsAllBeyondFrom n made (made ++ now)
-    × ((flight : ℕ) × FlightIsGone n (made ++ now) flight × (max roles (choice + flight) ≤ rest))))
+    ⊎ (CutsAllBeyondFrom n made (made ++ now) × (flight : ℕ) × FlightIsGone n (made ++ now) flight
+    × (max roles (choice + flight) ≤ rest)))
 
 -- By so much later than a time the network has come to rest, by the times before it, the latest first: it has settled,
 -- and nothing that is held, or in flight, names what is gone. The first time of all is 0. After a tree has turned right

@@ -73,8 +73,8 @@ pub record HasFallenBack (n : NetworkState) (events : List Timed) (fallen start 
 abbrev pub IsToldApart : NetworkState → List Timed → List Timed → ℕ → ℕ → Type 0
 IsToldApart n ago events gone time =
     (gone + 2 * way_span (sync_paths n events) + nearer_echo_span n events + largest_interval (pace_of n) ≤ time)
-    ⊎ (CutsAllBeyondFrom n ago events × ((flight : ℕ) × FlightIsGone n events flight
-    × (gone + 2 * way_span (sync_paths n events) ≤ time) × (gone + way_span (sync_paths n events) + flight ≤ time)))
+    ⊎ (CutsAllBeyondFrom n ago events × (flight : ℕ) × FlightIsGone n events flight
+    × (gone + 2 * way_span (sync_paths n events) ≤ time) × (gone + way_span (sync_paths n events) + flight ≤ time))
 
 -- A network in which trees were moved, as a system failed, has come to rest by a time, as one whose ports are capable
 -- from a start on. Nothing has changed since. What others held of it was gone by a moment, and a way later, by that
