@@ -7,7 +7,7 @@ ghost use Rattle.gptp_setup.specs.SettlingParams.{largest_interval};
 ghost use Rattle.gptp_scenario.specs.Network.{pace_of};
 ghost use Rattle.gptp_scenario.specs.SettlingAtOnce.{settling_span_at_once};
 ghost use Rattle.gptp_scenario.specs.SettlingTime.{capability_span, echo_span, silence_span, way_span};
-ghost use Rattle.gptp_how_soon.specs.Bounds.{aged_by, aged_echo_span, any_loss_span, arrived_by, asked_again, choice_by, exact_from, exact_span, gone_by, heard_by, is_again, is_hard_to_hear, quiet_by, ready, retold_by, roles_by, set_span, settled, sound_by, times_by, two_exchanges, watch};
+ghost use Rattle.gptp_how_soon.specs.Bounds.{aged_by, aged_echo_span, any_loss_span, arrived_by, asked_again, choice_by, exact_from, exact_span, gone_by, heard_by, is_again, is_hard_to_hear, quiet_by, ready, retold_by, roles_by, set_span, settled, sound_by, taken_echo_span, times_by, two_exchanges, watch};
 
 use crate::kinds::{Told, recovers};
 use crate::links::varies;
@@ -76,8 +76,8 @@ pub enum Row {
     FailureCutsOff,
     /// One link goes down so that moves one system alone. That keeps its root, and turns to others for it.
     SystemTurned,
-    /// One link goes down so that cuts off a tree, whose systems have a worse root then.
-    TreeCutOff,
+    /// One link goes down so that cuts off a tree, or its best gets worse. Its systems have a worse root then.
+    TreeFalls,
     /// One link goes down so that moves a tree. Its systems keep their root, and get it by one other link.
     TreeTurned,
     /// A system fails, and all that are moved are trees: some are cut off, one may turn by one other link.
@@ -280,7 +280,7 @@ fn choice_by(network: &Network, loss: Loss, paths: SyncPaths, row: Row, gained: 
         Row::Unchanged | Row::Lowered | Row::FailedEnd | Row::TakenAway => 0,
         Row::FailedHeard => aged_by(loss),
         Row::FailureCutsOff | Row::FailureMovesTrees => aged_by(loss) + 2 * way_span(paths),
-        Row::CutOff | Row::SystemTurned | Row::TreeCutOff | Row::TreeTurned => 2 * way_span(paths),
+        Row::CutOff | Row::SystemTurned | Row::TreeFalls | Row::TreeTurned => 2 * way_span(paths),
         Row::AnyLosses => any_loss_span(network, loss, paths),
         Row::Gained => gained,
     }
@@ -307,7 +307,7 @@ fn roles_by(network: &Network, loss: Loss, paths: SyncPaths, row: Row, gained: u
         Row::FailureCutsOff | Row::FailureMovesTrees => {
             quiet_by(network, loss, aged_by(loss) + 2 * way_span(paths))
         }
-        Row::CutOff | Row::SystemTurned | Row::TreeCutOff | Row::TreeTurned => 2 * way_span(paths),
+        Row::CutOff | Row::SystemTurned | Row::TreeFalls | Row::TreeTurned => 2 * way_span(paths),
         Row::AnyLosses => quiet_by(network, loss, any_loss_span(network, loss, paths)),
         Row::Gained => gained,
     }
@@ -356,6 +356,21 @@ fn aged_echo_span(network: &Network, loss: Loss, paths: SyncPaths) -> u64
     silence_span(network).max(aged_by(loss) + 1 + gone)
 }
 
+/// By how much later than several are taken away each tells a right trace, in ns, and what was in flight is gone.
+fn taken_echo_span(network: &Network, loss: Loss, paths: SyncPaths) -> u64
+    requires few { paths.systems ≤ 512 }
+    requires short { paths.delay ≤ 16000000000 }
+    requires short_before { loss.paths_before.delay ≤ 16000000000 }
+    ensures is { result ≡ taken_echo_span network.now loss paths }
+    ensures bound { result ≤ 110000000000000 }
+{
+    if loss.used {
+        echo_span(network, paths).max(paths.delay)
+    } else {
+        any_loss_span(network, loss, paths)
+    }
+}
+
 /// The bound of what is held and in flight, in ns.
 fn sound_by(network: &Network, loss: Loss, paths: SyncPaths, row: Row, gained: u64) -> u64
     requires few { paths.systems ≤ 512 }
@@ -375,8 +390,8 @@ fn sound_by(network: &Network, loss: Loss, paths: SyncPaths, row: Row, gained: u
         Row::AnyPast => settling_span_at_once(network, paths),
         Row::Unchanged => 0,
         Row::Lowered => echo_span(network, paths).max(gone),
-        Row::TakenAway => echo_span(network, paths).max(gone_by(network, paths, loss.used)),
-        Row::CutOff | Row::TreeCutOff => (2 * way_span(paths)).max(gone),
+        Row::TakenAway => taken_echo_span(network, loss, paths),
+        Row::CutOff | Row::TreeFalls => (2 * way_span(paths)).max(gone),
         Row::FailedEnd => quiet_by(network, loss, gone_before),
         Row::FailedHeard => aged_echo_span(network, loss, paths),
         Row::FailureCutsOff => {
@@ -416,7 +431,7 @@ fn retold_by(network: &Network, loss: Loss, paths: SyncPaths, row: Row, gained: 
             aged_by(loss) + 2 * way_span(paths) + echo_span(network, paths)
         }
         Row::SystemTurned | Row::TreeTurned => echo_span(network, paths) + 2 * way_span(paths),
-        Row::CutOff | Row::TreeCutOff => 2 * way_span(paths),
+        Row::CutOff | Row::TreeFalls => 2 * way_span(paths),
         Row::AnyLosses => any_loss_span(network, loss, paths),
         Row::Gained => gained,
     }

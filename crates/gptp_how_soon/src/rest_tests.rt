@@ -89,17 +89,17 @@ fn events_come_from_rest_soon_after_a_loss(rt: HostRuntime) -> Result<(), Fail> 
             1_000_003_050,
         ),
         (
-            "the root gets worse",
-            "[[event]]\nat = 100000000000\nkind = \"priority1\"\nclock = \"000000000000000a\"\nvalue = 250\n[[event]]\nat = 101000000000\nkind = \"link_up\"\nclock = \"000000000000000b\"\nport = 2\n",
-            13_000_003_280,
-            101_000_000_000,
+            "the root gets worse, and a link comes up as the network rests",
+            "[[event]]\nat = 100000000000\nkind = \"priority1\"\nclock = \"000000000000000a\"\nvalue = 250\n[[event]]\nat = 100000002870\nkind = \"link_up\"\nclock = \"000000000000000b\"\nport = 2\n",
+            2_870,
+            100_000_002_870,
             15_000_002_870,
         ),
         (
             "the root gets worse, and then a link comes up",
-            "[[event]]\nat = 100000000000\nkind = \"priority1\"\nclock = \"000000000000000a\"\nvalue = 250\n[[event]]\nat = 113000003281\nkind = \"link_up\"\nclock = \"000000000000000b\"\nport = 2\n",
-            13_000_003_280,
-            113_000_003_281,
+            "[[event]]\nat = 100000000000\nkind = \"priority1\"\nclock = \"000000000000000a\"\nvalue = 250\n[[event]]\nat = 100000002871\nkind = \"link_up\"\nclock = \"000000000000000b\"\nport = 2\n",
+            2_870,
+            100_000_002_871,
             1_000_003_050,
         ),
     ] {
@@ -122,8 +122,8 @@ fn events_come_from_rest_soon_after_a_loss(rt: HostRuntime) -> Result<(), Fail> 
 fn events_come_from_rest_soon_after_several_losses(rt: HostRuntime) -> Result<(), Fail> {
     // Two links go down that nobody's choice comes by. One comes up again as the network rests, or 1 ns later.
     for (case, next, choice) in [
-        ("too soon", 33_000_001_640, 15_000_002_870),
-        ("from rest", 33_000_001_641, 1_000_003_050),
+        ("too soon", 32_000_001_230, 15_000_002_870),
+        ("from rest", 32_000_001_231, 1_000_003_050),
     ] {
         let mut text = String::new(rt.alloc());
         for (at, kind, clock) in [
@@ -146,7 +146,7 @@ fn events_come_from_rest_soon_after_several_losses(rt: HostRuntime) -> Result<()
         let times = joined(rt.alloc(), &["a", "b", "c", "d"], links, text.as_str())?;
         assert_eq!(rt;
             rests(&times, 30_000_000_000, next),
-            Some((3_000_001_640, choice)),
+            Some((2_000_001_230, choice)),
             "{case}"
         );
     }

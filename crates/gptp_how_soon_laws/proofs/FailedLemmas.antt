@@ -5,18 +5,16 @@ use Rattle.std.proofs.Common.{◌≡◌, ◌<◌, ◌≤◌, ◌⊎◌, inl, inr
 use Rattle.std.specs.Prelude.{◌==◌, ◌&&◌, ◌||◌, nat_lt, not, if◌then◌else◌}
 use Rattle.std.specs.List.{cons_option, filter_map, list_all}
 use Rattle.std.specs.List.Sorted.{IsPermutation}
-use Rattle.std.proofs.lemmas.Bool.{and_from, and_parts, eq-eqb, eqb-true, or_cases, false_from_ne_true}
+use Rattle.std.proofs.lemmas.Bool.{and_parts, eq-eqb, eqb-true, or_cases, false_from_ne_true}
 use Rattle.std.proofs.lemmas.Bool.Decides.{nat_tests}
 use Rattle.gptp_lists.specs.Members.{In}
 use Rattle.gptp_lists.proofs.MappedLemmas.{mapped_there}
-use Rattle.gptp_lists.proofs.SystemSpecLemmas.{from_map, In-map, In-slice_get, slice_get-In}
+use Rattle.gptp_lists.proofs.SystemSpecLemmas.{In-map, In-slice_get, slice_get-In}
 use Rattle.gptp_graph.specs.Snapshot.{IsWellFormed, Snapshot, System, clocks, Link}
 use Rattle.gptp_graph.proofs.DistanceLemmas.{IsDistance-unique}
 use Rattle.gptp_graph.proofs.LinkLemmas.{Adjacent-clock, Adjacent-sym}
-use Rattle.gptp_graph.proofs.SystemLemmas.{In-clocks}
 use Rattle.gptp_roles.specs.Selection.{clock_of}
 use Rattle.gptp_scenario.specs.Change.{standing, system_acted, system_after, with_live, is_at, joined_after, link_acted, link_after, live_after, with_up}
-use Rattle.gptp_scenario.specs.InUse.{lives}
 use Rattle.gptp_scenario.specs.Network.{IsNetwork, NetworkState}
 use Rattle.gptp_scenario.specs.SyncWait.{sync_paths}
 use Rattle.gptp_scenario.specs.declared.change.Act.TheVariants as acts
@@ -24,9 +22,7 @@ use Rattle.gptp_scenario.specs.declared.change.Change.TheVariants as changes
 use Rattle.gptp_scenario.specs.declared.change.Timed.{Timed}
 use Rattle.gptp_scenario.specs.declared.network.SystemSpec.{SystemSpec}
 use Rattle.gptp_network.specs.Snapshot.{StandsAfter, has_clock, joins_two, link_of, system_of}
-use Rattle.gptp_network.proofs.InUseLemmas.{live_there, there_live}
-use Rattle.gptp_network.proofs.PassLemmas.{passes, passes_at}
-use Rattle.gptp_network.proofs.SnapshotLemmas.{with_clock}
+use Rattle.gptp_network.proofs.InUseLemmas.{there_live}
 use Rattle.gptp_theorem.proofs.EventLemmas.{system_behind, link_behind}
 use Rattle.gptp_topology.specs.After.{system_then, systems_after, standing_then, standings_after}
 use Rattle.gptp_topology.specs.declared.nodes.System as ours
@@ -53,6 +49,7 @@ use Rattle.gptp_how_soon.specs.declared.kinds.What.{What}
 use Rattle.gptp_settling_time.proofs.SamePathsLemmas.{idle_same, is_end, lives_not, map_same, turned_paths}
 use Rattle.gptp_how_soon_laws.proofs.KindLemmas.{told}
 use Rattle.gptp_how_soon_laws.proofs.ToldLemmas.{failure_is, loss_fails, unused_lowers}
+use Rattle.gptp_how_soon_laws.proofs.LivesOnLemmas.{clock_lived}
 use Rattle.gptp_how_soon_laws.proofs.LoweredLemmas.{joined_by}
 use Rattle.gptp_how_soon_laws.proofs.RepeatLemmas.{paths_seen, repeats_by, stands_seen}
 use Rattle.gptp_how_soon_laws.proofs.UnmovedLemmas.{AreWell, none_joined_there, unmoved_at}
@@ -179,19 +176,7 @@ module _ (n : NetworkState) (network : IsNetwork n) (made : List Timed) (event :
 
     pub clock_before : (g h : Snapshot) → StandsAfter n made g → StandsAfter n later h → (v : ℕ) → In v (clocks h)
         → In v (clocks g)
-    clock_before g h stands stands' v known =
-        let (s, there, named) = from_map (λ (t : System). t.clock) v h.systems known in
-        let has : has_clock h.systems v ≡ true =
-        passes_at (λ (t : System). t.clock == v) h.systems s there (eq-eqb s.clock v named) in
-        let (k, among, both) =
-        passes (λ (k : SystemSpec). (clock_of k.identity == v) && (system_after later k).live) n.systems
-        (there_live n network later h stands' v has) in
-        let (is, live) = and_parts (clock_of k.identity == v) (system_after later k).live both in
-        let lives_before : lives n.systems made v ≡ true =
-        passes_at (λ (k : SystemSpec). (clock_of k.identity == v) && (system_after made k).live) n.systems k among
-        (and_from (clock_of k.identity == v) (system_after made k).live is (lived k live)) in
-        let (t, here, same) = with_clock g.systems v (live_there n network made g stands v lives_before) in
-        subst (λ c. In c (clocks g)) same (In-clocks g t here)
+    clock_before = clock_lived n network made later (λ m member. lived m)
 
   -- of it and of those behind it no system is moved, and what stands after it stands after all of them
   module _ (all : List Timed) (well : AreWell n all) (was : (g : Snapshot) → StandsAfter n made g → IsWellFormed g)

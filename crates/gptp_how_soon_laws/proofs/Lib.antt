@@ -17,7 +17,9 @@ mod LostLinkLemmas
 mod OneLostLemmas
 mod TreeTestLemmas
 mod TreeBelowLemmas
+mod FallsBelowLemmas
 mod TreeLemmas
+mod TreeWorsenedLemmas
 mod TurnedTreeTestLemmas
 mod TurnsBelowLemmas
 mod TurnedTreeLemmas
@@ -34,6 +36,7 @@ mod RowTestLemmas
 mod ArrivedLemmas
 mod RowLemmas
 mod AnyLossLemmas
+mod TakenAwayLemmas
 pub mod ChoiceLemmas
 pub mod StepLemmas
 mod SettledLemmas
