@@ -464,11 +464,12 @@ RestsOnceTold n made now rest =
 abbrev pub RestsAfterOneLoss : NetworkState → List Timed → List Timed → ℕ → Type 0
 RestsAfterOneLoss n made now rest =
     (CutsOneEnd n made now
-    × ((gone : ℕ) × FlightIsGoneFrom n (made ++ now) gone
+    × ((gone : ℕ) × FlightIsGoneFrom n (made ++ now) (last_change (made ++ now)) gone
     × (rest ≡ max (2 * way_span (sync_paths n (made ++ now))) gone)))
     ⊎ ((FailsEndFirst n made now
-    × ((NoneSilent n made (made ++ now) × FlightIsGoneFrom n made rest)
-    ⊎ ((gone : ℕ) × FlightIsGoneFrom n made gone × (rest ≡ max (silence_span (pace_of n)) gone))))
+    × ((NoneSilent n made (made ++ now) × FlightIsGoneFrom n made (last_change (made ++ now)) rest)
+    ⊎ ((gone : ℕ) × FlightIsGoneFrom n made (last_change (made ++ now)) gone
+    × (rest ≡ max (silence_span (pace_of n)) gone))))
     ⊎ ((LowersOneLink n made now
     × ((gone : ℕ) × FlightIsGone n (made ++ now) gone
     × (rest ≡ max (echo_span (pace_of n) (sync_paths n (made ++ now))) gone)))
