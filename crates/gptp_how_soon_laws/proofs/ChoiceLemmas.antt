@@ -468,7 +468,10 @@ module _ (d : DocumentState) (playable : IsPlayable d) where
         by x true used same =
             inr (inr (x.takes, x.leaves, x.few, used_up n playable.network (made ++ now) used, omega (arith, same)))
         by x false used same =
-            inr (inl (any_loss_span n loss v.paths, several_lost n playable.network made now x.takes, refl, inl (x.none, same)))
+            inr (inl (
+              any_loss_span n loss v.paths,
+              (several_lost n playable.network made now x.takes, refl, inl (x.none, same)),
+            ))
     rests_by sound told (inr (inr (inr (inr (inr (inr (inr (inl (row, is))))))))) =
         let x = failure_cuts n playable.network all b at late well row in
         let echo : ℕ = max (echo_span (pace_of n) v.paths) (largest_interval (pace_of n)) in
