@@ -18,7 +18,7 @@ use Rattle.gptp_how_soon.specs.MovedTrees.{moves_trees}
 use Rattle.gptp_how_soon.specs.Rest.{has_come}
 use Rattle.gptp_how_soon.specs.Silent.{any_silent, heard_links, held_among, own_intervals}
 use Rattle.gptp_how_soon.specs.Times.{View, settling_time}
-use Rattle.gptp_how_soon.specs.Tree.{cuts_tree}
+use Rattle.gptp_how_soon.specs.Tree.{cuts_tree, worsens_best}
 use Rattle.gptp_how_soon.specs.Turned.{turns_one}
 use Rattle.gptp_how_soon.specs.TurnedTree.{turns_tree}
 use Rattle.gptp_how_soon.specs.declared.bounds.SettlingTime.{SettlingTime}
@@ -116,6 +116,9 @@ moves_seen n w at = record {
   falls = has_come_seen n w at
       && cuts_tree (systems_in w.tables.nodes.items) (lost_seen w) (ends_in_use w.ends.items (used_now w))
       (chosen_before w) (chosen_now w);
+  worsens = has_come_seen n w at
+      && worsens_best (systems_in w.tables.nodes.items) (ends_in_use w.ends.items (used_now w)) (chosen_before w)
+      (chosen_now w) w.told.items;
   tree_turns = has_come_seen n w at
       && turns_tree (systems_in w.tables.nodes.items) (lost_seen w) (ends_in_use w.ends.items (used_now w))
       (chosen_before w) (chosen_now w);

@@ -20,7 +20,7 @@ use crate::links::{delay_set, longest_among, lost_among, mark_used, new_links};
 use crate::moved_trees::moves_trees;
 use crate::rest::{Moves, asks_who_is_moved, has_come, heard_at_once, is_from_rest, row_of};
 use crate::silent::{any_silent, heard_links, held_among, own_intervals};
-use crate::tree::cuts_tree;
+use crate::tree::{cuts_tree, worsens_best};
 use crate::turned::turns_one;
 use crate::turned_tree::turns_tree;
 use gptp_scenario::{Act, Network, SyncPaths};
@@ -145,6 +145,7 @@ impl Walk {
             cut: all_cut_far_ends(&systems, &before, &links_before, &links, &lost),
             turned,
             falls: come && cuts_tree(&systems, &lost, &links, &before, &now),
+            worsens: come && worsens_best(&systems, &links, &before, &now, &self.told),
             tree_turns: come && turns_tree(&systems, &lost, &links, &before, &now),
             trees_move: come && moves_trees(&systems, &lost, &links, &before, &now),
             taken: !any_moved && !any_silent(&self.used_before, &self.tables.standings),
@@ -173,6 +174,7 @@ impl Walk {
                 cut: false,
                 turned: false,
                 falls: false,
+                worsens: false,
                 tree_turns: false,
                 trees_move: false,
                 taken: false,

@@ -6,7 +6,7 @@ use Rattle.std.specs.List.{AllByRecursion}
 use Rattle.std.proofs.lemmas.Bool.{eqb-false, eqb-true}
 use Rattle.std.proofs.lemmas.Bool.Decides.{nat_tests}
 use Rattle.gptp_lists.specs.Members.{In}
-use Rattle.gptp_lists.proofs.SystemSpecLemmas.{In-left, In-parts}
+use Rattle.gptp_lists.proofs.SystemSpecLemmas.{In-left, In-parts, slice_get-In}
 use Rattle.gptp_setup.specs.SettlingParams.{largest_interval, longest_span}
 use Rattle.gptp_scenario.specs.Calm.{IsCalm, NothingLapses, last_change}
 use Rattle.gptp_scenario.specs.Network.{NetworkState, pace_of}
@@ -17,14 +17,16 @@ use Rattle.gptp_scenario.specs.declared.sync_wait.SyncPaths.{SyncPaths}
 use Rattle.gptp_network.specs.Document.{DocumentState}
 use Rattle.gptp_network.specs.Snapshot.{events_by}
 use Rattle.gptp_network.proofs.SnapshotLemmas.{from_filter}
+use Rattle.gptp_invariants.specs.WorldEncodableLaws.{SetsAnOctet}
 use Rattle.gptp_theorem.specs.PlayedLaws.{IsPlayable}
 use Rattle.gptp_how_soon.specs.Bounds.{aged_by, aged_echo_span, any_loss_span, arrived_by, choice_by, choice_of_row, gone_by, quiet_by, roles_of_row, sound_by}
+use Rattle.gptp_how_soon.specs.Kinds.{is_lowering}
 use Rattle.gptp_how_soon.specs.Links.{longest_delay}
 use Rattle.gptp_how_soon.specs.Silent.{own_intervals}
 use Rattle.gptp_how_soon.specs.Times.{View, events_at, gained_at, last_set, loss_at, ready_at, row_at, settling_time, settling_times, settling_times_from, time_at, view_at}
 use Rattle.gptp_how_soon.specs.declared.bounds.Loss.{Loss}
 use Rattle.gptp_how_soon.specs.declared.bounds.Row.{Row}
-use Rattle.gptp_how_soon.specs.declared.bounds.Row.TheVariants.{AnyLosses, AnyPast, CutOff, FailedEnd, FailedHeard, FailureCutsOff, FailureMovesTrees, Gained, Lowered, SystemTurned, TakenAway, TreeCutOff, TreeTurned, Unchanged}
+use Rattle.gptp_how_soon.specs.declared.bounds.Row.TheVariants.{AnyLosses, AnyPast, CutOff, FailedEnd, FailedHeard, FailureCutsOff, FailureMovesTrees, Gained, Lowered, SystemTurned, TakenAway, TreeTurned, Unchanged, TreeFalls}
 use Rattle.gptp_how_soon.specs.declared.bounds.Settling.{Settling}
 use Rattle.gptp_how_soon.specs.declared.bounds.SettlingTime.{SettlingTime}
 use Rattle.gptp_settling_time.specs.HowSoon.{BeforeRepeats, BesideIdle, BoundsAging, BoundsAnyLoss, BoundsChoice, BoundsEvents, BoundsLoss, BoundsSplit, BoundsStart, BoundsTree, CutsOneEnd, FailsEndFirst, FailsHeardFirst, FailsTreesFirst, HeldFor, IsChoiceBoundAfter, IsLossBoundAfter, IsRestBoundAfter, LosesEvents, LowersOneLink, NoneBetween, RestsAfterLoss, RestsOnceTold, RestsSplit, RestsTree, RolesAfterFailure, TakesSeveral, TreeNext, TurnsOneLink}
@@ -38,7 +40,7 @@ use Rattle.gptp_settling_time.proofs.WellFormedLemmas.{after_well}
 use Rattle.gptp_how_soon_laws.specs.Choice.{SettlingsAreChoiceBounds}
 use Rattle.gptp_how_soon_laws.proofs.FailedLemmas.{used_up}
 use Rattle.gptp_how_soon_laws.proofs.RowBoundLemmas.{HasOwnBounds, IsSoundSooner, IsTelling, bounds_choice, choice_or_own, past_row, sound_or_sooner, tells}
-use Rattle.gptp_how_soon_laws.proofs.RowLemmas.{ComesLate, CutsLate, FailsLate, GoesFirst, TakesAway, cut_off, failed, failure_cuts, gained, heard, losses, lowered, none_left, same_paths, taken, tree_cut, tree_turned, turned, unchanged}
+use Rattle.gptp_how_soon_laws.proofs.RowLemmas.{ComesLate, FailsLate, GoesFirst, TakesAway, cut_off, failed, failure_cuts, gained, heard, losses, lowered, none_left, same_paths, taken, tree_turned, turned, unchanged, FallsLate, tree_falls}
 use Rattle.gptp_how_soon_laws.proofs.RepeatLemmas.{before_repeats}
 use Rattle.gptp_how_soon_laws.proofs.RowTestLemmas.{HasComeToRest}
 use Rattle.gptp_how_soon_laws.proofs.SilentLemmas.{held_for, last_now, none_ages}
@@ -175,6 +177,12 @@ module _ (d : DocumentState) (playable : IsPlayable d) where
     well events left are =
         after_well d playable events
         (λ t member. made_or_now t (subst (In t) are (In-left t events left member)))
+
+    -- each priority1 that is set is an octet
+    octets : (t : Timed) → In t now → SetsAnOctet t.act
+    octets t member =
+        let (place, there) = slice_get-In t all (from_filter (λ (u : Timed). u.at == at) t all member).0 in
+        playable.octets place t there
 
     -- it settles by this, whatever it loses
     abbrev settled_by : ℕ
@@ -313,9 +321,9 @@ module _ (d : DocumentState) (playable : IsPlayable d) where
     alone : (Are : List Timed → List Timed → Type 0) → Are made now → BeforeRepeats n Are made now
     alone Are is = before_none n Are made now is
 
-    behind : (g : GoesFirst n playable.network all b at late) (Are : List Timed → List Timed → Type 0)
+    behind : (g : GoesFirst n playable.network all b at late is_lowering) (Are : List Timed → List Timed → Type 0)
         → Are made (g.x.event ∷ []) → BeforeRepeats n Are made now
-    behind g Are is = before_repeats n playable.network made now g.x Are is
+    behind g Are is = before_repeats n playable.network is_lowering made now g.x Are is
 
     abbrev Resting : ℕ → List Timed → List Timed → Type 0
     Resting sound made now = RestsAfterLoss n made now sound
@@ -342,7 +350,7 @@ module _ (d : DocumentState) (playable : IsPlayable d) where
     abbrev Rests : ℕ → Type 0
     Rests sound =
         (HasComeToRest b at × BeforeRepeats n (Resting sound) made now)
-        ⊎ (((rest : HasComeToRest b at) × CutsLate n playable.network all b at late rest
+        ⊎ (((rest : HasComeToRest b at) × FallsLate n playable.network all b at late rest
         × (sound ≡ max (2 * way_span v.paths) (gone_by n v.paths v.used_before)))
         ⊎ (((rest : HasComeToRest b at) × ComesLate n playable.network all b at late (TurnsTreeLink n) rest
         × (sound ≡ turned_echo_span n (made ++ now)))
@@ -401,13 +409,13 @@ module _ (d : DocumentState) (playable : IsPlayable d) where
             inl (none_left n playable.network all b at late silent, subst (FlightIsGone n made) (sym same) flight)
     rests_by sound told (inr (inl (row, is))) =
         let (rest, (l, flight)) = lowered n playable.network all b at late well row in
-        let same = same_paths n playable.network all b at late l.first in
+        let same = same_paths n playable.network all b at late is_lowering l.first in
         let gone : ℕ = gone_by n v.paths v.used_before in
         let is_first = told ∙ is ∙ ap (λ (p : SyncPaths). max (echo_span (pace_of n) p) gone) same in
         inl (rest, behind l.first (Resting sound) (inl (inr (inr (inl (l.lowers, (gone, flight, is_first)))))))
     rests_by sound told (inr (inr (inl (row, is)))) =
         let x = cut_off n playable.network all b at late well row in
-        let same = same_paths n playable.network all b at late x.none.first in
+        let same = same_paths n playable.network all b at late is_lowering x.none.first in
         let gone : ℕ = gone_by n v.paths v.used_before in
         let is_first = told ∙ is ∙ ap (λ (p : SyncPaths). max (2 * way_span p) gone) same in
         inl (x.rested, behind x.none.first (Resting sound) (inl (inl (x.cuts, (gone, x.flight, is_first)))))
@@ -416,7 +424,7 @@ module _ (d : DocumentState) (playable : IsPlayable d) where
         inr (inr (inl (rest, tree, told ∙ is)))
     rests_by sound told (inr (inr (inr (inl (inl row, is))))) =
         let (rest, (g, turns)) = turned n playable.network all b at late well row in
-        let same = same_paths n playable.network all b at late g in
+        let same = same_paths n playable.network all b at late is_lowering g in
         let is_first = told ∙ is ∙ ap (λ (p : SyncPaths). 2 * way_span p + echo_span (pace_of n) p) same in
         inl (rest, behind g (Resting sound) (inl (inr (inr (inr (inl (turns, is_first)))))))
     rests_by sound told (inr (inr (inr (inr (inl (row, long)))))) =
@@ -449,7 +457,7 @@ module _ (d : DocumentState) (playable : IsPlayable d) where
           ))),
         )
     rests_by sound told (inr (inr (inr (inr (inr (inr (inl (row, is)))))))) =
-        let (rest, tree) = tree_cut n playable.network all b at late well row in inr (inl (rest, tree, told ∙ is))
+        let (rest, tree) = tree_falls n playable.network all b at late well octets row in inr (inl (rest, tree, told ∙ is))
     rests_by sound told (inr (inr (inr (inr (inr (inr (inr (inr (row, is))))))))) =
         let x = taken n playable.network all b at late well row in
         inl (x.rested, alone (Resting sound) (by x v.used refl (told ∙ is)))
@@ -500,7 +508,7 @@ module _ (d : DocumentState) (playable : IsPlayable d) where
     Asks choice roles =
         (HasComeToRest b at × BeforeRepeats n (Losing choice roles) made now)
         ⊎ ((((rest : HasComeToRest b at)
-        × (CutsLate n playable.network all b at late rest
+        × (FallsLate n playable.network all b at late rest
         ⊎ ComesLate n playable.network all b at late (TurnsTreeLink n) rest))
         × (choice ≡ 2 * way_span v.paths) × (roles ≡ choice))
         ⊎ (FailsLate n playable.network all b at late × BoundsSplit n choice roles made now))
@@ -577,7 +585,7 @@ module _ (d : DocumentState) (playable : IsPlayable d) where
     asks_by CutOff row own =
         let x = cut_off n playable.network all b at late well row in
         let way : ℕ = 2 * way_span v.paths in
-        let same = same_paths n playable.network all b at late x.none.first in
+        let same = same_paths n playable.network all b at late is_lowering x.none.first in
         inl (
           x.rested,
           behind x.none.first (Losing way way)
@@ -594,13 +602,13 @@ module _ (d : DocumentState) (playable : IsPlayable d) where
     asks_by SystemTurned row own =
         let (rest, (g, turns)) = turned n playable.network all b at late well row in
         let way : ℕ = 2 * way_span v.paths in
-        let same = same_paths n playable.network all b at late g in
+        let same = same_paths n playable.network all b at late is_lowering g in
         inl (
           rest,
           behind g (Losing way way) (inr (inr (inl (turns, ap (λ (p : SyncPaths). 2 * way_span p) same, refl)))),
         )
-    asks_by TreeCutOff row own =
-        let (rest, tree) = tree_cut n playable.network all b at late well row in
+    asks_by TreeFalls row own =
+        let (rest, tree) = tree_falls n playable.network all b at late well octets row in
         inr (inl ((rest, inl tree), refl, refl))
     asks_by TreeTurned row own =
         let (rest, tree) = tree_turned n playable.network all b at late well row in
