@@ -143,6 +143,7 @@ pub mod FallMadeLemmas
 pub mod WorsenedActLemmas
 pub mod WorsenedMadeLemmas
 pub mod WorsenedTracesLemmas
+pub mod OnwardLemmas
 pub mod NamedAfterLemmas
 pub mod TurnsDownLemmas
 pub mod TurnedToLemmas
@@ -218,6 +219,10 @@ pub mod OffForGoodLemmas
 pub mod SplitLemmas
 pub mod SplitAlwaysLemmas
 pub mod SplitDownLemmas
+pub mod SplitTracesLemmas
+pub mod SplitSoundLemmas
+pub mod TopsDeepLemmas
+pub mod TopsRestLemmas
 pub mod SplitLinksLemmas
 pub mod SplitSettlesLemmas
 pub mod SplitRestLemmas
