@@ -197,9 +197,9 @@ module _ (n : NetworkState) (network : IsNetwork n) (paths : SyncPaths) (few : p
             (aged_by loss + (2 * way_span paths + max (echo_span (pace_of n) paths) (largest_interval (pace_of n))))
             (omega (arith, w, e, l, a))
         by TakenAway =
-            let e = echo in
-            let g = either_most loss.used paths.delay (largest_interval (pace_of n)) 16000000000 short largest in
-            omega (arith, e, g)
+            let e = echo in let l = losses loss soon in
+            either_most loss.used (max (echo_span (pace_of n) paths) paths.delay) (any_loss_span n loss paths)
+            195000000000000 (omega (arith, e, short)) (omega (arith, l))
         by AnyLosses = roles_lost
         by Gained = early
 

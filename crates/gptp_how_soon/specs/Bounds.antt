@@ -127,12 +127,19 @@ aged_echo_span n loss paths =
     else max (silence_span (pace_of n))
     (aged_by loss + 1 + max (echo_span (pace_of n) paths) (largest_interval (pace_of n)))
 
+-- How much later than several are taken away, so that no system is moved, each tells a right trace and what was in
+-- flight is gone. That is followed where each link that is up is in use; else it takes as long as after any losses.
+abbrev pub taken_echo_span : NetworkState → Loss → SyncPaths → ℕ
+taken_echo_span n loss paths =
+    if loss.used then max (echo_span (pace_of n) paths) paths.delay else any_loss_span n loss paths
+
 -- By when all that is held and in flight is sound: as soon as the choice stands, but after a loss it may name what is
 -- gone. After a far end is cut off, a tree falls back, or a far end fails, only what was in flight does; of one that
--- fails by links of before too. After links go down by which no system is moved traces have to be told anew first, and
--- after systems fail besides. So they do once the choice stands where one system or a tree turns, or one fails that
--- others heard; where that cuts trees off what was in flight as they settled has to be gone too. After losses without
--- a row of their own all is sound once roles stand. After others it is as soon as the choice stands from any past.
+-- fails by links of before too. After a link goes down by which no system is moved traces have to be told anew first,
+-- and so they have where several are taken away. So they do once the choice stands where one system or a tree turns,
+-- or one fails that others heard; where that cuts trees off what was in flight as they settled has to be gone too.
+-- After losses without a row of their own all is sound once roles stand. After others it is as soon as the choice
+-- stands from any past.
 abbrev pub sound_of_row : NetworkState → Loss → SyncPaths → Row → ℕ → ℕ
 sound_of_row n loss paths AnyPast gained = settling_span_at_once (pace_of n) paths
 sound_of_row n loss paths Unchanged gained = 0
@@ -148,7 +155,7 @@ sound_of_row n loss paths TreeTurned gained = 2 * way_span paths + echo_span (pa
 sound_of_row n loss paths FailureMovesTrees gained =
     quiet_by n loss
     (aged_by loss + (2 * way_span paths + max (echo_span (pace_of n) paths) (largest_interval (pace_of n))))
-sound_of_row n loss paths TakenAway gained = max (echo_span (pace_of n) paths) (gone_by n paths loss.used)
+sound_of_row n loss paths TakenAway gained = taken_echo_span n loss paths
 sound_of_row n loss paths AnyLosses gained = quiet_by n loss (any_loss_span n loss paths)
 sound_of_row n loss paths Gained gained = gained
 

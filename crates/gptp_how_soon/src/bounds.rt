@@ -7,7 +7,7 @@ ghost use Rattle.gptp_setup.specs.SettlingParams.{largest_interval};
 ghost use Rattle.gptp_scenario.specs.Network.{pace_of};
 ghost use Rattle.gptp_scenario.specs.SettlingAtOnce.{settling_span_at_once};
 ghost use Rattle.gptp_scenario.specs.SettlingTime.{capability_span, echo_span, silence_span, way_span};
-ghost use Rattle.gptp_how_soon.specs.Bounds.{aged_by, aged_echo_span, any_loss_span, arrived_by, asked_again, choice_by, exact_from, exact_span, gone_by, heard_by, is_again, is_hard_to_hear, quiet_by, ready, retold_by, roles_by, set_span, settled, sound_by, times_by, two_exchanges, watch};
+ghost use Rattle.gptp_how_soon.specs.Bounds.{aged_by, aged_echo_span, any_loss_span, arrived_by, asked_again, choice_by, exact_from, exact_span, gone_by, heard_by, is_again, is_hard_to_hear, quiet_by, ready, retold_by, roles_by, set_span, settled, sound_by, taken_echo_span, times_by, two_exchanges, watch};
 
 use crate::kinds::{Told, recovers};
 use crate::links::varies;
@@ -356,6 +356,21 @@ fn aged_echo_span(network: &Network, loss: Loss, paths: SyncPaths) -> u64
     silence_span(network).max(aged_by(loss) + 1 + gone)
 }
 
+/// By how much later than several are taken away each tells a right trace, in ns, and what was in flight is gone.
+fn taken_echo_span(network: &Network, loss: Loss, paths: SyncPaths) -> u64
+    requires few { paths.systems ≤ 512 }
+    requires short { paths.delay ≤ 16000000000 }
+    requires short_before { loss.paths_before.delay ≤ 16000000000 }
+    ensures is { result ≡ taken_echo_span network.now loss paths }
+    ensures bound { result ≤ 110000000000000 }
+{
+    if loss.used {
+        echo_span(network, paths).max(paths.delay)
+    } else {
+        any_loss_span(network, loss, paths)
+    }
+}
+
 /// The bound of what is held and in flight, in ns.
 fn sound_by(network: &Network, loss: Loss, paths: SyncPaths, row: Row, gained: u64) -> u64
     requires few { paths.systems ≤ 512 }
@@ -375,7 +390,7 @@ fn sound_by(network: &Network, loss: Loss, paths: SyncPaths, row: Row, gained: u
         Row::AnyPast => settling_span_at_once(network, paths),
         Row::Unchanged => 0,
         Row::Lowered => echo_span(network, paths).max(gone),
-        Row::TakenAway => echo_span(network, paths).max(gone_by(network, paths, loss.used)),
+        Row::TakenAway => taken_echo_span(network, loss, paths),
         Row::CutOff | Row::TreeFalls => (2 * way_span(paths)).max(gone),
         Row::FailedEnd => quiet_by(network, loss, gone_before),
         Row::FailedHeard => aged_echo_span(network, loss, paths),

@@ -122,8 +122,8 @@ fn events_come_from_rest_soon_after_a_loss(rt: HostRuntime) -> Result<(), Fail> 
 fn events_come_from_rest_soon_after_several_losses(rt: HostRuntime) -> Result<(), Fail> {
     // Two links go down that nobody's choice comes by. One comes up again as the network rests, or 1 ns later.
     for (case, next, choice) in [
-        ("too soon", 33_000_001_640, 15_000_002_870),
-        ("from rest", 33_000_001_641, 1_000_003_050),
+        ("too soon", 32_000_001_230, 15_000_002_870),
+        ("from rest", 32_000_001_231, 1_000_003_050),
     ] {
         let mut text = String::new(rt.alloc());
         for (at, kind, clock) in [
@@ -146,7 +146,7 @@ fn events_come_from_rest_soon_after_several_losses(rt: HostRuntime) -> Result<()
         let times = joined(rt.alloc(), &["a", "b", "c", "d"], links, text.as_str())?;
         assert_eq!(rt;
             rests(&times, 30_000_000_000, next),
-            Some((3_000_001_640, choice)),
+            Some((2_000_001_230, choice)),
             "{case}"
         );
     }

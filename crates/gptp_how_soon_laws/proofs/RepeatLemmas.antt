@@ -17,7 +17,6 @@ use Rattle.gptp_scenario.specs.declared.network.SystemSpec.{SystemSpec}
 use Rattle.gptp_network.specs.Snapshot.{StandsAfter}
 use Rattle.gptp_topology.specs.After.{standing_then, standings_after, system_then, systems_after}
 use Rattle.gptp_topology.specs.Course.{cable_is_used, cable_of}
-use Rattle.gptp_topology.specs.declared.nodes.System.{System}
 use Rattle.gptp_how_soon.specs.Chosen.{any_joined_moved, chosen_after, chosen_over, ends_in_use, ends_of, lost_ends, moves_joined, used_ends}
 use Rattle.gptp_how_soon.specs.Far.{all_cut_far_ends, cut_far_ends_after}
 use Rattle.gptp_how_soon.specs.Kinds.{begins_with, is_idle, is_priority1, repeats}

@@ -23,7 +23,8 @@ use Rattle.gptp_settling_time.specs.Rests.{HasToldAnew, RestsFrom}
 use Rattle.gptp_settling_time.specs.InTurn.{ChoosesAfter, LeadOn, SettlesAfter}
 use Rattle.gptp_settling_time.specs.Losses.{LowersUnused, MovesNoneInAll, NoneSilent, UpIsUsed}
 use Rattle.gptp_settling_time.proofs.CalmStillLemmas.{alike_calm, idle_calm}
-use Rattle.gptp_settling_time.proofs.LeadOnLemmas.{HasRested, HasSettled, idle_leads, idle_settled, leads_on, settled_later, since, widens_leads}
+use Rattle.gptp_settling_time.proofs.LeadOnLemmas.{idle_leads, idle_settled, since, widens_leads}
+use Rattle.gptp_settling_time.proofs.SettledPastLemmas.{HasRested, HasSettled, leads_on, settled_later}
 use Rattle.gptp_settling_time.proofs.LossRestLemmas.{last_at}
 use Rattle.gptp_settling_time.proofs.SamePathsLemmas.{StandSame, idle_same, paths_same, same_alike, same_back, same_itself, same_lives, same_on, stands_before}
 
@@ -254,7 +255,7 @@ repeat_leads n made event now AnyPast begun = tt
 repeat_leads n made event now Starting begun = absurd (begun refl)
 repeat_leads n made event now (Gained start) begun = inr (inl (inl now.0.0, refl))
 repeat_leads n made event now (Heard start) begun = inr (inr (inl now.0.0, refl))
-repeat_leads n made event now (Left ago silent) begun = (inl (inr now), refl, refl)
+repeat_leads n made event now (Left ago silent) begun = (inr now, refl, refl)
 repeat_leads n made event now (Turned silent time) begun = (now, refl, refl)
 repeat_leads n made event now (Fallen silent time) begun = inr (now, refl)
 repeat_leads n made event now (TurnedTree silent time) begun = inr (now, refl)

@@ -1,6 +1,6 @@
 -- A state between two calm ones, of which each system stands as in one of them, and each lane is one of the second with
 -- fewer frames, is calm in the network of the second: what is left of the first.
-use Rattle.std.proofs.Common.{◌≡◌, ◌⊎◌, ◌<◌, ◌≤◌, ◌*◌, ℕ, suc, true, Some, slice_get, sym, subst, ◌∙◌, inl, inr, arith}
+use Rattle.std.proofs.Common.{◌≡◌, ◌⊎◌, ◌<◌, ◌≤◌, ◌*◌, ℕ, suc, Some, slice_get, sym, subst, ◌∙◌, inl, inr, arith}
 use Rattle.gptp_lists.specs.Members.{In}
 use Rattle.gptp_graph.specs.Snapshot.{IsLinked, Joins, PortIdentity, System, clocks, port_of}
 use Rattle.gptp_bmca_machine.specs.Calm.{Calm, HasStation, IsCalmStation}

@@ -96,7 +96,7 @@ module _ (d : DocumentState) (playable : IsPlayable d) (all : List Timed) (calm 
       news_measured p start w so.since.news links (omega (arith, late, on))
   have_measured (Left ago silent) w so settles links on =
       let change = (after_keeps d all (Left ago silent) w so).stands.last in
-      left_measured p so.left.before silent w so.left.since links (omega (arith, behind, on, change))
+      left_measured p so.before silent w so.since links (omega (arith, behind, on, change))
   have_measured (Cleared ago since silent right old) w so settles links on =
       let change = (after_keeps d all (Cleared ago since silent right old) w so).stands.last in
       left_measured p so.before silent w so.is.left links (omega (arith, behind, on, change))
@@ -115,7 +115,7 @@ module _ (d : DocumentState) (playable : IsPlayable d) (all : List Timed) (calm 
   have_measured (Split ago gone silent) w so settles links on =
       let change = (after_keeps d all (Split ago gone silent) w so).stands.last in
       split_measured p so.before (GoesOver d.network so.before ago all so.failed gone silent) so.failed gone silent w
-      so.since links (omega (arith, behind, on, change))
+      so.since.split links (omega (arith, behind, on, change))
   have_measured (Lost ago since most silent) w so settles links on =
       let change = (after_keeps d all (Lost ago since most silent) w so).stands.last in
       lost_measured p since most silent w so.is (omega (arith, behind, on, change))

@@ -25,10 +25,12 @@ use Rattle.gptp_settling_time.proofs.CalmStillLemmas.{alike_calm}
 use Rattle.gptp_settling_time.proofs.SamePathsLemmas.{StandSame, same_alike, same_back}
 use Rattle.gptp_settling_time.proofs.CutLemmas.{IsBy, all_by}
 use Rattle.gptp_settling_time.proofs.MomentLemmas.{all_at, last_by, parted}
-use Rattle.gptp_settling_time.proofs.LeadOnLemmas.{HasRested, HasSettled, IsLed, after_idle, any_leads, gains_led, heard_led, idle_led, lead_as, leads_on, led_as, settled_later, taken_later, wider_led}
+use Rattle.gptp_settling_time.proofs.LeadOnLemmas.{IsLed, after_idle, gains_led, heard_led, idle_led, lead_as, led_as, wider_led}
+use Rattle.gptp_settling_time.proofs.SettledPastLemmas.{HasRested, HasSettled, any_leads, leads_on, settled_later, taken_later}
 use Rattle.gptp_settling_time.proofs.LosesLeadLemmas.{any_rests}
 use Rattle.gptp_settling_time.proofs.LossLeadLemmas.{tree_leads}
 use Rattle.gptp_settling_time.proofs.LossRestLemmas.{cleared_led, last_at}
+use Rattle.gptp_settling_time.proofs.TakenLeadLemmas.{taken_rests}
 use Rattle.gptp_settling_time.proofs.NamedLemmas.{arrives_later}
 use Rattle.gptp_settling_time.proofs.SplitFollowedLemmas.{split_rests}
 
@@ -47,7 +49,8 @@ none_rests n made rest (inl (inr (inl (none, by)))) = none
 none_rests n made rest (inl (inr (inr (inl (none, by))))) = none
 none_rests n made rest (inl (inr (inr (inr (inl (none, by)))))) = none
 none_rests n made rest (inl (inr (inr (inr (inr (none, by)))))) = none
-none_rests n made rest (inr (choice, (none, is_choice, by))) = none
+none_rests n made rest (inr (inl (choice, (none, is_choice, by)))) = none
+none_rests n made rest (inr (inr (none, leaves, few, used, long))) = none
 
 -- it leads on to where the network has come to rest
 rest_leads : (n : NetworkState) → IsNetwork n → NothingLapses n.params → (time rest : ℕ) (made now : List Timed)
@@ -57,7 +60,8 @@ rest_leads : (n : NetworkState) → IsNetwork n → NothingLapses n.params → (
 rest_leads n network off time rest made now past at settled calm calm_now loses =
     by (elim loses [
       | inl one ↦ cleared_led n network off time made now past rest at calm calm_now settled one
-      | inr any ↦ any_rests n time network off made now past at settled calm rest any
+      | inr (inl any) ↦ any_rests n time network off made now past at settled calm rest any
+      | inr (inr taken) ↦ taken_rests n time off made now past rest at settled calm calm_now taken
     ])
   where
     by : IsLed n made now past (suc (time + rest))

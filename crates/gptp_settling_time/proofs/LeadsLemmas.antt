@@ -1,8 +1,7 @@
 -- An event leads a world of a document from what its network came from to the next.
-use Rattle.std.proofs.Common.{List, Option, [], arith, inl, inr, refl, ℕ, ◌++◌, ◌+◌, ◌∷◌, ◌≡◌}
+use Rattle.std.proofs.Common.{List, Option, [], arith, inl, inr, refl, ℕ, ◌++◌, ◌∷◌, ◌≡◌}
 use Rattle.gptp_links.specs.declared.bounds.Bounds.{Bounds}
 use Rattle.gptp_setup.specs.SettlingParams.{SettlingParams}
-use Rattle.gptp_scenario.specs.Calm.{last_change}
 use Rattle.gptp_scenario.specs.Network.{NetworkState, pace_of}
 use Rattle.gptp_scenario.specs.declared.change.Timed.{Timed}
 use Rattle.gptp_model.specs.Acts.{at}
@@ -148,8 +147,8 @@ module _ {F : Type 0} (answers : Bounds → ℕ → F → Option ℕ → F → T
         leads_to_turned_tree d playable made event then k.draws done w' k.acts refl time_now last_now keeps_then after
         past silent now leads named (later past so)
     leads_to past (Cleared ago since silent right old) leads named so =
-        leads_to_cleared d playable made event then k.draws done w' k.acts refl time_now last_now keeps_then after past
-        ago since silent right old leads (later past so)
+        leads_to_cleared d playable made event then k.draws done w' k.acts refl time_now last_now keeps_then after is
+        fit.octet past ago since silent right old leads (later past so)
     leads_to past (Aging ago aged silent) leads named so =
         leads_to_aging d playable made event then k.draws done w' k.acts refl time_now last_now keeps_then after past
         ago aged silent leads (later past so)

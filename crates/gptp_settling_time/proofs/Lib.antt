@@ -3,6 +3,7 @@ pub mod BetweenUnmovedLemmas
 pub mod NewsMeasuredLemmas
 pub mod OneCallLemmas
 pub mod TakenClaimedLemmas
+pub mod TakenClearedLemmas
 pub mod TakenDownLossLemmas
 pub mod TakenFailLossLemmas
 pub mod TakenLeadLemmas
@@ -104,6 +105,7 @@ pub mod LeftClaimedLemmas
 pub mod GoesDownLemmas
 pub mod ReducedLemmas
 pub mod BegunLeftLemmas
+pub mod PortDownLemmas
 pub mod LoweredLemmas
 pub mod DeadDownLemmas
 pub mod CalmLessLemmas
@@ -154,8 +156,10 @@ pub mod ClearsLemmas
 pub mod FarEndLemmas
 pub mod LostEndLemmas
 pub mod SoundButOldLemmas
+pub mod SettledPastLemmas
 pub mod LeadOnLemmas
 pub mod LossLeadLemmas
+pub mod LeadsToClearedLemmas
 pub mod LossRestLemmas
 pub mod SplitFollowedLemmas
 pub mod RightStageLemmas

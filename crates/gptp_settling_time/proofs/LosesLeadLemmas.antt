@@ -18,7 +18,8 @@ use Rattle.gptp_settling_time.specs.Leads.{AreUsedSince}
 use Rattle.gptp_settling_time.specs.InTurn.{LeadOn}
 use Rattle.gptp_settling_time.specs.Losses.{AreSilentAfter, LosesAny, NoneSilent}
 use Rattle.gptp_settling_time.proofs.CalmStillLemmas.{idle_calm}
-use Rattle.gptp_settling_time.proofs.LeadOnLemmas.{HasSettled, IsLed, idle_leads, idle_settled, makes_nothing, same_paths, since}
+use Rattle.gptp_settling_time.proofs.LeadOnLemmas.{IsLed, idle_leads, idle_settled, makes_nothing, same_paths, since}
+use Rattle.gptp_settling_time.proofs.SettledPastLemmas.{HasSettled}
 use Rattle.gptp_settling_time.proofs.LossLeadLemmas.{loses_leads}
 use Rattle.gptp_settling_time.proofs.UsedSinceLemmas.{idle_since}
 

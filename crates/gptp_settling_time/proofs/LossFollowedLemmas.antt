@@ -22,7 +22,8 @@ use Rattle.gptp_theorem.proofs.EventLemmas.{last_behind}
 use Rattle.gptp_settling_time.proofs.CalmLessLemmas.{fails_calm}
 use Rattle.gptp_settling_time.proofs.NamedLemmas.{arrives_later}
 use Rattle.gptp_settling_time.proofs.FollowedLemmas.{IsFollowedTo, besided, bound_calm, falls_on, followed, turns_on}
-use Rattle.gptp_settling_time.proofs.LeadOnLemmas.{HasSettled, lead_as, leads_on, taken_later}
+use Rattle.gptp_settling_time.proofs.LeadOnLemmas.{lead_as}
+use Rattle.gptp_settling_time.proofs.SettledPastLemmas.{HasSettled, leads_on, taken_later}
 use Rattle.gptp_settling_time.proofs.LosesLeadLemmas.{LosesBy, loses_by}
 use Rattle.gptp_settling_time.proofs.LossLeadLemmas.{IsLeftBy, dead_lead, heard_lead, loss_leads, splits_lead, turn_leads}
 use Rattle.gptp_settling_time.proofs.LossRestLemmas.{last_at}
@@ -56,7 +57,7 @@ none_lost n made choice roles (inr (inl (fails, is_choice, after))) = fails
 none_lost n made choice roles (inr (inr (inl (turns, is_choice, same)))) = turns
 none_lost n made choice roles (inr (inr (inr (inl (fails, bounds))))) = fails
 none_lost n made choice roles (inr (inr (inr (inr (inl (any, is_choice, after)))))) = any
-none_lost n made choice roles (inr (inr (inr (inr (inr (takes, leaves, none)))))) = takes
+none_lost n made choice roles (inr (inr (inr (inr (inr (takes, leaves, none, is_choice, is_roles)))))) = takes
 
 module _ (n : NetworkState) (network : IsNetwork n) (off : NothingLapses n.params) (time choice roles : ℕ) where
   abbrev IsLostTo : List Timed → List Timed → Past → Type 0
@@ -193,13 +194,13 @@ module _ (n : NetworkState) (network : IsNetwork n) (off : NothingLapses n.param
           let more = le-max_right choice quiet in
           heard held quiet (omega (arith, is_later)) (omega (arith, roles_later, more)) fails others bounds
       by (inr (inr (inr (inr (inl any))))) = any_lost any
-      by (inr (inr (inr (inr (inr (takes, leaves, none, are_0)))))) = record {
+      by (inr (inr (inr (inr (inr (takes, leaves, none, is_choice, is_roles)))))) = record {
         last = Fewer earlier time (sync_paths n earlier).delay (silent_from n time);
-        lead = taken_lead n time earlier event now seen at then calm_then off takes;
+        lead = taken_lead n time earlier (event ∷ now) seen at has calm_then off takes;
         so = (λ settled late. (off, leaves, none), λ settled late. (off, leaves, none));
       }
 
-  -- by one that cuts trees off, once what was sent before the choice stood has arrived
+  -- by one that moves trees, once what was sent before the choice stood has arrived
   split_leads : (made now : List Timed) (past : Past) (stood arrived : ℕ)
       → AllByRecursion (λ (t : Timed). t.at ≡ time) now → HasSettled n made past stood → last_change made < stood
       → HasArrivedBy n made stood arrived → arrived ≤ time → IsCalm n made → FailsTreesFirst n made now → BoundsSplit n

@@ -20,7 +20,7 @@ use Rattle.gptp_settling_time.proofs.CalmLessLemmas.{failure_calm, lowers_calm}
 use Rattle.gptp_theorem.proofs.EventLemmas.{last_behind}
 use Rattle.gptp_settling_time.proofs.CalmStillLemmas.{idle_calm}
 use Rattle.gptp_settling_time.proofs.SamePathsLemmas.{idle_paths, turned_paths}
-use Rattle.gptp_settling_time.proofs.LeadOnLemmas.{HasSettled}
+use Rattle.gptp_settling_time.proofs.SettledPastLemmas.{HasSettled}
 use Rattle.gptp_settling_time.proofs.SilentSpanLemmas.{fail_within, failure_within}
 
 module _ (n : NetworkState) (made : List Timed) (event : Timed) (roles : ℕ) where

@@ -62,7 +62,7 @@ pub sound_itself : (g : Snapshot) (from : PortIdentity) (a : Announce) → a.sou
 sound_itself g from a source (inl worse) best is root none =
     let above = worse best (subst (λ (k : PortIdentity). IsBest g k.clock best) source is) in
     absurd (omega (arith, above, root))
-sound_itself g from a source (inr whole) best is root = whole_alone g from a source whole
+sound_itself g from a source (inr whole) best is root none = whole_alone g from a source whole none
 
 pub itself_begins : (says : Spelling) (n : Network) (g : Snapshot) (w : MachineState) → IsSoundEverywhere says g w
     → AllNameItself says n g w

@@ -1,6 +1,6 @@
 -- What a call by which a port goes down leaves to others: each other system stands as it did, and lanes get longer at
 -- most. And as the machine sees it, it is a step.
-use Rattle.std.proofs.Common.{◌≡◌, ◌≢◌, ℕ, List, Some, slice_get, refl, sym, ap, subst, ◌∙◌, inl, inr, tt}
+use Rattle.std.proofs.Common.{◌≡◌, ◌≢◌, ℕ, List, Some, slice_get, refl, sym, ap, subst, ◌∙◌, inr}
 use Rattle.gptp_lists.specs.Members.{In}
 use Rattle.gptp_lists.proofs.MappedLemmas.{alike, same_there}
 use Rattle.gptp_lists.proofs.PlaceLemmas.{get-set_other}

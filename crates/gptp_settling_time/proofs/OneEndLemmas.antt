@@ -29,7 +29,8 @@ use Rattle.gptp_invariants.proofs.WorldActEncodableLemmas.{answering_kept}
 use Rattle.gptp_invariants.proofs.WorldAnsweringLemmas.{IsAnswering, calls_answering, sound_answers}
 use Rattle.gptp_settling_time.proofs.LeftClaimedLemmas.{left_network}
 use Rattle.gptp_settling_time.proofs.LinkStoodLemmas.{ends_apart, second_still}
-use Rattle.gptp_settling_time.proofs.LoweredLemmas.{CanLose, can_lose, wires}
+use Rattle.gptp_settling_time.proofs.LoweredLemmas.{can_lose, wires}
+use Rattle.gptp_settling_time.proofs.PortDownLemmas.{CanLose}
 use Rattle.gptp_settling_time.proofs.ReducedLemmas.{NearerStay}
 use Rattle.gptp_settling_time.specs.Losses.{IsUnmoved}
 use Rattle.gptp_settling_time.proofs.SettledSeenLemmas.{IsSettledSeen}

@@ -318,9 +318,10 @@ module _ (n : NetworkState) (network : IsNetwork n) (made : List Timed) where
           × ((v : LinkSpec) → In v n.links → link_acted act (link_after made v) ≡ link_after made v)
       by (Deliver link direction) is none = absurd none
       by (Expire number timer) is none = absurd none
-      by (Changing change) is idle =
-          (system_repeats change idle (λ number value same. other number value (is ∙ ap Changing same)),
-            link_idles change idle)
+      by (Changing change) is idle = (
+        system_repeats change idle (λ number value same. other number value (is ∙ ap Changing same)),
+        link_idles change idle,
+      )
 
   pub idle_paths : (event : Timed) → ChangesNothing n made event.act
       → sync_paths n (made ++ event ∷ []) ≡ sync_paths n made

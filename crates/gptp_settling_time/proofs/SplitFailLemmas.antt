@@ -283,7 +283,6 @@ module _ (p : SettlingParams) (number : ℕ) (w : WorldState) (draws : List Draw
       turned_so t is = record {
         well = well';
         left = left';
-        stand = loses.systems;
         lives = is.lives;
         was_best = is.was_best;
         is_best = is.is_best;
@@ -402,8 +401,8 @@ module _ (p : SettlingParams) (number : ℕ) (w : WorldState) (draws : List Draw
                   (moves_off g n' t.top best t.next t.base t.depth (cut_so t cut)) cut.in_top (stood_lane t.top)
                   (stay_of p) (named_in p w is) shorter (split.long t.top);
               turned = λ t turned.
-                  top_begins says_announce n0 n' net0 (view w) (view w') loss kept' (IsOf t.tree) (LeadsOut t.last t.out)
-                  number t.top best best t.base t.depth loses
+                  top_begins says_announce n0 n' net0 (view w) (view w') loss kept' (IsOf t.tree)
+                  (LeadsOut t.last t.out) number t.top best best t.base t.depth loses
                   (turns_moves g n' t.tree t.top number t.last t.out best t.base t.depth (turned_so t turned))
                   turned.in_top (stood_lane t.top) (stay_of p) (named_in p w is) shorter (split.long t.top);
             }
@@ -427,11 +426,11 @@ module _ (p : SettlingParams) (number : ℕ) (w : WorldState) (draws : List Draw
             settles' : SplitSettles p g split start (view w')
             settles' = record {
               cut = λ t cut.
-                  failing_settles says_announce n0 n' net0 (view w) (view w') loss after' t.top best t.next t.base t.depth
-                  (cut_so t cut) start (settles_by n' start) (λ f. omega arith);
+                  failing_settles says_announce n0 n' net0 (view w) (view w') loss after' t.top best t.next t.base
+                  t.depth (cut_so t cut) start (settles_by n' start) (λ f. omega arith);
               turned = λ t turned.
-                  turning_settles says_announce n0 n' net0 (view w) (view w') loss after' named t.tree t.top number t.last
-                  t.out best t.base t.depth (turned_so t turned) start (fallen_by n' start) (settles_by n' start)
+                  turning_settles says_announce n0 n' net0 (view w) (view w') loss after' named t.tree t.top number
+                  t.last t.out best t.base t.depth (turned_so t turned) start (fallen_by n' start) (settles_by n' start)
                   (turned_times p g split start t turned);
             }
 

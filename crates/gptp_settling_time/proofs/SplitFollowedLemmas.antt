@@ -1,4 +1,4 @@
--- After a system has failed and so cut trees off a network comes to rest, once right traces are told since the trees
+-- After a system has failed and so moved trees a network comes to rest, once right traces are told since the trees
 -- settled.
 use Rattle.std.proofs.Common.{List, [], arith, inl, inr, max, min, refl, subst, suc, sym, ℕ, ◌++◌, ◌+◌, ◌<◌, ◌∙◌, ◌∷◌, ◌≡◌, ◌≤◌, ◌⊎◌}
 use Rattle.std.specs.List.{AllByRecursion}
@@ -15,7 +15,7 @@ use Rattle.gptp_settling_time.specs.Pasts.{Heard, Past, Split}
 use Rattle.gptp_settling_time.specs.EventKinds.{nearer_echo_span}
 use Rattle.gptp_settling_time.specs.Losses.{AgesWithin, NoneSilent}
 use Rattle.gptp_settling_time.proofs.BesideIdleLemmas.{LeadsTo}
-use Rattle.gptp_settling_time.proofs.LeadOnLemmas.{HasRested, HasSettled}
+use Rattle.gptp_settling_time.proofs.SettledPastLemmas.{HasRested, HasSettled}
 use Rattle.gptp_settling_time.proofs.LossLeadLemmas.{splits_lead}
 use Rattle.gptp_settling_time.proofs.LossRestLemmas.{last_at, nearer_within}
 use Rattle.gptp_settling_time.proofs.SilentSpanLemmas.{none_silent}
@@ -24,7 +24,7 @@ module _ (n : NetworkState) (network : IsNetwork n) (off : NothingLapses n.param
   abbrev IsRestedTo : List Timed → List Timed → Past → Type 0
   IsRestedTo made now past = LeadsTo n made now past (λ events last. HasRested n events last (suc (time + rest)))
 
-  -- by events of one time of which the first cuts trees off, once what was sent before the choice stood has arrived
+  -- by events of one time of which the first moves trees, once what was sent before the choice stood has arrived
   pub split_rests : (made now : List Timed) (past : Past) (stood arrived : ℕ)
       → AllByRecursion (λ (t : Timed). t.at ≡ time) now → HasSettled n made past stood → last_change made < stood
       → HasArrivedBy n made stood arrived → arrived ≤ time → IsCalm n made → IsCalm n (made ++ now)

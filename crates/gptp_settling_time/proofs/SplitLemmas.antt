@@ -1,6 +1,6 @@
 -- A system failed and so moved trees, as the machine knows it: each tree leaves its old choice once its top has let go
 -- what the failed system told, and all settle once each distance has had its time.
-use Rattle.std.proofs.Common.{◌≡◌, ◌<◌, ◌≤◌, ◌+◌, ℕ, suc, arith}
+use Rattle.std.proofs.Common.{◌<◌, ◌≤◌, ◌+◌, ℕ, suc, arith}
 use Rattle.gptp_graph.specs.Snapshot.{Joins, Snapshot, System, port_of}
 use Rattle.gptp_setup.specs.SettlingParams.{SettlingParams}
 use Rattle.gptp_bmca_machine.specs.Acts.{MachineSteps}

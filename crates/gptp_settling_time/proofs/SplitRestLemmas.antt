@@ -16,7 +16,6 @@ use Rattle.gptp_bmca_machine.specs.Acts.{MachineSteps}
 use Rattle.gptp_bmca_machine.specs.Calm.{Calm}
 use Rattle.gptp_bmca_machine.specs.Network.{Network}
 use Rattle.gptp_bmca_machine.specs.SoundLaws.{AllAreNear}
-use Rattle.gptp_bmca_machine.proofs.StillLemmas.{live_before}
 use Rattle.gptp_invariants.specs.ChoiceCalm.{HaveQuietLinks}
 use Rattle.gptp_invariants.specs.ChoiceSeenLaws.{IsNoChange}
 use Rattle.gptp_invariants.specs.ChoiceView.{says_announce, view}

@@ -1,4 +1,4 @@
--- Worlds of documents since a system failed that others hear, and so cut trees off.
+-- Worlds of documents since a system failed that others hear, and so moved trees.
 use Rattle.std.proofs.Common.{◌≡◌, ◌⊎◌, ◌<◌, ◌≤◌, ◌+◌, ◌*◌, ℕ, pred, suc, Option, List, subst, inl, inr, arith}
 use native.Mathlib.Decide.{dec_le}
 use Rattle.gptp_graph.specs.PathBound.{path_bound}

@@ -176,13 +176,14 @@ module _ (p : SettlingParams) (g : Snapshot) (since most silent : ℕ) (w : Worl
       there = on.there;
       farther = on.farther;
     });
+    itself = record { lanes = is.seen.itself.lanes; stations = is.seen.itself.stations };
   }
 
   none_now : UnlinkedHoldNothing (snapshot_of w) (view w)
   none_now = none_held p w.time w standing_now heard_now lost.quiet (omega arith)
 
-  left_seen : IsLeftSeen says_announce g left_n (view w)
-  left_seen =
+  pub taken_left_seen : IsLeftSeen says_announce g left_n (view w)
+  taken_left_seen =
       aging_over says_announce g n_now is.well (stands_well w world.sound world.between world.encodable) left (view w)
       (taken_after p w.time w standing_now heard_now lost.quiet lost.off is.late) seen_now.fits seen_now.still none_now
 
@@ -198,16 +199,17 @@ module _ (p : SettlingParams) (g : Snapshot) (since most silent : ℕ) (w : Worl
   -- its choice stands
   pub taken_chooses : ChoiceStands w
   taken_chooses =
-      seen_chooses p left_n w world refl net calm left_seen.invariant settled_by_now (omega arith) (omega arith)
+      seen_chooses p left_n w world refl net calm taken_left_seen.invariant settled_by_now (omega arith) (omega arith)
 
   -- it has settled
   pub taken_settles : Settled w × IsBoundedWorld w
   taken_settles =
       let now : w.time ≤ w.time = omega arith in
       let settled : Settled w =
-      seen_settles p left_n w world refl net calm left_seen.invariant settled_by_now (omega arith) (omega arith) now in (
+      seen_settles p left_n w world refl net calm taken_left_seen.invariant settled_by_now (omega arith) (omega arith)
+      now in (
         settled,
         bounded_by p w world settled (λ place station here live best is_best.
             systems_bounded says_announce left_n (view w) place (station_view station) best net calm
-            left_seen.invariant (station_there w.stations place station here) live is_best (omega arith)),
+            taken_left_seen.invariant (station_there w.stations place station here) live is_best (omega arith)),
       )

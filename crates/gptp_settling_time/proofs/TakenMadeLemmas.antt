@@ -44,6 +44,7 @@ use Rattle.gptp_settling_time.proofs.LossMadeLemmas.{HasRestedSo}
 use Rattle.gptp_settling_time.proofs.LostClaimedLemmas.{IsLostAlways, asked_are_heard}
 use Rattle.gptp_settling_time.proofs.LostMadeLemmas.{loses_first, loses_more, losing_first, spares, takes}
 use Rattle.gptp_settling_time.proofs.LostToLemmas.{IsLostTo}
+use Rattle.gptp_settling_time.proofs.NamesItselfLemmas.{itself_begins}
 use Rattle.gptp_settling_time.proofs.SettledSeenLemmas.{IsSettledSeen, sound_fits}
 use Rattle.gptp_settling_time.proofs.TakenClaimedLemmas.{IsTakenAlways, taken_after}
 use Rattle.gptp_settling_time.proofs.TakenDownLossLemmas.{down_taken}
@@ -104,6 +105,7 @@ module _ (p : SettlingParams) (since most silent : ℕ) (w : WorldState) (losing
     late = late;
     seen = record {
       fits = fits;
+      itself = itself_begins says_announce n g (view w) sound;
       still = still_emptied says_announce g seen.n n well
           (record {
             place = seen.same.place;

@@ -82,8 +82,8 @@ module _ (d : DocumentState) (ago events : List Timed) (since most silent : ℕ)
   -- where no system is moved in all, and no lost link is silent
   module _ (w : WorldState) (so : IsTakenTo d ago events since most silent w) (playable : IsPlayable d)
       (leaves : MovesNoneInAll d.network ago events) (none : NoneSilent d.network ago events) where
-    left : IsLeftUnmoved so.before (snapshot_of w)
-    left = record {
+    pub taken_to_left : IsLeftUnmoved so.before (snapshot_of w)
+    taken_to_left = record {
       systems = so.is.systems;
       links = so.is.links;
       unmoved = λ v known.
@@ -97,8 +97,8 @@ module _ (d : DocumentState) (ago events : List Timed) (since most silent : ℕ)
     }
 
     -- the way that is left is over
-    way_over : pred (path_bound (snapshot_of w)) * delay_in w ≤ w.time
-    way_over =
+    pub taken_to_way : pred (path_bound (snapshot_of w)) * delay_in w ≤ w.time
+    taken_to_way =
         let before = so.way in
         let begun = so.lost.is.begun in
         let paths : sync_paths d.network events ≡ sync_paths_of w =
@@ -115,9 +115,9 @@ module _ (d : DocumentState) (ago events : List Timed) (since most silent : ℕ)
     -- its choice stands
     pub taken_to_chooses : ChoiceStands w
     taken_to_chooses =
-        taken_chooses (pace_of d.network) so.before since most silent w so.lost.is so.is left way_over quiet
+        taken_chooses (pace_of d.network) so.before since most silent w so.lost.is so.is taken_to_left taken_to_way quiet
 
     -- it has settled
     pub taken_to_settled : Settled w × IsBoundedWorld w
     taken_to_settled =
-        taken_settles (pace_of d.network) so.before since most silent w so.lost.is so.is left way_over quiet
+        taken_settles (pace_of d.network) so.before since most silent w so.lost.is so.is taken_to_left taken_to_way quiet

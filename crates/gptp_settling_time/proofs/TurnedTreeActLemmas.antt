@@ -158,7 +158,6 @@ module _ (p : SettlingParams) (silent owner port : ℕ) (w : WorldState) (draws 
       record {
         well = well';
         left = left_of (snapshot_of w) n well less.systems less.links;
-        stand = less.systems;
         lives = so.lives;
         was_best = so.was_best;
         is_best = so.is_best;
@@ -171,6 +170,8 @@ module _ (p : SettlingParams) (silent owner port : ℕ) (w : WorldState) (draws 
           well = well';
           left = left_of (snapshot_of w') n well' (λ s known. known) (λ a b joins. joins);
           were = left_of (snapshot_of w) n well less.systems less.links;
+          stands = λ s known. known;
+          stood = less.systems;
           at_tree = λ v i q in_v joins. joins;
           reach = path_bound (snapshot_of w');
           paths = paths_bound p w' is';

@@ -26,7 +26,7 @@ use Rattle.gptp_invariants.proofs.ChoiceSeenCallLemmas.{IsCallSeen, calls_seen}
 use Rattle.gptp_invariants.proofs.ChoiceSeenLaneLemmas.{lane_from, lane_there}
 use Rattle.gptp_invariants.proofs.ChoiceTakeUpLemmas.{BeginApart}
 use Rattle.gptp_invariants.proofs.WorldAnsweringLemmas.{IsAnswering}
-use Rattle.gptp_settling_time.proofs.LoweredLemmas.{CanLose, StandsReduced, goes_down_reduced, reduced_on}
+use Rattle.gptp_settling_time.proofs.PortDownLemmas.{CanLose, StandsReduced, goes_down_reduced, reduced_on}
 use Rattle.gptp_settling_time.proofs.ReducedLemmas.{IsReducedStation, reduced_itself}
 use Rattle.gptp_settling_time.proofs.EndAnswersLemmas.{EndAnswers}
 use Rattle.gptp_bmca_machine.proofs.FallLeaveLemmas.{disable_only}

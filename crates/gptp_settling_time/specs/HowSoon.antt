@@ -21,9 +21,11 @@
 -- - By the one event a link goes down that so cuts a tree off, or turns one to its one way out, once what was sent
 --   before the time before had come to rest has arrived. Choice and roles ask for twice the greatest delay for each
 --   system of a path but one.
--- - By the first event a system fails and so cuts trees off, once that has arrived, and no other comes but such links.
+-- - By the first event a system fails and so moves trees, once that has arrived, and no other comes but such links.
 --   The choice asks for what others hold of it to age, and then for twice the greatest delay for each system of a path
 --   but one. Roles stand then too, once no port beside it is capable.
+-- - By several events systems and links are taken away, and no system is moved in all but such as are cut off. It is 0
+--   where no lost link is silent.
 -- - By the events anything is taken away, whatever is moved. The choice asks for the longest receipt timeout and the
 --   greatest delay for each system of a path, and then for an announce interval and the greatest delay for each but
 --   one. Roles stand then too, once the ports beside a system that failed aren't capable any more.
@@ -301,10 +303,12 @@ LosesEvents n = AfterIdleEvents n (AreLossEvents n)
 abbrev pub IsTakenToo : NetworkState → List Timed → Timed → Type 0
 IsTakenToo n made event = TakesAny n made event ⊎ IsDownToo n made event
 
--- the first of them takes a system or a link away, and the others are such
-abbrev pub TakesEvents : NetworkState → List Timed → List Timed → Type 0
-TakesEvents n made [] = ⊥
-TakesEvents n made (event ∷ events) = TakesAny n made event × EachEvent (IsTakenToo n) (made ++ event ∷ []) events
+-- several do, the first of which takes a system or a link away, and the others are such
+abbrev pub TakesSeveral : NetworkState → List Timed → List Timed → Type 0
+TakesSeveral n made [] = ⊥
+TakesSeveral n made (event ∷ []) = ⊥
+TakesSeveral n made (event ∷ other ∷ events) =
+    TakesAny n made event × EachEvent (IsTakenToo n) (made ++ event ∷ []) (other ∷ events)
 
 -- the greatest delay of a link in use, before them or after them
 abbrev pub delay_between : NetworkState → List Timed → List Timed → ℕ
@@ -316,7 +320,7 @@ RolesAfterLoss n made now choice roles =
     (NoneSilent n made (made ++ now) × (roles ≡ choice))
     ⊎ (roles ≡ max choice (silence_span (pace_of n)))
 
--- By the first of them a system fails, which so cuts trees off. By the others links go down that are up, and of which
+-- By the first of them a system fails, which so moves trees. By the others links go down that are up, and of which
 -- an end has failed, or nothing is done.
 abbrev pub FailsTreesFirst : NetworkState → List Timed → List Timed → Type 0
 FailsTreesFirst n made [] = ⊥
@@ -359,11 +363,11 @@ BoundsAnyLoss n made now choice roles =
     × (choice ≡ loss_span (pace_of n) (sync_paths n (made ++ now)) (delay_between n made now))
     × RolesAfterLoss n made now choice roles
 
--- Where systems and links alone are taken away, no system is moved in all but such as are cut off, and no lost link is
--- silent, choice and roles stand at once, whoever is moved between.
+-- Where several systems and links are taken away, no system is moved in all but such as are cut off, and no lost link
+-- is silent, choice and roles stand at once, whoever is moved between.
 abbrev pub BoundsTaken : NetworkState → List Timed → List Timed → ℕ → ℕ → Type 0
 BoundsTaken n made now choice roles =
-    TakesEvents n made now × MovesNoneInAll n made (made ++ now) × NoneSilent n made (made ++ now)
+    TakesSeveral n made now × MovesNoneInAll n made (made ++ now) × NoneSilent n made (made ++ now)
     × (choice ≡ 0) × (roles ≡ 0)
 
 -- What the events of a time take away asks for so much: of the choice, and of the roles.
@@ -420,7 +424,7 @@ TurnsNext n = TreeNext n (TurnsTreeLink n)
 abbrev pub BoundsTree : NetworkState → ℕ → ℕ → List Timed → Type 0
 BoundsTree n choice roles events = (choice ≡ 2 * way_span (sync_paths n events)) × (roles ≡ choice)
 
--- By the first event of a time a system fails, which so cuts trees off, and they ask for what `Asks` says. Nothing
+-- By the first event of a time a system fails, which so moves trees, and they ask for what `Asks` says. Nothing
 -- lapses for want of Sync. The network is calm. What was sent before the time before had come to rest has arrived.
 abbrev pub SplitsNext : NetworkState → List Timed → (ℕ → Type 0) → ℕ → ℕ → (List Timed → List Timed → Type 0) → Type 0
 SplitsNext n events Then last time Asks =
@@ -475,8 +479,18 @@ RestsAfterOneLoss n made now rest =
 abbrev pub RestsAfterAnyLoss : NetworkState → List Timed → List Timed → ℕ → Type 0
 RestsAfterAnyLoss n made now rest = (choice : ℕ) × BoundsAnyLoss n made now choice rest
 
+-- After several systems and links were taken away, by which none is moved in all but such as are cut off, it has where
+-- each link that is up then is in use once right traces have been told.
+abbrev pub RestsTaken : NetworkState → List Timed → List Timed → ℕ → Type 0
+RestsTaken n made now rest =
+    TakesSeveral n made now × MovesNoneInAll n made (made ++ now)
+    × ((sync_paths n made).systems ≤ 255)
+    × UpIsUsed n (made ++ now)
+    × (max (echo_span (pace_of n) (sync_paths n (made ++ now))) (sync_paths n (made ++ now)).delay ≤ rest)
+
 abbrev pub RestsAfterLoss : NetworkState → List Timed → List Timed → ℕ → Type 0
-RestsAfterLoss n made now rest = RestsAfterOneLoss n made now rest ⊎ RestsAfterAnyLoss n made now rest
+RestsAfterLoss n made now rest =
+    RestsAfterOneLoss n made now rest ⊎ (RestsAfterAnyLoss n made now rest ⊎ RestsTaken n made now rest)
 
 -- After a tree was cut off it has come to rest once the tree has settled and what was in flight is gone.
 abbrev pub RestsTree : NetworkState → ℕ → List Timed → Type 0

@@ -29,7 +29,7 @@ use Rattle.gptp_scenario.specs.declared.change.Timed.{Timed}
 use Rattle.gptp_scenario.specs.declared.network.LinkSpec.{LinkSpec}
 use Rattle.gptp_settling_time.specs.Arrivals.{HasArrivedBy}
 use Rattle.gptp_settling_time.specs.Gains.{AreCapableAnyway, AreCapableNext, AreCapableStill, HasRested, RepeatsNow, TakesNothing}
-use Rattle.gptp_settling_time.specs.Losses.{AgesWithin, AreSilentAfter, LosesAny, LowersUnused}
+use Rattle.gptp_settling_time.specs.Losses.{AgesWithin, AreSilentAfter, LosesAny, LowersUnused, MovesNoneInAll}
 use Rattle.gptp_settling_time.specs.TreeLosses.{FailsTrees}
 use Rattle.gptp_settling_time.specs.Pasts.{Aging, AnyPast, Cleared, Fallen, Fewer, Gained, Heard, Left, Lost, Past, Split, Starting, Turned, TurnedTree}
 use Rattle.gptp_settling_time.specs.EventKinds.{AddsHeard, BettersClock, ClearsBy, FailsNow, FallsCalm, HasSettledAnyhow, HasSettledHeard, HasSettledSince, IsDownNow, LeavesSettled, LeavesStanding, LowersUnusedCalm, MakesNothing, StartsWith, TellsAnew, TellsNothing, TurnsCalm, TurnsTreeCalm, UsedVaryLittle, WidensFrom}
@@ -143,8 +143,22 @@ LeadsByTree n before (Heard start) event Moves silent time =
     (stood : ℕ) × HasSettledHeard n before start stood × TreeNow n before event Moves start stood silent time
 LeadsByTree n before past event Moves silent time = ⊥
 
+-- a system or a link is taken away
+abbrev pub TakesAny : NetworkState → List Timed → Timed → Type 0
+TakesAny n before event =
+    LosesAny n before event.act × ((number value : ℕ) → event.act ≡ Changing (Priority1 number value) → ⊥)
+
+-- At the time of a loss more may be, a link may go down of which an end has failed, and events come that change
+-- nothing.
+abbrev pub TakesMore : NetworkState → List Timed → Timed → ℕ → ℕ → Type 0
+TakesMore n before event since silent =
+    ((event.at ≡ since)
+    × ((TakesAny n before event × AreSilentAfter (pace_of n) event.at silent event.act) ⊎ LowersUnused n before event))
+    ⊎ RepeatsNow n before event
+
 -- A network that had settled is cleared, and one that is so stays so. One in which something ages is cleared as the
--- last link goes down of which an end has failed.
+-- last link goes down of which an end has failed. One from which systems and links are taken away is as the last is,
+-- where no system is moved in all but such as are cut off.
 abbrev pub LeadsToCleared : NetworkState → List Timed → Past → Timed → List Timed → ℕ → ℕ → ℕ → ℕ → Type 0
 LeadsToCleared n before AnyPast event ago since silent right old =
     HasSettledAnyhow n before event.at × (ago ≡ before)
@@ -166,7 +180,11 @@ LeadsToCleared n before (Aging made aged dark) event ago since silent right old 
     × TellsAnew n (before ++ event ∷ []) event.at since right old
 LeadsToCleared n before (Split made gone dark) event ago since silent right old = ⊥
 LeadsToCleared n before (Lost made start most dark) event ago since silent right old = ⊥
-LeadsToCleared n before (Fewer made start most dark) event ago since silent right old = ⊥
+LeadsToCleared n before (Fewer made start most dark) event ago since silent right old =
+    TakesMore n before event start dark × (ago ≡ made) × (silent ≡ dark)
+    × MovesNoneInAll n made (before ++ event ∷ [])
+    × ((sync_paths n made).systems ≤ 255)
+    × TellsAnew n (before ++ event ∷ []) event.at since right old
 
 -- Where a silent link goes down too what came over it is gone. So all has aged sooner by these events, if others were
 -- faster. Ports beside the system are off by a time that says when it failed.
@@ -238,22 +256,10 @@ LeadsToLost n before (Lost old begun delay start) event ago since most silent =
     × (most ≡ delay) × (silent ≡ start)
 LeadsToLost n before (Fewer old begun delay start) event ago since most silent = ⊥
 
--- a system or a link is taken away
-abbrev pub TakesAny : NetworkState → List Timed → Timed → Type 0
-TakesAny n before event =
-    LosesAny n before event.act × ((number value : ℕ) → event.act ≡ Changing (Priority1 number value) → ⊥)
-
 -- in a network that had settled a system or a link is taken away now
 abbrev pub TakesNow : NetworkState → List Timed → Timed → List Timed → ℕ → ℕ → ℕ → Type 0
 TakesNow n before event ago since most silent =
     (ago ≡ before) × LosesNow n before event since most silent × TakesAny n before event × (since < silent)
-
--- At that time more may be, a link may go down of which an end has failed, and events come that change nothing.
-abbrev pub TakesMore : NetworkState → List Timed → Timed → ℕ → ℕ → Type 0
-TakesMore n before event since silent =
-    ((event.at ≡ since)
-    × ((TakesAny n before event × AreSilentAfter (pace_of n) event.at silent event.act) ⊎ LowersUnused n before event))
-    ⊎ RepeatsNow n before event
 
 abbrev pub LeadsToFewer : NetworkState → List Timed → Past → Timed → List Timed → ℕ → ℕ → ℕ → Type 0
 LeadsToFewer n before AnyPast event ago since most silent =
@@ -280,7 +286,7 @@ abbrev pub IsGoneBy : NetworkState → List Timed → List Timed → ℕ → ℕ
 IsGoneBy n ago events failed gone = (span : ℕ) × AgesWithin n ago events failed span
     × (gone ≡ suc (failed + min span (silence_span (pace_of n))))
 
--- In a network whose choice stands a system fails now, and so cuts trees off. What was sent before the choice stood has
+-- In a network whose choice stands a system fails now, and so moves trees. What was sent before the choice stood has
 -- arrived.
 pub record SplitsNow (n : NetworkState) (before : List Timed) (event : Timed) (stood gone silent : ℕ) : Type 0 where
   pub fails : FailsTrees n before event

@@ -19,7 +19,7 @@
 -- - Aging: a system failed that others heard. What they hold of it ages, and the choice stands once that is gone. The
 --   network has come to rest, as if all had been heard, once right traces have been told by distance since, what was in
 --   flight is gone, and ports without a link aren't capable.
--- - Split: a system failed that others heard, and so cut trees off. What they hold of it goes. The network settles
+-- - Split: a system failed that others heard, and so moved trees. What they hold of it goes. The network settles
 --   twice the greatest delay for each system of a path but one later, once ports without a link aren't capable. It has
 --   come to rest, as if all had been heard, once right traces have been told by distance since and what was in flight
 --   is gone, if nothing has changed since the system failed.

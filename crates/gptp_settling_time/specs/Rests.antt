@@ -66,9 +66,9 @@ pub record HasFallenBack (n : NetworkState) (events : List Timed) (fallen start 
   pub gone : fallen + flight < time
   pub over : HasSettledHeard n events start time
 
--- A network from which trees were cut off, as a system failed, has come to rest by a time, as one whose ports are
--- capable from a start on. Nothing has changed since. What others held of it was gone by a moment, and a way later, by
--- that start, the trees had dropped the best of before. They settled within another way. Right traces have been told by
+-- A network in which trees were moved, as a system failed, has come to rest by a time, as one whose ports are capable
+-- from a start on. Nothing has changed since. What others held of it was gone by a moment, and a way later, by that
+-- start, the trees had dropped what they chose before. They settled within another way. Right traces have been told by
 -- distance since, and what was in flight is gone. Ports without a link aren't capable any more, or no lost link is
 -- silent. And the greatest delay has passed since the start for each system of a path but one.
 pub record HasToldApart (n : NetworkState) (ago events : List Timed) (gone silent start time : ℕ) : Type 0 where
