@@ -26,10 +26,10 @@ use Rattle.gptp_how_soon.specs.Silent.{own_intervals}
 use Rattle.gptp_how_soon.specs.Times.{View, events_at, gained_at, last_set, loss_at, ready_at, row_at, settling_time, settling_times, settling_times_from, time_at, view_at}
 use Rattle.gptp_how_soon.specs.declared.bounds.Loss.{Loss}
 use Rattle.gptp_how_soon.specs.declared.bounds.Row.{Row}
-use Rattle.gptp_how_soon.specs.declared.bounds.Row.TheVariants.{AnyLosses, AnyPast, CutOff, FailedEnd, FailedHeard, FailureCutsOff, FailureMovesTrees, Gained, Lowered, SystemTurned, TreeFalls, TreeTurned, Unchanged}
+use Rattle.gptp_how_soon.specs.declared.bounds.Row.TheVariants.{AnyLosses, AnyPast, CutOff, FailedEnd, FailedHeard, FailureCutsOff, FailureMovesTrees, Gained, Lowered, SystemTurned, TakenAway, TreeTurned, Unchanged, TreeFalls}
 use Rattle.gptp_how_soon.specs.declared.bounds.Settling.{Settling}
 use Rattle.gptp_how_soon.specs.declared.bounds.SettlingTime.{SettlingTime}
-use Rattle.gptp_settling_time.specs.HowSoon.{BeforeRepeats, BesideIdle, BoundsAging, BoundsAnyLoss, BoundsChoice, BoundsEvents, BoundsLoss, BoundsSplit, BoundsStart, BoundsTree, CutsOneEnd, FailsEndFirst, FailsHeardFirst, FailsTreesFirst, HeldFor, IsChoiceBoundAfter, IsLossBoundAfter, IsRestBoundAfter, LosesEvents, LowersOneLink, NoneBetween, RestsAfterLoss, RestsOnceTold, RestsSplit, RestsTree, RolesAfterFailure, TakesEvents, TreeNext, TurnsOneLink}
+use Rattle.gptp_settling_time.specs.HowSoon.{BeforeRepeats, BesideIdle, BoundsAging, BoundsAnyLoss, BoundsChoice, BoundsEvents, BoundsLoss, BoundsSplit, BoundsStart, BoundsTree, CutsOneEnd, FailsEndFirst, FailsHeardFirst, FailsTreesFirst, HeldFor, IsChoiceBoundAfter, IsLossBoundAfter, IsRestBoundAfter, LosesEvents, LowersOneLink, NoneBetween, RestsAfterLoss, RestsOnceTold, RestsSplit, RestsTree, RolesAfterFailure, TakesSeveral, TreeNext, TurnsOneLink}
 use Rattle.gptp_settling_time.specs.EventKinds.{FlightIsGone}
 use Rattle.gptp_settling_time.specs.Rests.{turned_echo_span}
 use Rattle.gptp_settling_time.specs.Losses.{NoneSilent}
@@ -40,10 +40,11 @@ use Rattle.gptp_settling_time.proofs.WellFormedLemmas.{after_well}
 use Rattle.gptp_how_soon_laws.specs.Choice.{SettlingsAreChoiceBounds}
 use Rattle.gptp_how_soon_laws.proofs.FailedLemmas.{used_up}
 use Rattle.gptp_how_soon_laws.proofs.RowBoundLemmas.{HasOwnBounds, IsSoundSooner, IsTelling, bounds_choice, choice_or_own, past_row, sound_or_sooner, tells}
-use Rattle.gptp_how_soon_laws.proofs.RowLemmas.{ComesLate, FallsLate, FailsLate, GoesFirst, cut_off, failed, failure_cuts, gained, heard, losses, lowered, none_left, same_paths, tree_falls, tree_turned, turned, unchanged}
+use Rattle.gptp_how_soon_laws.proofs.RowLemmas.{ComesLate, FailsLate, GoesFirst, TakesAway, cut_off, failed, failure_cuts, gained, heard, losses, lowered, none_left, same_paths, taken, tree_turned, turned, unchanged, FallsLate, tree_falls}
 use Rattle.gptp_how_soon_laws.proofs.RepeatLemmas.{before_repeats}
 use Rattle.gptp_how_soon_laws.proofs.RowTestLemmas.{HasComeToRest}
 use Rattle.gptp_how_soon_laws.proofs.SilentLemmas.{held_for, last_now, none_ages}
+use Rattle.gptp_how_soon_laws.proofs.TakenAwayLemmas.{several_lost}
 use Rattle.gptp_how_soon_laws.proofs.StartRowLemmas.{first_past, first_roles, first_sound, never_unchanged, started}
 use Rattle.gptp_how_soon_laws.proofs.UnmovedLemmas.{AreWell}
 use Rattle.gptp_how_soon_laws.proofs.TimesLemmas.{AreTimes, later_times, times_after, times_parts}
@@ -300,7 +301,7 @@ module _ (d : DocumentState) (playable : IsPlayable d) where
     some_lost choice roles events (inr (inr (inr (inr (inl (loses, is, later)))))) =
         some_of (LosesEvents n made) (λ none. none) events loses
     some_lost choice roles events (inr (inr (inr (inr (inr (takes, moves, none, is, same)))))) =
-        some_of (TakesEvents n made) (λ none. none) events takes
+        some_of (TakesSeveral n made) (λ none. none) events takes
 
     some_rested : (sound : ℕ) (events : List Timed) → RestsAfterLoss n made events sound → events ≡ [] → ⊥
     some_rested sound events (inl (inl (cuts, gone))) = some_of (CutsOneEnd n made) (λ none. none) events cuts
@@ -312,7 +313,9 @@ module _ (d : DocumentState) (playable : IsPlayable d) where
         some_of (TurnsOneLink n made) (λ none. none) events turns
     some_rested sound events (inl (inr (inr (inr (inr (fails, told)))))) =
         some_of (FailsHeardFirst n made) (λ none. none) events fails
-    some_rested sound events (inr (choice, bounds)) = some_of (LosesEvents n made) (λ none. none) events bounds.0
+    some_rested sound events (inr (inl (choice, bounds))) = some_of (LosesEvents n made) (λ none. none) events bounds.0
+    some_rested sound events (inr (inr (takes, leaves, few, used, long))) =
+        some_of (TakesSeveral n made) (λ none. none) events takes
 
     -- what is so of all events, or of the first, before such that repeat what stands
     alone : (Are : List Timed → List Timed → Type 0) → Are made now → BeforeRepeats n Are made now
@@ -447,15 +450,26 @@ module _ (d : DocumentState) (playable : IsPlayable d) where
         let (rest, loses, roles) = losses n playable.network all b at late row in
         inl (
           rest,
-          alone (Resting sound) (inr (
+          alone (Resting sound) (inr (inl (
             any_loss_span n loss v.paths,
             subst (λ t. BoundsAnyLoss n made now (any_loss_span n loss v.paths) t) (sym (told ∙ is))
                 (loses, refl, roles (any_loss_span n loss v.paths)),
-          )),
+          ))),
         )
     rests_by sound told (inr (inr (inr (inr (inr (inr (inl (row, is)))))))) =
         let (rest, tree) = tree_falls n playable.network all b at late well octets row in inr (inl (rest, tree, told ∙ is))
-    rests_by sound told (inr (inr (inr (inr (inr (inr (inr (row, is)))))))) =
+    rests_by sound told (inr (inr (inr (inr (inr (inr (inr (inr (row, is))))))))) =
+        let x = taken n playable.network all b at late well row in
+        inl (x.rested, alone (Resting sound) (by x v.used refl (told ∙ is)))
+      where
+        by : TakesAway n playable.network all b at late → (used : Bool) → v.used ≡ used
+            → sound ≡ (if used then max (echo_span (pace_of n) v.paths) v.paths.delay else any_loss_span n loss v.paths)
+            → RestsAfterLoss n made now sound
+        by x true used same =
+            inr (inr (x.takes, x.leaves, x.few, used_up n playable.network (made ++ now) used, omega (arith, same)))
+        by x false used same =
+            inr (inl (any_loss_span n loss v.paths, several_lost n playable.network made now x.takes, refl, inl (x.none, same)))
+    rests_by sound told (inr (inr (inr (inr (inr (inr (inr (inl (row, is))))))))) =
         let x = failure_cuts n playable.network all b at late well row in
         let echo : ℕ = max (echo_span (pace_of n) v.paths) (largest_interval (pace_of n)) in
         inr (inr (inr (
@@ -632,6 +646,9 @@ module _ (d : DocumentState) (playable : IsPlayable d) where
             quiet_later (2 * way_span v.paths),
           ),
         ))
+    asks_by TakenAway row own =
+        let x = taken n playable.network all b at late well row in
+        inl (x.rested, alone (Losing 0 0) (inr (inr (inr (inr (inr (x.takes, x.leaves, x.none, refl, refl)))))))
     asks_by AnyLosses row own =
         let (rest, loses, roles) = losses n playable.network all b at late row in
         let span : ℕ = any_loss_span n loss v.paths in

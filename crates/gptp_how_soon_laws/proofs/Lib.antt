@@ -36,6 +36,7 @@ mod RowTestLemmas
 mod ArrivedLemmas
 mod RowLemmas
 mod AnyLossLemmas
+mod TakenAwayLemmas
 pub mod ChoiceLemmas
 pub mod StepLemmas
 mod SettledLemmas

@@ -16,22 +16,22 @@ use Rattle.gptp_scenario.specs.declared.sync_wait.SyncPaths.{SyncPaths}
 use Rattle.gptp_network.specs.Snapshot.{events_by}
 use Rattle.gptp_invariants.specs.WorldEncodableLaws.{SetsAnOctet}
 use Rattle.gptp_how_soon.specs.Bounds.{is_hard_to_hear, gone_by, quiet_by}
-use Rattle.gptp_how_soon.specs.Chosen.{moves_joined}
-use Rattle.gptp_how_soon.specs.Kinds.{are_heard, begins_with, brings_nothing, fails_and_recovers, fails_first, is_better, is_gain, is_idle, is_loss, is_lowering, is_other, is_recovery, is_worsening, leaves_links, lowers_one, lowers_unused, makes_nothing, recovers, takes_one, begins_wider, first_wider_by, is_wider, worsens_first}
+use Rattle.gptp_how_soon.specs.Chosen.{moves_joined, moves_some}
+use Rattle.gptp_how_soon.specs.Kinds.{are_heard, brings_nothing, fails_and_recovers, fails_first, is_better, is_gain, is_idle, is_loss, is_other, is_recovery, leaves_links, lowers_one, lowers_unused, makes_nothing, recovers, takes_one, takes_several, begins_wider, first_wider_by, is_wider, begins_with, is_lowering, is_worsening, worsens_first}
 use Rattle.gptp_how_soon.specs.MovedTrees.{moves_trees_after}
-use Rattle.gptp_how_soon.specs.Rest.{are_events_followed, are_losses_followed, are_recoveries_followed, are_turns_followed, heard_at_once, is_failing_followed, is_from_rest, is_lowering_followed, keeps_paths, rested, is_wider_followed, is_worsening_followed, settles_wider_by}
-use Rattle.gptp_how_soon.specs.Times.{View, events_at, gained_at, has_come_after, loss_at, ready_at, row_at, told_at, told_of, view_at}
+use Rattle.gptp_how_soon.specs.Rest.{are_events_followed, are_losses_followed, are_recoveries_followed, are_turns_followed, heard_at_once, is_failing_followed, is_from_rest, is_lowering_followed, is_taking_followed, keeps_paths, rested, is_wider_followed, settles_wider_by, is_worsening_followed}
+use Rattle.gptp_how_soon.specs.Times.{View, events_at, gained_at, has_come_after, loss_at, ready_at, row_at, view_at, told_at, told_of}
 use Rattle.gptp_how_soon.specs.Tree.{cuts_tree_after, worsens_best_after}
 use Rattle.gptp_how_soon.specs.TurnedTree.{turns_tree_after}
 use Rattle.gptp_how_soon.specs.declared.bounds.Row.{Row}
-use Rattle.gptp_how_soon.specs.declared.bounds.Row.TheVariants.{AnyLosses, CutOff, FailedEnd, FailedHeard, FailureCutsOff, FailureMovesTrees, Gained, Lowered, SystemTurned, TreeFalls, TreeTurned, Unchanged}
+use Rattle.gptp_how_soon.specs.declared.bounds.Row.TheVariants.{AnyLosses, CutOff, FailedEnd, FailedHeard, FailureCutsOff, FailureMovesTrees, Gained, Lowered, SystemTurned, TakenAway, TreeTurned, Unchanged, TreeFalls}
 use Rattle.gptp_how_soon.specs.declared.bounds.Settling.{Settling}
 use Rattle.gptp_how_soon.specs.declared.bounds.SettlingTime.{SettlingTime}
 use Rattle.gptp_how_soon.specs.declared.kinds.Told.{Told}
 use Rattle.gptp_settling_time.specs.Arrivals.{HasArrivedBy}
-use Rattle.gptp_settling_time.specs.HowSoon.{AreWiderEvents, BeforeRepeats, BoundsGains, EachEvent, FailsEndFirst, FailsHeardFirst, FailsTreesFirst, IsStillEvent, LosesEvents, OneEvent, RolesAfterLoss}
+use Rattle.gptp_settling_time.specs.HowSoon.{AreWiderEvents, BeforeRepeats, BoundsGains, EachEvent, FailsEndFirst, FailsHeardFirst, FailsTreesFirst, IsStillEvent, LosesEvents, OneEvent, RolesAfterLoss, TakesSeveral}
 use Rattle.gptp_settling_time.specs.EventKinds.{FlightIsGone}
-use Rattle.gptp_settling_time.specs.Losses.{CutsFarEnd, LowersLink, NoneSilent, TurnsLink, UpIsUsed}
+use Rattle.gptp_settling_time.specs.Losses.{CutsFarEnd, LowersLink, MovesNoneInAll, NoneSilent, TurnsLink, UpIsUsed}
 use Rattle.gptp_settling_time.specs.TreeLosses.{FallsTree, TurnsTreeLink}
 use Rattle.gptp_settling_time.proofs.CutLemmas.{all_by}
 use Rattle.gptp_settling_time.proofs.LeadOnLemmas.{all_still}
@@ -53,6 +53,7 @@ use Rattle.gptp_how_soon_laws.proofs.UnmovedLemmas.{AreWell, all_still_unmoved}
 use Rattle.gptp_how_soon_laws.proofs.WorseningLemmas.{worsening_so}
 use Rattle.gptp_how_soon_laws.proofs.RowReasonLemmas.{ReasonOf, Tests, reason_of}
 use Rattle.gptp_how_soon_laws.proofs.SilentLemmas.{none_silent}
+use Rattle.gptp_how_soon_laws.proofs.TakenAwayLemmas.{several_taken, several_unmoved}
 use Rattle.gptp_how_soon_laws.proofs.RowTestLemmas.{HasComeToRest, at_most, counts_all, counts_joined, failing_takes, leaves_all, lowering_takes, not_both, over_before, rested_so}
 
 module _ (n : NetworkState) (network : IsNetwork n) (events : List Timed) (b : SettlingTime) (at : ℕ)
@@ -81,6 +82,7 @@ module _ (n : NetworkState) (network : IsNetwork n) (events : List Timed) (b : S
     far = v.moves.far;
     moved = v.moves.any_moved;
     trees = is_failing_followed v.paths_before v.paths v.told && v.moves.trees_move;
+    taken = is_taking_followed v.paths_before v.paths v.told && v.moves.taken;
     loss = list_any is_loss v.told;
     only = list_all brings_nothing v.told;
   }
@@ -593,6 +595,31 @@ module _ (n : NetworkState) (network : IsNetwork n) (events : List Timed) (b : S
   -- no lost link is left silent
   pub none_left : v.silent ≡ false → NoneSilent n made (made ++ now)
   none_left = none_silent n made (made ++ now)
+
+  -- Or several links and systems are taken away, no system is moved, and no lost link is left silent.
+  pub record TakesAway : Type 0 where
+    pub rested : HasComeToRest b at
+    pub takes : TakesSeveral n made now
+    pub leaves : MovesNoneInAll n made (made ++ now)
+    pub none : NoneSilent n made (made ++ now)
+    pub few : (sync_paths n made).systems ≤ 255
+
+  pub taken : AreWell n (made ++ now) → row_at v ≡ TakenAway → TakesAway
+  taken well row =
+      let (from, is) = why TakenAway row in
+      let (followed, still) = and_parts (is_taking_followed v.paths_before v.paths v.told) v.moves.taken is in
+      let (keeps, several) = and_parts (keeps_paths v.paths_before v.paths) (takes_several v.told) followed in
+      let (stays, loud) = and_parts (not (moves_some n made (made ++ now))) (not v.silent) still in
+      let x = keeps_so keeps in
+      let takes = several_taken n network made now several in
+      record {
+        rested = (from_rest from).rested;
+        takes = takes;
+        leaves = several_unmoved n network made now well takes (not-true (moves_some n made (made ++ now)) stays) x.delay
+            x.paths;
+        none = none_left (not-true v.silent loud);
+        few = x.few;
+      }
 
   -- Or there are losses, and nothing is brought. Then roles stand with the choice; or, where a lost link is silent, no
   -- sooner than the port at its live end isn't capable any more.
