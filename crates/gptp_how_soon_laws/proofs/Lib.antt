@@ -33,7 +33,10 @@ mod StartRowLemmas
 mod RowTestLemmas
 mod ArrivedLemmas
 mod RowLemmas
+mod RowLossLemmas
 mod AnyLossLemmas
+mod AgedLemmas
+mod LossBoundLemmas
 pub mod ChoiceLemmas
 pub mod StepLemmas
 mod SettledLemmas

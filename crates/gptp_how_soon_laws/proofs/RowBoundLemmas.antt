@@ -13,12 +13,12 @@ use Rattle.gptp_scenario.specs.SyncWait.{sync_paths}
 use Rattle.gptp_scenario.specs.declared.change.Timed.{Timed}
 use Rattle.gptp_scenario.specs.declared.sync_wait.SyncPaths.{SyncPaths}
 use Rattle.gptp_topology.specs.After.{is_calm}
-use Rattle.gptp_how_soon.specs.Bounds.{aged_by, aged_echo_span, any_loss_span, arrived_by, choice_by, choice_of_row, gone_by, quiet_by, roles_by, roles_of_row, settled, sound_by, sound_of_row}
+use Rattle.gptp_how_soon.specs.Bounds.{aged_by, aged_echo_span, any_loss_span, arrived_by, choice_by, choice_of_row, gone_by, quiet_by, roles_by, roles_of_row, settled, sound_by, sound_of_row, taken_echo_span}
 use Rattle.gptp_how_soon.specs.Kinds.{sets_link}
 use Rattle.gptp_how_soon.specs.Times.{View, gained_at, loss_at, row_at, settling_time}
 use Rattle.gptp_how_soon.specs.declared.bounds.Loss.{Loss}
 use Rattle.gptp_how_soon.specs.declared.bounds.Row.{Row}
-use Rattle.gptp_how_soon.specs.declared.bounds.Row.TheVariants.{AnyLosses, AnyPast, CutOff, FailedEnd, FailedHeard, FailureCutsOff, FailureMovesTrees, Gained, Lowered, SystemTurned, TreeCutOff, TreeTurned, Unchanged}
+use Rattle.gptp_how_soon.specs.declared.bounds.Row.TheVariants.{AnyLosses, AnyPast, CutOff, FailedEnd, FailedHeard, FailureCutsOff, FailureMovesTrees, Gained, Lowered, SystemTurned, TakenAway, TreeCutOff, TreeTurned, Unchanged}
 use Rattle.gptp_how_soon.specs.declared.bounds.Settling.{Settling}
 use Rattle.gptp_settling_time.specs.HowSoon.{BoundsChoice}
 use Rattle.gptp_topology.proofs.RestLemmas.{calm_from}
@@ -36,6 +36,7 @@ past_row SystemTurned = AnyPast
 past_row TreeCutOff = AnyPast
 past_row TreeTurned = AnyPast
 past_row FailureMovesTrees = AnyPast
+past_row TakenAway = AnyPast
 past_row AnyLosses = AnyPast
 past_row Gained = Gained
 
@@ -67,6 +68,7 @@ bounds_choice n Sharp loss events row gained calm unchanged is_gained =
     by_row off TreeCutOff is = inl refl
     by_row off TreeTurned is = inl refl
     by_row off FailureMovesTrees is = inl refl
+    by_row off TakenAway is = inl refl
     by_row off AnyLosses is = inl refl
     by_row off Unchanged is = inr (unchanged is)
     by_row off Gained is = inr (is_gained is off)
@@ -120,6 +122,7 @@ choice_or_own n loss paths row gained = by (n.params.sync_timeout == 0) refl row
     by true is TreeCutOff = inr (eqb-true n.params.sync_timeout 0 is, tt, refl, refl)
     by true is TreeTurned = inr (eqb-true n.params.sync_timeout 0 is, tt, refl, refl)
     by true is FailureMovesTrees = inr (eqb-true n.params.sync_timeout 0 is, tt, refl, refl)
+    by true is TakenAway = inr (eqb-true n.params.sync_timeout 0 is, tt, refl, refl)
     by true is AnyLosses = inr (eqb-true n.params.sync_timeout 0 is, tt, refl, refl)
 
 -- All is sound by that bound. Or nothing lapses, and it is sooner after a loss.
@@ -132,9 +135,10 @@ IsSoundSooner n loss paths row sound =
     ⊎ ((((row ≡ FailedHeard) ⊎ (row ≡ FailureCutsOff)) × (aged_echo_span n loss paths ≤ sound))
     ⊎ (((row ≡ AnyLosses) × (sound ≡ quiet_by n loss (any_loss_span n loss paths)))
     ⊎ (((row ≡ TreeCutOff) × (sound ≡ max (2 * way_span paths) (gone_by n paths loss.used_before)))
-    ⊎ ((row ≡ FailureMovesTrees)
+    ⊎ (((row ≡ FailureMovesTrees)
     × (sound ≡ quiet_by n loss
-    (aged_by loss + (2 * way_span paths + max (echo_span (pace_of n) paths) (largest_interval (pace_of n))))))))))))
+    (aged_by loss + (2 * way_span paths + max (echo_span (pace_of n) paths) (largest_interval (pace_of n))))))
+    ⊎ ((row ≡ TakenAway) × (sound ≡ taken_echo_span n loss paths)))))))))
 
 pub sound_or_sooner : (n : NetworkState) (loss : Loss) (paths : SyncPaths) (row : Row)
     (gained : ℕ)
@@ -168,7 +172,9 @@ sound_or_sooner n loss paths row gained = by (n.params.sync_timeout == 0) refl r
     by true is AnyLosses =
         inr (eqb-true n.params.sync_timeout 0 is, inr (inr (inr (inr (inr (inl (refl, refl)))))))
     by true is FailureMovesTrees =
-        inr (eqb-true n.params.sync_timeout 0 is, inr (inr (inr (inr (inr (inr (inr (refl, refl))))))))
+        inr (eqb-true n.params.sync_timeout 0 is, inr (inr (inr (inr (inr (inr (inr (inl (refl, refl)))))))))
+    by true is TakenAway =
+        inr (eqb-true n.params.sync_timeout 0 is, inr (inr (inr (inr (inr (inr (inr (inr (refl, refl)))))))))
     by true is TreeCutOff =
         inr (eqb-true n.params.sync_timeout 0 is, inr (inr (inr (inr (inr (inr (inl (refl, refl))))))))
 

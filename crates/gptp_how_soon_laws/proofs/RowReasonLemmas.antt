@@ -3,7 +3,7 @@ use Rattle.std.proofs.Common.{◌≡◌, ◌⊎◌, inl, inr, Bool, true, false,
 use Rattle.std.specs.Prelude.{⊤, not, if◌then◌else◌}
 use Rattle.gptp_how_soon.specs.Rest.{failed_row}
 use Rattle.gptp_how_soon.specs.declared.bounds.Row.{Row}
-use Rattle.gptp_how_soon.specs.declared.bounds.Row.TheVariants.{AnyLosses, AnyPast, CutOff, FailedEnd, FailedHeard, FailureCutsOff, FailureMovesTrees, Gained, Lowered, SystemTurned, TreeCutOff, TreeTurned, Unchanged}
+use Rattle.gptp_how_soon.specs.declared.bounds.Row.TheVariants.{AnyLosses, AnyPast, CutOff, FailedEnd, FailedHeard, FailureCutsOff, FailureMovesTrees, Gained, Lowered, SystemTurned, TakenAway, TreeCutOff, TreeTurned, Unchanged}
 
 pub record Tests : Type 0 where
   -- it is from rest
@@ -23,6 +23,8 @@ pub record Tests : Type 0 where
   pub far : Bool
   pub moved : Bool
   pub trees : Bool
+  -- or several are taken away, and move nobody
+  pub taken : Bool
   -- an event is a loss, and none brings anything
   pub loss : Bool
   pub only : Bool
@@ -33,6 +35,7 @@ RowBy t =
     else if t.lowers then if t.cut then CutOff else Lowered
     else if t.turns then SystemTurned else if t.falls then TreeCutOff else if t.branch then TreeTurned
     else if t.fails then failed_row t.far t.moved else if t.trees then FailureMovesTrees
+    else if t.taken then TakenAway
     else if t.loss then if t.only then AnyLosses else AnyPast
     else Gained
 
@@ -49,11 +52,13 @@ ReasonOf t FailedEnd = (t.rest ≡ true) × (t.fails ≡ true) × (t.far ≡ tru
 ReasonOf t FailedHeard = (t.rest ≡ true) × (t.fails ≡ true)
 ReasonOf t FailureCutsOff = (t.rest ≡ true) × (t.fails ≡ true)
 ReasonOf t FailureMovesTrees = (t.rest ≡ true) × (t.trees ≡ true)
+ReasonOf t TakenAway = (t.rest ≡ true) × (t.taken ≡ true)
 ReasonOf t AnyLosses = (t.rest ≡ true) × (t.loss ≡ true) × (t.only ≡ true)
 ReasonOf t Gained = (t.rest ≡ true) × (t.loss ≡ false) × (t.idle ≡ false)
 
-abbrev tests : Bool → Bool → Bool → Bool → Bool → Bool → Bool → Bool → Bool → Bool → Bool → Bool → Bool → Bool → Tests
-tests rest idle left lowers cut turns falls branch fails far moved trees loss only = record {
+abbrev tests : Bool → Bool → Bool → Bool → Bool → Bool → Bool → Bool → Bool → Bool → Bool → Bool → Bool → Bool → Bool
+    → Tests
+tests rest idle left lowers cut turns falls branch fails far moved trees taken loss only = record {
   rest = rest;
   idle = idle;
   left = left;
@@ -66,30 +71,33 @@ tests rest idle left lowers cut turns falls branch fails far moved trees loss on
   far = far;
   moved = moved;
   trees = trees;
+  taken = taken;
   loss = loss;
   only = only;
 }
 
-reason : (rest idle left lowers cut turns falls branch fails far moved trees loss only : Bool)
-    → ReasonOf (tests rest idle left lowers cut turns falls branch fails far moved trees loss only)
-    (RowBy (tests rest idle left lowers cut turns falls branch fails far moved trees loss only))
-reason false idle left lowers cut turns falls branch fails far moved trees loss only = tt
-reason true true left lowers cut turns falls branch fails far moved trees loss only = (refl, inl refl)
-reason true false true lowers cut turns falls branch fails far moved trees loss only = (refl, inr refl)
-reason true false false true true turns falls branch fails far moved trees loss only = (refl, refl, refl)
-reason true false false true false turns falls branch fails far moved trees loss only = (refl, refl)
-reason true false false false cut true falls branch fails far moved trees loss only = (refl, refl)
-reason true false false false cut false true branch fails far moved trees loss only = (refl, refl)
-reason true false false false cut false false true fails far moved trees loss only = (refl, refl)
-reason true false false false cut false false false true true moved trees loss only = (refl, refl, refl)
-reason true false false false cut false false false true false true trees loss only = (refl, refl)
-reason true false false false cut false false false true false false trees loss only = (refl, refl)
-reason true false false false cut false false false false far moved true loss only = (refl, refl)
-reason true false false false cut false false false false far moved false true true = (refl, refl, refl)
-reason true false false false cut false false false false far moved false true false = tt
-reason true false false false cut false false false false far moved false false only = (refl, refl, refl)
+reason : (rest idle left lowers cut turns falls branch fails far moved trees taken loss only : Bool)
+    → ReasonOf (tests rest idle left lowers cut turns falls branch fails far moved trees taken loss only)
+    (RowBy (tests rest idle left lowers cut turns falls branch fails far moved trees taken loss only))
+reason false idle left lowers cut turns falls branch fails far moved trees taken loss only = tt
+reason true true left lowers cut turns falls branch fails far moved trees taken loss only = (refl, inl refl)
+reason true false true lowers cut turns falls branch fails far moved trees taken loss only = (refl, inr refl)
+reason true false false true true turns falls branch fails far moved trees taken loss only = (refl, refl, refl)
+reason true false false true false turns falls branch fails far moved trees taken loss only = (refl, refl)
+reason true false false false cut true falls branch fails far moved trees taken loss only = (refl, refl)
+reason true false false false cut false true branch fails far moved trees taken loss only = (refl, refl)
+reason true false false false cut false false true fails far moved trees taken loss only = (refl, refl)
+reason true false false false cut false false false true true moved trees taken loss only = (refl, refl, refl)
+reason true false false false cut false false false true false true trees taken loss only = (refl, refl)
+reason true false false false cut false false false true false false trees taken loss only = (refl, refl)
+reason true false false false cut false false false false far moved true taken loss only = (refl, refl)
+reason true false false false cut false false false false far moved false true loss only = (refl, refl)
+reason true false false false cut false false false false far moved false false true true = (refl, refl, refl)
+reason true false false false cut false false false false far moved false false true false = tt
+reason true false false false cut false false false false far moved false false false only = (refl, refl, refl)
 
 pub reason_of : (t : Tests) (row : Row) → RowBy t ≡ row → ReasonOf t row
 reason_of t row is =
     subst (ReasonOf t) is
-    (reason t.rest t.idle t.left t.lowers t.cut t.turns t.falls t.branch t.fails t.far t.moved t.trees t.loss t.only)
+    (reason t.rest t.idle t.left t.lowers t.cut t.turns t.falls t.branch t.fails t.far t.moved t.trees t.taken t.loss
+    t.only)
