@@ -1,4 +1,4 @@
--- What others hold of a system that fails has aged as soon as its bound says, and ports at silent links are off as soon.
+-- What others hold of a system that fails has aged, and ports at silent links are off, as soon as their bounds say.
 use Rattle.std.proofs.Common.{◌≡◌, ◌<◌, inl, inr, ◌+◌, max, ℕ, Bool, true, false, List, [], ◌∷◌, ◌++◌, Some, refl, arith}
 use Rattle.std.specs.Prelude.{if◌then◌else◌, nat_lt}
 use Rattle.std.specs.List.{AllByRecursion}

@@ -21,7 +21,7 @@ use Rattle.gptp_how_soon_laws.proofs.ToldLemmas.{idle_changes, link_at, loss_fai
 module _ (n : NetworkState) (network : IsNetwork n) where
   module _ (made : List Timed) where
     -- what is told to be a loss takes something away
-    loses : (act : Act) → is_loss (told_at n made act) ≡ true → LosesAny n made act
+    pub loses : (act : Act) → is_loss (told_at n made act) ≡ true → LosesAny n made act
     loses (acts.Change (changes.LinkDown clock port)) is = loss_lowers n network made clock port is
     loses (acts.Change (changes.Fail number)) is = loss_fails n network made number is
     loses (acts.Change (changes.Priority1 number value)) is =

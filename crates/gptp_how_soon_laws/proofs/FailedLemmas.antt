@@ -53,6 +53,7 @@ use Rattle.gptp_how_soon.specs.declared.kinds.What.{What}
 use Rattle.gptp_settling_time.proofs.SamePathsLemmas.{idle_same, is_end, lives_not, map_same, turned_paths}
 use Rattle.gptp_how_soon_laws.proofs.KindLemmas.{told}
 use Rattle.gptp_how_soon_laws.proofs.ToldLemmas.{failure_is, loss_fails, unused_lowers}
+use Rattle.gptp_how_soon_laws.proofs.LivesOnLemmas.{clock_lived}
 use Rattle.gptp_how_soon_laws.proofs.LoweredLemmas.{joined_by}
 use Rattle.gptp_how_soon_laws.proofs.RepeatLemmas.{paths_seen, repeats_by, stands_seen}
 use Rattle.gptp_how_soon_laws.proofs.UnmovedLemmas.{AreWell, none_joined_there, unmoved_at}
@@ -179,19 +180,7 @@ module _ (n : NetworkState) (network : IsNetwork n) (made : List Timed) (event :
 
     pub clock_before : (g h : Snapshot) → StandsAfter n made g → StandsAfter n later h → (v : ℕ) → In v (clocks h)
         → In v (clocks g)
-    clock_before g h stands stands' v known =
-        let (s, there, named) = from_map (λ (t : System). t.clock) v h.systems known in
-        let has : has_clock h.systems v ≡ true =
-        passes_at (λ (t : System). t.clock == v) h.systems s there (eq-eqb s.clock v named) in
-        let (k, among, both) =
-        passes (λ (k : SystemSpec). (clock_of k.identity == v) && (system_after later k).live) n.systems
-        (there_live n network later h stands' v has) in
-        let (is, live) = and_parts (clock_of k.identity == v) (system_after later k).live both in
-        let lives_before : lives n.systems made v ≡ true =
-        passes_at (λ (k : SystemSpec). (clock_of k.identity == v) && (system_after made k).live) n.systems k among
-        (and_from (clock_of k.identity == v) (system_after made k).live is (lived k live)) in
-        let (t, here, same) = with_clock g.systems v (live_there n network made g stands v lives_before) in
-        subst (λ c. In c (clocks g)) same (In-clocks g t here)
+    clock_before = clock_lived n network made later (λ m member. lived m)
 
   -- of it and of those behind it no system is moved, and what stands after it stands after all of them
   module _ (all : List Timed) (well : AreWell n all) (was : (g : Snapshot) → StandsAfter n made g → IsWellFormed g)

@@ -33,6 +33,7 @@ mod StartRowLemmas
 mod RowTestLemmas
 mod ArrivedLemmas
 mod RowLemmas
+mod TakenAwayLemmas
 mod RowLossLemmas
 mod AnyLossLemmas
 mod AgedLemmas
