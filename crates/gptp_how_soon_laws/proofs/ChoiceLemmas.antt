@@ -432,7 +432,7 @@ module _ (d : DocumentState) (playable : IsPlayable d) where
     asked_later choice roles (inl (rest, (first, others, split, each, loses))) =
         no_later n made now choice roles first loses
     asked_later choice roles (inr (inl (tree, is, same))) = omega (arith, same)
-    asked_later choice roles (inr (inr (x, (aged, quiet, aging, is, later)))) = greater choice roles quiet later
+    asked_later choice roles (inr (inr (x, (age, quiet, ages, is, later)))) = greater choice roles quiet later
 
     -- what is lost at this time asks for what its row says
     asks_by : (r : Row) → row_at v ≡ r → HasOwnBounds r
