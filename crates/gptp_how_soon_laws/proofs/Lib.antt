@@ -35,8 +35,11 @@ mod StartRowLemmas
 mod RowTestLemmas
 mod ArrivedLemmas
 mod RowLemmas
-mod AnyLossLemmas
 mod TakenAwayLemmas
+mod RowLossLemmas
+mod AnyLossLemmas
+mod AgedLemmas
+mod LossBoundLemmas
 pub mod ChoiceLemmas
 pub mod StepLemmas
 mod SettledLemmas

@@ -1,12 +1,13 @@
 -- A priority1 by which the best of a tree gets worse does so as its event is told.
 use Rattle.std.proofs.Common.{◌≡◌, ◌≤◌, ◌⊎◌, ◌+◌, ℕ, true, false, List, [], ◌∷◌, ◌++◌, filter, slice_get, refl, sym, ap, subst, ◌∙◌, append-nil}
-use Rattle.std.specs.Prelude.{not}
+use Rattle.std.specs.Prelude.{◌==◌, not}
 use Rattle.std.proofs.lemmas.Bool.{and_parts, eqb-true}
 use Rattle.gptp_lists.specs.Members.{In}
-use Rattle.gptp_lists.proofs.SystemSpecLemmas.{In-slice_get, from_map}
+use Rattle.gptp_lists.proofs.SystemSpecLemmas.{In-slice_get, from_map, slice_get-In}
 use Rattle.gptp_graph.specs.Distance.{IsDistance}
 use Rattle.gptp_graph.specs.Snapshot.{IsWellFormed, Snapshot, System, clocks}
 use Rattle.gptp_graph.proofs.SystemLemmas.{In-clocks}
+use Rattle.gptp_network.specs.Document.{DocumentState}
 use Rattle.gptp_network.specs.Snapshot.{StandsAfter}
 use Rattle.gptp_network.proofs.InUseLemmas.{live_there}
 use Rattle.gptp_network.proofs.SnapshotLemmas.{from_filter, with_clock}
@@ -16,6 +17,7 @@ use Rattle.gptp_scenario.specs.Network.{IsNetwork, NetworkState}
 use Rattle.gptp_scenario.specs.SyncWait.{sync_paths}
 use Rattle.gptp_scenario.specs.declared.change.Timed.{Timed}
 use Rattle.gptp_scenario.specs.declared.network.LinkSpec.{LinkSpec}
+use Rattle.gptp_theorem.specs.PlayedLaws.{IsPlayable}
 use Rattle.gptp_theorem.proofs.EventLemmas.{link_behind}
 use Rattle.gptp_invariants.specs.WorldEncodableLaws.{SetsAnOctet}
 use Rattle.gptp_topology.specs.After.{systems_after}
@@ -24,7 +26,7 @@ use Rattle.gptp_topology.proofs.RestLemmas.{lives_from}
 use Rattle.gptp_how_soon.specs.Chosen.{chosen_after, ends_of, is_used_then, lost_ends, place_of, used_ends}
 use Rattle.gptp_how_soon.specs.Kinds.{is_worsening}
 use Rattle.gptp_how_soon.specs.Links.{is_lost}
-use Rattle.gptp_how_soon.specs.Times.{told_at}
+use Rattle.gptp_how_soon.specs.Times.{events_at, told_at}
 use Rattle.gptp_how_soon.specs.Tree.{chose_itself, falls_below, worsens_best_after}
 use Rattle.gptp_how_soon.specs.declared.chosen.Chosen.{Chosen}
 use Rattle.gptp_how_soon.specs.declared.chosen.Ends.{Ends}
@@ -202,3 +204,10 @@ worsens_tree n network made event well octet delay paths few is best =
       paths = paths;
       few = few;
     }
+
+-- each priority1 that a document sets at a time is an octet
+pub octets_at : (d : DocumentState) → IsPlayable d → (time : ℕ) (t : Timed) → In t (events_at time d.events)
+    → SetsAnOctet t.act
+octets_at d playable time t member =
+    let (place, there) = slice_get-In t d.events (from_filter (λ (u : Timed). u.at == time) t d.events member).0 in
+    playable.octets place t there
