@@ -1,6 +1,6 @@
 -- What is told of a time after the first one with losses, by its row, is so by its events.
 use Rattle.std.proofs.Common.{◌≡◌, ◌<◌, ◌≤◌, ◌⊎◌, ap, inl, inr, ◌+◌, ℕ, Bool, true, false, List, [], ◌∷◌, ◌++◌, Some, suc, refl, sym, subst, ◌∙◌}
-use Rattle.std.specs.Prelude.{◌&&◌, ◌||◌, not, if◌then◌else◌, nat_le, max}
+use Rattle.std.specs.Prelude.{◌&&◌, not, if◌then◌else◌, nat_le, max}
 use Rattle.std.specs.List.{list_all, list_any}
 use Rattle.std.proofs.lemmas.Bool.{and_parts, not-true, or_cases}
 use Rattle.gptp_lists.specs.Members.{In}
