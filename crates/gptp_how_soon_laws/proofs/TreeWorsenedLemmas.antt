@@ -1,5 +1,5 @@
 -- A priority1 by which the best of a tree gets worse does so as its event is told.
-use Rattle.std.proofs.Common.{◌≡◌, ◌≤◌, ◌⊎◌, ◌+◌, ℕ, true, false, List, [], ◌∷◌, ◌++◌, filter, slice_get, refl, sym, ap, subst, ◌∙◌, append-nil}
+use Rattle.std.proofs.Common.{◌≡◌, ◌≤◌, ◌⊎◌, ◌+◌, ℕ, true, false, List, [], ◌∷◌, ◌++◌, filter, slice_get, refl, sym, ap, subst, ◌∙◌, append-nil, arith}
 use Rattle.std.specs.Prelude.{◌==◌, not}
 use Rattle.std.proofs.lemmas.Bool.{and_parts, eqb-true}
 use Rattle.gptp_lists.specs.Members.{In}
@@ -156,13 +156,19 @@ module _ (n : NetworkState) (network : IsNetwork n) (made : List Timed) (event :
     base_none : base n network made later g h stands stands' well well' lived_so top x.number tops ≡ 0
     base_none =
         let is_top : LivesOn n network made later g h stands stands' well well' lived_so top x.number =
-        on_at n network made later g h stands stands' well well' lived_so top x.number at known in
+        on_at n network made later g h stands stands' well well' lived_so top x.number tops.at tops.known in
         eqb-true is_top.was.steps 0 ((λ k. chose_itself (sym is_top.was_there k)) ∙ t.itself)
+
+    abbrev deep : ℕ → ℕ
+    deep = depth n network made later g h stands stands' well well' lived_so top x.number tops
+
+    deep_so : (v : ℕ) → base n network made later g h stands stands' well well' lived_so top x.number tops + deep v
+        ≡ deep v
+    deep_so v = let none = base_none in omega (arith, none)
 
     worsened_so : (best : System) × (next : System) × (depth : ℕ → ℕ) × IsWorsenedTree g h x.number best next depth
     worsened_so =
-        let c = cut_off n network made later g h stands stands' well well' lived_so top x.number tops in
-        let deep : ℕ → ℕ = depth n network made later g h stands stands' well well' lived_so top x.number tops in (
+        let c = cut_off n network made later g h stands stands' well well' lived_so top x.number tops in (
           best n network made later g h stands stands' well well' lived_so top x.number tops,
           next n network made later g h stands stands' well well' lived_so top x.number tops,
           deep,
@@ -172,7 +178,7 @@ module _ (n : NetworkState) (network : IsNetwork n) (made : List Timed) (event :
                 only_top;
             worse = c.worse;
             was_best = c.was_best;
-            was = λ v in_v. subst (λ b. IsDistance g v (b + deep v)) base_none (c.was v in_v);
+            was = λ v in_v. subst (IsDistance g v) (deep_so v) (c.was v in_v);
             first = c.first;
             steps = c.steps;
             single = c.single;
