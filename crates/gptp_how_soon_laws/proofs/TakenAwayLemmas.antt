@@ -20,7 +20,6 @@ use Rattle.gptp_theorem.proofs.EventLemmas.{system_behind}
 use Rattle.gptp_how_soon.specs.Chosen.{moves_some}
 use Rattle.gptp_how_soon.specs.Kinds.{is_down_too, is_loss, is_priority1, lowers_unused, repeats, taken_too, takes_any, takes_several}
 use Rattle.gptp_how_soon.specs.Times.{told_at, told_of}
-use Rattle.gptp_how_soon.specs.declared.kinds.Told.{Told}
 use Rattle.gptp_settling_time.specs.HowSoon.{EachEvent, IsDownToo, IsLossToo, IsTakenToo, LosesEvents, TakesSeveral, TurnsUnused}
 use Rattle.gptp_settling_time.specs.Leads.{TakesAny}
 use Rattle.gptp_settling_time.specs.Losses.{IsUnmoved, LosesAny, MovesNoneInAll}
