@@ -350,7 +350,6 @@ module _ (d : DocumentState) (playable : IsPlayable d) where
                 (told ∙ is ∙ quiet_later n playable.network all b at late well (2 * way_span v.paths + echo)),
           ),
         )))
-
     rests_by sound told (inr (inr (inr (inr (inr (inr (inr (inr (row, is))))))))) =
         let x = taken n playable.network all b at late well row in
         inl (x.rested, alone (Resting sound) (inr (by x v.used refl (told ∙ is))))
@@ -495,14 +494,14 @@ module _ (d : DocumentState) (playable : IsPlayable d) where
           rest,
           alone (Losing (aged_by loss + 2 * way_span v.paths) (quiet_by n loss (aged_by loss + 2 * way_span v.paths)))
               (inr (inr (inr (inl (
-            fails,
-            (
-              aged_by loss,
-              quiet_by n loss (aged_by loss),
-              aging n playable.network all b at late well (some_heard n made now fails),
-              inr (refl, quiet_later n playable.network all b at late well (2 * way_span v.paths)),
-            ),
-          ))))),
+                fails,
+                (
+                  aged_by loss,
+                  quiet_by n loss (aged_by loss),
+                  aging n playable.network all b at late well (some_heard n made now fails),
+                  inr (refl, quiet_later n playable.network all b at late well (2 * way_span v.paths)),
+                ),
+              ))))),
         )
     asks_by FailureMovesTrees row own =
         let x = failure_cuts n playable.network all b at late well row in

@@ -391,19 +391,23 @@ module _ (n : NetworkState) (network : IsNetwork n) where
       ∙ paths_all (made ++ event ∷ []) now others
       ∙ paths_too made event down
 
+  -- so it is told
+  pub is_down_so : (made : List Timed) (event : Timed) → is_down_too (told_at n made event.act) ≡ true
+      → IsDownToo n made event
+  is_down_so made event is =
+      elim (or_cases (lowers_unused (told_at n made event.act)) (repeats (told_at n made event.act)) is) [
+        | inl lowers ↦ inl (unused_lowers n network made event lowers)
+        | inr same ↦ inr (repeats_by n network made event same)
+      ]
+
   down_each : (made now : List Timed) → list_all is_down_too (told_of n made now) ≡ true
       → EachEvent (IsDownToo n) made now
   down_each made [] all = tt
   down_each made (event ∷ now) all =
-      let t = told_at n made event.act in
       let (first, others) =
-      and_parts (is_down_too t) (list_all is_down_too (told_of n (made ++ event ∷ []) now)) all in (
-        elim (or_cases (lowers_unused t) (repeats t) first) [
-          | inl lowers ↦ inl (unused_lowers n network made event lowers)
-          | inr same ↦ inr (repeats_by n network made event same)
-        ],
-        down_each (made ++ event ∷ []) now others,
-      )
+      and_parts (is_down_too (told_at n made event.act))
+      (list_all is_down_too (told_of n (made ++ event ∷ []) now)) all in
+      (is_down_so made event first, down_each (made ++ event ∷ []) now others)
 
   -- each link that is up is in use where it is seen so
   pub used_up : (all : List Timed) → up_is_used (standings_after n all) ≡ true → UpIsUsed n all

@@ -12,7 +12,6 @@ lesser choice roles a b is same = omega (arith, is, same)
 pub greater : (choice roles a : ℕ) → roles ≡ max choice a → choice ≤ roles
 greater choice roles a same = omega (arith, same)
 
-
 module _ (n : NetworkState) (made now : List Timed) where
   -- it has an event where this isn't so of none
   some_now : (Are : List Timed → Type 0) → (Are [] → ⊥) → Are now → now ≡ [] → ⊥

@@ -80,19 +80,19 @@ module _ (n : NetworkState) (events more : List Timed) (same : StandSame n event
   pub systems_seen : systems_after n more ≡ systems_after n events
   systems_seen =
       each_same (system_then more) (system_then events) n.systems (λ m member. λ i. record {
-            clock = clock_of m.identity;
-            identity = (same.systems m member i).identity;
-            lives = (same.systems m member i).live;
-          })
+        clock = clock_of m.identity;
+        identity = (same.systems m member i).identity;
+        lives = (same.systems m member i).live;
+      })
 
   pub standings_seen : standings_after n more ≡ standings_after n events
   standings_seen =
       each_same (standing_then n more) (standing_then n events) n.links (λ w member. λ i. record {
-            at = 0;
-            cable = cable_of (same.links w member i);
-            a_lives = lives_same n events more live_same w.a.clock i;
-            b_lives = lives_same n events more live_same w.b.clock i;
-          })
+        at = 0;
+        cable = cable_of (same.links w member i);
+        a_lives = lives_same n events more live_same w.a.clock i;
+        b_lives = lives_same n events more live_same w.b.clock i;
+      })
 
   -- it has the same snapshot
   pub stands_seen : (h : Snapshot) → StandsAfter n events h → StandsAfter n more h
