@@ -1,5 +1,5 @@
 -- A system of a network at rest fails, which moves trees: they begin to fall back, and nobody of them has settled yet.
-use Rattle.std.proofs.Common.{◌≡◌, ◌⊎◌, ◌<◌, ◌≤◌, ◌+◌, ◌∙◌, ℕ, suc, true, List, Some, slice_get, ap, subst, sym, inl, inr}
+use Rattle.std.proofs.Common.{◌≡◌, ◌⊎◌, ◌<◌, ◌≤◌, ◌+◌, ◌∙◌, ℕ, suc, true, List, Some, slice_get, ap, subst, sym, inl, inr, arith}
 use Rattle.gptp_lists.specs.Members.{In}
 use Rattle.gptp_graph.specs.Best.{IsBest}
 use Rattle.gptp_graph.specs.Snapshot.{Joins, PortIdentity, Snapshot, System, clocks, port_of}
@@ -14,6 +14,7 @@ use Rattle.gptp_bmca_machine.specs.Network.{IsSettlingNetwork, Network}
 use Rattle.gptp_bmca_machine.specs.SoundLaws.{IsSoundOnLinks}
 use Rattle.gptp_bmca_machine.specs.Station.{Disabled, MachineState, Mine, Port, Received, Reception, Station}
 use Rattle.gptp_bmca_machine.specs.TurnTree.{TurnsTree}
+use Rattle.gptp_bmca_machine.specs.TwoTops.{TopsTree}
 use Rattle.gptp_bmca_machine.proofs.EndsLemmas as ends
 use Rattle.gptp_bmca_machine.proofs.FailureTreesLemmas.{FallBack}
 use Rattle.gptp_bmca_machine.proofs.FallFailLemmas.{failing_begins, flown, moving_begins, moving_settles, root_still}
@@ -196,9 +197,9 @@ module _ (says : Spelling) (n0 n : Network) (net0 : IsSettlingNetwork n0) (w w' 
     -- ---- all trees
 
     pub failure_begins : (lost : ℕ) (best : System) (IsCut : Tree → Type 0) (IsTurned : Turning → Type 0)
-        (moves : FailureMoves g n lost best IsCut IsTurned) → IsSoundOnLinks says g w' → (start : ℕ) → w'.time ≤ start
-        → FallBack says g n lost best IsCut IsTurned moves start w'
-    failure_begins lost best IsCut IsTurned moves sound' start now = record {
+        (IsTwice : TopsTree → Type 0) (moves : FailureMoves g n lost best IsCut IsTurned IsTwice) → IsSoundOnLinks says g w' → (start : ℕ) → w'.time ≤ start
+        → FallBack says g n lost best IsCut IsTurned IsTwice moves start w'
+    failure_begins lost best IsCut IsTurned IsTwice moves sound' start now = record {
       after = m';
       still = levels_found says n0 n net0 moves.well w w' loss m'.kept;
       sound = sound';
@@ -206,4 +207,5 @@ module _ (says : Spelling) (n0 n : Network) (net0 : IsSettlingNetwork n0) (w w' 
           failing_begins says n0 n net0 w w' loss m' t.top best t.next t.base t.depth (moves.cut t cut) start now;
       turned = λ t is.
           turning_begins t.tree t.top lost t.last t.out best t.base t.depth (moves.turned t is) start now;
+      none = λ late. absurd (omega (arith, late, now));
     }

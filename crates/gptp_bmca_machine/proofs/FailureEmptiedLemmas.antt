@@ -1,31 +1,39 @@
 -- Trees that a failure moved go on to fall back, and to settle, where lanes are emptied that no link has.
 use Rattle.std.proofs.Common.{◌≡◌, ◌⊎◌, ◌<◌, ◌≤◌, ◌+◌, ℕ, ℤ, suc, pred, true, false, List, [], Some, slice_get, sym, ap, subst, ◌∙◌, inl, inr, arith}
 use Rattle.gptp_lists.specs.Members.{In}
+use Rattle.gptp_graph.specs.Best.{IsBest}
 use Rattle.gptp_graph.specs.Snapshot.{IsLinked, IsWellFormed, Joins, PortIdentity, Snapshot, System, clocks, port_of}
 use Rattle.gptp_graph.proofs.LinkLemmas.{Joins-clock, Joins-sym}
 use Rattle.gptp_bmca_machine.specs.CutTree.{Tree}
 use Rattle.gptp_bmca_machine.specs.FailureTrees.{FailureMoves, Turning}
 use Rattle.gptp_bmca_machine.specs.Frame.{AnnounceFrame, Lane, Spelling}
-use Rattle.gptp_bmca_machine.specs.Link.{Stand}
+use Rattle.gptp_bmca_machine.specs.Link.{LinkSettles, Stand}
 use Rattle.gptp_bmca_machine.specs.LinkStage.{Wiring}
 use Rattle.gptp_bmca_machine.specs.LossLaws.{EverythingFits, IsAfterLoss, IsWhatIsLeft}
 use Rattle.gptp_bmca_machine.specs.Network.{Network}
 use Rattle.gptp_bmca_machine.specs.SoundLaws.{IsSoundOnLinks}
 use Rattle.gptp_bmca_machine.specs.Station.{Held, MachineState, Port, Station}
+use Rattle.gptp_bmca_machine.specs.TwoTops.{Side, IsTreeOfTops, TopsTree}
 use Rattle.gptp_bmca_machine.proofs.CutTreeLemmas.{IsCutOff, LeadsNowhere, moves_off}
-use Rattle.gptp_bmca_machine.proofs.FailureEndLemmas.{FailureSettles}
+use Rattle.gptp_bmca_machine.proofs.FailureEndLemmas.{FailureSettles, TopsTimes}
 use Rattle.gptp_bmca_machine.proofs.FailureTreesLemmas.{FailsBack, FallBack, IsFailedState}
-use Rattle.gptp_bmca_machine.proofs.FallLemmas.{DownStage, IsFalling, IsFree, falls_by}
+use Rattle.gptp_bmca_machine.proofs.FallLemmas.{DownStage, IsFalling, IsFree, IsNewTold, falls_by}
 use Rattle.gptp_bmca_machine.proofs.LinkEndsLemmas.{telling}
 use Rattle.gptp_bmca_machine.proofs.LinkStepLemmas.{AtLink, LaneStands, lives_at}
 use Rattle.gptp_bmca_machine.proofs.LostPortLemmas.{HasLetGo, HoldsLast}
 use Rattle.gptp_bmca_machine.proofs.LostTopLemmas.{TopHolds}
+use Rattle.gptp_bmca_machine.proofs.LostTopsLemmas as twice
 use Rattle.gptp_bmca_machine.proofs.MovedLevelLemmas.{Times as MovedTimes}
 use Rattle.gptp_bmca_machine.proofs.MovedTreeLemmas.{MovesTree}
 use Rattle.gptp_bmca_machine.proofs.PlaceLemmas.{same_there}
+use Rattle.gptp_bmca_machine.proofs.StaleLemmas.{IsMixed}
+use Rattle.gptp_bmca_machine.proofs.StaleLevelLemmas.{FallsFromTops}
+use Rattle.gptp_bmca_machine.proofs.StaleStepLemmas.{IsStage, Withdraws}
+use Rattle.gptp_bmca_machine.proofs.StaleToldLemmas.{StaleComes, stale_root}
 use Rattle.gptp_bmca_machine.proofs.StillLemmas.{StillSettles, station_of, still}
 use Rattle.gptp_bmca_machine.proofs.TurnLemmas.{OutIsAt, out_is_at}
 use Rattle.gptp_bmca_machine.proofs.TurnLevelLemmas.{Times}
+use Rattle.gptp_bmca_machine.proofs.TwoTopsLemmas.{Tree as InTops}
 use Rattle.gptp_bmca_machine.proofs.TurnTreeLemmas.{IsOf, LeadsOut, turns_moves}
 
 -- each live system stands as it did, and each lane is as it was, or down and empty
@@ -167,14 +175,80 @@ module _ (says : Spelling) (g : Snapshot) (n : Network) (well : IsWellFormed n.g
           (stood_lane (port_of v (suc p)) (port_of u (suc q)) joins l lane);
     }
 
+    -- ---- a tree with one or two tops
+
+    module _ (next : System) (top : Side → ℕ) (depth : Side → ℕ → ℕ) (t : IsTreeOfTops n next top depth) (old base : ℕ)
+        (worse : old < next.identity) (near : (side : Side) (v : ℕ) → InTops n next top depth t v
+        → base + depth side v < 255)
+        (start over long : ℕ) (begun : start ≤ over) (room : over + n.most < long)
+        (reached : (d : ℕ) → suc (suc d) ≤ n.reach → falls_by n start (suc d) ≤ over) (before : ℕ → ℕ)
+        (soon : (e : ℕ) → over + n.most < before e) (grows : (e : ℕ) → before e + n.most ≤ before (suc e)) where
+      stage_emptied : (v p u q last : ℕ) → Joins n.graph (port_of v (suc p)) (port_of u (suc q))
+          → IsStage says n next top depth t old base worse v p u q last w
+          → IsStage says n next top depth t old base worse v p u q last w'
+      stage_emptied v p u q last joins (inl free) = inl (at_link v p u q joins (IsFree says n.graph v u) free)
+      stage_emptied v p u q last joins (inr (inl tells)) =
+          inr (inl (λ s pv at there. tells s pv (stood v (known_v v p u q joins) s at) there))
+      stage_emptied v p u q last joins (inr (inr comes)) =
+          inr (inr (at_link v p u q joins
+          (λ held fs. Withdraws says (IsNewTold n.graph (port_of v (suc p)) u) last fs) comes))
+
+      settles_by_link : (at far : ℕ) (b : System) (v p u q : ℕ) → Joins n.graph (port_of v (suc p)) (port_of u (suc q))
+          → LinkSettles says (telling n at far b v p u q) w → LinkSettles says (telling n at far b v p u q) w'
+      unfolding stand_then
+      settles_by_link at far b v p u q joins link from pv pu l stand ready =
+          link (omega arith) pv pu l
+          (stand_then v p u q joins (telling n at far b v p u q) (λ i. n.place v) (λ i. n.place u)
+          (λ i. n.lane (port_of v (suc p))) pv pu l stand) ready
+
+      pub tops_emptied : FallsFromTops says n next top depth t old base worse near start over long begun room reached
+          before soon grows w
+          → FallsFromTops says n next top depth t old base worse near start over long begun room reached before soon
+          grows w'
+      tops_emptied is = record {
+        stale = record {
+          kept = kept';
+          dark = λ x s i r in_x at holds bare.
+              is.stale.dark x s i r in_x (stood x in_x.reached.1.begins s at) holds bare;
+          gone = λ late x s i r in_x at holds bare.
+              let time = emptied.time in
+              is.stale.gone (omega (arith, late, time)) x s i r in_x (stood x in_x.reached.1.begins s at) holds bare;
+          mixed = λ v p u q in_v joins.
+              at_link v p u q joins (IsMixed says n next top depth t old base worse v p u)
+              (is.stale.mixed v p u q in_v joins);
+          stages = λ v p u q d side in_v joins deeper limit.
+              stage_emptied v p u q (falls_by n start (suc d)) joins
+              (is.stale.stages v p u q d side in_v joins deeper limit);
+        };
+        strong = λ v p u q in_v joins strong.
+            down_emptied v p u q joins n.graph (stale_root says n next top depth t old base worse near)
+            (base + depth strong.side v) (falls_by n start (suc (depth strong.side v)))
+            (is.strong v p u q in_v joins strong);
+        tells = λ v p u q side in_v joins deeper weak done.
+            settles_by_link long (base + depth side v) (stale_root says n next top depth t old base worse near) v p u q
+            joins
+            (is.tells v p u q side in_v joins deeper weak (λ strong. (
+              (λ s at. (done strong).0 s (stands_still u (known_u v p u q joins) s at)),
+              was_at_link u q v p (Joins-sym n.graph (port_of v (suc p)) (port_of u (suc q)) joins)
+                  (IsFree says n.graph u v) (done strong).1,
+            )));
+        settles = λ f v p u q close in_v leads. elim (is.settles f v p u q close in_v leads) [
+          | inl link ↦ inl (settles_by_link (before f) f next v p u q leads.joins link)
+          | inr comes ↦
+              inr (at_link u q v p (Joins-sym n.graph (port_of v (suc p)) (port_of u (suc q)) leads.joins)
+              (λ held fs. StaleComes says n next top depth t old base worse near u v fs) comes)
+        ];
+      }
+
 module _ (says : Spelling) (g : Snapshot) (n : Network) (lost : ℕ) (best : System) (IsCut : Tree → Type 0)
-    (IsTurned : Turning → Type 0) (moves : FailureMoves g n lost best IsCut IsTurned) (start : ℕ) (w w' : MachineState)
+    (IsTurned : Turning → Type 0) (IsTwice : TopsTree → Type 0)
+    (moves : FailureMoves g n lost best IsCut IsTurned IsTwice) (start : ℕ) (w w' : MachineState)
     (emptied : AreEmptied w w') (kept' : IsAfterLoss n w') where
-  module _ (back : FallBack says g n lost best IsCut IsTurned moves start w) where
+  module _ (back : FallBack says g n lost best IsCut IsTurned IsTwice moves start w) where
     fits' : EverythingFits says g n w'
     fits' = fits_emptied says g n moves.well moves.left w w' emptied kept' back.after.fits
 
-    pub back_emptied : FallBack says g n lost best IsCut IsTurned moves start w'
+    pub back_emptied : FallBack says g n lost best IsCut IsTurned IsTwice moves start w'
     back_emptied = record {
       after = record {
         kept = kept';
@@ -194,6 +268,10 @@ module _ (says : Spelling) (g : Snapshot) (n : Network) (lost : ℕ) (best : Sys
           (LeadsOut t.last t.out) t.top best best t.base t.depth
           (turns_moves g n t.tree t.top lost t.last t.out best t.base t.depth (moves.turned t is)) start
           (back.turned t is);
+      none = λ late x s place r moved at live clock bare holds.
+          let time = emptied.time in
+          back.none (omega (arith, late, time)) x s place r moved (emptied.stations (n.place x) s at live) live clock
+          bare holds;
     }
 
     -- and so does what then settles
@@ -203,10 +281,11 @@ module _ (says : Spelling) (g : Snapshot) (n : Network) (lost : ℕ) (best : Sys
         (moves_off g n t.top best t.next t.base t.depth (moves.cut t is)) moves.paths moves.few start over before)
         (turned_times : (t : Turning) → (is : IsTurned t) → Times says g n t.tree t.top lost t.last t.out best t.base
         t.depth (moves.turned t is)
-        start over before) where
-      pub settles_emptied : FailureSettles says g n lost best IsCut IsTurned moves start over before cut_times
-          turned_times w → FailureSettles says g n lost best IsCut IsTurned moves start over before cut_times
-          turned_times w'
+        start over before) (tops_times : TopsTimes n start over before) where
+      pub settles_emptied : FailureSettles says g n lost best IsCut IsTurned IsTwice moves start over before cut_times
+          turned_times tops_times w
+          → FailureSettles says g n lost best IsCut IsTurned IsTwice moves start over before cut_times turned_times
+          tops_times w'
       unfolding stand_then
       settles_emptied settles = record {
         cut = λ t is f v p u q close in_v in_u leads from pv pu l stand ready.
@@ -229,6 +308,11 @@ module _ (says : Spelling) (g : Snapshot) (n : Network) (lost : ℕ) (best : Sys
               (telling n (before (o t is).d) (o t is).d best t.out k t.last p) (λ i. n.place t.out)
               (λ i. n.place t.last) (λ i. n.lane (port_of t.out (suc k))) pv pu l stand) ready;
         };
+        twice = λ t is.
+            tops_emptied says g n moves.well moves.left w w' emptied kept' back.after.fits t.next t.top t.depth
+            (moves.twice t is).tree best.identity t.base (moves.twice t is).worse (moves.twice t is).near start over
+            (before 0) tops_times.begun (tops_times.soon 0) tops_times.reached before tops_times.soon tops_times.grows
+            (settles.twice t is);
       }
         where
           o : (t : Turning) → (is : IsTurned t)
@@ -264,7 +348,7 @@ module _ (says : Spelling) (g : Snapshot) (n : Network) (lost : ℕ) (best : Sys
     })
     none_left base top p i held fs (inr go) = inr (record { none = go.none; silent = inr (λ f none. absurd none) })
 
-    holds_emptied : (back : FallBack says g n lost best IsCut IsTurned moves start w) (Tree : ℕ → Type 0)
+    holds_emptied : (back : FallBack says g n lost best IsCut IsTurned IsTwice moves start w) (Tree : ℕ → Type 0)
         (Out : ℕ → ℕ → Type 0) (top : ℕ) (next : System) (base : ℕ) (depth : ℕ → ℕ)
         (t : MovesTree g n Tree Out top best next base depth) (in_top : Tree top)
         → ((p i : ℕ) → Joins g (port_of lost (suc p)) (port_of top (suc i)) → LaneStands says n lost p top i w)
@@ -296,9 +380,39 @@ module _ (says : Spelling) (g : Snapshot) (n : Network) (lost : ℕ) (best : Sys
             (none_left base top p i pu.held has.lane.frames
             (holds.last p i joins bare s pu has.lane (stood_x top (t.lives top in_top) s at) there has.there))
 
-    pub fails_emptied : IsFailedState says g n lost best IsCut IsTurned moves start stay since delay shorter long w'
-        → FailsBack says g n lost best IsCut IsTurned moves start stay since delay shorter long w
-        → FailsBack says g n lost best IsCut IsTurned moves start stay since delay shorter long w'
+    -- so do trees with two tops
+    tops_hold_emptied : FailsBack says g n lost best IsCut IsTurned IsTwice moves start stay since delay shorter long w
+        → (t : TopsTree) → (is : IsTwice t)
+        → twice.TopsHold says g n lost t.top best t.next t.base t.depth moves.loses (moves.twice t is) stay since delay
+        shorter long w
+        → twice.TopsHold says g n lost t.top best t.next t.base t.depth moves.loses (moves.twice t is) stay since delay
+        shorter long w'
+    tops_hold_emptied fails t is holds = record {
+      last = λ x p i in_x joins bare s pu l at there lane.
+          last x p i in_x joins bare s pu l at there (emptied.lanes (n.lane (port_of lost (suc p))) l lane);
+      bare = λ x in_x s i r at held. holds.bare x in_x s i r (stood_x x in_x.reached.1.begins s at) held;
+    }
+      where
+        stood_x : (x : ℕ) → In x (clocks n.graph) → (s : Station) → slice_get w'.stations (n.place x) ≡ Some s
+            → slice_get w.stations (n.place x) ≡ Some s
+        stood_x = stood says g n moves.well moves.left w w' emptied kept' fails.back.after.fits
+
+        last : (x p i : ℕ) → IsBest n.graph x t.next → Joins g (port_of lost (suc p)) (port_of x (suc i))
+            → (IsLinked n.graph (port_of x (suc i)) → ⊥) → (s : Station) (pu : Port) (l : Lane)
+            → slice_get w'.stations (n.place x) ≡ Some s → slice_get s.ports i ≡ Some pu
+            → (slice_get w.lanes (n.lane (port_of lost (suc p))) ≡ Some l) ⊎ ((l.frames ≡ []) × (l.is_up ≡ false))
+            → Last t.base x p i pu.held l.frames
+        last x p i in_x joins bare s pu l at there (inl was) =
+            holds.last x p i in_x joins bare s pu l (stood_x x in_x.reached.1.begins s at) there was
+        last x p i in_x joins bare s pu l at there (inr (none, off)) =
+            let has = fails.state.lanes x p i joins in
+            subst (Last t.base x p i pu.held) (sym none)
+            (none_left t.base x p i pu.held has.lane.frames
+            (holds.last x p i in_x joins bare s pu has.lane (stood_x x in_x.reached.1.begins s at) there has.there))
+
+    pub fails_emptied : IsFailedState says g n lost best IsCut IsTurned IsTwice moves start stay since delay shorter long w'
+        → FailsBack says g n lost best IsCut IsTurned IsTwice moves start stay since delay shorter long w
+        → FailsBack says g n lost best IsCut IsTurned IsTwice moves start stay since delay shorter long w'
     fails_emptied state' is = record {
       state = state';
       back = back_emptied is.back;
@@ -311,5 +425,6 @@ module _ (says : Spelling) (g : Snapshot) (n : Network) (lost : ℕ) (best : Sys
             holds_emptied is.back (IsOf t.tree) (LeadsOut t.last t.out) t.top best t.base t.depth
             (turns_moves g n t.tree t.top lost t.last t.out best t.base t.depth (moves.turned t is_t))
             (moves.turned_top t is_t) (is.state.lanes t.top) (is.tops.turned t is_t);
+        twice = λ t is_t. tops_hold_emptied is t is_t (is.tops.twice t is_t);
       };
     }

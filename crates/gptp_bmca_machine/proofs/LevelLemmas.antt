@@ -155,7 +155,7 @@ module _ (says : Spelling) (n : Network) (net : IsSettlingNetwork n) (w : Machin
               (subst (λ c. IsDistance n.graph c (suc e)) (sym clock) here) holds final.root final.steps
 
 -- time doesn't go back
-steps_on : (says : Spelling) (w w' : MachineState) → MachineSteps says w w' → w.time ≤ w'.time
+pub steps_on : (says : Spelling) (w w' : MachineState) → MachineSteps says w w' → w.time ≤ w'.time
 steps_on says w w' (inl wait) = subst (λ (x : MachineState). w.time ≤ x.time) (sym wait.is) wait.later
 steps_on says w w' (inr (inl act)) =
     let one = act.call.time in let two = act.pops.time in omega (arith, one, two)

@@ -81,7 +81,7 @@ abbrev pub IsBelow : (ℕ → Type 0) → Snapshot → (ℕ → ℕ) → ℕ →
 IsBelow Tree g depth w v = (k : ℕ) × IsBelowBy Tree g depth k w v
 
 -- it is as deep as that says
-below_depth : (Tree : ℕ → Type 0) (g : Snapshot) (depth : ℕ → ℕ) (k w v : ℕ) → IsBelowBy Tree g depth k w v
+pub below_depth : (Tree : ℕ → Type 0) (g : Snapshot) (depth : ℕ → ℕ) (k w v : ℕ) → IsBelowBy Tree g depth k w v
     → depth v ≡ k + depth w
 below_depth Tree g depth zero w v same = let e = ap depth (sym same) in omega (arith, e)
 below_depth Tree g depth (suc k) w v (m, below, in_m, joined, deeper) =

@@ -32,6 +32,7 @@ pub mod RestLaws
 pub mod ReactionLaws
 pub mod LossLaws
 pub mod CutTree
+pub mod TwoTops
 pub mod TurnTree
 pub mod FailureTrees
 pub mod SyncLaws

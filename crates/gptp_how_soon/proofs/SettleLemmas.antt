@@ -12,12 +12,12 @@ use Rattle.gptp_how_soon.specs.Far.{up_is_used}
 use Rattle.gptp_how_soon.specs.Bounds.{arrived_by, heard_by, ready, times_by}
 use Rattle.gptp_how_soon.specs.Kinds.{begins_wider, brings_nothing, is_loss, makes_nothing, sets_link}
 use Rattle.gptp_how_soon.specs.Links.{new_among}
-use Rattle.gptp_how_soon.specs.Rest.{are_losses_followed, asks_who_is_moved, failed_row, heard_at_once, is_failing_followed, is_from_rest, is_lowering_followed, is_taking_followed, no_moves, row_of}
+use Rattle.gptp_how_soon.specs.Rest.{are_losses_followed, asks_who_is_moved, failed_row, heard_at_once, is_failing_followed, is_from_rest, is_lowering_followed, is_taking_followed, is_worsening_followed, no_moves, row_of}
 use Rattle.gptp_how_soon.specs.Silent.{any_silent}
 use Rattle.gptp_how_soon.specs.Times.{settling_time}
 use Rattle.gptp_how_soon.specs.Walk.{moves_seen, view_seen}
 use Rattle.gptp_how_soon.specs.declared.bounds.Row.{Row}
-use Rattle.gptp_how_soon.specs.declared.bounds.Row.TheVariants.{AnyLosses, AnyPast, CutOff, FailedEnd, FailedHeard, FailureCutsOff, FailureMovesTrees, Gained, Lowered, SystemTurned, TakenAway, TreeCutOff, TreeTurned, Unchanged}
+use Rattle.gptp_how_soon.specs.declared.bounds.Row.TheVariants.{AnyLosses, AnyPast, CutOff, FailedEnd, FailedHeard, FailureCutsOff, FailureMovesTrees, Gained, Lowered, SystemTurned, TakenAway, TreeFalls, TreeTurned, Unchanged}
 use Rattle.gptp_how_soon.specs.declared.bounds.SettlingTime.{SettlingTime}
 use Rattle.gptp_how_soon.specs.declared.kinds.Told.{Told}
 use Rattle.gptp_how_soon.specs.declared.rest.Moves.{Moves}
@@ -32,15 +32,15 @@ abbrev asked_of : Moves → Bool → Moves
 asked_of moves asked = if asked then moves else no_moves
 
 -- the row of a time, by what its events are
-abbrev row_by : Bool → Bool → Bool → Bool → Bool → Bool → Bool → Bool → Bool → Moves → Row
-row_by rest first idle followed lowering failing taking loses losses moves =
+abbrev row_by : Bool → Bool → Bool → Bool → Bool → Bool → Bool → Bool → Bool → Bool → Moves → Row
+row_by rest first idle followed lowering failing taking worse loses losses moves =
     if not rest then AnyPast
     else if first then Gained
     else if idle then Unchanged
     else if followed && not moves.moved then Unchanged
     else if lowering && not moves.moved then if moves.cut then CutOff else Lowered
     else if lowering && moves.turned then SystemTurned
-    else if lowering && moves.falls then TreeCutOff
+    else if (lowering && moves.falls) || (worse && moves.worsens) then TreeFalls
     else if lowering && moves.tree_turns then TreeTurned
     else if failing && not moves.moved then failed_row moves.far moves.any_moved
     else if failing && moves.trees_move then FailureMovesTrees
@@ -55,18 +55,19 @@ same_row : (from_rest first : Bool) (before paths : SyncPaths) (told : List Told
 same_row from_rest first before paths told moves =
     by from_rest (list_all makes_nothing told || begins_wider told) (are_losses_followed before told)
     (is_lowering_followed before paths told) (is_failing_followed before paths told)
-    (is_taking_followed before paths told) (list_any is_loss told) (list_all brings_nothing told)
+    (is_taking_followed before paths told) (is_worsening_followed before paths told) (list_any is_loss told) (list_all brings_nothing told)
   where
-    by : (rest idle followed lowering failing taking loses losses : Bool)
-        → row_by rest first idle followed lowering failing taking loses losses
-        (asked_of moves (rest && (followed || lowering || failing || taking)))
-        ≡ row_by rest first idle followed lowering failing taking loses losses moves
-    by false idle followed lowering failing taking loses losses = refl
-    by true idle true lowering failing taking loses losses = refl
-    by true idle false true failing taking loses losses = refl
-    by true idle false false true taking loses losses = refl
-    by true idle false false false true loses losses = refl
-    by true idle false false false false loses losses = refl
+    by : (rest idle followed lowering failing taking worse loses losses : Bool)
+        → row_by rest first idle followed lowering failing taking worse loses losses
+        (asked_of moves (rest && (followed || lowering || failing || taking || worse)))
+        ≡ row_by rest first idle followed lowering failing taking worse loses losses moves
+    by false idle followed lowering failing taking worse loses losses = refl
+    by true idle true lowering failing taking worse loses losses = refl
+    by true idle false true failing taking worse loses losses = refl
+    by true idle false false true taking worse loses losses = refl
+    by true idle false false false true worse loses losses = refl
+    by true idle false false false false true loses losses = refl
+    by true idle false false false false false loses losses = refl
 
 -- ---- what others hold
 
@@ -83,23 +84,25 @@ held_asked : (from_rest first : Bool) (before paths : SyncPaths) (told : List To
     → counts_held (row_of from_rest first before paths told moves) ≡ false
 held_asked from_rest first before paths told moves =
     by from_rest (are_losses_followed before told) (is_lowering_followed before paths told)
-    (is_failing_followed before paths told) (is_taking_followed before paths told) first
+    (is_failing_followed before paths told) (is_taking_followed before paths told)
+    (is_worsening_followed before paths told) first
     (list_all makes_nothing told || begins_wider told)
     (list_any is_loss told) (list_all brings_nothing told)
   where
-    by : (rest followed lowering failing taking starts idle loses losses : Bool)
-        → (rest && (followed || lowering || failing || taking)) ≡ false
-        → counts_held (row_by rest starts idle followed lowering failing taking loses losses moves) ≡ false
-    by false followed lowering failing taking starts idle loses losses none = refl
-    by true true lowering failing taking starts idle loses losses none = absurd cc
-    by true false true failing taking starts idle loses losses none = absurd cc
-    by true false false true taking starts idle loses losses none = absurd cc
-    by true false false false true starts idle loses losses none = absurd cc
-    by true false false false false true idle loses losses none = refl
-    by true false false false false false true loses losses none = refl
-    by true false false false false false false true true none = refl
-    by true false false false false false false true false none = refl
-    by true false false false false false false false losses none = refl
+    by : (rest followed lowering failing taking worse starts idle loses losses : Bool)
+        → (rest && (followed || lowering || failing || taking || worse)) ≡ false
+        → counts_held (row_by rest starts idle followed lowering failing taking worse loses losses moves) ≡ false
+    by false followed lowering failing taking worse starts idle loses losses none = refl
+    by true true lowering failing taking worse starts idle loses losses none = absurd cc
+    by true false true failing taking worse starts idle loses losses none = absurd cc
+    by true false false true taking worse starts idle loses losses none = absurd cc
+    by true false false false true worse starts idle loses losses none = absurd cc
+    by true false false false false true starts idle loses losses none = absurd cc
+    by true false false false false false true idle loses losses none = refl
+    by true false false false false false false true loses losses none = refl
+    by true false false false false false false false true true none = refl
+    by true false false false false false false false true false none = refl
+    by true false false false false false false false false losses none = refl
 
 module _ (n : NetworkState) (at arrived : ℕ) (paths_before paths : SyncPaths) (used_before used silent calm sets : Bool)
     (gained : ℕ) where
@@ -123,7 +126,7 @@ module _ (n : NetworkState) (at arrived : ℕ) (paths_before paths : SyncPaths) 
   held_apart FailedHeard held other is = absurd cc
   held_apart FailureCutsOff held other is = absurd cc
   held_apart SystemTurned held other is = refl
-  held_apart TreeCutOff held other is = refl
+  held_apart TreeFalls held other is = refl
   held_apart TreeTurned held other is = refl
   held_apart FailureMovesTrees held other is = absurd cc
   held_apart TakenAway held other is = refl

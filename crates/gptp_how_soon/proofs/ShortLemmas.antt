@@ -40,7 +40,7 @@ use Rattle.gptp_how_soon.specs.Silent.{is_heard_link, own_intervals}
 use Rattle.gptp_how_soon.specs.Times.{IsWatchedShortly, View, events_at, events_before, gained_at, heard_at, last_of, last_set, loss_at, row_at, settling_time, settling_times, settling_times_from, time_at, view_at}
 use Rattle.gptp_how_soon.specs.declared.bounds.Loss.{Loss}
 use Rattle.gptp_how_soon.specs.declared.bounds.Row.{Row}
-use Rattle.gptp_how_soon.specs.declared.bounds.Row.TheVariants.{AnyLosses, AnyPast, CutOff, FailedEnd, FailedHeard, FailureCutsOff, FailureMovesTrees, Gained, Lowered, SystemTurned, TakenAway, TreeCutOff, TreeTurned, Unchanged}
+use Rattle.gptp_how_soon.specs.declared.bounds.Row.TheVariants.{AnyLosses, AnyPast, CutOff, FailedEnd, FailedHeard, FailureCutsOff, FailureMovesTrees, Gained, Lowered, SystemTurned, TakenAway, TreeFalls, TreeTurned, Unchanged}
 use Rattle.gptp_how_soon.specs.declared.bounds.SettlingTime.{SettlingTime}
 use Rattle.gptp_how_soon.specs.declared.kinds.Told.{Told}
 use Rattle.gptp_how_soon.proofs.SilentLemmas.{held_within}
@@ -159,7 +159,7 @@ module _ (n : NetworkState) (network : IsNetwork n) (paths : SyncPaths) (few : p
         by FailedHeard = let a = aged_most in quiet (aged_by loss) (omega (arith, a))
         by FailureCutsOff = cut_most
         by SystemTurned = let w = way in omega (arith, w)
-        by TreeCutOff = let w = way in omega (arith, w)
+        by TreeFalls = let w = way in omega (arith, w)
         by TreeTurned = let w = way in omega (arith, w)
         by FailureMovesTrees = cut_most
         by TakenAway = omega arith
@@ -189,7 +189,7 @@ module _ (n : NetworkState) (network : IsNetwork n) (paths : SyncPaths) (few : p
         by FailedHeard = aged
         by FailureCutsOff = let w = way in let a = aged in let b = aged_most in omega (arith, w, a, b)
         by SystemTurned = let w = way in let e = echo in omega (arith, w, e)
-        by TreeCutOff = let w = way in let g = gone paths short in omega (arith, w, g)
+        by TreeFalls = let w = way in let g = gone paths short in omega (arith, w, g)
         by TreeTurned = let w = way in let e = echo in omega (arith, w, e)
         by FailureMovesTrees =
             let w = way in let e = echo in let l = largest in let a = aged_most in
@@ -220,7 +220,7 @@ module _ (n : NetworkState) (network : IsNetwork n) (paths : SyncPaths) (few : p
         by true FailedHeard = let e = echo in let a = aged_most in omega (arith, e, a)
         by true FailureCutsOff = let w = way in let e = echo in let a = aged_most in omega (arith, w, e, a)
         by true SystemTurned = let w = way in let e = echo in omega (arith, w, e)
-        by true TreeCutOff = let w = way in omega (arith, w)
+        by true TreeFalls = let w = way in omega (arith, w)
         by true TreeTurned = let w = way in let e = echo in omega (arith, w, e)
         by true FailureMovesTrees = let w = way in let e = echo in let a = aged_most in omega (arith, w, e, a)
         by true TakenAway = let e = echo in omega (arith, e)

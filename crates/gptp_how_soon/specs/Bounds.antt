@@ -13,7 +13,7 @@ use Rattle.gptp_how_soon.specs.Kinds.{recovers}
 use Rattle.gptp_how_soon.specs.Links.{varies}
 use Rattle.gptp_how_soon.specs.declared.bounds.Loss.{Loss}
 use Rattle.gptp_how_soon.specs.declared.bounds.Row.{Row}
-use Rattle.gptp_how_soon.specs.declared.bounds.Row.TheVariants.{AnyLosses, AnyPast, CutOff, FailedEnd, FailedHeard, FailureCutsOff, FailureMovesTrees, Gained, Lowered, SystemTurned, TakenAway, TreeCutOff, TreeTurned, Unchanged}
+use Rattle.gptp_how_soon.specs.declared.bounds.Row.TheVariants.{AnyLosses, AnyPast, CutOff, FailedEnd, FailedHeard, FailureCutsOff, FailureMovesTrees, Gained, Lowered, SystemTurned, TakenAway, TreeFalls, TreeTurned, Unchanged}
 use Rattle.gptp_how_soon.specs.declared.bounds.Settling.{Settling}
 use Rattle.gptp_how_soon.specs.declared.bounds.SettlingTime.{SettlingTime}
 use Rattle.gptp_how_soon.specs.declared.kinds.Told.{Told}
@@ -78,7 +78,7 @@ choice_of_row n loss paths FailedEnd gained = 0
 choice_of_row n loss paths FailedHeard gained = aged_by loss
 choice_of_row n loss paths FailureCutsOff gained = aged_by loss + 2 * way_span paths
 choice_of_row n loss paths SystemTurned gained = 2 * way_span paths
-choice_of_row n loss paths TreeCutOff gained = 2 * way_span paths
+choice_of_row n loss paths TreeFalls gained = 2 * way_span paths
 choice_of_row n loss paths TreeTurned gained = 2 * way_span paths
 choice_of_row n loss paths FailureMovesTrees gained = aged_by loss + 2 * way_span paths
 choice_of_row n loss paths TakenAway gained = 0
@@ -100,7 +100,7 @@ roles_of_row n loss paths FailedEnd gained = quiet_by n loss 0
 roles_of_row n loss paths FailedHeard gained = quiet_by n loss (choice_of_row n loss paths FailedHeard gained)
 roles_of_row n loss paths FailureCutsOff gained = quiet_by n loss (choice_of_row n loss paths FailureCutsOff gained)
 roles_of_row n loss paths SystemTurned gained = choice_of_row n loss paths SystemTurned gained
-roles_of_row n loss paths TreeCutOff gained = choice_of_row n loss paths TreeCutOff gained
+roles_of_row n loss paths TreeFalls gained = choice_of_row n loss paths TreeFalls gained
 roles_of_row n loss paths TreeTurned gained = choice_of_row n loss paths TreeTurned gained
 roles_of_row n loss paths FailureMovesTrees gained =
     quiet_by n loss (choice_of_row n loss paths FailureMovesTrees gained)
@@ -134,10 +134,10 @@ taken_echo_span n loss paths =
     if loss.used then max (echo_span (pace_of n) paths) paths.delay else any_loss_span n loss paths
 
 -- By when all that is held and in flight is sound: as soon as the choice stands, but after a loss it may name what is
--- gone. After a far end or a tree is cut off, or a far end fails, only what was in flight does; of one that fails by
--- links of before too. After a link goes down by which no system is moved traces have to be told anew first, and so
--- they have where several are taken away. So they do once the choice stands where one system or a tree turns, or one
--- fails that others heard; where that cuts trees off what was in flight as they settled has to be gone too. After
+-- gone. After a far end is cut off, a tree falls back, or a far end fails, only what was in flight does; of one that
+-- fails by links of before too. After a link goes down by which no system is moved traces have to be told anew first,
+-- and so they have where several are taken away. So they do once the choice stands where one system or a tree turns, or
+-- one fails that others heard; where that cuts trees off what was in flight as they settled has to be gone too. After
 -- losses without a row of their own all is sound once roles stand. After others it is as soon as the choice stands from
 -- any past.
 abbrev pub sound_of_row : NetworkState → Loss → SyncPaths → Row → ℕ → ℕ
@@ -150,7 +150,7 @@ sound_of_row n loss paths FailedHeard gained = aged_echo_span n loss paths
 sound_of_row n loss paths FailureCutsOff gained =
     max (aged_by loss + 2 * way_span paths) (aged_echo_span n loss paths)
 sound_of_row n loss paths SystemTurned gained = 2 * way_span paths + echo_span (pace_of n) paths
-sound_of_row n loss paths TreeCutOff gained = max (2 * way_span paths) (gone_by n paths loss.used_before)
+sound_of_row n loss paths TreeFalls gained = max (2 * way_span paths) (gone_by n paths loss.used_before)
 sound_of_row n loss paths TreeTurned gained = 2 * way_span paths + echo_span (pace_of n) paths
 sound_of_row n loss paths FailureMovesTrees gained =
     quiet_by n loss

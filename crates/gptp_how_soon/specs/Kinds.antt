@@ -161,9 +161,13 @@ is_lowering e = is_loss e && is_link_down e
 abbrev pub is_failing : Told → Bool
 is_failing e = is_loss e && is_fail e
 
+-- a live system gets worse
+abbrev pub is_worsening : Told → Bool
+is_worsening e = is_loss e && is_priority1 e
+
 -- it makes nothing of what stands, or a live system worse
 abbrev pub leaves_links : Told → Bool
-leaves_links e = makes_nothing e || (is_loss e && is_priority1 e)
+leaves_links e = makes_nothing e || is_worsening e
 
 abbrev pub lowers_unused : Told → Bool
 lowers_unused e = is_unused e && is_link_down e
@@ -191,10 +195,17 @@ abbrev pub first_wider_by : List Told → ℕ
 first_wider_by [] = 0
 first_wider_by (e ∷ es) = wider_by e
 
--- a link in use goes down by the first, and the others repeat what stands
+-- the first is of this kind, and the others repeat what stands
+abbrev pub begins_with : (Told → Bool) → List Told → Bool
+begins_with is_kind [] = false
+begins_with is_kind (e ∷ es) = is_kind e && list_all repeats es
+
+-- so a link in use goes down, or a live system gets worse
 abbrev pub lowers_one : List Told → Bool
-lowers_one [] = false
-lowers_one (e ∷ es) = is_lowering e && list_all repeats es
+lowers_one = begins_with is_lowering
+
+abbrev pub worsens_first : List Told → Bool
+worsens_first = begins_with is_worsening
 
 -- A live system fails by the first. By the others links go down of which an end has failed, or they repeat what stands.
 abbrev pub is_down_too : Told → Bool

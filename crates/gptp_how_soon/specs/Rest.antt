@@ -6,9 +6,9 @@ use Rattle.std.specs.Prelude.{ℕ, ◌+◌, ◌*◌, ◌&&◌, ◌||◌, nat_le,
 use Rattle.std.specs.List.{list_all, list_any}
 use Rattle.gptp_scenario.specs.SettlingTime.{way_span}
 use Rattle.gptp_scenario.specs.declared.sync_wait.SyncPaths.{SyncPaths}
-use Rattle.gptp_how_soon.specs.Kinds.{are_heard, begins_wider, brings_nothing, fails_and_recovers, fails_first, first_wider_by, is_better, is_gain, is_loss, is_other, is_recovery, is_wider, leaves_links, lowers_one, lowers_unused, makes_nothing, takes_several, tells_nothing}
+use Rattle.gptp_how_soon.specs.Kinds.{are_heard, begins_wider, brings_nothing, fails_and_recovers, fails_first, first_wider_by, is_better, is_gain, is_loss, is_other, is_recovery, is_wider, leaves_links, lowers_one, lowers_unused, makes_nothing, takes_several, tells_nothing, worsens_first}
 use Rattle.gptp_how_soon.specs.declared.bounds.Row.{Row}
-use Rattle.gptp_how_soon.specs.declared.bounds.Row.TheVariants.{AnyLosses, AnyPast, CutOff, FailedEnd, FailedHeard, FailureCutsOff, FailureMovesTrees, Gained, Lowered, SystemTurned, TakenAway, TreeCutOff, TreeTurned, Unchanged}
+use Rattle.gptp_how_soon.specs.declared.bounds.Row.TheVariants.{AnyLosses, AnyPast, CutOff, FailedEnd, FailedHeard, FailureCutsOff, FailureMovesTrees, Gained, Lowered, SystemTurned, TakenAway, TreeFalls, TreeTurned, Unchanged}
 use Rattle.gptp_how_soon.specs.declared.bounds.Settling.{Settling}
 use Rattle.gptp_how_soon.specs.declared.bounds.SettlingTime.{SettlingTime}
 use Rattle.gptp_how_soon.specs.declared.kinds.Told.{Told}
@@ -84,6 +84,10 @@ is_failing_followed paths_before paths told = keeps_paths paths_before paths && 
 abbrev pub is_taking_followed : SyncPaths → SyncPaths → List Told → Bool
 is_taking_followed paths_before paths told = keeps_paths paths_before paths && takes_several told
 
+-- So is a priority1 by which a live system gets worse, as the first event.
+abbrev pub is_worsening_followed : SyncPaths → SyncPaths → List Told → Bool
+is_worsening_followed paths_before paths told = keeps_paths paths_before paths && worsens_first told
+
 -- Time 0 is from rest where its events, if any, leave it so that nothing is told.
 abbrev pub is_from_rest : ℕ → ℕ → SyncPaths → SyncPaths → List Told → Option SettlingTime → Bool
 is_from_rest longest at paths_before paths told None = list_all tells_nothing told
@@ -105,8 +109,8 @@ failed_row far any_moved = if far then FailedEnd else if any_moved then FailureC
 -- leave it as it was. So does a link that gets wider, and so do losses that are followed, where no system is moved.
 -- Where one link or one system is taken away such as are cut off don't count as moved. There it matters whether the
 -- link that goes down cuts off a far end, and whether the one system that it moves turns, or a tree falls off or turns.
--- Of a system that fails it matters whether it was a far end, so that no other heard it, and whether it cuts off
--- another, or trees. Where several are taken away it matters whether all of them together move any system, also one
+-- A tree falls back too as its best gets worse. Of a system that fails it matters whether it was a far end, so that no
+-- other heard it, and whether it cuts off another, or trees. Where several are taken away it matters whether all of them together move any system, also one
 -- that is cut off, and whether a link is left silent. All other losses have one row.
 abbrev pub row_of : Bool → Bool → SyncPaths → SyncPaths → List Told → Moves → Row
 row_of from_rest first paths_before paths told moves =
@@ -116,7 +120,9 @@ row_of from_rest first paths_before paths told moves =
     else if are_losses_followed paths_before told && not moves.moved then Unchanged
     else if is_lowering_followed paths_before paths told && not moves.moved then if moves.cut then CutOff else Lowered
     else if is_lowering_followed paths_before paths told && moves.turned then SystemTurned
-    else if is_lowering_followed paths_before paths told && moves.falls then TreeCutOff
+    else if (is_lowering_followed paths_before paths told && moves.falls)
+    || (is_worsening_followed paths_before paths told && moves.worsens)
+    then TreeFalls
     else if is_lowering_followed paths_before paths told && moves.tree_turns then TreeTurned
     else if is_failing_followed paths_before paths told && not moves.moved then failed_row moves.far moves.any_moved
     else if is_failing_followed paths_before paths told && moves.trees_move then FailureMovesTrees
@@ -129,7 +135,8 @@ abbrev pub asks_who_is_moved : Bool → SyncPaths → SyncPaths → List Told �
 asks_who_is_moved from_rest paths_before paths told =
     from_rest
     && (are_losses_followed paths_before told || is_lowering_followed paths_before paths told
-    || is_failing_followed paths_before paths told || is_taking_followed paths_before paths told)
+    || is_failing_followed paths_before paths told || is_taking_followed paths_before paths told
+    || is_worsening_followed paths_before paths told)
 
 -- no system is moved, nor a far end, and others hold nothing
 abbrev pub no_moves : Moves
@@ -139,6 +146,7 @@ no_moves = record {
   cut = false;
   turned = false;
   falls = false;
+  worsens = false;
   tree_turns = false;
   trees_move = false;
   taken = false;

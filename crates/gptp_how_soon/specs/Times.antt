@@ -30,7 +30,7 @@ use Rattle.gptp_how_soon.specs.Links.{longest_delay, new_links}
 use Rattle.gptp_how_soon.specs.MovedTrees.{moves_trees_after}
 use Rattle.gptp_how_soon.specs.Rest.{has_come, heard_at_once, is_from_rest, row_of}
 use Rattle.gptp_how_soon.specs.Silent.{held_after, own_intervals, silent_after}
-use Rattle.gptp_how_soon.specs.Tree.{cuts_tree_after}
+use Rattle.gptp_how_soon.specs.Tree.{cuts_tree_after, worsens_best_after}
 use Rattle.gptp_how_soon.specs.Turned.{turns_one_after}
 use Rattle.gptp_how_soon.specs.TurnedTree.{turns_tree_after}
 use Rattle.gptp_how_soon.specs.declared.bounds.Loss.{Loss}
@@ -138,6 +138,7 @@ moves_at n made now before at = record {
   cut = cut_far_ends_after n made (made ++ now);
   turned = turns_one_after n made (made ++ now);
   falls = has_come_after n made before at && cuts_tree_after n made (made ++ now);
+  worsens = has_come_after n made before at && worsens_best_after n made (made ++ now) (told_of n made now);
   tree_turns = has_come_after n made before at && turns_tree_after n made (made ++ now);
   trees_move = has_come_after n made before at && moves_trees_after n made (made ++ now);
   taken = not (moves_some n made (made ++ now)) && not (silent_after n made (made ++ now));

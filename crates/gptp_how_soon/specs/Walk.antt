@@ -18,12 +18,13 @@ use Rattle.gptp_how_soon.specs.MovedTrees.{moves_trees}
 use Rattle.gptp_how_soon.specs.Rest.{has_come}
 use Rattle.gptp_how_soon.specs.Silent.{any_silent, heard_links, held_among, own_intervals}
 use Rattle.gptp_how_soon.specs.Times.{View, settling_time}
-use Rattle.gptp_how_soon.specs.Tree.{cuts_tree}
+use Rattle.gptp_how_soon.specs.Tree.{cuts_tree, worsens_best}
 use Rattle.gptp_how_soon.specs.Turned.{turns_one}
 use Rattle.gptp_how_soon.specs.TurnedTree.{turns_tree}
 use Rattle.gptp_how_soon.specs.declared.bounds.SettlingTime.{SettlingTime}
 use Rattle.gptp_how_soon.specs.declared.chosen.Chosen.{Chosen}
 use Rattle.gptp_how_soon.specs.declared.chosen.Ends.{Ends}
+use Rattle.gptp_how_soon.specs.declared.kinds.Told.{Told}
 use Rattle.gptp_how_soon.specs.declared.rest.Moves.{Moves}
 use Rattle.gptp_how_soon.specs.declared.walk.Walk.{Walk}
 
@@ -102,31 +103,34 @@ abbrev pub has_come_seen : NetworkState → Walk → ℕ → Bool
 has_come_seen n w at =
     has_come (largest_interval (pace_of n)) w.paths_before.delay (arrived_by w.longest_before w.set_before) w.before at
 
+-- Whom events move, by what systems choose before them and now, over the links in use, and by those that are lost:
+-- whether all has come that was in flight, one link is left silent, and one system turns alone, and for how long it
+-- counts what others hold.
+abbrev pub moves_by : List Told → List System → List System → List Ends → List Ends → List Ends → List Chosen
+    → List Chosen → Bool → Bool → Bool → ℕ → Moves
+moves_by told systems_before systems lost links_before links before now come silent turned held = record {
+  moved = any_counted (takes_one told) systems links before now;
+  any_moved = any_moved systems before now;
+  cut = all_cut_far_ends systems before links_before links lost;
+  turned = turned;
+  falls = come && cuts_tree systems lost links before now;
+  worsens = come && worsens_best systems links before now told;
+  tree_turns = come && turns_tree systems lost links before now;
+  trees_move = come && moves_trees systems lost links before now;
+  taken = not (any_moved systems before now) && not silent;
+  far = are_far systems_before before links_before told;
+  held = held;
+}
+
 -- whom the events of this time move
 abbrev pub moves_seen : NetworkState → Walk → ℕ → Moves
-moves_seen n w at = record {
-  moved = any_counted (takes_one w.told.items) (systems_in w.tables.nodes.items)
-      (ends_in_use w.ends.items (used_now w)) (chosen_before w) (chosen_now w);
-  any_moved = any_moved (systems_in w.tables.nodes.items) (chosen_before w) (chosen_now w);
-  cut = all_cut_far_ends (systems_in w.tables.nodes.items) (chosen_before w)
-      (ends_in_use w.ends.items w.used_before.items) (ends_in_use w.ends.items (used_now w)) (lost_seen w);
-  turned = turns_one (systems_in w.tables.nodes.items) (lost_seen w)
-      (ends_in_use w.ends.items w.used_before.items) (ends_in_use w.ends.items (used_now w)) (chosen_before w)
-      (chosen_now w);
-  falls = has_come_seen n w at
-      && cuts_tree (systems_in w.tables.nodes.items) (lost_seen w) (ends_in_use w.ends.items (used_now w))
-      (chosen_before w) (chosen_now w);
-  tree_turns = has_come_seen n w at
-      && turns_tree (systems_in w.tables.nodes.items) (lost_seen w) (ends_in_use w.ends.items (used_now w))
-      (chosen_before w) (chosen_now w);
-  trees_move = has_come_seen n w at
-      && moves_trees (systems_in w.tables.nodes.items) (lost_seen w) (ends_in_use w.ends.items (used_now w))
-      (chosen_before w) (chosen_now w);
-  taken = not (any_moved (systems_in w.tables.nodes.items) (chosen_before w) (chosen_now w))
-      && not (any_silent w.used_before.items w.tables.standings.items);
-  far = are_far w.systems_before.items (chosen_before w) (ends_in_use w.ends.items w.used_before.items) w.told.items;
-  held = held_among n (own_intervals n w.before at) (heard_seen w) w.tables.standings.items;
-}
+moves_seen n w at =
+    moves_by w.told.items w.systems_before.items (systems_in w.tables.nodes.items) (lost_seen w)
+    (ends_in_use w.ends.items w.used_before.items) (ends_in_use w.ends.items (used_now w)) (chosen_before w)
+    (chosen_now w) (has_come_seen n w at) (any_silent w.used_before.items w.tables.standings.items)
+    (turns_one (systems_in w.tables.nodes.items) (lost_seen w) (ends_in_use w.ends.items w.used_before.items)
+    (ends_in_use w.ends.items (used_now w)) (chosen_before w) (chosen_now w))
+    (held_among n (own_intervals n w.before at) (heard_seen w) w.tables.standings.items)
 
 -- what is seen of this time
 abbrev pub view_seen : NetworkState → Walk → ℕ → View

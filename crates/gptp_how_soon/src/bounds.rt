@@ -76,8 +76,8 @@ pub enum Row {
     FailureCutsOff,
     /// One link goes down so that moves one system alone. That keeps its root, and turns to others for it.
     SystemTurned,
-    /// One link goes down so that cuts off a tree, whose systems have a worse root then.
-    TreeCutOff,
+    /// One link goes down so that cuts off a tree, or its best gets worse. Its systems have a worse root then.
+    TreeFalls,
     /// One link goes down so that moves a tree. Its systems keep their root, and get it by one other link.
     TreeTurned,
     /// A system fails, and all that are moved are trees: some are cut off, one may turn by one other link.
@@ -280,7 +280,7 @@ fn choice_by(network: &Network, loss: Loss, paths: SyncPaths, row: Row, gained: 
         Row::Unchanged | Row::Lowered | Row::FailedEnd | Row::TakenAway => 0,
         Row::FailedHeard => aged_by(loss),
         Row::FailureCutsOff | Row::FailureMovesTrees => aged_by(loss) + 2 * way_span(paths),
-        Row::CutOff | Row::SystemTurned | Row::TreeCutOff | Row::TreeTurned => 2 * way_span(paths),
+        Row::CutOff | Row::SystemTurned | Row::TreeFalls | Row::TreeTurned => 2 * way_span(paths),
         Row::AnyLosses => any_loss_span(network, loss, paths),
         Row::Gained => gained,
     }
@@ -307,7 +307,7 @@ fn roles_by(network: &Network, loss: Loss, paths: SyncPaths, row: Row, gained: u
         Row::FailureCutsOff | Row::FailureMovesTrees => {
             quiet_by(network, loss, aged_by(loss) + 2 * way_span(paths))
         }
-        Row::CutOff | Row::SystemTurned | Row::TreeCutOff | Row::TreeTurned => 2 * way_span(paths),
+        Row::CutOff | Row::SystemTurned | Row::TreeFalls | Row::TreeTurned => 2 * way_span(paths),
         Row::AnyLosses => quiet_by(network, loss, any_loss_span(network, loss, paths)),
         Row::Gained => gained,
     }
@@ -391,7 +391,7 @@ fn sound_by(network: &Network, loss: Loss, paths: SyncPaths, row: Row, gained: u
         Row::Unchanged => 0,
         Row::Lowered => echo_span(network, paths).max(gone),
         Row::TakenAway => taken_echo_span(network, loss, paths),
-        Row::CutOff | Row::TreeCutOff => (2 * way_span(paths)).max(gone),
+        Row::CutOff | Row::TreeFalls => (2 * way_span(paths)).max(gone),
         Row::FailedEnd => quiet_by(network, loss, gone_before),
         Row::FailedHeard => aged_echo_span(network, loss, paths),
         Row::FailureCutsOff => {
@@ -431,7 +431,7 @@ fn retold_by(network: &Network, loss: Loss, paths: SyncPaths, row: Row, gained: 
             aged_by(loss) + 2 * way_span(paths) + echo_span(network, paths)
         }
         Row::SystemTurned | Row::TreeTurned => echo_span(network, paths) + 2 * way_span(paths),
-        Row::CutOff | Row::TreeCutOff => 2 * way_span(paths),
+        Row::CutOff | Row::TreeFalls => 2 * way_span(paths),
         Row::AnyLosses => any_loss_span(network, loss, paths),
         Row::Gained => gained,
     }

@@ -2,7 +2,7 @@
 
 ghost use Rattle.std.specs.Prelude.{◌≡◌, ◌++◌, ◌∷◌, [], false, OnOk};
 ghost use Rattle.std.specs.List.{list_all, list_any};
-ghost use Rattle.gptp_how_soon.specs.Kinds.{are_heard, begins_wider, brings_nothing, first_wider_by, is_wider, kind_of_link_set, wider_by, fails_and_recovers, fails_first, is_fail, is_failing, is_recover, is_better, is_down_too, is_failure_of_same, is_gain, is_link_down, is_lowering, is_unused, leaves_links, lowers_one, lowers_unused, makes_nothing, tells_nothing, is_heard_too, is_idle, is_loss, is_other, is_priority1, is_link_up, is_recovery, is_recovery_of, kind_of, kind_of_change, kind_of_failure, kind_of_link_down, kind_of_link_up, kind_of_priority1, kind_of_recovery, recovers, repeats, sets_bounds, sets_link, is_link_set, taken_too, takes_any, takes_one, takes_several, told_by, what_of, what_of_change};
+ghost use Rattle.gptp_how_soon.specs.Kinds.{are_heard, begins_wider, brings_nothing, first_wider_by, is_wider, kind_of_link_set, wider_by, fails_and_recovers, fails_first, is_fail, is_failing, is_recover, is_better, is_down_too, is_failure_of_same, is_gain, is_link_down, is_lowering, is_unused, leaves_links, lowers_one, lowers_unused, makes_nothing, tells_nothing, is_heard_too, is_idle, is_loss, is_other, is_priority1, is_worsening, is_link_up, is_recovery, is_recovery_of, kind_of, kind_of_change, kind_of_failure, kind_of_link_down, kind_of_link_up, kind_of_priority1, kind_of_recovery, recovers, repeats, sets_bounds, sets_link, is_link_set, taken_too, takes_any, takes_one, takes_several, told_by, what_of, what_of_change, worsens_first};
 
 use gptp_scenario::{Act, Change};
 use gptp_topology::{Standing, System, is_used, named};
@@ -349,11 +349,18 @@ fn is_failing(told: &Told) -> bool
     is_loss(told) && is_fail(told)
 }
 
+/// Whether a live system gets worse by it.
+fn is_worsening(told: &Told) -> bool
+    ensures { result ≡ is_worsening told.now }
+{
+    is_loss(told) && is_priority1(told)
+}
+
 /// Whether it makes nothing of what stands, or a live system worse.
 fn leaves_links(told: &Told) -> bool
     ensures { result ≡ leaves_links told.now }
 {
-    makes_nothing(told) || (is_loss(told) && is_priority1(told))
+    makes_nothing(told) || is_worsening(told)
 }
 
 /// Whether a link goes down by it that isn't used.
@@ -479,6 +486,16 @@ pub(crate) fn lowers_one(told: &[Told]) -> bool
 {
     match told.split_first() {
         Some((first, others)) => is_lowering(first) && all_repeat(others),
+        None => false,
+    }
+}
+
+/// Whether a live system gets worse by the first of these events, and the others repeat what stands.
+pub(crate) fn worsens_first(told: &[Told]) -> bool
+    ensures { result ≡ worsens_first told.now }
+{
+    match told.split_first() {
+        Some((first, others)) => is_worsening(first) && all_repeat(others),
         None => false,
     }
 }

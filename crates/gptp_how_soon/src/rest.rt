@@ -2,13 +2,14 @@
 
 ghost use Rattle.std.specs.Prelude.{◌≡◌, ◌≤◌, ◌+◌, ◌*◌, ◌&&◌, ◌||◌, nat_le, nat_lt};
 ghost use Rattle.gptp_scenario.specs.SettlingTime.{way_span};
-ghost use Rattle.gptp_how_soon.specs.Rest.{are_events_followed, are_losses_followed, are_recoveries_followed, are_turns_followed, asks_who_is_moved, heard_at_once, is_failing_followed, failed_row, has_come, is_from_rest, is_lowering_followed, is_taking_followed, is_wider_followed, keeps_paths, rested, row_of, settles_wider_by};
+ghost use Rattle.gptp_how_soon.specs.Rest.{are_events_followed, are_losses_followed, are_recoveries_followed, are_turns_followed, asks_who_is_moved, heard_at_once, is_failing_followed, failed_row, has_come, is_from_rest, is_lowering_followed, is_taking_followed, is_wider_followed, is_worsening_followed, keeps_paths, rested, row_of, settles_wider_by};
 
 use crate::bounds::{Row, SettlingTime, way_span};
 use crate::kinds::{
     Told, all_bring_nothing, all_leave_links, all_make_nothing, all_tell_nothing, any_better,
     any_gain, any_loss, any_lowers_unused, any_other, any_recovery, any_wider, are_heard,
     begins_wider, fails_and_recovers, fails_first, first_wider_by, lowers_one, takes_several,
+    worsens_first,
 };
 use gptp_scenario::SyncPaths;
 
@@ -25,6 +26,8 @@ pub struct Moves {
     pub turned: bool,
     /// Whether they cut off a tree, once all that was in flight as all became sound has come.
     pub falls: bool,
+    /// Whether then the first of them worsens the best of a tree, which falls back.
+    pub worsens: bool,
     /// Whether then a tree turns by one other link.
     pub tree_turns: bool,
     /// Whether then all that they move are trees: some are cut off, one may turn by one other link.
@@ -223,6 +226,13 @@ fn is_taking_followed(paths_before: SyncPaths, paths: SyncPaths, told: &[Told]) 
     keeps_paths(paths_before, paths) && takes_several(told)
 }
 
+/// Whether a system that gets worse is followed.
+fn is_worsening_followed(paths_before: SyncPaths, paths: SyncPaths, told: &[Told]) -> bool
+    ensures { result ≡ is_worsening_followed paths_before paths told.now }
+{
+    keeps_paths(paths_before, paths) && worsens_first(told)
+}
+
 /// Whether it counts whom its events move.
 pub(crate) fn asks_who_is_moved(
     from_rest: bool,
@@ -236,7 +246,8 @@ pub(crate) fn asks_who_is_moved(
         && (are_losses_followed(paths_before, told)
             || is_lowering_followed(paths_before, paths, told)
             || is_failing_followed(paths_before, paths, told)
-            || is_taking_followed(paths_before, paths, told))
+            || is_taking_followed(paths_before, paths, told)
+            || is_worsening_followed(paths_before, paths, told))
 }
 
 /// What is known of a time at which a system fails and none is moved but such as are cut off, by whether the one that
@@ -277,8 +288,10 @@ pub(crate) fn row_of(
         if moves.cut { Row::CutOff } else { Row::Lowered }
     } else if is_lowering_followed(paths_before, paths, told) && moves.turned {
         Row::SystemTurned
-    } else if is_lowering_followed(paths_before, paths, told) && moves.falls {
-        Row::TreeCutOff
+    } else if (is_lowering_followed(paths_before, paths, told) && moves.falls)
+        || (is_worsening_followed(paths_before, paths, told) && moves.worsens)
+    {
+        Row::TreeFalls
     } else if is_lowering_followed(paths_before, paths, told) && moves.tree_turns {
         Row::TreeTurned
     } else if is_failing_followed(paths_before, paths, told) && !moves.moved {

@@ -5,7 +5,7 @@ ghost use Rattle.gptp_network.specs.declared.keys.TheConstants.{LATEST_EVENT};
 ghost use Rattle.gptp_topology.specs.Tables.{AreMarked, marked_paths};
 ghost use Rattle.gptp_how_soon.specs.Times.{settling_time};
 ghost use Rattle.gptp_how_soon.specs.Rest.{no_moves};
-ghost use Rattle.gptp_how_soon.specs.Walk.{IsFirstWalk, WalkGoesOn, WalkPasses, moves_seen, view_seen};
+ghost use Rattle.gptp_how_soon.specs.Walk.{IsFirstWalk, WalkGoesOn, WalkPasses, moves_by, moves_seen, view_seen};
 
 use crate::bounds::{
     Loss, SettlingTime, announce_interval, arrived_before, arrived_by, heard, ready, times_by,
@@ -20,7 +20,7 @@ use crate::links::{delay_set, longest_among, lost_among, mark_used, new_links};
 use crate::moved_trees::moves_trees;
 use crate::rest::{Moves, asks_who_is_moved, has_come, heard_at_once, is_from_rest, row_of};
 use crate::silent::{any_silent, heard_links, held_among, own_intervals};
-use crate::tree::cuts_tree;
+use crate::tree::{cuts_tree, worsens_best};
 use crate::turned::turns_one;
 use crate::turned_tree::turns_tree;
 use gptp_scenario::{Act, Network, SyncPaths};
@@ -50,6 +50,43 @@ pub(crate) struct Walk {
     pub used_before: Vec<bool>,
     pub paths_before: SyncPaths,
     pub all_used_before: bool,
+}
+
+/// Whom events move, by what systems choose before them and now, over the links in use, and by those that are lost:
+/// whether all has come that was in flight, a link is left silent, and one system turns alone, and for how long it
+/// counts what others hold, in ns.
+fn moves_by(
+    told: &[Told],
+    systems_before: &[System],
+    systems: &[System],
+    lost: &[Ends],
+    links_before: &[Ends],
+    links: &[Ends],
+    before: &[Chosen],
+    now: &[Chosen],
+    come: bool,
+    silent: bool,
+    turned: bool,
+    held: u64,
+) -> Moves
+    ensures { result
+        ≡ moves_by told.now systems_before.now systems.now lost.now links_before.now links.now before.now now.now come
+        silent turned held }
+{
+    let any_moved = any_moved(systems, before, now);
+    Moves {
+        moved: any_counted(takes_one(told), systems, links, before, now),
+        any_moved,
+        cut: all_cut_far_ends(systems, before, links_before, links, lost),
+        turned,
+        falls: come && cuts_tree(systems, lost, links, before, now),
+        worsens: come && worsens_best(systems, links, before, now, told),
+        tree_turns: come && turns_tree(systems, lost, links, before, now),
+        trees_move: come && moves_trees(systems, lost, links, before, now),
+        taken: !any_moved && !silent,
+        far: are_far(systems_before, before, links_before, told),
+        held,
+    }
 }
 
 impl Walk {
@@ -131,26 +168,26 @@ impl Walk {
         let links_before = ends_in_use(alloc, &self.ends, &self.used_before)?;
         let before = choose(alloc, &self.systems_before, &links_before)?;
         let now = choose(alloc, &systems, &links)?;
-        let joined = takes_one(&self.told);
         let turned = turns_one(alloc, &systems, &lost, &links_before, &links, &before, &now)?;
         let arrived = arrived_before(self.longest_before, self.set_before);
         let delay = self.paths_before.delay;
         let come = has_come(announce_interval(network), delay, arrived, self.before, at);
         let own = own_intervals(network, self.before, at);
         let heard = heard_links(alloc, &systems, &before, &self.used_before, &self.ends)?;
-        let any_moved = any_moved(&systems, &before, &now);
-        Ok(Moves {
-            moved: any_counted(joined, &systems, &links, &before, &now),
-            any_moved,
-            cut: all_cut_far_ends(&systems, &before, &links_before, &links, &lost),
+        Ok(moves_by(
+            &self.told,
+            &self.systems_before,
+            &systems,
+            &lost,
+            &links_before,
+            &links,
+            &before,
+            &now,
+            come,
+            any_silent(&self.used_before, &self.tables.standings),
             turned,
-            falls: come && cuts_tree(&systems, &lost, &links, &before, &now),
-            tree_turns: come && turns_tree(&systems, &lost, &links, &before, &now),
-            trees_move: come && moves_trees(&systems, &lost, &links, &before, &now),
-            taken: !any_moved && !any_silent(&self.used_before, &self.tables.standings),
-            far: are_far(&self.systems_before, &before, &links_before, &self.told),
-            held: held_among(network, own, &heard, &self.tables.standings),
-        })
+            held_among(network, own, &heard, &self.tables.standings),
+        ))
     }
 
     /// Whom the events of this time move, where that is asked; else nobody.
@@ -173,6 +210,7 @@ impl Walk {
                 cut: false,
                 turned: false,
                 falls: false,
+                worsens: false,
                 tree_turns: false,
                 trees_move: false,
                 taken: false,

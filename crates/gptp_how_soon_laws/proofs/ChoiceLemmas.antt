@@ -18,11 +18,12 @@ use Rattle.gptp_network.specs.Snapshot.{events_by}
 use Rattle.gptp_network.proofs.SnapshotLemmas.{from_filter}
 use Rattle.gptp_theorem.specs.PlayedLaws.{IsPlayable}
 use Rattle.gptp_how_soon.specs.Bounds.{aged_by, aged_echo_span, any_loss_span, arrived_by, choice_by, choice_of_row, gone_by, quiet_by, roles_of_row, sound_by}
+use Rattle.gptp_how_soon.specs.Kinds.{is_lowering}
 use Rattle.gptp_how_soon.specs.Links.{longest_delay}
 use Rattle.gptp_how_soon.specs.Times.{View, events_at, gained_at, last_set, loss_at, ready_at, row_at, settling_time, settling_times, settling_times_from, time_at, view_at}
 use Rattle.gptp_how_soon.specs.declared.bounds.Loss.{Loss}
 use Rattle.gptp_how_soon.specs.declared.bounds.Row.{Row}
-use Rattle.gptp_how_soon.specs.declared.bounds.Row.TheVariants.{AnyLosses, AnyPast, CutOff, FailedEnd, FailedHeard, FailureCutsOff, FailureMovesTrees, Gained, Lowered, SystemTurned, TakenAway, TreeCutOff, TreeTurned, Unchanged}
+use Rattle.gptp_how_soon.specs.declared.bounds.Row.TheVariants.{AnyLosses, AnyPast, CutOff, FailedEnd, FailedHeard, FailureCutsOff, FailureMovesTrees, Gained, Lowered, SystemTurned, TakenAway, TreeFalls, TreeTurned, Unchanged}
 use Rattle.gptp_how_soon.specs.declared.bounds.Settling.{Settling}
 use Rattle.gptp_how_soon.specs.declared.bounds.SettlingTime.{SettlingTime}
 use Rattle.gptp_settling_time.specs.HowSoon.{BeforeRepeats, BoundsAnyLoss, BoundsChoice, BoundsEvents, BoundsLoss, BoundsSplit, BoundsStart, BoundsTree, FailsTreesFirst, IsChoiceBoundAfter, IsLossBoundAfter, IsRestBoundAfter, NoneBetween, RestsAfterAnyLoss, RestsAfterLoss, RestsOnceTold, RestsSplit, RestsTaken, RestsTree, RolesAfterFailure, TreeNext}
@@ -37,13 +38,14 @@ use Rattle.gptp_how_soon_laws.specs.Choice.{SettlingsAreChoiceBounds}
 use Rattle.gptp_how_soon_laws.proofs.FailedLemmas.{used_up}
 use Rattle.gptp_how_soon_laws.proofs.RowBoundLemmas.{HasOwnBounds, IsSoundSooner, IsTelling, bounds_choice, choice_or_own, past_row, sound_or_sooner, tells}
 use Rattle.gptp_how_soon_laws.proofs.RowLemmas.{gained, unchanged}
-use Rattle.gptp_how_soon_laws.proofs.RowLossLemmas.{ComesLate, CutsLate, FailsLate, GoesFirst, TakesSome, cut_off, failed, failure_cuts, heard, losses, lowered, none_left, same_paths, taken, tree_cut, tree_turned, turned}
+use Rattle.gptp_how_soon_laws.proofs.RowLossLemmas.{ComesLate, FallsLate, FailsLate, GoesFirst, TakesSome, cut_off, failed, failure_cuts, heard, losses, lowered, none_left, same_paths, taken, tree_falls, tree_turned, turned}
 use Rattle.gptp_how_soon_laws.proofs.AgedLemmas.{aged, aging, quiet_later}
 use Rattle.gptp_how_soon_laws.proofs.LossBoundLemmas.{beside, greater, no_later, some_before, some_heard, some_lost, some_rested, some_trees}
 use Rattle.gptp_how_soon_laws.proofs.RepeatLemmas.{before_repeats}
 use Rattle.gptp_how_soon_laws.proofs.RowTestLemmas.{HasComeToRest}
 use Rattle.gptp_how_soon_laws.proofs.StartRowLemmas.{first_past, first_roles, first_sound, never_unchanged, started}
 use Rattle.gptp_how_soon_laws.proofs.UnmovedLemmas.{AreWell}
+use Rattle.gptp_how_soon_laws.proofs.TreeWorsenedLemmas.{octets_at}
 use Rattle.gptp_how_soon_laws.proofs.TimesLemmas.{AreTimes, later_times, times_after, times_parts}
 use Rattle.gptp_how_soon_laws.proofs.TakenAwayLemmas.{several_lost}
 
@@ -191,9 +193,9 @@ module _ (d : DocumentState) (playable : IsPlayable d) where
     alone : (Are : List Timed → List Timed → Type 0) → Are made now → BeforeRepeats n Are made now
     alone Are is = before_none n Are made now is
 
-    behind : (g : GoesFirst n playable.network all b at late) (Are : List Timed → List Timed → Type 0)
+    behind : (g : GoesFirst n playable.network all b at late is_lowering) (Are : List Timed → List Timed → Type 0)
         → Are made (g.x.event ∷ []) → BeforeRepeats n Are made now
-    behind g Are is = before_repeats n playable.network made now g.x Are is
+    behind g Are is = before_repeats n playable.network is_lowering made now g.x Are is
 
     abbrev Resting : ℕ → List Timed → List Timed → Type 0
     Resting sound made now = RestsAfterLoss n made now sound
@@ -220,7 +222,7 @@ module _ (d : DocumentState) (playable : IsPlayable d) where
     abbrev Rests : ℕ → Type 0
     Rests sound =
         (HasComeToRest b at × BeforeRepeats n (Resting sound) made now)
-        ⊎ (((rest : HasComeToRest b at) × CutsLate n playable.network all b at late rest
+        ⊎ (((rest : HasComeToRest b at) × FallsLate n playable.network all b at late rest
         × (sound ≡ max (2 * way_span v.paths) (gone_by n v.paths v.used_before)))
         ⊎ (((rest : HasComeToRest b at) × ComesLate n playable.network all b at late (TurnsTreeLink n) rest
         × (sound ≡ turned_echo_span n (made ++ now)))
@@ -280,13 +282,13 @@ module _ (d : DocumentState) (playable : IsPlayable d) where
             inl (none_left n playable.network all b at late silent, subst (FlightIsGone n made) (sym same) flight)
     rests_by sound told (inr (inl (row, is))) =
         let (rest, (l, flight)) = lowered n playable.network all b at late well row in
-        let same = same_paths n playable.network all b at late l.first in
+        let same = same_paths n playable.network all b at late is_lowering l.first in
         let gone : ℕ = gone_by n v.paths v.used_before in
         let is_first = told ∙ is ∙ ap (λ (p : SyncPaths). max (echo_span (pace_of n) p) gone) same in
         inl (rest, behind l.first (Resting sound) (inl (inr (inr (inl (l.lowers, (gone, flight, is_first)))))))
     rests_by sound told (inr (inr (inl (row, is)))) =
         let x = cut_off n playable.network all b at late well row in
-        let same = same_paths n playable.network all b at late x.none.first in
+        let same = same_paths n playable.network all b at late is_lowering x.none.first in
         let gone : ℕ = gone_by n v.paths v.used_before in
         let is_first = told ∙ is ∙ ap (λ (p : SyncPaths). max (2 * way_span p) gone) same in
         inl (x.rested, behind x.none.first (Resting sound) (inl (inl (x.cuts, (gone, x.flight, is_first)))))
@@ -295,7 +297,7 @@ module _ (d : DocumentState) (playable : IsPlayable d) where
         inr (inr (inl (rest, tree, told ∙ is)))
     rests_by sound told (inr (inr (inr (inl (inl row, is))))) =
         let (rest, (g, turns)) = turned n playable.network all b at late well row in
-        let same = same_paths n playable.network all b at late g in
+        let same = same_paths n playable.network all b at late is_lowering g in
         let is_first = told ∙ is ∙ ap (λ (p : SyncPaths). 2 * way_span p + echo_span (pace_of n) p) same in
         inl (rest, behind g (Resting sound) (inl (inr (inr (inr (inl (turns, is_first)))))))
     rests_by sound told (inr (inr (inr (inr (inl (row, long)))))) =
@@ -330,7 +332,7 @@ module _ (d : DocumentState) (playable : IsPlayable d) where
           ))),
         )
     rests_by sound told (inr (inr (inr (inr (inr (inr (inl (row, is)))))))) =
-        let (rest, tree) = tree_cut n playable.network all b at late well row in inr (inl (rest, tree, told ∙ is))
+        let (rest, tree) = tree_falls n playable.network all b at late well (octets_at d playable at) row in inr (inl (rest, tree, told ∙ is))
     rests_by sound told (inr (inr (inr (inr (inr (inr (inr (inl (row, is))))))))) =
         let x = failure_cuts n playable.network all b at late well row in
         let echo : ℕ = max (echo_span (pace_of n) v.paths) (largest_interval (pace_of n)) in
@@ -387,7 +389,7 @@ module _ (d : DocumentState) (playable : IsPlayable d) where
     Asks choice roles =
         (HasComeToRest b at × BeforeRepeats n (Losing choice roles) made now)
         ⊎ ((((rest : HasComeToRest b at)
-        × (CutsLate n playable.network all b at late rest
+        × (FallsLate n playable.network all b at late rest
         ⊎ ComesLate n playable.network all b at late (TurnsTreeLink n) rest))
         × (choice ≡ 2 * way_span v.paths) × (roles ≡ choice))
         ⊎ (FailsLate n playable.network all b at late × BoundsSplit n choice roles made now))
@@ -446,7 +448,7 @@ module _ (d : DocumentState) (playable : IsPlayable d) where
     asks_by CutOff row own =
         let x = cut_off n playable.network all b at late well row in
         let way : ℕ = 2 * way_span v.paths in
-        let same = same_paths n playable.network all b at late x.none.first in
+        let same = same_paths n playable.network all b at late is_lowering x.none.first in
         inl (
           x.rested,
           behind x.none.first (Losing way way)
@@ -463,13 +465,13 @@ module _ (d : DocumentState) (playable : IsPlayable d) where
     asks_by SystemTurned row own =
         let (rest, (g, turns)) = turned n playable.network all b at late well row in
         let way : ℕ = 2 * way_span v.paths in
-        let same = same_paths n playable.network all b at late g in
+        let same = same_paths n playable.network all b at late is_lowering g in
         inl (
           rest,
           behind g (Losing way way) (inr (inr (inl (turns, ap (λ (p : SyncPaths). 2 * way_span p) same, refl)))),
         )
-    asks_by TreeCutOff row own =
-        let (rest, tree) = tree_cut n playable.network all b at late well row in
+    asks_by TreeFalls row own =
+        let (rest, tree) = tree_falls n playable.network all b at late well (octets_at d playable at) row in
         inr (inl ((rest, inl tree), refl, refl))
     asks_by TreeTurned row own =
         let (rest, tree) = tree_turned n playable.network all b at late well row in

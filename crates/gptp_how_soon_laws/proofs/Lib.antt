@@ -17,7 +17,9 @@ mod LostLinkLemmas
 mod OneLostLemmas
 mod TreeTestLemmas
 mod TreeBelowLemmas
+mod FallsBelowLemmas
 mod TreeLemmas
+mod TreeWorsenedLemmas
 mod TurnedTreeTestLemmas
 mod TurnsBelowLemmas
 mod TurnedTreeLemmas

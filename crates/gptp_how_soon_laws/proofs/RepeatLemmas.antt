@@ -1,6 +1,6 @@
 -- Behind events that repeat what stands all is as before: who lives, who chooses what, which links are in use, and all
 -- that is computed of a loss.
-use Rattle.std.proofs.Common.{◌≡◌, true, false, not, List, [], ◌∷◌, ◌++◌, map, append_assoc, append-nil, refl, sym, ap, ap₂, subst, ◌∙◌, inl, inr}
+use Rattle.std.proofs.Common.{◌≡◌, Bool, true, false, not, List, [], ◌∷◌, ◌++◌, map, append_assoc, append-nil, refl, sym, ap, ap₂, subst, ◌∙◌, inl, inr}
 use Rattle.std.specs.List.{list_all}
 use Rattle.std.proofs.lemmas.Bool.{and_parts, not-true}
 use Rattle.gptp_lists.specs.Members.{In}
@@ -19,12 +19,13 @@ use Rattle.gptp_topology.specs.After.{standing_then, standings_after, system_the
 use Rattle.gptp_topology.specs.Course.{cable_is_used, cable_of}
 use Rattle.gptp_how_soon.specs.Chosen.{any_joined_moved, chosen_after, chosen_over, ends_in_use, ends_of, lost_ends, moves_joined, used_ends}
 use Rattle.gptp_how_soon.specs.Far.{all_cut_far_ends, cut_far_ends_after}
-use Rattle.gptp_how_soon.specs.Kinds.{is_idle, is_lowering, is_priority1, lowers_one, repeats}
+use Rattle.gptp_how_soon.specs.Kinds.{begins_with, is_idle, is_priority1, repeats}
 use Rattle.gptp_how_soon.specs.Links.{lost_among}
 use Rattle.gptp_how_soon.specs.Times.{told_at, told_of}
-use Rattle.gptp_how_soon.specs.Tree.{cuts_tree, cuts_tree_after}
+use Rattle.gptp_how_soon.specs.Tree.{cuts_tree, cuts_tree_after, worsens_best, worsens_best_after}
 use Rattle.gptp_how_soon.specs.Turned.{turns_one, turns_one_after}
 use Rattle.gptp_how_soon.specs.TurnedTree.{turns_tree, turns_tree_after}
+use Rattle.gptp_how_soon.specs.declared.kinds.Told.{Told}
 use Rattle.gptp_how_soon.proofs.WalkLemmas.{lost_are, used_are}
 use Rattle.gptp_settling_time.specs.Gains.{Repeats}
 use Rattle.gptp_settling_time.specs.HowSoon.{BeforeRepeats, EachEvent}
@@ -152,31 +153,35 @@ module _ (n : NetworkState) (made events more : List Timed) (same : StandSame n 
   pub turns_seen : turns_tree_after n made more ≡ turns_tree_after n made events
   turns_seen i = turns_tree (systems i) (lost_seen i) (used_seen i) (chosen_after n made) (chosen_seen i)
 
--- ---- one link that goes down, and events behind it that repeat what stands
+  pub worsens_seen : (told : List Told) → worsens_best_after n made more told ≡ worsens_best_after n made events told
+  worsens_seen told i = worsens_best (systems i) (used_seen i) (chosen_after n made) (chosen_seen i) told
 
--- a link goes down by the first event
-pub record LowersFirst (n : NetworkState) (made now : List Timed) : Type 0 where
+-- ---- one event, and others behind it that repeat what stands
+
+-- the first event is of this kind
+pub record Begins (n : NetworkState) (is_kind : Told → Bool) (made now : List Timed) : Type 0 where
   pub event : Timed
   pub others : List Timed
   pub split : now ≡ event ∷ others
-  pub lowers : is_lowering (told_at n made event.act) ≡ true
+  pub so : is_kind (told_at n made event.act) ≡ true
   pub each : EachEvent (Repeats n) (made ++ event ∷ []) others
 
-pub lowers_first : (n : NetworkState) → IsNetwork n → (made now : List Timed) → lowers_one (told_of n made now) ≡ true
-    → LowersFirst n made now
-lowers_first n network made [] is = absurd cc
-lowers_first n network made (event ∷ others) is =
-    let (lowers, rest) = and_parts (is_lowering (told_at n made event.act))
+pub begins : (n : NetworkState) → IsNetwork n → (is_kind : Told → Bool) (made now : List Timed)
+    → begins_with is_kind (told_of n made now) ≡ true → Begins n is_kind made now
+begins n network is_kind made [] is = absurd cc
+begins n network is_kind made (event ∷ others) is =
+    let (so, rest) = and_parts (is_kind (told_at n made event.act))
     (list_all repeats (told_of n (made ++ event ∷ []) others)) is in
     record {
       event = event;
       others = others;
       split = refl;
-      lowers = lowers;
+      so = so;
       each = each_repeats n network (made ++ event ∷ []) others rest;
     }
 
-module _ (n : NetworkState) (network : IsNetwork n) (made now : List Timed) (x : LowersFirst n made now) where
+module _ (n : NetworkState) (network : IsNetwork n) (is_kind : Told → Bool) (made now : List Timed)
+    (x : Begins n is_kind made now) where
   whole : (made ++ x.event ∷ []) ++ x.others ≡ made ++ now
   whole = append_assoc made (x.event ∷ []) x.others ∙ ap (λ es. made ++ es) (sym x.split)
 

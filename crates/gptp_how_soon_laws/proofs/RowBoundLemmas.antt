@@ -18,7 +18,7 @@ use Rattle.gptp_how_soon.specs.Kinds.{sets_link}
 use Rattle.gptp_how_soon.specs.Times.{View, gained_at, loss_at, row_at, settling_time}
 use Rattle.gptp_how_soon.specs.declared.bounds.Loss.{Loss}
 use Rattle.gptp_how_soon.specs.declared.bounds.Row.{Row}
-use Rattle.gptp_how_soon.specs.declared.bounds.Row.TheVariants.{AnyLosses, AnyPast, CutOff, FailedEnd, FailedHeard, FailureCutsOff, FailureMovesTrees, Gained, Lowered, SystemTurned, TakenAway, TreeCutOff, TreeTurned, Unchanged}
+use Rattle.gptp_how_soon.specs.declared.bounds.Row.TheVariants.{AnyLosses, AnyPast, CutOff, FailedEnd, FailedHeard, FailureCutsOff, FailureMovesTrees, Gained, Lowered, SystemTurned, TakenAway, TreeTurned, Unchanged, TreeFalls}
 use Rattle.gptp_how_soon.specs.declared.bounds.Settling.{Settling}
 use Rattle.gptp_settling_time.specs.HowSoon.{BoundsChoice}
 use Rattle.gptp_topology.proofs.RestLemmas.{calm_from}
@@ -33,7 +33,7 @@ past_row FailedEnd = AnyPast
 past_row FailedHeard = AnyPast
 past_row FailureCutsOff = AnyPast
 past_row SystemTurned = AnyPast
-past_row TreeCutOff = AnyPast
+past_row TreeFalls = AnyPast
 past_row TreeTurned = AnyPast
 past_row FailureMovesTrees = AnyPast
 past_row TakenAway = AnyPast
@@ -65,7 +65,7 @@ bounds_choice n Sharp loss events row gained calm unchanged is_gained =
     by_row off FailedHeard is = inl refl
     by_row off FailureCutsOff is = inl refl
     by_row off SystemTurned is = inl refl
-    by_row off TreeCutOff is = inl refl
+    by_row off TreeFalls is = inl refl
     by_row off TreeTurned is = inl refl
     by_row off FailureMovesTrees is = inl refl
     by_row off TakenAway is = inl refl
@@ -119,7 +119,7 @@ choice_or_own n loss paths row gained = by (n.params.sync_timeout == 0) refl row
     by true is FailedHeard = inr (eqb-true n.params.sync_timeout 0 is, tt, refl, refl)
     by true is FailureCutsOff = inr (eqb-true n.params.sync_timeout 0 is, tt, refl, refl)
     by true is SystemTurned = inr (eqb-true n.params.sync_timeout 0 is, tt, refl, refl)
-    by true is TreeCutOff = inr (eqb-true n.params.sync_timeout 0 is, tt, refl, refl)
+    by true is TreeFalls = inr (eqb-true n.params.sync_timeout 0 is, tt, refl, refl)
     by true is TreeTurned = inr (eqb-true n.params.sync_timeout 0 is, tt, refl, refl)
     by true is FailureMovesTrees = inr (eqb-true n.params.sync_timeout 0 is, tt, refl, refl)
     by true is TakenAway = inr (eqb-true n.params.sync_timeout 0 is, tt, refl, refl)
@@ -134,7 +134,7 @@ IsSoundSooner n loss paths row sound =
     ⊎ ((((row ≡ SystemTurned) ⊎ (row ≡ TreeTurned)) × (sound ≡ 2 * way_span paths + echo_span (pace_of n) paths))
     ⊎ ((((row ≡ FailedHeard) ⊎ (row ≡ FailureCutsOff)) × (aged_echo_span n loss paths ≤ sound))
     ⊎ (((row ≡ AnyLosses) × (sound ≡ quiet_by n loss (any_loss_span n loss paths)))
-    ⊎ (((row ≡ TreeCutOff) × (sound ≡ max (2 * way_span paths) (gone_by n paths loss.used_before)))
+    ⊎ (((row ≡ TreeFalls) × (sound ≡ max (2 * way_span paths) (gone_by n paths loss.used_before)))
     ⊎ (((row ≡ FailureMovesTrees)
     × (sound ≡ quiet_by n loss
     (aged_by loss + (2 * way_span paths + max (echo_span (pace_of n) paths) (largest_interval (pace_of n))))))
@@ -175,7 +175,7 @@ sound_or_sooner n loss paths row gained = by (n.params.sync_timeout == 0) refl r
         inr (eqb-true n.params.sync_timeout 0 is, inr (inr (inr (inr (inr (inr (inr (inl (refl, refl)))))))))
     by true is TakenAway =
         inr (eqb-true n.params.sync_timeout 0 is, inr (inr (inr (inr (inr (inr (inr (inr (refl, refl)))))))))
-    by true is TreeCutOff =
+    by true is TreeFalls =
         inr (eqb-true n.params.sync_timeout 0 is, inr (inr (inr (inr (inr (inr (inl (refl, refl))))))))
 
 -- what is told of a calm network

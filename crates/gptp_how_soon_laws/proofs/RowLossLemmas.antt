@@ -1,30 +1,32 @@
 -- What is told of a time after the first one with losses, by its row, is so by its events.
-use Rattle.std.proofs.Common.{◌≡◌, ◌<◌, ◌≤◌, ◌⊎◌, inl, inr, ◌+◌, ℕ, Bool, true, false, List, [], ◌∷◌, ◌++◌, Some, suc, refl, sym, subst, ◌∙◌}
-use Rattle.std.specs.Prelude.{◌&&◌, not, if◌then◌else◌, nat_le, max}
+use Rattle.std.proofs.Common.{◌≡◌, ◌<◌, ◌≤◌, ◌⊎◌, ap, inl, inr, ◌+◌, ℕ, Bool, true, false, List, [], ◌∷◌, ◌++◌, Some, suc, refl, sym, subst, ◌∙◌}
+use Rattle.std.specs.Prelude.{◌&&◌, ◌||◌, not, if◌then◌else◌, nat_le, max}
 use Rattle.std.specs.List.{list_all, list_any}
-use Rattle.std.proofs.lemmas.Bool.{and_parts, not-true}
+use Rattle.std.proofs.lemmas.Bool.{and_parts, not-true, or_cases}
+use Rattle.gptp_lists.specs.Members.{In}
 use Rattle.gptp_scenario.specs.Network.{IsNetwork, NetworkState, pace_of}
 use Rattle.gptp_scenario.specs.SettlingTime.{silence_span}
 use Rattle.gptp_scenario.specs.SyncWait.{sync_paths}
 use Rattle.gptp_scenario.specs.declared.change.Timed.{Timed}
 use Rattle.gptp_scenario.specs.declared.sync_wait.SyncPaths.{SyncPaths}
 use Rattle.gptp_network.specs.Snapshot.{events_by}
+use Rattle.gptp_invariants.specs.WorldEncodableLaws.{SetsAnOctet}
 use Rattle.gptp_how_soon.specs.Bounds.{gone_by, quiet_by}
 use Rattle.gptp_how_soon.specs.Chosen.{moves_joined, moves_some}
-use Rattle.gptp_how_soon.specs.Kinds.{brings_nothing, fails_first, is_loss, lowers_one, takes_one, takes_several}
+use Rattle.gptp_how_soon.specs.Kinds.{begins_with, brings_nothing, fails_first, is_loss, is_lowering, is_worsening, lowers_one, takes_one, takes_several, worsens_first}
 use Rattle.gptp_how_soon.specs.MovedTrees.{moves_trees_after}
-use Rattle.gptp_how_soon.specs.Rest.{is_failing_followed, is_from_rest, is_lowering_followed, is_taking_followed, keeps_paths, rested}
-use Rattle.gptp_how_soon.specs.Times.{View, events_at, has_come_after, loss_at, row_at, view_at}
-use Rattle.gptp_how_soon.specs.Tree.{cuts_tree_after}
+use Rattle.gptp_how_soon.specs.Rest.{is_failing_followed, is_from_rest, is_lowering_followed, is_taking_followed, is_worsening_followed, keeps_paths, rested}
+use Rattle.gptp_how_soon.specs.Times.{View, events_at, has_come_after, loss_at, row_at, told_at, told_of, view_at}
+use Rattle.gptp_how_soon.specs.Tree.{cuts_tree_after, worsens_best_after}
 use Rattle.gptp_how_soon.specs.TurnedTree.{turns_tree_after}
 use Rattle.gptp_how_soon.specs.declared.bounds.Row.{Row}
-use Rattle.gptp_how_soon.specs.declared.bounds.Row.TheVariants.{AnyLosses, CutOff, FailedEnd, FailedHeard, FailureCutsOff, FailureMovesTrees, Lowered, SystemTurned, TakenAway, TreeCutOff, TreeTurned}
+use Rattle.gptp_how_soon.specs.declared.bounds.Row.TheVariants.{AnyLosses, CutOff, FailedEnd, FailedHeard, FailureCutsOff, FailureMovesTrees, Lowered, SystemTurned, TakenAway, TreeFalls, TreeTurned}
 use Rattle.gptp_how_soon.specs.declared.bounds.SettlingTime.{SettlingTime}
 use Rattle.gptp_how_soon.specs.declared.kinds.Told.{Told}
 use Rattle.gptp_settling_time.specs.Arrivals.{HasArrivedBy}
 use Rattle.gptp_settling_time.specs.HowSoon.{BeforeRepeats, FailsEndFirst, FailsHeardFirst, FailsTreesFirst, LosesEvents, OneEvent, RolesAfterLoss, TakesSeveral}
 use Rattle.gptp_settling_time.specs.EventKinds.{FlightIsGone}
-use Rattle.gptp_settling_time.specs.Losses.{CutsFarEnd, LowersLink, MovesNoneInAll, NoneSilent, TurnsLink}
+use Rattle.gptp_settling_time.specs.Losses.{CutsFarEnd, LowersLink, MovesNoneInAll, NoneSilent, TurnsLink, UpIsUsed}
 use Rattle.gptp_settling_time.specs.TreeLosses.{FallsTree, TurnsTreeLink}
 use Rattle.gptp_settling_time.proofs.SamePathsLemmas.{StandSame}
 use Rattle.gptp_how_soon_laws.proofs.AnyLossLemmas.{all_losses}
@@ -33,10 +35,12 @@ use Rattle.gptp_how_soon_laws.proofs.FailedLemmas.{fails_end_first, fails_heard_
 use Rattle.gptp_how_soon_laws.proofs.CutOffLemmas.{cuts_far}
 use Rattle.gptp_how_soon_laws.proofs.MovedTreesLemmas.{fails_trees_first}
 use Rattle.gptp_how_soon_laws.proofs.LoweredLemmas.{lowers_link, used_on}
-use Rattle.gptp_how_soon_laws.proofs.RepeatLemmas.{LowersFirst, before_repeats, cut_seen, falls_seen, first_same, first_well, joined_seen, lowers_first, paths_seen, turned_seen, turns_seen, used_still}
+use Rattle.gptp_how_soon_laws.proofs.RepeatLemmas.{Begins, before_repeats, begins, cut_seen, falls_seen, first_same, first_well, joined_seen, paths_seen, turned_seen, turns_seen, used_still, worsens_seen}
 use Rattle.gptp_how_soon_laws.proofs.TreeEventLemmas.{lowers_one_tree, turns_tree_link}
+use Rattle.gptp_how_soon_laws.proofs.TreeWorsenedLemmas.{used_behind, worsens_tree}
 use Rattle.gptp_how_soon_laws.proofs.TurnedLemmas.{turns_link}
 use Rattle.gptp_how_soon_laws.proofs.UnmovedLemmas.{AreWell}
+use Rattle.gptp_how_soon_laws.proofs.WorseningLemmas.{worsening_so}
 use Rattle.gptp_how_soon_laws.proofs.RowReasonLemmas.{ReasonOf, Tests}
 use Rattle.gptp_how_soon_laws.proofs.SilentLemmas.{none_silent}
 use Rattle.gptp_how_soon_laws.proofs.RowTestLemmas.{HasComeToRest, at_most, counts_joined, failing_takes, lowering_takes}
@@ -114,25 +118,28 @@ module _ (n : NetworkState) (network : IsNetwork n) (events : List Timed) (b : S
       let x = fails_so fails in
       fails_end_first n network made now well x.unmoved x.keeps.delay x.keeps.paths x.keeps.few x.one far
 
-  -- a link goes down by the first event, and paths get no longer by it
-  pub record GoesFirst : Type 0 where
-    pub x : LowersFirst n made now
+  -- an event of this kind is the first, and paths get no longer by it
+  pub record GoesFirst (is_kind : Told → Bool) : Type 0 where
+    pub x : Begins n is_kind made now
     pub delay : (sync_paths n (made ++ x.event ∷ [])).delay ≤ (sync_paths n made).delay
     pub paths : (sync_paths n (made ++ x.event ∷ [])).systems ≤ (sync_paths n made).systems
     pub few : (sync_paths n made).systems ≤ 255
 
   -- what stands behind it stands behind all
-  pub first_stays : (g : GoesFirst) → StandSame n (made ++ g.x.event ∷ []) (made ++ now)
-  first_stays g = first_same n network made now g.x
+  pub first_stays : (is_kind : Told → Bool) (g : GoesFirst is_kind)
+      → StandSame n (made ++ g.x.event ∷ []) (made ++ now)
+  first_stays is_kind g = first_same n network is_kind made now g.x
 
-  pub same_paths : (g : GoesFirst) → sync_paths n (made ++ now) ≡ sync_paths n (made ++ g.x.event ∷ [])
-  same_paths g = paths_seen n (made ++ g.x.event ∷ []) (made ++ now) (first_stays g)
+  pub same_paths : (is_kind : Told → Bool) (g : GoesFirst is_kind)
+      → sync_paths n (made ++ now) ≡ sync_paths n (made ++ g.x.event ∷ [])
+  same_paths is_kind g = paths_seen n (made ++ g.x.event ∷ []) (made ++ now) (first_stays is_kind g)
 
-  goes_first : keeps_paths v.paths_before v.paths ≡ true → lowers_one v.told ≡ true → GoesFirst
-  goes_first keeps lowers =
-      let x = lowers_first n network made now lowers in
+  goes_first : (is_kind : Told → Bool) → keeps_paths v.paths_before v.paths ≡ true
+      → begins_with is_kind v.told ≡ true → GoesFirst is_kind
+  goes_first is_kind keeps one =
+      let x = begins n network is_kind made now one in
       let k = keeps_so keeps in
-      let same = paths_seen n (made ++ x.event ∷ []) (made ++ now) (first_same n network made now x) in
+      let same = paths_seen n (made ++ x.event ∷ []) (made ++ now) (first_same n network is_kind made now x) in
       record {
         x = x;
         delay = subst (λ (p : SyncPaths). p.delay ≤ (sync_paths n made).delay) same k.delay;
@@ -140,21 +147,21 @@ module _ (n : NetworkState) (network : IsNetwork n) (events : List Timed) (b : S
         few = k.few;
       }
 
-  -- by which no system is moved but such as are cut off
+  -- a link goes down by it, by which no system is moved but such as are cut off
   pub record LowersNone : Type 0 where
-    pub first : GoesFirst
+    pub first : GoesFirst is_lowering
     pub lowers : LowersLink n made first.x.event
 
   lowers_none : AreWell n (made ++ now)
       → (is_lowering_followed v.paths_before v.paths v.told && not v.moves.moved) ≡ true
-      → (g : GoesFirst) × (moves_joined n made (made ++ g.x.event ∷ []) ≡ false)
+      → (g : GoesFirst is_lowering) × (moves_joined n made (made ++ g.x.event ∷ []) ≡ false)
   lowers_none well is =
       let (followed, none) =
       and_parts (keeps_paths v.paths_before v.paths && lowers_one v.told) (not v.moves.moved) is in
       let (keeps, one) = and_parts (keeps_paths v.paths_before v.paths) (lowers_one v.told) followed in
-      let g = goes_first keeps one in (
+      let g = goes_first is_lowering keeps one in (
         g,
-        sym (joined_seen n made (made ++ g.x.event ∷ []) (made ++ now) (first_stays g))
+        sym (joined_seen n made (made ++ g.x.event ∷ []) (made ++ now) (first_stays is_lowering g))
             ∙ counts_joined (takes_one v.told) n made (made ++ now) (lowering_takes v.told one)
             (not-true v.moves.moved none),
       )
@@ -165,16 +172,16 @@ module _ (n : NetworkState) (network : IsNetwork n) (events : List Timed) (b : S
       let (g, unmoved) = lowers_none well is in
       record {
         first = g;
-        lowers = lowers_link n network made g.x.event (first_well n network made now g.x well) unmoved g.delay g.paths
-            g.few g.x.lowers;
+        lowers = lowers_link n network made g.x.event (first_well n network is_lowering made now g.x well) unmoved g.delay g.paths
+            g.few g.x.so;
       }
 
   -- and it cuts off a far end
   cuts_so : AreWell n (made ++ now) → (l : LowersNone) → v.moves.cut ≡ true → CutsFarEnd n made l.first.x.event
   cuts_so well l cut =
       let g = l.first in
-      cuts_far n network made g.x.event (first_well n network made now g.x well)
-      (sym (cut_seen n made (made ++ g.x.event ∷ []) (made ++ now) (first_stays g)) ∙ cut) g.x.lowers l.lowers
+      cuts_far n network made g.x.event (first_well n network is_lowering made now g.x well)
+      (sym (cut_seen n made (made ++ g.x.event ∷ []) (made ++ now) (first_stays is_lowering g)) ∙ cut) g.x.so l.lowers
 
   -- what was in flight is gone by then
   flight_so : FlightIsGone n made (gone_by n v.paths_before v.used_before)
@@ -185,26 +192,28 @@ module _ (n : NetworkState) (network : IsNetwork n) (events : List Timed) (b : S
       by false is = inr refl
 
   -- so it is behind a link that goes down
-  flight_first : (g : GoesFirst) → FlightIsGone n (made ++ g.x.event ∷ []) (gone_by n v.paths v.used_before)
+  flight_first : (g : GoesFirst is_lowering) → FlightIsGone n (made ++ g.x.event ∷ []) (gone_by n v.paths v.used_before)
   flight_first g =
       subst (λ (p : SyncPaths). FlightIsGone n (made ++ g.x.event ∷ []) (gone_by n p v.used_before))
-      (sym (same_paths g)) (by v.used_before refl)
+      (sym (same_paths is_lowering g)) (by v.used_before refl)
     where
       by : (used : Bool) → v.used_before ≡ used
           → FlightIsGone n (made ++ g.x.event ∷ [])
           (gone_by n (sync_paths n (made ++ g.x.event ∷ [])) used)
-      by true is = inl (used_on n network made g.x.event g.x.lowers (used_up n network made is), refl)
+      by true is = inl (used_on n network made g.x.event g.x.so (used_up n network made is), refl)
       by false is = inr refl
 
-  -- and behind all
-  flight_all : (g : GoesFirst) → FlightIsGone n (made ++ now) (gone_by n v.paths v.used_before)
-  flight_all g = by v.used_before refl
+  -- and behind all, where behind the first each link that is up is in use if it was so
+  flight_all : (is_kind : Told → Bool) (g : GoesFirst is_kind)
+      → (UpIsUsed n made → UpIsUsed n (made ++ g.x.event ∷ []))
+      → FlightIsGone n (made ++ now) (gone_by n v.paths v.used_before)
+  flight_all is_kind g behind = by v.used_before refl
     where
       by : (used : Bool) → v.used_before ≡ used → FlightIsGone n (made ++ now) (gone_by n v.paths used)
       by true is =
           inl (
-            used_still n (made ++ g.x.event ∷ []) (made ++ now) (first_stays g)
-                (used_on n network made g.x.event g.x.lowers (used_up n network made is)),
+            used_still n (made ++ g.x.event ∷ []) (made ++ now) (first_stays is_kind g)
+                (behind (used_up n network made is)),
             refl,
           )
       by false is = inr refl
@@ -238,18 +247,18 @@ module _ (n : NetworkState) (network : IsNetwork n) (events : List Timed) (b : S
 
   -- or one system turns
   pub turned : AreWell n (made ++ now) → row_at v ≡ SystemTurned
-      → HasComeToRest b at × ((g : GoesFirst) × TurnsLink n made g.x.event)
+      → HasComeToRest b at × ((g : GoesFirst is_lowering) × TurnsLink n made g.x.event)
   turned well row =
       let (from, turns) = why SystemTurned row in
       let (followed, one) = and_parts (is_lowering_followed v.paths_before v.paths v.told) v.moves.turned turns in
       let (keeps, lowers) = and_parts (keeps_paths v.paths_before v.paths) (lowers_one v.told) followed in
-      let g = goes_first keeps lowers in (
+      let g = goes_first is_lowering keeps lowers in (
         rest_so from,
         (
           g,
-          turns_link n network made g.x.event (first_well n network made now g.x well)
-              (sym (turned_seen n made (made ++ g.x.event ∷ []) (made ++ now) (first_stays g)) ∙ one) g.delay g.paths
-              g.few g.x.lowers,
+          turns_link n network made g.x.event (first_well n network is_lowering made now g.x well)
+              (sym (turned_seen n made (made ++ g.x.event ∷ []) (made ++ now) (first_stays is_lowering g)) ∙ one) g.delay g.paths
+              g.few g.x.so,
         ),
       )
 
@@ -263,8 +272,8 @@ module _ (n : NetworkState) (network : IsNetwork n) (events : List Timed) (b : S
     pub lowers : BeforeRepeats n (OneEvent Is) made now
     pub come : HasCome rest
 
-  -- by which a tree is cut off
-  pub record CutsLate (rest : HasComeToRest b at) : Type 0 where
+  -- by which a tree falls back
+  pub record FallsLate (rest : HasComeToRest b at) : Type 0 where
     pub comes : ComesLate (FallsTree n) rest
     pub flight : FlightIsGone n (made ++ now) (gone_by n v.paths v.used_before)
 
@@ -280,22 +289,59 @@ module _ (n : NetworkState) (network : IsNetwork n) (events : List Timed) (b : S
       let (come_is, so) = and_parts come test both in
       (keeps, one, so, λ rest. has_come_so n made b at rest.settling rest.is come_is)
 
-  pub tree_cut : AreWell n (made ++ now) → row_at v ≡ TreeCutOff → (rest : HasComeToRest b at) × CutsLate rest
-  tree_cut well row =
-      let (from, falls) = why TreeCutOff row in
+  -- it is cut off
+  cut_late : AreWell n (made ++ now)
+      → (is_lowering_followed v.paths_before v.paths v.told && v.moves.falls) ≡ true → (rest : HasComeToRest b at)
+      → FallsLate rest
+  cut_late well falls rest =
       let (keeps, lowers, tree, come) = late_by lowers_one (cuts_tree_after n made (made ++ now)) falls in
-      let rest = rest_so from in
-      let g = goes_first keeps lowers in
-      let one = lowers_one_tree n network made g.x.event (first_well n network made now g.x well) g.delay g.paths g.few
-      g.x.lowers (sym (falls_seen n made (made ++ g.x.event ∷ []) (made ++ now) (first_stays g)) ∙ tree) in (
+      let g = goes_first is_lowering keeps lowers in
+      let one = lowers_one_tree n network made g.x.event (first_well n network is_lowering made now g.x well) g.delay
+      g.paths g.few g.x.so
+      (sym (falls_seen n made (made ++ g.x.event ∷ []) (made ++ now) (first_stays is_lowering g)) ∙ tree) in
+      record {
+        comes = record {
+          lowers = before_repeats n network is_lowering made now g.x (OneEvent (FallsTree n)) (inl one);
+          come = come rest;
+        };
+        flight = flight_all is_lowering g (used_on n network made g.x.event g.x.so);
+      }
+
+  -- or its best gets worse
+  worsened_late : AreWell n (made ++ now) → ((t : Timed) → In t now → SetsAnOctet t.act)
+      → (is_worsening_followed v.paths_before v.paths v.told && v.moves.worsens) ≡ true → (rest : HasComeToRest b at)
+      → FallsLate rest
+  worsened_late well octets worsens rest =
+      let (keeps, one, tree, come) =
+      late_by worsens_first (worsens_best_after n made (made ++ now) (told_of n made now)) worsens in
+      let g = goes_first is_worsening keeps one in
+      let event : Timed = g.x.event in
+      let told : worsens_best_after n made (made ++ event ∷ []) (told_at n made event.act ∷ []) ≡ true =
+      sym (ap (λ es. worsens_best_after n made (made ++ event ∷ []) (told_of n made es)) g.x.split)
+      ∙ sym (worsens_seen n made (made ++ event ∷ []) (made ++ now) (first_stays is_worsening g) (told_of n made now))
+      ∙ tree in
+      let best = worsens_tree n network made event (first_well n network is_worsening made now g.x well)
+      (octets event (subst (In event) (sym g.x.split) (inl refl))) g.delay g.paths g.few g.x.so told in
+      record {
+        comes = record {
+          lowers = before_repeats n network is_worsening made now g.x (OneEvent (FallsTree n)) (inr best);
+          come = come rest;
+        };
+        flight = flight_all is_worsening g
+            (used_behind n network made event (worsening_so n network made event event.act refl g.x.so));
+      }
+
+  pub tree_falls : AreWell n (made ++ now) → ((t : Timed) → In t now → SetsAnOctet t.act) → row_at v ≡ TreeFalls
+      → (rest : HasComeToRest b at) × FallsLate rest
+  tree_falls well octets row =
+      let (from, falls) = why TreeFalls row in
+      let rest = rest_so from in (
         rest,
-        record {
-          comes = record {
-            lowers = before_repeats n network made now g.x (OneEvent (FallsTree n)) (inl one);
-            come = come rest;
-          };
-          flight = flight_all g;
-        },
+        elim (or_cases (is_lowering_followed v.paths_before v.paths v.told && v.moves.falls)
+            (is_worsening_followed v.paths_before v.paths v.told && v.moves.worsens) falls) [
+              | inl cut ↦ cut_late well cut rest
+              | inr worse ↦ worsened_late well octets worse rest
+            ],
       )
 
   -- or a tree turns
@@ -305,12 +351,12 @@ module _ (n : NetworkState) (network : IsNetwork n) (events : List Timed) (b : S
       let (from, turns) = why TreeTurned row in
       let (keeps, lowers, tree, come) = late_by lowers_one (turns_tree_after n made (made ++ now)) turns in
       let rest = rest_so from in
-      let g = goes_first keeps lowers in
-      let one = turns_tree_link n network made g.x.event (first_well n network made now g.x well) g.delay g.paths g.few
-      g.x.lowers (sym (turns_seen n made (made ++ g.x.event ∷ []) (made ++ now) (first_stays g)) ∙ tree) in (
+      let g = goes_first is_lowering keeps lowers in
+      let one = turns_tree_link n network made g.x.event (first_well n network is_lowering made now g.x well) g.delay g.paths g.few
+      g.x.so (sym (turns_seen n made (made ++ g.x.event ∷ []) (made ++ now) (first_stays is_lowering g)) ∙ tree) in (
         rest,
         record {
-          lowers = before_repeats n network made now g.x (OneEvent (TurnsTreeLink n)) one;
+          lowers = before_repeats n network is_lowering made now g.x (OneEvent (TurnsTreeLink n)) one;
           come = come rest;
         },
       )

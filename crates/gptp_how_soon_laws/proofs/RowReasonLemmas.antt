@@ -3,7 +3,7 @@ use Rattle.std.proofs.Common.{◌≡◌, ◌⊎◌, inl, inr, Bool, true, false,
 use Rattle.std.specs.Prelude.{⊤, not, if◌then◌else◌}
 use Rattle.gptp_how_soon.specs.Rest.{failed_row}
 use Rattle.gptp_how_soon.specs.declared.bounds.Row.{Row}
-use Rattle.gptp_how_soon.specs.declared.bounds.Row.TheVariants.{AnyLosses, AnyPast, CutOff, FailedEnd, FailedHeard, FailureCutsOff, FailureMovesTrees, Gained, Lowered, SystemTurned, TakenAway, TreeCutOff, TreeTurned, Unchanged}
+use Rattle.gptp_how_soon.specs.declared.bounds.Row.TheVariants.{AnyLosses, AnyPast, CutOff, FailedEnd, FailedHeard, FailureCutsOff, FailureMovesTrees, Gained, Lowered, SystemTurned, TakenAway, TreeTurned, Unchanged, TreeFalls}
 
 pub record Tests : Type 0 where
   -- it is from rest
@@ -33,7 +33,7 @@ abbrev pub RowBy : Tests → Row
 RowBy t =
     if not t.rest then AnyPast else if t.idle then Unchanged else if t.left then Unchanged
     else if t.lowers then if t.cut then CutOff else Lowered
-    else if t.turns then SystemTurned else if t.falls then TreeCutOff else if t.branch then TreeTurned
+    else if t.turns then SystemTurned else if t.falls then TreeFalls else if t.branch then TreeTurned
     else if t.fails then failed_row t.far t.moved else if t.trees then FailureMovesTrees
     else if t.taken then TakenAway
     else if t.loss then if t.only then AnyLosses else AnyPast
@@ -46,7 +46,7 @@ ReasonOf t Unchanged = (t.rest ≡ true) × ((t.idle ≡ true) ⊎ (t.left ≡ t
 ReasonOf t Lowered = (t.rest ≡ true) × (t.lowers ≡ true)
 ReasonOf t CutOff = (t.rest ≡ true) × (t.lowers ≡ true) × (t.cut ≡ true)
 ReasonOf t SystemTurned = (t.rest ≡ true) × (t.turns ≡ true)
-ReasonOf t TreeCutOff = (t.rest ≡ true) × (t.falls ≡ true)
+ReasonOf t TreeFalls = (t.rest ≡ true) × (t.falls ≡ true)
 ReasonOf t TreeTurned = (t.rest ≡ true) × (t.branch ≡ true)
 ReasonOf t FailedEnd = (t.rest ≡ true) × (t.fails ≡ true) × (t.far ≡ true)
 ReasonOf t FailedHeard = (t.rest ≡ true) × (t.fails ≡ true)
