@@ -15,7 +15,7 @@ use Rattle.gptp_bmca_machine.specs.Frame.{Spelling}
 use Rattle.gptp_bmca_machine.specs.Levels.{LeadsFarther}
 use Rattle.gptp_bmca_machine.specs.LossLaws.{EverythingFits, IsAfterLoss, IsWhatIsLeft, Unmoved}
 use Rattle.gptp_bmca_machine.specs.Network.{Network}
-use Rattle.gptp_bmca_machine.specs.Settled.{FollowsBest, HasBest, HasSettledRoles}
+use Rattle.gptp_bmca_machine.specs.Settled.{FollowsBest, HasBest, HasLinkedRoles, HasSettledRoles}
 use Rattle.gptp_bmca_machine.specs.Station.{HoldsAt, MachineState, Port, Reception, Station}
 use Rattle.gptp_bmca_machine.proofs.PortsSettledLemmas as by
 use Rattle.gptp_bmca_machine.proofs.RestLemmas.{CameBounded, Chooses, IsClear, was_itself}
@@ -44,16 +44,20 @@ module _ (n : Network) (well : IsWellFormed n.graph) (w : MachineState) (kept : 
     calm_port p q at_p = (kept.calm.stations i s at live).ports p q at_p
 
     abbrev pub Settles : Type 0
-    Settles = HasBest n.graph s × (n.bare ≤ w.time → FollowsBest n.graph s) × (n.off ≤ w.time → HasSettledRoles n.graph
-        s)
+    Settles = HasBest n.graph s × (n.bare ≤ w.time → FollowsBest n.graph s × HasLinkedRoles n.graph s)
+        × (n.off ≤ w.time → HasSettledRoles n.graph s)
 
     -- so it has settled
     pub has_settled : n.bare ≤ n.off → Follows n.graph s d here → Settles
     has_settled bare follows = (
       by.has_best n well w.time s d here near follows.clear follows.chosen calm_port (λ e. ⊤) follows.hears
           (λ e less. tt),
-      by.follows_best n well w.time s d here near follows.clear follows.chosen calm_port (λ e. ⊤) follows.hears
-          (λ e less. tt),
+      (λ now. (
+        by.follows_best n well w.time s d here near follows.clear follows.chosen calm_port (λ e. ⊤) follows.hears
+            (λ e less. tt) now,
+        by.linked_roles n well w.time s d here near follows.clear follows.chosen calm_port (λ e. ⊤) follows.hears
+            (λ e less. tt) (λ u joined same lower. tt) (λ p linked. kept.capable p linked) now,
+      )),
       by.settled_roles n well w.time s d here near follows.clear follows.chosen calm_port (λ e. ⊤) follows.hears
           (λ e less. tt) (λ u joined same lower. tt) (λ p linked. kept.capable p linked) bare,
     )

@@ -5,18 +5,16 @@ use Rattle.std.proofs.Common.{◌≡◌, ◌<◌, ◌≤◌, ◌⊎◌, inl, inr
 use Rattle.std.specs.Prelude.{◌==◌, ◌&&◌, ◌||◌, nat_lt, not, if◌then◌else◌}
 use Rattle.std.specs.List.{cons_option, filter_map, list_all}
 use Rattle.std.specs.List.Sorted.{IsPermutation}
-use Rattle.std.proofs.lemmas.Bool.{and_from, and_parts, eq-eqb, eqb-true, or_cases, false_from_ne_true}
+use Rattle.std.proofs.lemmas.Bool.{and_parts, eq-eqb, eqb-true, or_cases, false_from_ne_true}
 use Rattle.std.proofs.lemmas.Bool.Decides.{nat_tests}
 use Rattle.gptp_lists.specs.Members.{In}
 use Rattle.gptp_lists.proofs.MappedLemmas.{mapped_there}
-use Rattle.gptp_lists.proofs.SystemSpecLemmas.{from_map, In-map, In-slice_get, slice_get-In}
+use Rattle.gptp_lists.proofs.SystemSpecLemmas.{In-map, In-slice_get, slice_get-In}
 use Rattle.gptp_graph.specs.Snapshot.{IsWellFormed, Snapshot, System, clocks, Link}
 use Rattle.gptp_graph.proofs.DistanceLemmas.{IsDistance-unique}
 use Rattle.gptp_graph.proofs.LinkLemmas.{Adjacent-clock, Adjacent-sym}
-use Rattle.gptp_graph.proofs.SystemLemmas.{In-clocks}
 use Rattle.gptp_roles.specs.Selection.{clock_of}
 use Rattle.gptp_scenario.specs.Change.{standing, system_acted, system_after, with_live, is_at, joined_after, link_acted, link_after, live_after, with_up}
-use Rattle.gptp_scenario.specs.InUse.{lives}
 use Rattle.gptp_scenario.specs.Network.{IsNetwork, NetworkState}
 use Rattle.gptp_scenario.specs.SyncWait.{sync_paths}
 use Rattle.gptp_scenario.specs.declared.change.Act.TheVariants as acts
@@ -24,9 +22,7 @@ use Rattle.gptp_scenario.specs.declared.change.Change.TheVariants as changes
 use Rattle.gptp_scenario.specs.declared.change.Timed.{Timed}
 use Rattle.gptp_scenario.specs.declared.network.SystemSpec.{SystemSpec}
 use Rattle.gptp_network.specs.Snapshot.{StandsAfter, has_clock, joins_two, link_of, system_of}
-use Rattle.gptp_network.proofs.InUseLemmas.{live_there, there_live}
-use Rattle.gptp_network.proofs.PassLemmas.{passes, passes_at}
-use Rattle.gptp_network.proofs.SnapshotLemmas.{with_clock}
+use Rattle.gptp_network.proofs.InUseLemmas.{there_live}
 use Rattle.gptp_theorem.proofs.EventLemmas.{system_behind, link_behind}
 use Rattle.gptp_topology.specs.After.{system_then, systems_after, standing_then, standings_after}
 use Rattle.gptp_topology.specs.declared.nodes.System as ours
@@ -395,19 +391,23 @@ module _ (n : NetworkState) (network : IsNetwork n) where
       ∙ paths_all (made ++ event ∷ []) now others
       ∙ paths_too made event down
 
+  -- so it is told
+  pub is_down_so : (made : List Timed) (event : Timed) → is_down_too (told_at n made event.act) ≡ true
+      → IsDownToo n made event
+  is_down_so made event is =
+      elim (or_cases (lowers_unused (told_at n made event.act)) (repeats (told_at n made event.act)) is) [
+        | inl lowers ↦ inl (unused_lowers n network made event lowers)
+        | inr same ↦ inr (repeats_by n network made event same)
+      ]
+
   down_each : (made now : List Timed) → list_all is_down_too (told_of n made now) ≡ true
       → EachEvent (IsDownToo n) made now
   down_each made [] all = tt
   down_each made (event ∷ now) all =
-      let t = told_at n made event.act in
       let (first, others) =
-      and_parts (is_down_too t) (list_all is_down_too (told_of n (made ++ event ∷ []) now)) all in (
-        elim (or_cases (lowers_unused t) (repeats t) first) [
-          | inl lowers ↦ inl (unused_lowers n network made event lowers)
-          | inr same ↦ inr (repeats_by n network made event same)
-        ],
-        down_each (made ++ event ∷ []) now others,
-      )
+      and_parts (is_down_too (told_at n made event.act))
+      (list_all is_down_too (told_of n (made ++ event ∷ []) now)) all in
+      (is_down_so made event first, down_each (made ++ event ∷ []) now others)
 
   -- each link that is up is in use where it is seen so
   pub used_up : (all : List Timed) → up_is_used (standings_after n all) ≡ true → UpIsUsed n all

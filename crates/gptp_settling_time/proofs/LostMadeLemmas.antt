@@ -99,7 +99,8 @@ module _ (d : DocumentState) (playable : IsPlayable d) (made : List Timed) (even
         k.1.so).1) since silent world_then after.claim.world after.claim.measured ready losing.standing.silent
 
     -- it takes something away
-    pub takes : LosesAny n made event.act → AreSilentAfter p event.at silent event.act → TakesAway p since silent then w'
+    pub takes : LosesAny n made event.act → AreSilentAfter p event.at silent event.act
+        → TakesAway p since silent then w'
     takes loses unanswered =
         by is.change refl (subst (LosesAny n made) is.act loses)
         (subst (AreSilentAfter p event.at silent) is.act unanswered)

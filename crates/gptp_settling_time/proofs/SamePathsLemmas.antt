@@ -117,7 +117,8 @@ same_lives n events more same clock x = record {
 
 pub same_alike : (n : NetworkState) (events more : List Timed) → StandSame n events more → StandAlike n events more
 same_alike n events more same =
-    alike_by n events more (λ m member. ap (λ s. s.live) (same.systems m member)) (λ v member. ap (is_used n.systems events) (same.links v member))
+    alike_by n events more (λ m member. ap (λ s. s.live) (same.systems m member))
+    (λ v member. ap (is_used n.systems events) (same.links v member))
     (λ v member. ap (λ (w : LinkSpec). w.bounds) (same.links v member))
 
 -- so its snapshots are the same

@@ -77,8 +77,8 @@ module _ (p : SettlingParams) (silent : ℕ) (w : WorldState) (standing : IsStan
 
 -- ---- the claim
 
--- What is claimed besides of a world since something was taken away: what is left is of the snapshot of before, and what
--- is held and told fits it.
+-- What is claimed besides of a world since something was taken away: what is left is of the snapshot of before, and
+-- what is held and told fits it.
 pub record IsTakenAlways (p : SettlingParams) (g : Snapshot) (silent : ℕ) (w : WorldState) : Type 0 where
   pub well : IsWellFormed g
   pub systems : (s : System) → In s (snapshot_of w).systems → In s g.systems

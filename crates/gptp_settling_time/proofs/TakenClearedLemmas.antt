@@ -99,7 +99,8 @@ module _ (d : DocumentState) (ago events : List Timed) (since most silent : ℕ)
   itself = record { lanes = so.is.seen.itself.lanes; stations = so.is.seen.itself.stations }
 
   taken_cleared : w.last_change ≡ w.time
-      → IsClearedTo d ago events w.time silent (suc (w.time + nearer_echo p w)) (w.time + nearer_echo p w + delay_in w) w
+      → IsClearedTo d ago events w.time silent (suc (w.time + nearer_echo p w))
+      (w.time + nearer_echo p w + delay_in w) w
   taken_cleared now = record {
     keeps = so.lost.keeps;
     before = snapshot_of w;

@@ -1,5 +1,5 @@
--- A link goes down, whoever is moved by it: its lanes are emptied, and then each end that lives answers. What is claimed
--- of a world from which links or systems are taken away is claimed then too.
+-- A link goes down, whoever is moved by it: its lanes are emptied, and then each end that lives answers. What is
+-- claimed of a world from which links or systems are taken away is claimed then too.
 use Rattle.std.proofs.Common.{◌≡◌, ◌≢◌, ◌<◌, ◌≤◌, ℕ, true, List, [], Some, slice_get, refl, sym, ap, subst, ◌∙◌, inl, inr, arith}
 use Rattle.std.proofs.lemmas.Option.{same_Some}
 use Rattle.gptp_lists.specs.Members.{In}

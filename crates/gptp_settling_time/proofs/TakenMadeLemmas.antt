@@ -157,8 +157,8 @@ module _ (d : DocumentState) (playable : IsPlayable d) (made : List Timed) (even
         let now = losing.now in
         down_taken p before silent number port then draws done w' world_then after.claim.world k up losing.standing
         (λ start. asked_are_heard p since start then losing.asked) losing.quiet lost'.standing
-        (λ start. asked_are_heard p since start w' lost'.asked) lost'.quiet losing.off shorter (omega (arith, now, later))
-        taken
+        (λ start. asked_are_heard p since start w' lost'.asked) lost'.quiet losing.off shorter
+        (omega (arith, now, later)) taken
 
     -- a system or a link in use is taken away
     taken_by : TakesAny n_of made event → IsTakenAlways p before silent w'
@@ -215,8 +215,8 @@ module _ (d : DocumentState) (playable : IsPlayable d) (made : List Timed) (even
         way = subst (λ (x : SyncPaths). pred x.systems * x.delay ≤ since) paths way_then;
         later = later;
         is = taken_by (snapshot_of then) since most silent losing
-            (takes d playable made event then draws done w' is acts octet at_time time last keeps after since most silent
-            losing now.loses now.unanswered) lost.is later
+            (takes d playable made event then draws done w' is acts octet at_time time last keeps after since most
+            silent losing now.loses now.unanswered) lost.is later
             (taken_begins p since most silent then losing seen rest.sound (omega (arith, over, at_time))) any;
       }
 

@@ -181,9 +181,9 @@ pub record IsTreeCutOff (g g' : Snapshot) (best : System) (t : Tree) : Type 0 wh
       → p ≡ q
 
 -- From the first snapshot to the second these systems are moved. They have the best that they had, and each is farther
--- from it. Before, each was as far as its depth says, from the base on. The one at the top lost its links to others; each
--- link that the others had they have still. Within the tree a link leads one deeper or less deep by one, and each system
--- has one link at most to such as are less deep. One link leads out of it, to a system that is unmoved.
+-- from it. Before, each was as far as its depth says, from the base on. The one at the top lost its links to others;
+-- each link that the others had they have still. Within the tree a link leads one deeper or less deep by one, and each
+-- system has one link at most to such as are less deep. One link leads out of it, to a system that is unmoved.
 pub record IsTreeTurned (g g' : Snapshot) (best : System) (t : Turning) : Type 0 where
   pub in_top : In t.top t.tree
   pub lives : (v : ℕ) → In v t.tree → In v (clocks g')
