@@ -17,12 +17,12 @@ use crate::chosen::{
 use crate::far::{all_cut_far_ends, are_far, up_is_used};
 use crate::kinds::{Told, sets_bounds, sets_link, takes_one, tell};
 use crate::links::{delay_set, longest_among, lost_among, mark_used, new_links};
-use crate::moved_trees::moves_trees;
 use crate::rest::{Moves, asks_who_is_moved, has_come, heard_at_once, is_from_rest, row_of};
 use crate::silent::{any_silent, heard_links, held_among, own_intervals};
 use crate::tree::{cuts_tree, worsens_best};
 use crate::turned::turns_one;
 use crate::turned_tree::turns_tree;
+use crate::two_tops::trees_move;
 use gptp_scenario::{Act, Network, SyncPaths};
 use gptp_topology::{System, Tables, cables_of};
 use std::alloc::{AllocError, Global};
@@ -146,6 +146,7 @@ impl Walk {
         let own = own_intervals(network, self.before, at);
         let heard = heard_links(alloc, &systems, &before, &self.used_before, &self.ends)?;
         let any_moved = any_moved(&systems, &before, &now);
+        let trees_move = trees_move(alloc, &systems, &lost, &links, &before, &now)?;
         let silent = any_silent(&self.used_before, &self.tables.standings);
         Ok(Moves {
             moved: any_counted(joined, &systems, &links, &before, &now),
@@ -158,7 +159,7 @@ impl Walk {
                 worsens_best(&systems, &links, &before, &now, &self.told),
             ),
             tree_turns: both(come, turns_tree(&systems, &lost, &links, &before, &now)),
-            trees_move: both(come, moves_trees(&systems, &lost, &links, &before, &now)),
+            trees_move: both(come, trees_move),
             taken: both(!any_moved, !silent),
             far: are_far(&self.systems_before, &before, &links_before, &self.told),
             held: held_among(network, own, &heard, &self.tables.standings),
