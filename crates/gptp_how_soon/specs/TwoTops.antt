@@ -2,7 +2,7 @@
 --
 -- How far a system is from a top is what it would choose if the top were better than all.
 use Rattle.std.specs.Prelude.{ℕ, ◌+◌, ◌==◌, ◌&&◌, ◌||◌, nat_lt, not, Bool, false, if◌then◌else◌, max, min, List, [], ◌∷◌, length, filter, Option, Some, None, slice_get, slice_set}
-use Rattle.std.specs.List.{list_all, list_any, range_with_len}
+use Rattle.std.specs.List.{list_all, range_with_len}
 use Rattle.gptp_scenario.specs.Network.{NetworkState}
 use Rattle.gptp_scenario.specs.declared.change.Timed.{Timed}
 use Rattle.gptp_topology.specs.After.{systems_after}
@@ -10,7 +10,6 @@ use Rattle.gptp_topology.specs.declared.nodes.System.{System}
 use Rattle.gptp_how_soon.specs.Chosen.{chosen_after, chosen_over, is_joined_moved_at, is_moved_at, lost_ends, used_ends}
 use Rattle.gptp_how_soon.specs.MovedTrees.{moves_trees}
 use Rattle.gptp_how_soon.specs.Tree.{chose_itself, has_better_root, has_same_root, is_below}
-use Rattle.gptp_how_soon.specs.Turned.{leads_nearer}
 use Rattle.gptp_how_soon.specs.declared.chosen.Chosen.{Chosen}
 use Rattle.gptp_how_soon.specs.declared.chosen.Ends.{Ends}
 
@@ -35,16 +34,8 @@ abbrev pub top_places : List System → List Ends → List Chosen → List Chose
 top_places systems lost before now =
     filter (is_joined_moved_at systems lost before now) (range_with_len 0 (length systems))
 
--- it is the top, or a link leads from it to one that is nearer
-abbrev pub has_nearer : List Ends → List Chosen → ℕ → Bool
-has_nearer links from place = chose_itself (slice_get from place) || list_any (leads_nearer from place) links
-
--- it is below the top by what all choose where that is better than all
-abbrev pub is_below_by : List Ends → List Chosen → List Chosen → ℕ → ℕ → Bool
-is_below_by links from now top place = is_below links from now top place && has_nearer links from place
-
--- Before, it had as many steps as the nearer top leads to it, from so many of the tops on. By way of either it would be
--- near.
+-- Before, a system had as many steps as the nearer top leads to it, from those of the tops on. By way of either it would
+-- be near.
 abbrev pub is_by_nearer : Option Chosen → Option Chosen → Option Chosen → Option Chosen → Bool
 is_by_nearer None own first second = false
 is_by_nearer (Some top) None first second = false
@@ -53,15 +44,16 @@ is_by_nearer (Some top) (Some own) (Some first) None = false
 is_by_nearer (Some top) (Some own) (Some first) (Some second) =
     (own.steps == top.steps + min first.steps second.steps) && nat_lt (top.steps + max first.steps second.steps) 255
 
--- it is moved and so below both tops, whose root it had, or it has another root now
+-- It is below both tops, by what all choose where the one is better than all, and where the other is. It had their root.
 abbrev pub is_below_both : List Ends → List Chosen → List Chosen → List Chosen → List Chosen → ℕ → ℕ → ℕ → Bool
 is_below_both links before now by_first by_second first second place =
-    is_below_by links by_first now first place
-    && is_below_by links by_second now second place
+    is_below links by_first now first place
+    && is_below links by_second now second place
     && has_same_root (slice_get before first) (slice_get before place)
     && is_by_nearer (slice_get before first) (slice_get before place) (slice_get by_first place)
     (slice_get by_second place)
 
+-- it is moved and so below both, or it has another root now
 abbrev pub is_both_or_apart : List System → List Ends → List Chosen → List Chosen → List Chosen → List Chosen → ℕ → ℕ
     → ℕ → Bool
 is_both_or_apart systems links before now by_first by_second first second place =

@@ -1,14 +1,13 @@
 //! Whether events cut off one tree of systems that loses links at two of them, its tops.
 
 ghost use Rattle.std.specs.Prelude.{◌≡◌, IfOk, Some, length, slice_get};
-ghost use Rattle.std.specs.List.{list_all, list_any, range_with_len};
-ghost use Rattle.gptp_how_soon.specs.TwoTops.{chosen_from, falls_below_both, falls_below_tops, falls_twice, has_nearer, is_below_both, is_below_by, is_both_or_apart, is_by_nearer, lowered, top_places, trees_move};
-ghost use Rattle.gptp_how_soon.specs.Turned.{leads_nearer};
+ghost use Rattle.std.specs.List.{list_all, range_with_len};
+ghost use Rattle.gptp_how_soon.specs.TwoTops.{chosen_from, falls_below_both, falls_below_tops, falls_twice, is_below_both, is_both_or_apart, is_by_nearer, lowered, top_places, trees_move};
 
 use crate::chosen::{Chosen, Ends, choose, is_joined_moved_at, is_moved_at};
 use crate::moved_trees::moves_trees;
 use crate::tree::{chose_itself, had_better_root, has_same_root, is_below};
-use crate::turned::{leads_nearer, push_if};
+use crate::turned::push_if;
 use gptp_topology::System;
 use gptp_vector::Identity;
 use std::alloc::{AllocError, Global};
@@ -56,27 +55,6 @@ fn top_places(
         )?;
     }
     Ok(places)
-}
-
-/// Whether one of these links leads from the system at a place to one that has chosen fewer steps.
-fn any_leads_nearer(links: &[Ends], from: &[Chosen], place: usize) -> bool
-    ensures { result ≡ list_any (leads_nearer from.now place) links.now }
-{
-    links.iter().any(|ends| leads_nearer(from, place, ends))
-}
-
-/// Whether one does, or it is the top.
-fn has_nearer(links: &[Ends], from: &[Chosen], place: usize) -> bool
-    ensures { result ≡ has_nearer links.now from.now place }
-{
-    chose_itself(from, place) || any_leads_nearer(links, from, place)
-}
-
-/// Whether it is one of a tree below the top, by what all would choose if that were better than all.
-fn is_below_by(links: &[Ends], from: &[Chosen], now: &[Chosen], top: usize, place: usize) -> bool
-    ensures { result ≡ is_below_by links.now from.now now.now top place }
-{
-    is_below(links, from, now, top, place) && has_nearer(links, from, place)
 }
 
 /// Whether a system that chose so had as many steps as the nearer of two tops that chose so leads to it, and would be
@@ -130,8 +108,8 @@ fn is_below_both(
     ensures { result
         ≡ is_below_both links.now before.now now.now by_first.now by_second.now first second place }
 {
-    is_below_by(links, by_first, now, first, place)
-        && is_below_by(links, by_second, now, second, place)
+    is_below(links, by_first, now, first, place)
+        && is_below(links, by_second, now, second, place)
         && has_same_root(before, first, place)
         && is_by_nearer(before, by_first, by_second, first, place)
 }
