@@ -26,7 +26,7 @@ use Rattle.gptp_how_soon_laws.proofs.FailedLemmas.{each_is}
 use Rattle.gptp_how_soon_laws.proofs.TreeTestLemmas.{apart_so, fewer_back, nearer_at_first, nearer_at_second, one_on_first, one_on_second, one_same}
 use Rattle.gptp_how_soon_laws.proofs.LostLinkLemmas.{IsJoinedBy, joined_by, same_port, used_links}
 
-pub steps_of : Option Chosen → ℕ
+abbrev pub steps_of : Option Chosen → ℕ
 steps_of None = 0
 steps_of (Some c) = c.steps
 
@@ -59,7 +59,6 @@ module _ (n : NetworkState) (network : IsNetwork n) (events : List Timed) (h : S
       steps : depth v ≡ of.own.steps
 
     stands_at : (v : ℕ) → IsBest h v next → Stands v
-    unfolding steps_of
     stands_at v in_v =
         let (i, at) = at_clock n network events h stands well v in_v.reached.1.begins in
         let of = each i v at in_v in

@@ -336,6 +336,16 @@ module _ (n : NetworkState) (network : IsNetwork n) (made events : List Timed) w
       abbrev deep : Side → ℕ → ℕ
       deep side = depth n network events h stands' well' next (from_top (side_place side))
 
+      in_top : (side : Side) → IsBest h (top_clock side) next
+      unfolding top_clock
+      in_top side =
+          let at = (top_at side).1 in
+          let moved = (top_so side).1 in
+          let s = on_at n network made events g h stands stands' well well' lived (side_place side) (top_clock side) at
+          (moved_lives (side_place side) (top_clock side) at moved) in
+          best_so (side_place side) (top_clock side) s
+          (below_inside (side_place side) (told_by (side_place side) (top_clock side) at true moved))
+
       -- ---- steps
 
       record Steps (v : ℕ) : Type 0 where
@@ -362,7 +372,6 @@ module _ (n : NetworkState) (network : IsNetwork n) (made events : List Timed) w
           deep_is : (side : Side) (i w : ℕ) → IsAt n i w
               → (o : IsOfTree n network events h stands' well' next (from_top (side_place side)) i)
               → deep side w ≡ o.own.steps
-          unfolding steps_of
           deep_is side i w at o =
               depth_there n network events h stands' well' next (from_top (side_place side)) i w at
               ∙ ap steps_of o.there
@@ -375,6 +384,7 @@ module _ (n : NetworkState) (network : IsNetwork n) (made events : List Timed) w
       -- a link is lost at the tops alone
       lost_so : (v u : ℕ) → IsBest h v next → Adjacent g v u
           → Adjacent h v u ⊎ ((side : Side) × (v ≡ top_clock side))
+      unfolding top_clock
       lost_so v u in_v (p, q, joins) =
           let (i, s) = on v in_v.reached.1.begins in
           let known_u = Adjacent-clock g v u well (p, q, joins) in
@@ -404,7 +414,6 @@ module _ (n : NetworkState) (network : IsNetwork n) (made events : List Timed) w
         where
           only : (i : ℕ) (s : On i v) (e : Ends) → In e lost → (e.a ≡ i) ⊎ (e.b ≡ i)
               → (side : Side) × (v ≡ top_clock side)
-          unfolding top_clock
           only i s e listed end =
               let moved = (moved_so i v s.at (inside_so i v s in_v)).0 in
               let (side, is) = is_top i v s.at moved e listed end in (
@@ -414,19 +423,17 @@ module _ (n : NetworkState) (network : IsNetwork n) (made events : List Timed) w
               )
 
       first_zero : (side : Side) → deep side (top_clock side) ≡ 0
-      unfolding top_clock
+      unfolding top_clock side_place
       first_zero side =
           depth_there n network events h stands' well' next (from_top (side_place side)) (side_place side)
           (top_clock side) (top_at side).1
           ∙ zero_so (slice_get (from_top (side_place side)) (side_place side)) (itself side)
         where
           itself : (s : Side) → chose_itself (slice_get (from_top (side_place s)) (side_place s)) ≡ true
-          unfolding side_place
           itself First = t.first_itself
           itself Second = t.second_itself
 
           zero_so : (a : Option Chosen) → chose_itself a ≡ true → steps_of a ≡ 0
-          unfolding steps_of
           zero_so None is = absurd cc
           zero_so (Some a) is = eqb-true a.steps 0 is
 
@@ -454,7 +461,7 @@ module _ (n : NetworkState) (network : IsNetwork n) (made events : List Timed) w
 
       cut_twice : IsTreeCutTwice g h best tree
       cut_twice = record {
-        in_top = first_on.chooses.is_best;
+        in_top = in_top;
         worse = worse;
         was_best = was_best;
         was = λ v in_v. (steps_at v in_v).was;
