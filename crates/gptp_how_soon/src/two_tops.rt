@@ -14,13 +14,13 @@ use std::alloc::{AllocError, Global};
 
 /// The same systems, but the one at a place is better than all.
 fn lowered(alloc: Global, systems: &[System], place: usize) -> Result<Vec<System>, AllocError>
-    ensures { IfOk result (λ lowered. lowered.items ≡ lowered systems.now place) }
+    ensures { IfOk result (λ all. all.items ≡ lowered systems.now place) }
 {
-    let mut lowered = systems.to_vec(alloc)?;
-    if let Some(system) = lowered.get_mut(place) {
+    let mut all = systems.to_vec(alloc)?;
+    if let Some(system) = all.get_mut(place) {
         system.identity = Identity::of_octets([0; 14]);
     }
-    Ok(lowered)
+    Ok(all)
 }
 
 /// What each system would choose if that at a place were better than all: how far it is from it.
