@@ -1,11 +1,10 @@
 //! Whether events cut off one tree of systems that loses links at two of them, its tops.
 
-ghost use Rattle.std.specs.Prelude.{◌≡◌, IfOk, Some, length, slice_get};
+ghost use Rattle.std.specs.Prelude.{◌≡◌, ◌||◌, IfOk, Some, length, slice_get};
 ghost use Rattle.std.specs.List.{list_all, range_with_len};
-ghost use Rattle.gptp_how_soon.specs.TwoTops.{chosen_from, falls_below_both, falls_below_tops, falls_twice, is_below_both, is_both_or_apart, is_by_nearer, lowered, top_places, trees_move};
+ghost use Rattle.gptp_how_soon.specs.TwoTops.{chosen_from, falls_below_both, falls_below_tops, falls_twice, is_below_both, is_both_or_apart, is_by_nearer, lowered, top_places};
 
 use crate::chosen::{Chosen, Ends, choose, is_joined_moved_at, is_moved_at};
-use crate::moved_trees::moves_trees;
 use crate::tree::{chose_itself, had_better_root, has_same_root, is_below};
 use crate::turned::push_if;
 use gptp_topology::System;
@@ -221,17 +220,18 @@ fn falls_twice(
 }
 
 /// Whether all systems that are moved are trees, or one such tree.
-pub(crate) fn trees_move(
+pub(crate) fn or_falls_twice(
     alloc: Global,
+    moves: bool,
     systems: &[System],
     lost: &[Ends],
     links: &[Ends],
     before: &[Chosen],
     now: &[Chosen],
 ) -> Result<bool, AllocError>
-    ensures { IfOk result (λ moves. moves ≡ trees_move systems.now lost.now links.now before.now now.now) }
+    ensures { IfOk result (λ either. either ≡ (moves || falls_twice systems.now lost.now links.now before.now now.now)) }
 {
-    if moves_trees(systems, lost, links, before, now) {
+    if moves {
         return Ok(true);
     }
     falls_twice(alloc, systems, lost, links, before, now)
