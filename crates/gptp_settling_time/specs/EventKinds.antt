@@ -15,7 +15,7 @@ use Rattle.gptp_scenario.specs.declared.change.Timed.{Timed}
 use Rattle.gptp_scenario.specs.declared.network.LinkSpec.{LinkSpec}
 use Rattle.gptp_model.specs.World.{port_id}
 use Rattle.gptp_settling_time.specs.Arrivals.{HasArrivedSinceSet}
-use Rattle.gptp_settling_time.specs.Gains.{ChangesNothing, EndHasFailed, IsDownAfter, IsNoWorse, JoinsLive, LeavesCapable, RepeatsNow, UsesNoLink, exchanged_from}
+use Rattle.gptp_settling_time.specs.Gains.{ChangesNothing, EndHasFailed, IdleNow, IsDownAfter, IsNoWorse, JoinsLive, LeavesCapable, RepeatsNow, UsesNoLink, exchanged_from}
 use Rattle.gptp_settling_time.specs.Losses.{AgesWithin, CutsFarEnd, FailsFarEnd, FailsHeard, LeavesChoice, LowersLink, LowersUnused, NoneUpIsSlower, TurnsLink, UpIsUsed}
 use Rattle.gptp_settling_time.specs.TreeLosses.{FallsTree, TurnsTreeLink}
 
@@ -183,6 +183,10 @@ pub record LowersUnusedCalm (n : NetworkState) (before : List Timed) (event : Ti
 abbrev pub IsDownNow : NetworkState → List Timed → Timed → Type 0
 IsDownNow n before event = LowersUnusedCalm n before event ⊎ RepeatsNow n before event
 
+-- so it does, or the event changes nothing
+abbrev pub IsDownOrIdle : NetworkState → List Timed → Timed → Type 0
+IsDownOrIdle n before event = LowersUnusedCalm n before event ⊎ IdleNow n before event
+
 -- A link goes down, or a far end fails, and the choice stands. Ports without a link aren't capable from the next time
 -- on. After a link that is the time before. After a system that fails it is when too many of their requests are lost.
 abbrev pub LeavesStanding : NetworkState → List Timed → Timed → ℕ → ℕ → Type 0
@@ -202,8 +206,8 @@ abbrev pub FlightIsGone : NetworkState → List Timed → ℕ → Type 0
 FlightIsGone n events gone =
     (UpIsUsed n events × (gone ≡ (sync_paths n events).delay)) ⊎ (gone ≡ largest_interval (pace_of n))
 
--- From this time on it is gone so much later: as above, or by the greatest delay of a link in use, where no link that is
--- up takes longer, and what was in flight as a link was last set has arrived as soon.
+-- From this time on it is gone so much later: as above, or by the greatest delay of a link in use, where no link that
+-- is up takes longer, and what was in flight as a link was last set has arrived as soon.
 abbrev pub FlightIsGoneFrom : NetworkState → List Timed → ℕ → ℕ → Type 0
 FlightIsGoneFrom n events time gone =
     FlightIsGone n events gone

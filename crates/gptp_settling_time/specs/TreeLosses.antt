@@ -182,9 +182,9 @@ pub record IsTreeCutOff (g g' : Snapshot) (best : System) (t : Tree) : Type 0 wh
       → p ≡ q
 
 -- From the first snapshot to the second a tree of systems is so cut off that lost its links to others at one or two of
--- them, its tops. Each was as far from the best of before as the nearer top says, from the base on; and by way of either
--- top it would have been near. Seen from either a link leads one deeper or less deep by one, and each system has one link
--- at most to such as are less deep.
+-- them, its tops. Each was as far from the best of before as the nearer top says, from the base on; and by way of
+-- either top it would have been near. Seen from either a link leads one deeper or less deep by one, and each system has
+-- one link at most to such as are less deep.
 pub record IsTreeCutTwice (g g' : Snapshot) (best : System) (t : TopsTree) : Type 0 where
   pub in_top : (side : Side) → IsBest g' (t.top side) t.next
   pub worse : best.identity < t.next.identity
@@ -241,8 +241,8 @@ MovesTreesFrom n before event = (g g' : Snapshot) → StandsAfter n before g
     → StandsAfter n (before ++ event ∷ []) g'
     → (best : System) × ((v : ℕ) → In v (clocks g') → IsUnmovedOrInTree g g' best v)
 
--- From the first snapshot to the second each live system is unmoved, or one of a tree with one top that is cut off. None
--- is unmoved that lost its link to one that was nearer to the best, or as near with the lower clock.
+-- From the first snapshot to the second each live system is unmoved, or one of a tree with one top that is cut off.
+-- None is unmoved that lost its link to one that was nearer to the best, or as near with the lower clock.
 pub record CutsAllBeyond (g g' : Snapshot) : Type 0 where
   pub each : (v : ℕ) → In v (clocks g') → IsUnmoved g g' v
       ⊎ ((best : System) × (t : Tree) × IsTreeCutOff g g' best t × IsBest g' v t.next)
