@@ -271,15 +271,19 @@ module _ (d : DocumentState) (playable : IsPlayable d) where
         inl (rest, alone (Resting sound) (inl (inr (inl (fails, by v.silent refl flight (told ∙ is))))))
       where
         gone : ℕ
-        gone = gone_by n v.paths_before v.used_before
+        gone = gone_by n v.paths_before loss.soon_before
 
-        by : (silent : Bool) → v.silent ≡ silent → FlightIsGone n made gone
+        by : (silent : Bool) → v.silent ≡ silent → FlightIsGoneFrom n made (last_change (made ++ now)) gone
             → sound ≡ (if silent then max gone (silence_span (pace_of n)) else gone)
-            → (NoneSilent n made (made ++ now) × FlightIsGone n made sound)
-            ⊎ ((time : ℕ) × FlightIsGone n made time × (sound ≡ max (silence_span (pace_of n)) time))
+            → (NoneSilent n made (made ++ now) × FlightIsGoneFrom n made (last_change (made ++ now)) sound)
+            ⊎ ((time : ℕ) × FlightIsGoneFrom n made (last_change (made ++ now)) time
+            × (sound ≡ max (silence_span (pace_of n)) time))
         by true silent flight same = inr (gone, flight, omega (arith, same))
         by false silent flight same =
-            inl (none_left n playable.network all b at late silent, subst (FlightIsGone n made) (sym same) flight)
+            inl (
+              none_left n playable.network all b at late silent,
+              subst (FlightIsGoneFrom n made (last_change (made ++ now))) (sym same) flight,
+            )
     rests_by sound told (inr (inl (row, is))) =
         let (rest, (l, flight)) = lowered n playable.network all b at late well row in
         let same = same_paths n playable.network all b at late is_lowering l.first in

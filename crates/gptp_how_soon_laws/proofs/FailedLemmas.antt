@@ -33,7 +33,7 @@ use Rattle.gptp_how_soon.specs.Times.{told_at, told_of}
 use Rattle.gptp_how_soon.specs.declared.chosen.Chosen.{Chosen}
 use Rattle.gptp_how_soon.proofs.ChosenLemmas.{IsAt, at_clock, chosen_there, place_is, settled_choice, touched}
 use Rattle.gptp_how_soon.proofs.RoundsLemmas.{Touches}
-use Rattle.gptp_settling_time.specs.HowSoon.{EachEvent, FailsEndFirst, FailsHeardFirst, IsDownToo, TurnsUnused}
+use Rattle.gptp_settling_time.specs.HowSoon.{EachEvent, FailsEndFirst, FailsHeardFirst, IsDownToo, IsIdleBeside, TurnsUnused}
 use Rattle.gptp_settling_time.specs.Losses.{FailsFarEnd, FailsHeard, IsCutOff, IsFarEnd, IsUnmoved, IsUnmovedOrCutOff, LowersUnused, MovesNoneJoined, UpIsUsed}
 use Rattle.gptp_vector.specs.declared.port.PortId.{PortId}
 use Rattle.gptp_scenario.specs.Calm.{IsLive}
@@ -409,6 +409,14 @@ module _ (n : NetworkState) (network : IsNetwork n) where
       (list_all is_down_too (told_of n (made ++ event ∷ []) now)) all in
       (is_down_so made event first, down_each (made ++ event ∷ []) now others)
 
+  -- so they change nothing
+  beside_each : (made now : List Timed) → EachEvent (IsDownToo n) made now → EachEvent (IsIdleBeside n) made now
+  beside_each made [] each = tt
+  beside_each made (event ∷ now) (one, each) = (
+    elim one [ inl lowers ↦ inl lowers | inr same ↦ inr same.0 ],
+    beside_each (made ++ event ∷ []) now each,
+  )
+
   -- each link that is up is in use where it is seen so
   pub used_up : (all : List Timed) → up_is_used (standings_after n all) ≡ true → UpIsUsed n all
   used_up all is place v there up =
@@ -472,7 +480,7 @@ module _ (n : NetworkState) (network : IsNetwork n) (made : List Timed) (event :
 
   pub end_first : AreWell n (made ++ event ∷ events) → moves_joined n made (made ++ event ∷ events) ≡ false
       → are_far_after n made (told_of n made (event ∷ events)) ≡ true
-      → FailsFarEnd n made event × EachEvent (IsDownToo n) first_behind events
+      → FailsFarEnd n made event × EachEvent (IsIdleBeside n) first_behind events
   end_first well unmoved far =
       let far_test : Bool = is_far_end (systems_after n made) (chosen_after n made) (used_ends n made)
       (place_of (systems_after n made) t.clock) in
@@ -486,7 +494,7 @@ module _ (n : NetworkState) (network : IsNetwork n) (made : List Timed) (event :
         fails_far_end n network made event (made ++ event ∷ events) well
             (λ g stands. well made (event ∷ events) refl g stands) stands_on unmoved first_delay first_paths few
             parts.0 far_end,
-        others,
+        beside_each n network first_behind events others,
       )
 
 pub fails_heard_first : (n : NetworkState) (network : IsNetwork n) (made now : List Timed) → AreWell n (made ++ now)

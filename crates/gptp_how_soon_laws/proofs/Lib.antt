@@ -36,6 +36,7 @@ mod RowReasonLemmas
 mod StartRowLemmas
 mod RowTestLemmas
 mod ArrivedLemmas
+mod FlightLemmas
 mod RowLemmas
 mod TakenAwayLemmas
 mod RowLossLemmas

@@ -183,13 +183,50 @@ module _ (n : NetworkState) (network : IsNetwork n) (events : List Timed) (b : S
       cuts_far n network made g.x.event (first_well n network is_lowering made now g.x well)
       (sym (cut_seen n made (made ++ g.x.event ∷ []) (made ++ now) (first_stays is_lowering g)) ∙ cut) g.x.so l.lowers
 
-  -- what was in flight is gone by then
-  flight_so : FlightIsGone n made (gone_by n v.paths_before v.used_before)
-  flight_so = by v.used_before refl
+  -- the last change is that of the first event then, and that of all
+  moment : (event : Timed) (others : List Timed) → now ≡ event ∷ others
+      → (last_change (made ++ event ∷ []) ≡ at) × (last_change (made ++ now) ≡ at)
+  moment event others split =
+      let each = subst (AllByRecursion (λ (t : Timed). t.at ≡ at)) split (all_at at events) in (
+        last_now at made event [] (each.0, tt),
+        subst (λ es. last_change (made ++ es) ≡ at) (sym split) (last_now at made event others each),
+      )
+
+  -- what was in flight before is gone by then
+  flight_before : (now ≡ [] → ⊥)
+      → FlightIsGoneFrom n made (last_change (made ++ now)) (gone_by n v.paths_before (loss_at v).soon_before)
+  flight_before some = by now refl
     where
-      by : (used : Bool) → v.used_before ≡ used → FlightIsGone n made (gone_by n v.paths_before used)
-      by true is = inl (used_up n network made is, refl)
-      by false is = inr refl
+      by : (es : List Timed) → now ≡ es
+          → FlightIsGoneFrom n made (last_change (made ++ now)) (gone_by n v.paths_before (loss_at v).soon_before)
+      by [] none = absurd (some none)
+      by (event ∷ others) split =
+          subst (λ t. FlightIsGoneFrom n made t (gone_by n v.paths_before (loss_at v).soon_before))
+          (sym (moment event others split).1)
+          (gone_soon n network made made (same_itself n made) (all_within n made) refl at (loss_at v).soon_before refl)
+
+  -- what is in flight behind a link that goes down is
+  flight_behind : (g : GoesFirst is_lowering)
+      → FlightIsGoneFrom n (made ++ g.x.event ∷ []) (last_change (made ++ g.x.event ∷ []))
+      (gone_by n v.paths (loss_at v).soon)
+  flight_behind g =
+      subst (λ t. FlightIsGoneFrom n first t (gone_by n v.paths soon)) (sym (moment g.x.event g.x.others g.x.split).0)
+      (subst (λ (p : SyncPaths). FlightIsGoneFrom n first at (gone_by n p soon)) (sym (same_paths is_lowering g))
+      (gone_soon n network first (made ++ now) (first_stays is_lowering g) within
+      (set_before n first g.x.others g.x.each ∙ ap last_set all_is) at soon refl))
+    where
+      first : List Timed
+      first = made ++ g.x.event ∷ []
+
+      soon : Bool
+      soon = (loss_at v).soon
+
+      all_is : first ++ g.x.others ≡ made ++ now
+      all_is = whole n network is_lowering made now g.x
+
+      within : HasDelaysWithin n first (longest_delay n (made ++ now))
+      within =
+          subst (λ es. HasDelaysWithin n first (longest_delay n es)) all_is (longest_within n first g.x.others)
 
   -- so it is behind a link that goes down
   flight_first : (g : GoesFirst is_lowering) → FlightIsGone n (made ++ g.x.event ∷ []) (gone_by n v.paths v.used_before)
@@ -232,7 +269,8 @@ module _ (n : NetworkState) (network : IsNetwork n) (events : List Timed) (b : S
     pub rested : HasComeToRest b at
     pub none : LowersNone
     pub cuts : CutsFarEnd n made none.first.x.event
-    pub flight : FlightIsGone n (made ++ none.first.x.event ∷ []) (gone_by n v.paths v.used_before)
+    pub flight : FlightIsGoneFrom n (made ++ none.first.x.event ∷ []) (last_change (made ++ none.first.x.event ∷ []))
+        (gone_by n v.paths (loss_at v).soon)
 
   pub cut_off : AreWell n (made ++ now) → row_at v ≡ CutOff → CutsEnd
   cut_off well row =
@@ -242,7 +280,7 @@ module _ (n : NetworkState) (network : IsNetwork n) (events : List Timed) (b : S
         rested = rest_so from;
         none = l;
         cuts = cuts_so well l cut;
-        flight = flight_first l.first;
+        flight = flight_behind l.first;
       }
 
   -- or one system turns
@@ -381,10 +419,12 @@ module _ (n : NetworkState) (network : IsNetwork n) (events : List Timed) (b : S
 
   -- or a far end fails
   pub failed : AreWell n (made ++ now) → row_at v ≡ FailedEnd
-      → HasComeToRest b at × FailsEndFirst n made now × FlightIsGone n made (gone_by n v.paths_before v.used_before)
+      → HasComeToRest b at × FailsEndFirst n made now
+      × FlightIsGoneFrom n made (last_change (made ++ now)) (gone_by n v.paths_before (loss_at v).soon_before)
   failed well row =
       let (from, fails, far) = why FailedEnd row in
-      (rest_so from, failing_end well fails far, flight_so)
+      let first = failing_end well fails far in
+      (rest_so from, first, flight_before (λ none. subst (FailsEndFirst n made) none first))
 
   -- or a system that others heard
   pub heard : AreWell n (made ++ now) → (row_at v ≡ FailedHeard) ⊎ (row_at v ≡ FailureCutsOff)
