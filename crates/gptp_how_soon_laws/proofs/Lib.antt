@@ -27,6 +27,7 @@ mod TurnsBelowLemmas
 mod TurnedTreeLemmas
 mod MovedTreesTestLemmas
 mod MovedTreesLemmas
+mod FailsTreesLemmas
 mod TreeEventLemmas
 mod TurnedLemmas
 mod LiveEndsLemmas
