@@ -27,7 +27,6 @@ mod TurnsBelowLemmas
 mod TurnedTreeLemmas
 mod MovedTreesTestLemmas
 mod MovedTreesLemmas
-mod FailsTreesLemmas
 mod TreeEventLemmas
 mod TurnedLemmas
 mod LiveEndsLemmas

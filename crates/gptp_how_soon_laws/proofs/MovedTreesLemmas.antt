@@ -1,5 +1,5 @@
 -- Where the tests of trees that are moved as a system fails hold, they are so from one snapshot to the other.
-use Rattle.std.proofs.Common.{◌≡◌, ◌⊎◌, inl, inr, ℕ, Bool, true, false, List, [], ◌∷◌, filter, Some, length, slice_get, refl, sym, ap, subst, ◌∙◌, arith}
+use Rattle.std.proofs.Common.{◌≡◌, ◌≤◌, ◌⊎◌, inl, inr, ℕ, Bool, true, false, List, [], ◌∷◌, ◌++◌, filter, Some, length, slice_get, refl, sym, ap, subst, ◌∙◌, append-nil, arith}
 use Rattle.std.specs.Prelude.{◌==◌, ◌&&◌, not}
 use Rattle.std.specs.List.{range_with_len}
 use Rattle.std.proofs.lemmas.Bool.{and_from, and_parts, eq-eqb}
@@ -21,20 +21,26 @@ use Rattle.gptp_roles.specs.Selection.{clock_of}
 use Rattle.gptp_scenario.specs.Change.{system_after}
 use Rattle.gptp_scenario.specs.InUse.{lives}
 use Rattle.gptp_scenario.specs.Network.{IsNetwork, NetworkState}
+use Rattle.gptp_scenario.specs.SyncWait.{sync_paths}
 use Rattle.gptp_scenario.specs.declared.change.Timed.{Timed}
 use Rattle.gptp_scenario.specs.declared.network.SystemSpec.{SystemSpec}
 use Rattle.gptp_topology.specs.After.{system_then, systems_after}
 use Rattle.gptp_topology.specs.declared.nodes.System as ours
 use Rattle.gptp_how_soon.specs.Chosen.{chosen_after, differs, ends_of, is_moved, is_moved_at, used_ends}
+use Rattle.gptp_how_soon.specs.Kinds.{fails_first}
 use Rattle.gptp_how_soon.specs.Links.{is_lost}
 use Rattle.gptp_how_soon.specs.MovedTrees.{falls_at, moves_trees_after}
+use Rattle.gptp_how_soon.specs.Times.{told_of}
 use Rattle.gptp_how_soon.specs.Tree.{has_better_root, has_same_root, is_below}
 use Rattle.gptp_how_soon.specs.TurnedTree.{is_turned_at}
 use Rattle.gptp_how_soon.specs.declared.chosen.Chosen.{Chosen}
 use Rattle.gptp_how_soon.specs.declared.chosen.Ends.{Ends}
 use Rattle.gptp_how_soon.proofs.ChosenLemmas.{IsAt, at_clock, at_port, chosen_there, one_clock}
+use Rattle.gptp_settling_time.specs.HowSoon.{FailsTreesFirst}
 use Rattle.gptp_settling_time.specs.Losses.{IsUnmoved}
-use Rattle.gptp_settling_time.specs.TreeLosses.{IsTreeCutOff, IsTreeTurned, IsUnmovedOrInTree}
+use Rattle.gptp_settling_time.specs.TreeLosses.{IsTreeCutOff, IsTreeTurned, IsUnmovedOrInTree, MovesTreesFrom}
+use Rattle.gptp_how_soon_laws.proofs.FailedLemmas.{Fails, clock_before, fails, first_delay, first_paths, others, parts, stands_on}
+use Rattle.gptp_how_soon_laws.proofs.ToldLemmas.{loss_fails}
 use Rattle.gptp_how_soon_laws.proofs.TreeBelowLemmas.{IsTop, below_same, best, best_so, cut_off, tree}
 use Rattle.gptp_how_soon_laws.proofs.LivesOnLemmas.{LivesOn, on_at, on_of}
 use Rattle.gptp_how_soon_laws.proofs.LostLinkLemmas.{ends_are, stands_or_lost}
@@ -43,7 +49,7 @@ use Rattle.gptp_how_soon_laws.proofs.ReadyLemmas.{none_any}
 use Rattle.gptp_how_soon_laws.proofs.TreeTestLemmas.{better_so, same_back, same_so}
 use Rattle.gptp_how_soon_laws.proofs.TurnedTreeTestLemmas.{TurnsAt, turned_moves, turns_at}
 use Rattle.gptp_how_soon_laws.proofs.TurnsBelowLemmas.{HasTurned, has_turned, turning}
-use Rattle.gptp_how_soon_laws.proofs.UnmovedLemmas.{asked_of, unmoved_at}
+use Rattle.gptp_how_soon_laws.proofs.UnmovedLemmas.{AreWell, asked_of, unmoved_at}
 use Rattle.gptp_how_soon_laws.proofs.WorseningLemmas.{same_system}
 
 module _ (n : NetworkState) (network : IsNetwork n) (made events : List Timed) where
@@ -461,3 +467,38 @@ module _ (n : NetworkState) (network : IsNetwork n) (made events : List Timed) w
               (b, each_by b (none_tops none b) (inl still))
           by (inr none) (inr x) =
               (x.on_top.chose.best, each_by x.on_top.chose.best (none_tops none x.on_top.chose.best) (inr (x, refl)))
+
+-- ---- the events of a time
+
+pub fails_trees_first : (n : NetworkState) (network : IsNetwork n) (made now : List Timed) → AreWell n (made ++ now)
+    → moves_trees_after n made (made ++ now) ≡ true
+    → (sync_paths n (made ++ now)).delay ≤ (sync_paths n made).delay
+    → (sync_paths n (made ++ now)).systems ≤ (sync_paths n made).systems
+    → (sync_paths n made).systems ≤ 255
+    → fails_first (told_of n made now) ≡ true
+    → FailsTreesFirst n made now
+fails_trees_first n network made [] well splits delay paths few is = absurd cc
+fails_trees_first n network made (event ∷ events) well splits delay paths few is =
+    let failing = (parts n network made event events delay paths few is).0 in
+    let x : Fails n network made event = fails n network made event failing in (
+      record {
+        clock = x.clock;
+        act = x.act;
+        live = loss_fails n network made x.clock x.loss;
+        moves = moves_from;
+        delay = first_delay n network made event events delay paths few is;
+        paths = first_paths n network made event events delay paths few is;
+        few = few;
+      },
+      others n network made event events delay paths few is,
+    )
+  where
+    moves_from : MovesTreesFrom n made event
+    moves_from g h stands stands' =
+        let failing = (parts n network made event events delay paths few is).0 in
+        let x : Fails n network made event = fails n network made event failing in
+        let last = stands_on n network made event events delay paths few is h stands' in
+        split_so n network made (made ++ event ∷ events) splits g h stands last
+        (well made (event ∷ events) refl g stands)
+        (well (made ++ event ∷ events) [] (append-nil (made ++ event ∷ events)) h last)
+        (clock_before n network made event x g h stands stands')
