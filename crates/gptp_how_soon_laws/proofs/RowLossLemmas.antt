@@ -14,11 +14,11 @@ use Rattle.gptp_invariants.specs.WorldEncodableLaws.{SetsAnOctet}
 use Rattle.gptp_how_soon.specs.Bounds.{gone_by, quiet_by}
 use Rattle.gptp_how_soon.specs.Chosen.{moves_joined, moves_some}
 use Rattle.gptp_how_soon.specs.Kinds.{begins_with, brings_nothing, fails_first, is_loss, is_lowering, is_worsening, lowers_one, takes_one, takes_several, worsens_first}
-use Rattle.gptp_how_soon.specs.MovedTrees.{moves_trees_after}
 use Rattle.gptp_how_soon.specs.Rest.{is_failing_followed, is_from_rest, is_lowering_followed, is_taking_followed, is_worsening_followed, keeps_paths, rested}
 use Rattle.gptp_how_soon.specs.Times.{View, events_at, has_come_after, loss_at, row_at, told_at, told_of, view_at}
 use Rattle.gptp_how_soon.specs.Tree.{cuts_tree_after, worsens_best_after}
 use Rattle.gptp_how_soon.specs.TurnedTree.{turns_tree_after}
+use Rattle.gptp_how_soon.specs.TwoTops.{trees_move_after}
 use Rattle.gptp_how_soon.specs.declared.bounds.Row.{Row}
 use Rattle.gptp_how_soon.specs.declared.bounds.Row.TheVariants.{AnyLosses, CutOff, FailedEnd, FailedHeard, FailureCutsOff, FailureMovesTrees, Lowered, SystemTurned, TakenAway, TreeFalls, TreeTurned}
 use Rattle.gptp_how_soon.specs.declared.bounds.SettlingTime.{SettlingTime}
@@ -408,7 +408,7 @@ module _ (n : NetworkState) (network : IsNetwork n) (events : List Timed) (b : S
   pub failure_cuts : AreWell n (made ++ now) → row_at v ≡ FailureMovesTrees → FailsLate
   failure_cuts well row =
       let (from, trees) = why FailureMovesTrees row in
-      let (keeps, one, cut, come) = late_by fails_first (moves_trees_after n made (made ++ now)) trees in
+      let (keeps, one, cut, come) = late_by fails_first (trees_move_after n made (made ++ now)) trees in
       let x = keeps_so keeps in
       let rest = rest_so from in
       record {
