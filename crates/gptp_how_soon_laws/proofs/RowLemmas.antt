@@ -615,8 +615,8 @@ module _ (n : NetworkState) (network : IsNetwork n) (events : List Timed) (b : S
       record {
         rested = (from_rest from).rested;
         takes = takes;
-        leaves = several_unmoved n network made now well takes (not-true (moves_some n made (made ++ now)) stays) x.delay
-            x.paths;
+        leaves = several_unmoved n network made now well takes (not-true (moves_some n made (made ++ now)) stays)
+            x.delay x.paths;
         none = none_left (not-true v.silent loud);
         few = x.few;
       }

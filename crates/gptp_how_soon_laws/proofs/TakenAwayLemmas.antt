@@ -43,14 +43,16 @@ module _ (n : NetworkState) (network : IsNetwork n) where
             let no : true ≡ false = ap (λ a. is_priority1 (told_at n made a)) (sym act) ∙ none in absurd cc,
       )
 
-  down_too : (made : List Timed) (event : Timed) → is_down_too (told_at n made event.act) ≡ true → IsDownToo n made event
+  down_too : (made : List Timed) (event : Timed) → is_down_too (told_at n made event.act) ≡ true
+      → IsDownToo n made event
   down_too made event is =
       elim (or_cases (lowers_unused (told_at n made event.act)) (repeats (told_at n made event.act)) is) [
         | inl lowers ↦ inl (unused_lowers n network made event lowers)
         | inr same ↦ inr (repeats_by n network made event same)
       ]
 
-  one_taken : (made : List Timed) (event : Timed) → taken_too (told_at n made event.act) ≡ true → IsTakenToo n made event
+  one_taken : (made : List Timed) (event : Timed) → taken_too (told_at n made event.act) ≡ true
+      → IsTakenToo n made event
   one_taken made event is =
       elim (or_cases (takes_any (told_at n made event.act)) (is_down_too (told_at n made event.act)) is) [
         | inl any ↦ inl (any_taken made event any)
