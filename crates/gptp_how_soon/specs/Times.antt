@@ -149,7 +149,8 @@ moves_at n made now before at = record {
   tree_turns = has_come_after n made before at && turns_tree_after n made (made ++ now);
   trees_move = has_come_after n made before at && moves_trees_after n made (made ++ now);
   taken = not (moves_some n made (made ++ now)) && not (silent_after n made (made ++ now));
-  cuts_all = has_come_after n made before at && cuts_all_after n made (made ++ now);
+  cuts_all = (has_come_after n made before at && moves_trees_after n made (made ++ now))
+      && cuts_all_after n made (made ++ now);
   far = are_far_after n made (told_of n made now);
   held = held_after n (own_intervals n before at) made (made ++ now);
 }

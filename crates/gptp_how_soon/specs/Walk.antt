@@ -130,7 +130,9 @@ moves_seen n w at = record {
       (chosen_before w) (chosen_now w);
   taken = not (any_moved (systems_in w.tables.nodes.items) (chosen_before w) (chosen_now w))
       && not (any_silent w.used_before.items w.tables.standings.items);
-  cuts_all = has_come_seen n w at
+  cuts_all = (has_come_seen n w at
+      && moves_trees (systems_in w.tables.nodes.items) (lost_seen w) (ends_in_use w.ends.items (used_now w))
+      (chosen_before w) (chosen_now w))
       && cuts_all (systems_in w.tables.nodes.items) (lost_seen w) (chosen_before w) (chosen_now w);
   far = are_far w.systems_before.items (chosen_before w) (ends_in_use w.ends.items w.used_before.items) w.told.items;
   held = held_among n (own_intervals n w.before at) (heard_seen w) w.tables.standings.items;

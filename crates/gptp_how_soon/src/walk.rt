@@ -154,6 +154,7 @@ impl Walk {
         let heard = heard_links(alloc, &systems, &before, &self.used_before, &self.ends)?;
         let any_moved = any_moved(&systems, &before, &now);
         let silent = any_silent(&self.used_before, &self.tables.standings);
+        let trees_move = both(come, moves_trees(&systems, &lost, &links, &before, &now));
         Ok(Moves {
             moved: any_counted(joined, &systems, &links, &before, &now),
             any_moved,
@@ -165,9 +166,9 @@ impl Walk {
                 worsens_best(&systems, &links, &before, &now, &self.told),
             ),
             tree_turns: both(come, turns_tree(&systems, &lost, &links, &before, &now)),
-            trees_move: both(come, moves_trees(&systems, &lost, &links, &before, &now)),
+            trees_move,
             taken: both(!any_moved, !silent),
-            cuts_all: both(come, cuts_all(&systems, &lost, &before, &now)),
+            cuts_all: both(trees_move, cuts_all(&systems, &lost, &before, &now)),
             far: are_far(&self.systems_before, &before, &links_before, &self.told),
             held: held_among(network, own, &heard, &self.tables.standings),
         })
