@@ -22,6 +22,7 @@ use Rattle.gptp_settling_time.proofs.TurnedTreeMadeLemmas.{turned_tree_to}
 use Rattle.gptp_settling_time.proofs.TurnedTreeToLemmas.{IsTurnedTreeTo}
 use Rattle.gptp_settling_time.proofs.NamedAfterLemmas.{NamesAfter}
 use Rattle.gptp_settling_time.proofs.NamedLemmas.{IsNamedFrom, arrives_later}
+use Rattle.gptp_settling_time.proofs.OnwardLemmas.{IsOnwardFrom}
 use Rattle.gptp_settling_time.proofs.KeptToLemmas.{KeepsTo}
 use Rattle.gptp_settling_time.proofs.SplitMadeLemmas.{split_on, split_sooner, split_to}
 use Rattle.gptp_settling_time.proofs.SplitToLemmas.{IsSplitTo}
@@ -66,18 +67,21 @@ module _ (d : DocumentState) (playable : IsPlayable d) (made : List Timed) (even
         tree_now (last_change made + capability_span p) stood silent now
         (λ arrived later quiet. rested_any d playable made event then at_time keeps
         (record { calm = settled.calm; passed = omega (arith, passed, later, quiet) }))
-        (λ later moves arrived. named stood arrived (calm moves) (few moves) (inl (off moves, passed)) later) tree
+        (λ later moves arrived arrives.
+        (named stood arrived (calm moves) (few moves) (inl (off moves, passed)) later arrives).0) tree
     leads_by_tree Starting silent now none named so = absurd none
     leads_by_tree (Gained start) silent now (stood, settled, tree) named so =
         tree_now start stood silent now
         (λ arrived later quiet. rested_gained d playable made event then at_time keeps start
         (omega (arith, settled, later, quiet)) so.news)
-        (λ later moves arrived. named stood arrived (calm moves) (few moves) (inl (off moves, settled)) later) tree
+        (λ later moves arrived arrives.
+        (named stood arrived (calm moves) (few moves) (inl (off moves, settled)) later arrives).0) tree
     leads_by_tree (Heard start) silent now (stood, settled, tree) named so =
         tree_now start stood silent now
         (λ arrived later quiet. rested_heard d playable made event then at_time keeps start
         (omega (arith, settled, later, quiet)) so.since)
-        (λ later moves arrived. named stood arrived (calm moves) (few moves) (off moves, settled) later) tree
+        (λ later moves arrived arrives.
+        (named stood arrived (calm moves) (few moves) (off moves, settled) later arrives).0) tree
     leads_by_tree (Left ago start) silent now none named so = absurd none
     leads_by_tree (Turned start was) silent now none named so = absurd none
     leads_by_tree (Fallen start was) silent now none named so = absurd none
@@ -114,13 +118,15 @@ module _ (d : DocumentState) (playable : IsPlayable d) (made : List Timed) (even
   -- trees are, as a system fails
   splits : (start stood : ℕ) (ago : List Timed) (gone silent : ℕ) → ago ≡ made
       → (now : SplitsNow n made event stood gone silent) → (stood ≤ event.at → HasRestedSo p start event.at then)
-      → ((late : ℕ) → HasArrivedBy n made stood late → IsNamedFrom late then) → IsSplitTo d ago more gone silent w'
+      → ((late : ℕ) → HasArrivedBy n made stood late → IsNamedFrom late then × IsOnwardFrom late then)
+      → IsSplitTo d ago more gone silent w'
   splits start stood ago gone silent same now rest named =
       let later = arrives_later n made stood now.arrived now.arrives in
       let quiet = now.quiet in
       subst (λ es. IsSplitTo d es more gone silent w') (sym same)
       (split_to d playable made event then draws done w' acts at_time time last keeps after start
-      (rest (omega (arith, later, quiet))) stood gone silent now (named now.arrived now.arrives))
+      (rest (omega (arith, later, quiet))) stood gone silent now (named now.arrived now.arrives).0
+      (named now.arrived now.arrives).1)
 
   -- they fall back where a link goes down of which an end has failed, or all stays as it stands
   splits_still : (ago : List Timed) (gone silent : ℕ) → IsDownNow n made event → IsSplitTo d ago made gone silent then

@@ -142,6 +142,7 @@ pub mod FallMadeLemmas
 pub mod WorsenedActLemmas
 pub mod WorsenedMadeLemmas
 pub mod WorsenedTracesLemmas
+pub mod OnwardLemmas
 pub mod NamedAfterLemmas
 pub mod TurnsDownLemmas
 pub mod TurnedToLemmas
@@ -217,6 +218,10 @@ pub mod OffForGoodLemmas
 pub mod SplitLemmas
 pub mod SplitAlwaysLemmas
 pub mod SplitDownLemmas
+pub mod SplitTracesLemmas
+pub mod SplitSoundLemmas
+pub mod TopsDeepLemmas
+pub mod TopsRestLemmas
 pub mod SplitLinksLemmas
 pub mod SplitSettlesLemmas
 pub mod SplitRestLemmas

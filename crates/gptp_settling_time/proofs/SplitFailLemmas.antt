@@ -2,7 +2,7 @@
 use Rattle.std.proofs.Common.{◌≡◌, ◌⊎◌, ◌<◌, ◌≤◌, ◌+◌, ◌*◌, ℕ, suc, pred, true, List, Some, slice_get, refl, sym, ap, subst, ◌∙◌, inl, inr, arith}
 use Rattle.gptp_lists.specs.Members.{In}
 use Rattle.gptp_graph.specs.PathBound.{path_bound}
-use Rattle.gptp_graph.specs.Snapshot.{Adjacent, IsWellFormed, Joins, PortIdentity, Snapshot, System, clocks, port_of}
+use Rattle.gptp_graph.specs.Snapshot.{Adjacent, IsLinked, IsWellFormed, Joins, PortIdentity, Snapshot, System, clocks, port_of}
 use Rattle.gptp_graph.proofs.DistanceLemmas.{IsDistance-clock, IsDistance-unique}
 use Rattle.gptp_graph.proofs.ExistenceLemmas.{best_exists}
 use Rattle.gptp_graph.proofs.LinkLemmas.{Adjacent-clock, Joins-clock}
@@ -18,7 +18,7 @@ use Rattle.gptp_model.specs.Acts.{Acts}
 use Rattle.gptp_model.specs.World.{WorldState}
 use Rattle.gptp_model.specs.declared.done.Done.{Done}
 use Rattle.gptp_bmca_machine.specs.Calm.{Calm}
-use Rattle.gptp_bmca_machine.specs.Clean.{Whole}
+use Rattle.gptp_bmca_machine.specs.Clean.{IsWorse, Whole}
 use Rattle.gptp_bmca_machine.specs.CutTree.{CutsOff, LosesSystem, Tree}
 use Rattle.gptp_bmca_machine.specs.Facts.{station_system}
 use Rattle.gptp_bmca_machine.specs.FailureTrees.{FailureMoves, Turning}
@@ -29,6 +29,7 @@ use Rattle.gptp_bmca_machine.specs.Network.{IsSettlingNetwork, Network, settled_
 use Rattle.gptp_bmca_machine.specs.RestLaws.{IsResting, SameWiring}
 use Rattle.gptp_bmca_machine.specs.SoundLaws.{AllAreNear, IsSoundOnLinks}
 use Rattle.gptp_bmca_machine.specs.TurnTree.{TurnsTree}
+use Rattle.gptp_bmca_machine.specs.TwoTops.{First, CutsOffTwice, TopsTree}
 use Rattle.gptp_bmca_machine.proofs.CutTreeLemmas.{IsCutOff, LeadsNowhere, moves_off}
 use Rattle.gptp_bmca_machine.proofs.FailureBeginLemmas.{failure_begins, turning_settles}
 use Rattle.gptp_bmca_machine.proofs.FailureTreesLemmas.{TopsHold, dark_by}
@@ -40,6 +41,11 @@ use Rattle.gptp_bmca_machine.proofs.LostBeginLemmas.{top_begins}
 use Rattle.gptp_bmca_machine.proofs.SettledLemmas.{network_whole}
 use Rattle.gptp_bmca_machine.proofs.RestLemmas.{left_of}
 use Rattle.gptp_bmca_machine.proofs.TurnTreeLemmas.{IsOf, LeadsOut, turns_moves}
+use Rattle.gptp_bmca_machine.proofs.FailureEndLemmas.{TopsTimes}
+use Rattle.gptp_bmca_machine.proofs.LostTopsBeginLemmas.{tops_begin}
+use Rattle.gptp_bmca_machine.proofs.TopsAfterLemmas.{bare_stale}
+use Rattle.gptp_bmca_machine.proofs.TwoTopsBeginLemmas.{FlightLeads, falls_begins}
+use Rattle.gptp_bmca_machine.proofs.TwoTopsWayLemmas.{base_some}
 use Rattle.gptp_invariants.specs.ChoiceCalm.{HaveQuietLinks, delay_in, log_of}
 use Rattle.gptp_invariants.specs.ChoiceSettlesAsMachine.{IsWorld}
 use Rattle.gptp_invariants.specs.ChoiceView.{says_announce, view}
@@ -53,7 +59,7 @@ use Rattle.gptp_invariants.proofs.WorldLogLemmas.{linked_log}
 use Rattle.gptp_invariants.proofs.WorldStandsLemmas.{stands_well}
 use Rattle.gptp_invariants.proofs.WorldWayLemmas.{way_of}
 use Rattle.gptp_settling_time.specs.Losses.{IsUnmoved}
-use Rattle.gptp_settling_time.specs.TreeLosses.{IsTreeCutOff, IsTreeTurned, IsUnmovedOrInTree}
+use Rattle.gptp_settling_time.specs.TreeLosses.{CutsAllBeyond, IsTreeCutOff, IsTreeCutTwice, IsTreeTurned, IsUnmovedOrInTree}
 use Rattle.gptp_settling_time.proofs.AgesByWorldLemmas.{WorldAgesBy}
 use Rattle.gptp_settling_time.proofs.AgingClaimedLemmas.{named_in, stay_of}
 use Rattle.gptp_settling_time.proofs.AlwaysClaimedLemmas.{IsStanding, start_calm, start_net, start_network}
@@ -67,9 +73,12 @@ use Rattle.gptp_settling_time.proofs.LinkBetweenLemmas.{IsLinkBetween, between_a
 use Rattle.gptp_settling_time.proofs.NamesItselfLemmas.{whole_alone}
 use Rattle.gptp_settling_time.proofs.OffForGoodLemmas.{good_fails}
 use Rattle.gptp_settling_time.proofs.SettledSeenLemmas.{IsSettledSeen, always_seen, sound_fits}
-use Rattle.gptp_settling_time.proofs.SplitAlwaysLemmas.{GoesUntil, IsSplitAlways, MayStart, split_after, split_network}
-use Rattle.gptp_settling_time.proofs.SplitLemmas.{IsSplit, SplitSettles, SplitState, SplitsBack, turned_times}
+use Rattle.gptp_settling_time.proofs.SplitAlwaysLemmas.{GoesUntil, IsSplitAlways, MayStart, one_before, split_after, split_network}
+use Rattle.gptp_settling_time.proofs.TopsDeepLemmas.{tops_deep}
+use Rattle.gptp_settling_time.proofs.SplitLemmas.{IsSplit, SplitSettles, SplitState, SplitsBack, turned_times, tops_times}
 use Rattle.gptp_settling_time.proofs.SplitRestLemmas.{IsSplitAnew, SplitNamesAlone, split_anew_begins}
+use Rattle.gptp_settling_time.proofs.SplitSoundLemmas.{AllSayStill}
+use Rattle.gptp_settling_time.proofs.SplitTracesLemmas.{still_sound}
 
 module _ (p : SettlingParams) (number : ℕ) (w : WorldState) (draws : List Draw) (done : Done) (w' : WorldState)
     (is : IsWorld p w) (is' : IsWorld p w') (acts : Acts (Changing (Fail number)) w draws done w')
@@ -77,7 +86,8 @@ module _ (p : SettlingParams) (number : ℕ) (w : WorldState) (draws : List Draw
     (pace : KeepPace p) (measured : LinkIsMeasured w) (past : next ≤ w.time) (ready : AreReadyBy p next w)
     (quiet : HaveQuietLinks p.params w) (silent_before : AreSilentBy p next w) (near : AllAreNear (snapshot_of w))
     (over : next + pred (path_bound (snapshot_of w)) * delay_in w ≤ w.time)
-    (named : FlightNames says_announce (snapshot_of w) (view w)) where
+    (named : FlightNames says_announce (snapshot_of w) (view w))
+    (onward : FlightLeads says_announce (snapshot_of w) (view w)) where
   abbrev g : Snapshot
   g = snapshot_of w
 
@@ -221,6 +231,21 @@ module _ (p : SettlingParams) (number : ℕ) (w : WorldState) (draws : List Draw
           whole_alone g came.from r.said came.source came.whole;
     }
 
+    -- where all beyond it is cut off, what unmoved systems say is sound
+    says_still : CutsAllBeyond g g' → AllSayStill says_announce g n' (view w')
+    says_still cuts = record {
+      lanes = λ j l f a at among said known stays.
+          let is_sound = sound.lanes j l (lane_still j l at) f a among said in
+          still_sound g n' well' left' number loses cuts a.source.clock a stays
+          (subst (λ (q : PortIdentity). IsWorse g q.clock a ⊎ Whole g q.clock a) (sym is_sound.source) is_sound.sound);
+      stations = λ i s at live place r holds stays.
+          let came = sound.stations i s (alone.stood_seen p number w draws done w' is is' acts lives i s at live) live
+          place r holds in
+          still_sound g n' well' left' number loses cuts r.said.source.clock r.said stays
+          (subst (λ (q : PortIdentity). IsWorse g q.clock r.said ⊎ Whole g q.clock r.said) (sym came.source)
+          came.sound);
+    }
+
     -- what it told is held for longer than an interval and a delay
     stays_long : (a b : PortIdentity) → Joins g a b → n'.interval_of a + n0.most < stay_of p (n'.log_of a)
     stays_long a b joins =
@@ -278,6 +303,27 @@ module _ (p : SettlingParams) (number : ℕ) (w : WorldState) (draws : List Draw
         few = few;
       }
 
+      twice_so : (t : TopsTree) → IsTreeCutTwice g g' best t → CutsOffTwice g n' t.top best t.next t.base t.depth
+      twice_so t cut = record {
+        tree = record {
+          well = well';
+          deep = λ side v in_v.
+              tops_deep g' well' t.next (t.depth side) (t.top side) (cut.in_top side) (cut.first side) (cut.steps side)
+              n'.reach (paths_bound p w' is') v in_v;
+          first = cut.first;
+          steps = cut.steps;
+          single = cut.single;
+          paths = paths_bound p w' is';
+          few = few;
+        };
+        left = left';
+        worse = cut.worse;
+        was_best = cut.was_best;
+        was = cut.was;
+        near = cut.near;
+        lost = cut.lost;
+      }
+
       turned_so : (t : Turning) → IsTreeTurned g g' best t
           → TurnsTree g n' t.tree t.top number t.last t.out best t.base t.depth
       turned_so t is = record {
@@ -312,6 +358,7 @@ module _ (p : SettlingParams) (number : ℕ) (w : WorldState) (draws : List Draw
           out_lives t is = Adjacent-clock g' t.last t.out well' is.joined
 
       abbrev moves : FailureMoves g n' number best (IsTreeCutOff g g' best) (IsTreeTurned g g' best)
+          (IsTreeCutTwice g g' best)
       moves = record {
         well = well';
         left = left';
@@ -320,6 +367,8 @@ module _ (p : SettlingParams) (number : ℕ) (w : WorldState) (draws : List Draw
         cut_top = λ t cut. cut.in_top;
         turned = turned_so;
         turned_top = λ t turned. turned.in_top;
+        twice = twice_so;
+        twice_top = λ t cut. cut.in_top First;
         all = λ v known. elim (each v known) [
           | inl unmoved ↦ inl (unmoved_so v known unmoved)
           | inr in_tree ↦ inr in_tree
@@ -345,6 +394,7 @@ module _ (p : SettlingParams) (number : ℕ) (w : WorldState) (draws : List Draw
 
       module _ (By : PortIdentity → ℕ → Type 0) (gone : ℕ) (measured' : LinkIsMeasured w')
           (long : w.time + silence_span p < silent) (by : WorldAgesBy p By w')
+          (linked : (port : PortIdentity) (until : ℕ) → By port until → IsLinked g port)
           (is_gone : GoesUntil g By gone ⊎ (silent ≤ gone)) (later : w.time < gone) (late' : delay_in w' ≤ w'.time)
         where
           standing' : IsStanding p silent w'
@@ -392,7 +442,8 @@ module _ (p : SettlingParams) (number : ℕ) (w : WorldState) (draws : List Draw
                 → slice_get (view w).lanes (n'.lane (port_of number (suc q))) ≡ Some l
             stood_lane c q i joins l at = lane_still (n'.lane (port_of number (suc q))) l at
 
-            tops' : TopsHold says_announce g n' number best (IsTreeCutOff g g' best) (IsTreeTurned g g' best) moves
+            tops' : TopsHold says_announce g n' number best (IsTreeCutOff g g' best) (IsTreeTurned g g' best)
+                (IsTreeCutTwice g g' best) moves
                 start (stay_of p) w.time n0.most shorter split.long (view w')
             tops' = record {
               cut = λ t cut.
@@ -405,13 +456,17 @@ module _ (p : SettlingParams) (number : ℕ) (w : WorldState) (draws : List Draw
                   (LeadsOut t.last t.out) number t.top best best t.base t.depth loses
                   (turns_moves g n' t.tree t.top number t.last t.out best t.base t.depth (turned_so t turned))
                   turned.in_top (stood_lane t.top) (stay_of p) (named_in p w is) shorter (split.long t.top);
+              twice = λ t cut.
+                  tops_begin says_announce n0 n' net0 (view w) (view w') loss kept' number t.top best t.next t.base
+                  t.depth loses (twice_so t cut) stood_lane (stay_of p) (named_in p w is) shorter split.long;
             }
 
             after' : IsAftermath says_announce g n' (view w')
             after' = record {
               kept = kept';
               fits = fits';
-              dark = dark_by says_announce g n' number best (IsTreeCutOff g g' best) (IsTreeTurned g g' best) moves
+              dark = dark_by says_announce g n' number best (IsTreeCutOff g g' best) (IsTreeTurned g g' best)
+                  (IsTreeCutTwice g g' best) moves
                   start (stay_of p) w.time n0.most shorter split.long (view w') kept' fits' state' tops';
             }
 
@@ -419,7 +474,7 @@ module _ (p : SettlingParams) (number : ℕ) (w : WorldState) (draws : List Draw
             back' = record {
               state = state';
               back = failure_begins says_announce n0 n' net0 (view w) (view w') loss after' named number best
-                  (IsTreeCutOff g g' best) (IsTreeTurned g g' best) moves sound' start now;
+                  (IsTreeCutOff g g' best) (IsTreeTurned g g' best) (IsTreeCutTwice g g' best) moves sound' start now;
               tops = tops';
             }
 
@@ -432,7 +487,18 @@ module _ (p : SettlingParams) (number : ℕ) (w : WorldState) (draws : List Draw
                   turning_settles says_announce n0 n' net0 (view w) (view w') loss after' named t.tree t.top number
                   t.last t.out best t.base t.depth (turned_so t turned) start (fallen_by n' start) (settles_by n' start)
                   (turned_times p g split start t turned);
+              twice = λ t cut.
+                  falls_begins says_announce n0 n' net0 (view w) (view w') loss kept' onward t.top best t.next t.base
+                  t.depth (twice_so t cut)
+                  (base_some g n' t.top best t.next t.base t.depth (twice_so t cut) number loses First
+                  (cut.in_top First)) start
+                  now (fallen_by n' start) (settles_by n' start 0) times.begun (times.soon 0) times.reached
+                  (settles_by n' start) times.soon times.grows
+                  (bare_stale says_announce g n' t.top best t.next t.base t.depth (twice_so t cut) (view w') after');
             }
+              where
+                times : TopsTimes n' start (fallen_by n' start) (settles_by n' start)
+                times = tops_times p g split start
 
           started : (start : ℕ) → MayStart gone w.time start w' → w'.time ≤ start
           started start (inl soon) = let time = time_now in omega (arith, soon, later, time)
@@ -445,8 +511,10 @@ module _ (p : SettlingParams) (number : ℕ) (w : WorldState) (draws : List Draw
             good = good_fails p number w draws done w' is is' acts lives next past ready quiet silent_before;
             split = split;
             at = refl;
+            some = later;
             same = refl;
             by = by;
+            linked = linked;
             is_gone = is_gone;
             begun = let time = time_now in omega (arith, time);
             late = late';
@@ -454,8 +522,13 @@ module _ (p : SettlingParams) (number : ℕ) (w : WorldState) (draws : List Draw
             seen = λ quiet' off start may.
                 let now = started start may in
                 (back' quiet' off start now, settles' quiet' off start now);
+            says = λ cuts quiet' off. says_still cuts;
+            flights = λ cuts since old is_old quiet' off late.
+                let time = time_now in
+                let one = one_before gone w.time later in
+                absurd (omega (arith, time, one, later, late));
           }
 
           -- and traces are told anew later
           pub anew_begins : w'.last_change ≡ w'.time → IsSplitAnew p g By w.time gone silent w'
-          anew_begins = split_anew_begins p g By w.time gone silent w' split_begins later names_alone
+          anew_begins = split_anew_begins p g By w.time gone silent w' split_begins names_alone

@@ -9,15 +9,16 @@ use Rattle.gptp_bmca_machine.specs.FailureTrees.{FailureMoves, Turning}
 use Rattle.gptp_bmca_machine.specs.LossLaws.{IsAfterLoss}
 use Rattle.gptp_bmca_machine.specs.Network.{Network}
 use Rattle.gptp_bmca_machine.specs.SoundLaws.{AllAreNear}
+use Rattle.gptp_bmca_machine.specs.TwoTops.{TopsTree}
 use Rattle.gptp_bmca_machine.specs.Station.{MachineState}
 use Rattle.gptp_bmca_machine.proofs.CutTreeLemmas.{IsCutOff, LeadsNowhere, moves_off}
-use Rattle.gptp_bmca_machine.proofs.FailureEndLemmas.{FailureSettles, settle_on}
+use Rattle.gptp_bmca_machine.proofs.FailureEndLemmas.{FailureSettles, TopsTimes, settle_on}
 use Rattle.gptp_bmca_machine.proofs.FailureTreesLemmas.{FailsBack, IsFailedState, LostStayOff, drops, fails_on}
 use Rattle.gptp_bmca_machine.proofs.FallLemmas.{UnlinkedHoldNone}
 use Rattle.gptp_bmca_machine.proofs.MovedLevelLemmas.{Times as MovedTimes}
 use Rattle.gptp_bmca_machine.proofs.TurnLevelLemmas.{Times}
 use Rattle.gptp_invariants.specs.ChoiceView.{says_announce}
-use Rattle.gptp_settling_time.specs.TreeLosses.{IsTreeCutOff, IsTreeTurned}
+use Rattle.gptp_settling_time.specs.TreeLosses.{IsTreeCutOff, IsTreeCutTwice, IsTreeTurned}
 use Rattle.gptp_settling_time.proofs.AgingClaimedLemmas.{stay_of}
 use Rattle.gptp_settling_time.proofs.FallAlwaysLemmas.{fallen_by, falls_within, settles_by, settles_later}
 use Rattle.gptp_settling_time.proofs.TurnedTreeLemmas.{turn_times}
@@ -31,6 +32,7 @@ pub record IsSplit (p : SettlingParams) (g : Snapshot) : Type 0 where
   pub lost : ℕ
   pub best : System
   pub moves : FailureMoves g n lost best (IsTreeCutOff g n.graph best) (IsTreeTurned g n.graph best)
+      (IsTreeCutTwice g n.graph best)
   pub near : AllAreNear g
   pub since : ℕ
   pub delay : ℕ
@@ -45,20 +47,26 @@ module _ (p : SettlingParams) (g : Snapshot) (s : IsSplit p g) (start : ℕ) whe
   abbrev pub IsTurned : Turning → Type 0
   IsTurned = IsTreeTurned g s.n.graph s.best
 
+  abbrev pub IsTwice : TopsTree → Type 0
+  IsTwice = IsTreeCutTwice g s.n.graph s.best
+
   -- as the machine knows it
   abbrev pub SplitsBack : MachineState → Type 0
   SplitsBack =
-      FailsBack says_announce g s.n s.lost s.best IsCut IsTurned s.moves start (stay_of p) s.since s.delay s.shorter
+      FailsBack says_announce g s.n s.lost s.best IsCut IsTurned IsTwice s.moves start (stay_of p) s.since s.delay
+      s.shorter
       s.long
 
   abbrev pub SplitState : MachineState → Type 0
   SplitState =
-      IsFailedState says_announce g s.n s.lost s.best IsCut IsTurned s.moves start (stay_of p) s.since s.delay s.shorter
+      IsFailedState says_announce g s.n s.lost s.best IsCut IsTurned IsTwice s.moves start (stay_of p) s.since s.delay
+      s.shorter
       s.long
 
   abbrev pub SplitStaysOff : MachineState → MachineState → Type 0
   SplitStaysOff =
-      LostStayOff says_announce g s.n s.lost s.best IsCut IsTurned s.moves start (stay_of p) s.since s.delay s.shorter
+      LostStayOff says_announce g s.n s.lost s.best IsCut IsTurned IsTwice s.moves start (stay_of p) s.since s.delay
+      s.shorter
       s.long
 
   -- each system of a tree has left its old choice by then, and those at each distance have settled from a time on
@@ -78,11 +86,19 @@ module _ (p : SettlingParams) (g : Snapshot) (s : IsSplit p g) (start : ℕ) whe
   turned_times t is = turn_times g s.n t.tree t.top s.lost t.last t.out s.best t.base t.depth (s.moves.turned t is)
       start
 
+  pub tops_times : TopsTimes s.n start (fallen_by s.n start) (settles_by s.n start)
+  tops_times = record {
+    begun = omega arith;
+    reached = λ d deep. falls_within s.n start (suc d) deep;
+    soon = λ e. settles_later s.n start e;
+    grows = λ e. omega arith;
+  }
+
   -- each link of a tree is at its stage as soon as the system that tells has settled
   abbrev pub SplitSettles : MachineState → Type 0
   SplitSettles =
-      FailureSettles says_announce g s.n s.lost s.best IsCut IsTurned s.moves start (fallen_by s.n start)
-      (settles_by s.n start) cut_times turned_times
+      FailureSettles says_announce g s.n s.lost s.best IsCut IsTurned IsTwice s.moves start (fallen_by s.n start)
+      (settles_by s.n start) cut_times turned_times tops_times
 
 -- ---- a step
 
@@ -92,13 +108,16 @@ module _ (p : SettlingParams) (g : Snapshot) (s : IsSplit p g) (start : ℕ) (x 
     (step : MachineSteps says_announce x x') where
   pub splits_on : SplitsBack p g s start x'
   splits_on =
-      fails_on says_announce g s.n s.lost s.best (IsCut p g s start) (IsTurned p g s start) s.moves start (stay_of p)
+      fails_on says_announce g s.n s.lost s.best (IsCut p g s start) (IsTurned p g s start) (IsTwice p g s start)
+      s.moves start (stay_of p)
       s.since s.delay s.shorter s.long x x' was kept' state' stays_off step none'
 
   pub split_settles_on : SplitSettles p g s start x → SplitSettles p g s start x'
   split_settles_on =
-      settle_on says_announce g s.n s.lost s.best (IsCut p g s start) (IsTurned p g s start) s.moves start
-      (fallen_by s.n start) (settles_by s.n start) (cut_times p g s start) (turned_times p g s start) x x' was.back
+      settle_on says_announce g s.n s.lost s.best (IsCut p g s start) (IsTurned p g s start) (IsTwice p g s start)
+      s.moves start (fallen_by s.n start) (settles_by s.n start) (cut_times p g s start) (turned_times p g s start)
+      (tops_times p g s start) x x' was.back
       splits_on.back step
-      (drops says_announce g s.n s.lost s.best (IsCut p g s start) (IsTurned p g s start) s.moves start (stay_of p)
+      (drops says_announce g s.n s.lost s.best (IsCut p g s start) (IsTurned p g s start) (IsTwice p g s start) s.moves
+      start (stay_of p)
       s.since s.delay s.shorter s.long x x' was kept' state' stays_off step)

@@ -1,11 +1,11 @@
 -- A system fails that others hear, in a world of a document whose choice had stood, and so moves trees: they fall back.
 -- Behind that links go down of which an end has failed.
-use Rattle.std.proofs.Common.{◌≡◌, ◌<◌, ◌≤◌, ◌+◌, ◌∷◌, ◌++◌, ℕ, suc, List, [], sym, ap, subst, inl, inr, arith}
+use Rattle.std.proofs.Common.{◌≡◌, ◌<◌, ◌≤◌, ◌+◌, ◌∷◌, ◌++◌, ℕ, suc, List, [], sym, ap, subst, inl, inr, arith, min}
 use native.Mathlib.Decide.{dec_le}
 use Rattle.gptp_lists.specs.Members.{In}
 use Rattle.gptp_graph.specs.Best.{IsBest}
 use Rattle.gptp_graph.specs.PathBound.{path_bound}
-use Rattle.gptp_graph.specs.Snapshot.{PortIdentity, Snapshot, System, clocks, port_of}
+use Rattle.gptp_graph.specs.Snapshot.{IsLinked, PortIdentity, Snapshot, System, clocks, port_of}
 use Rattle.gptp_links.specs.Fate.{Draw}
 use Rattle.gptp_setup.specs.SettlingParams.{SettlingParams, largest_interval}
 use Rattle.gptp_scenario.specs.Network.{NetworkState, pace_of}
@@ -21,13 +21,14 @@ use Rattle.gptp_model.specs.World.{WorldState, port_id}
 use Rattle.gptp_model.specs.declared.done.Done.{Done}
 use Rattle.gptp_network.specs.Document.{DocumentState}
 use Rattle.gptp_network.proofs.ExistenceLemmas.{stands_after}
-use Rattle.gptp_bmca_machine.specs.CutTree.{Tree}
 use Rattle.gptp_bmca_machine.specs.FailureTrees.{Turning}
+use Rattle.gptp_bmca_machine.specs.TwoTops.{First, Second, TopsTree}
 use Rattle.gptp_invariants.specs.ChoiceCalm.{HaveQuietLinks, delay_in, sync_paths_of}
 use Rattle.gptp_invariants.specs.ChoiceSettlesAsMachine.{IsWorld}
 use Rattle.gptp_invariants.specs.ChoiceView.{says_announce, view}
 use Rattle.gptp_invariants.specs.WorldStanding.{snapshot_of}
 use Rattle.gptp_invariants.proofs.WorldGreatestDelayLemmas.{delay_short}
+use Rattle.gptp_invariants.proofs.WorldStandsLemmas.{stands_well}
 use Rattle.gptp_theorem.specs.AlikeLaws.{AreAlike}
 use Rattle.gptp_theorem.specs.PlayedLaws.{IsPlayable}
 use Rattle.gptp_theorem.proofs.AlikeLemmas.{best as alike_best, clock_among, distance as alike_distance, turned}
@@ -37,7 +38,7 @@ use Rattle.gptp_settling_time.specs.Arrivals.{HasArrivedBy}
 use Rattle.gptp_settling_time.specs.EventKinds.{LowersUnusedCalm}
 use Rattle.gptp_settling_time.specs.Leads.{IsGoneBy, SplitsNow}
 use Rattle.gptp_settling_time.specs.Losses.{LowersUnused}
-use Rattle.gptp_settling_time.specs.TreeLosses.{FailsTrees, IsTreeCutOff, IsTreeTurned, IsUnmovedOrInTree}
+use Rattle.gptp_settling_time.specs.TreeLosses.{FailsTrees, IsTreeTurned, IsUnmovedOrInTree, IsTreeCutTwice}
 use Rattle.gptp_settling_time.proofs.AgesByLemmas.{by_map}
 use Rattle.gptp_settling_time.proofs.AgesByWorldLemmas.{WorldAgesBy}
 use Rattle.gptp_settling_time.proofs.AgingClaimedLemmas.{stay_of}
@@ -50,7 +51,7 @@ use Rattle.gptp_settling_time.proofs.LossMadeLemmas.{HasRestedSo}
 use Rattle.gptp_settling_time.proofs.NamedLemmas.{IsNamedFrom}
 use Rattle.gptp_settling_time.proofs.SettledSeenLemmas.{IsSettledSeen}
 use Rattle.gptp_settling_time.proofs.SilentDownLemmas.{over_down}
-use Rattle.gptp_settling_time.proofs.SilentLinksLemmas.{AgesOver, over_within}
+use Rattle.gptp_settling_time.proofs.SilentLinksLemmas.{AgesOver, over_linked, over_within}
 use Rattle.gptp_settling_time.proofs.SplitAlwaysLemmas.{IsSplitAlways}
 use Rattle.gptp_settling_time.proofs.SplitDownLemmas.{alone_down, down_splits}
 use Rattle.gptp_settling_time.proofs.SplitFailLemmas.{anew_begins}
@@ -58,24 +59,29 @@ use Rattle.gptp_settling_time.proofs.SplitRestLemmas.{SplitNamesAlone, split_ane
 use Rattle.gptp_settling_time.proofs.SplitToLemmas.{GoesOver, IsSplitTo, over_gone, split_by}
 use Rattle.gptp_settling_time.proofs.UpPortsLemmas.{IsUpAt, by_up}
 use Rattle.gptp_settling_time.proofs.WereSilentLemmas.{WereSilent, were_down, were_failed}
-use Rattle.gptp_settling_time.proofs.WorldMovesLemmas.{adjacent_alike, alike_so, joins_alike, near_so, unmoved_alike}
+use Rattle.gptp_settling_time.proofs.WorldMovesLemmas.{adjacent_alike, alike_so, cut_off_alike, joins_alike, near_so, unmoved_alike}
+use Rattle.gptp_settling_time.proofs.OnwardLemmas.{IsOnwardFrom}
+use Rattle.gptp_bmca_machine.proofs.TwoTopsBeginLemmas.{FlightLeads}
 
--- a tree is so cut off between two snapshots where it is between others of the same systems and links
-cut_off_alike : (g h g' h' : Snapshot) → AreAlike g h → AreAlike g' h' → (best : System) (t : Tree)
-    → IsTreeCutOff h h' best t → IsTreeCutOff g g' best t
-cut_off_alike g h g' h' before now best t cut = record {
-  in_top = alike_best h' g' (turned g' h' now) t.top t.next cut.in_top;
+-- a tree with two tops is so cut off between two snapshots where it is between others of the same systems and links
+twice_alike : (g h g' h' : Snapshot) → AreAlike g h → AreAlike g' h' → (best : System) (t : TopsTree)
+    → IsTreeCutTwice h h' best t → IsTreeCutTwice g g' best t
+twice_alike g h g' h' before now best t cut = record {
+  in_top = λ side. alike_best h' g' (turned g' h' now) (t.top side) t.next (cut.in_top side);
   worse = cut.worse;
   was_best = λ v in_v. alike_best h g back v best (cut.was_best v (to_h v in_v));
-  was = λ v in_v. alike_distance h g back v (t.base + t.depth v) (cut.was v (to_h v in_v));
+  was = λ v in_v.
+      alike_distance h g back v (t.base + min (t.depth First v) (t.depth Second v)) (cut.was v (to_h v in_v));
+  near = λ side v in_v. cut.near side v (to_h v in_v);
   first = cut.first;
   lost = λ v u in_v joined. elim (cut.lost v u (to_h v in_v) (adjacent_alike g h before v u joined)) [
     | inl left ↦ inl (adjacent_alike h' g' (turned g' h' now) v u left)
     | inr is_top ↦ inr is_top
   ];
-  steps = λ v u in_v joined. cut.steps v u (to_h v in_v) (adjacent_alike g' h' now v u joined);
-  single = λ v p q a b one two.
-      cut.single v p q a b (joins_alike g' h' now (port_of v p) a one) (joins_alike g' h' now (port_of v q) b two);
+  steps = λ side v u in_v joined. cut.steps side v u (to_h v in_v) (adjacent_alike g' h' now v u joined);
+  single = λ side v p q a b in_v one two.
+      cut.single side v p q a b (to_h v in_v) (joins_alike g' h' now (port_of v p) a one)
+      (joins_alike g' h' now (port_of v q) b two);
 }
   where
     back : AreAlike h g
@@ -124,16 +130,23 @@ in_tree_alike : (g h g' h' : Snapshot) → AreAlike g h → AreAlike g' h' → (
 in_tree_alike g h g' h' before now best v (inl unmoved) = inl (unmoved_alike g h g' h' before now v unmoved)
 in_tree_alike g h g' h' before now best v (inr (inl (t, cut, in_v))) =
     inr (inl (t, cut_off_alike g h g' h' before now best t cut, alike_best h' g' (turned g' h' now) v t.next in_v))
-in_tree_alike g h g' h' before now best v (inr (inr (t, is, in_v))) =
-    inr (inr (t, turned_alike g h g' h' before now best t is, in_v))
+in_tree_alike g h g' h' before now best v (inr (inr (inl (t, is, in_v)))) =
+    inr (inr (inl (t, turned_alike g h g' h' before now best t is, in_v)))
+in_tree_alike g h g' h' before now best v (inr (inr (inr (t, cut, in_v)))) =
+    inr (inr (inr (
+      t,
+      twice_alike g h g' h' before now best t cut,
+      alike_best h' g' (turned g' h' now) v t.next in_v,
+    )))
 
 -- what is gone by then has aged, or ports without a link aren't capable from then on
 goes_over : (n : NetworkState) (before : Snapshot) (ago events : List Timed) (failed gone silent : ℕ)
     → IsGoneBy n ago events failed gone → silent ≡ suc (failed + silence_span (pace_of n)) → (port : PortIdentity)
-    (until : ℕ) → AgesOver n before ago events failed port until
+    (until : ℕ) → AgesOver n before ago events failed port until → IsLinked before port
     → GoesOver n before ago events failed gone silent port until
-goes_over n before ago events failed gone silent (span, within, is) unanswered port until over = (
+goes_over n before ago events failed gone silent (span, within, is) unanswered port until over linked = (
   over,
+  linked,
   (λ heard. elim (dec_le span (silence_span (pace_of n))) [
     | yes short ↦
         let less = over_within n before ago events failed span within port until heard over in
@@ -164,7 +177,8 @@ module _ (d : DocumentState) (playable : IsPlayable d) (made : List Timed) (even
   world_then = keeps.claim.world
 
   module _ (start : ℕ) (rest : HasRestedSo p start event.at then) (stood gone silent : ℕ)
-      (splits : SplitsNow n made event stood gone silent) (named : IsNamedFrom splits.arrived then) where
+      (splits : SplitsNow n made event stood gone silent) (named : IsNamedFrom splits.arrived then)
+      (onward : IsOnwardFrom splits.arrived then) where
     abbrev x : FailsTrees n made event
     x = splits.fails
 
@@ -233,6 +247,13 @@ module _ (d : DocumentState) (playable : IsPlayable d) (made : List Timed) (even
         let since = splits.quiet in
         named j l f a best at among said joins is_best (omega (arith, left, at_time, since))
 
+    -- and leads onward
+    onward_now : FlightLeads says_announce (snapshot_of then) (view then)
+    onward_now j l f a d e at among said joins =
+        let left = seen_then.calm.left j l f at among in
+        let since = splits.quiet in
+        onward j l f a at among said joins (omega (arith, left, at_time, since)) d e
+
     -- ---- the act
 
     came : Acts (Changing (Fail x.clock)) then draws done w'
@@ -258,17 +279,22 @@ module _ (d : DocumentState) (playable : IsPlayable d) (made : List Timed) (even
         record {
           keeps = after;
           before = before;
+          stood = λ g stands. alike_so d playable made then keeps g stands;
           failed = then.time;
           since = anew_begins p x.clock then draws done w' world_then after.claim.world came lived seen_then rest.sound
               start keeps.claim.pace keeps.claim.measured past rest.ready quiet rest.silent
-              (near_so d playable made then keeps x.few) (omega (arith, over, at_time)) names_now silent best each
+              (near_so d playable made then keeps x.few) (omega (arith, over, at_time)) names_now onward_now silent best
+              each
               few_before few_then shorter_then (GoesOver n before made more then.time gone silent) gone
               after.claim.measured
               (omega (arith, silent_is))
               (λ links. by_map says_announce (snapshot_of w') (stay_of p) (AgesOver n before made more then.time)
               (GoesOver n before made more then.time gone silent) (view w')
               (λ port until unlinked over_it.
-              goes_over n before made more then.time gone silent is_gone silent_is port until over_it) (by links))
+              goes_over n before made more then.time gone silent is_gone silent_is port until over_it
+              (over_linked n made event x.clock x.act then w' playable.network keeps.stands world_then.sound
+              (stands_well then world_then.sound world_then.between world_then.encodable) after.stands
+              after.claim.world.sound then.time port until over_it)) (by links)) (λ port until is. is.1)
               (over_gone n before made more then.time gone silent) some late_then last;
           were = were_failed n made x.clock then draws done w' world_then after.claim.world came lived keeps.stands
               quiet start past rest.silent;
@@ -323,6 +349,7 @@ module _ (d : DocumentState) (playable : IsPlayable d) (made : List Timed) (even
           over_down n ago made event y w' after.stands after.claim.world.sound after.claim.world.encodable so.before
               so.failed port until is_over.0 is_up,
           is_over.1,
+          is_over.2,
         ))
         (by_up p w' after.claim.world (Over made gone) down.by links)
 
@@ -330,10 +357,12 @@ module _ (d : DocumentState) (playable : IsPlayable d) (made : List Timed) (even
     split_on = record {
       keeps = after;
       before = so.before;
+      stood = so.stood;
       failed = so.failed;
       since = split_anew_begins p so.before (Over more gone) so.failed gone silent w'
           (split_by p so.before (Over made gone) so.failed gone silent w' down (Over more gone) gone over_more
-          (over_gone n so.before ago more so.failed gone silent) (inl (omega arith))) so.since.some names_down last;
+          (λ port until is. is.1) (over_gone n so.before ago more so.failed gone silent) (inl (omega arith))) names_down
+          last;
       were = more_were;
       unanswered = so.unanswered;
     }
@@ -350,6 +379,7 @@ module _ (d : DocumentState) (playable : IsPlayable d) (made : List Timed) (even
       record {
         keeps = after;
         before = so.before;
+        stood = so.stood;
         failed = so.failed;
         since = split_anew_begins p so.before (GoesOver n so.before ago more so.failed sooner silent) so.failed sooner
             silent w'
@@ -359,9 +389,9 @@ module _ (d : DocumentState) (playable : IsPlayable d) (made : List Timed) (even
             (GoesOver n so.before ago more so.failed gone silent)
             (GoesOver n so.before ago more so.failed sooner silent) (view w')
             (λ port until unlinked is_over.
-            goes_over n so.before ago more so.failed sooner silent gone_then unanswered port until is_over.0)
-            (so.since.split.by links))
-            (over_gone n so.before ago more so.failed sooner silent) (inr (some, omega (arith, time, failed)))) some
+            goes_over n so.before ago more so.failed sooner silent gone_then unanswered port until is_over.0 is_over.1)
+            (so.since.split.by links)) (λ port until is. is.1)
+            (over_gone n so.before ago more so.failed sooner silent) (inr (some, omega (arith, time, failed))))
             so.since.alone last;
         were = so.were;
         unanswered = so.unanswered;

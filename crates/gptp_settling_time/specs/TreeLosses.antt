@@ -1,12 +1,13 @@
 -- Events that move a tree of systems: a link goes down, by which it is cut off from the best or turns to its one way
 -- out; the best gets a worse identity; or a system fails, which cuts some off.
-use Rattle.std.specs.Prelude.{◌≡◌, ◌⊎◌, ◌<◌, ◌≤◌, ◌+◌, ℕ, suc, List, [], ◌∷◌, ◌++◌, Some, slice_get}
+use Rattle.std.specs.Prelude.{◌≡◌, ◌⊎◌, ◌<◌, ◌≤◌, ◌+◌, ℕ, suc, min, List, [], ◌∷◌, ◌++◌, Some, slice_get}
 use Rattle.gptp_lists.specs.Members.{In}
 use Rattle.gptp_graph.specs.Best.{IsBest}
 use Rattle.gptp_graph.specs.Distance.{IsDistance}
-use Rattle.gptp_graph.specs.Snapshot.{Adjacent, Joins, PortIdentity, Snapshot, System, clocks, port_of}
+use Rattle.gptp_graph.specs.Snapshot.{Adjacent, IsLinked, Joins, PortIdentity, Snapshot, System, clocks, port_of}
 use Rattle.gptp_bmca_machine.specs.CutTree.{Tree}
 use Rattle.gptp_bmca_machine.specs.FailureTrees.{Turning}
+use Rattle.gptp_bmca_machine.specs.TwoTops.{First, Second, Side, TopsTree}
 use Rattle.gptp_network.specs.Snapshot.{StandsAfter}
 use Rattle.gptp_scenario.specs.Calm.{IsLive, IsUsed}
 use Rattle.gptp_scenario.specs.Change.{link_after}
@@ -180,6 +181,25 @@ pub record IsTreeCutOff (g g' : Snapshot) (best : System) (t : Tree) : Type 0 wh
       → t.depth v ≡ suc (t.depth a.clock) → t.depth v ≡ suc (t.depth b.clock)
       → p ≡ q
 
+-- From the first snapshot to the second a tree of systems is so cut off that lost its links to others at one or two of
+-- them, its tops. Each was as far from the best of before as the nearer top says, from the base on; and by way of
+-- either top it would have been near. Seen from either a link leads one deeper or less deep by one, and each system has
+-- one link at most to such as are less deep.
+pub record IsTreeCutTwice (g g' : Snapshot) (best : System) (t : TopsTree) : Type 0 where
+  pub in_top : (side : Side) → IsBest g' (t.top side) t.next
+  pub worse : best.identity < t.next.identity
+  pub was_best : (v : ℕ) → IsBest g' v t.next → IsBest g v best
+  pub was : (v : ℕ) → IsBest g' v t.next → IsDistance g v (t.base + min (t.depth First v) (t.depth Second v))
+  pub near : (side : Side) (v : ℕ) → IsBest g' v t.next → t.base + t.depth side v < 255
+  pub first : (side : Side) → t.depth side (t.top side) ≡ 0
+  pub lost : (v u : ℕ) → IsBest g' v t.next → Adjacent g v u → Adjacent g' v u ⊎ ((side : Side) × (v ≡ t.top side))
+  pub steps : (side : Side) (v u : ℕ) → IsBest g' v t.next → Adjacent g' v u
+      → (t.depth side u ≡ suc (t.depth side v)) ⊎ (t.depth side v ≡ suc (t.depth side u))
+  pub single : (side : Side) (v p q : ℕ) (a b : PortIdentity) → IsBest g' v t.next → Joins g' (port_of v p) a
+      → Joins g' (port_of v q) b
+      → t.depth side v ≡ suc (t.depth side a.clock) → t.depth side v ≡ suc (t.depth side b.clock)
+      → p ≡ q
+
 -- From the first snapshot to the second these systems are moved. They have the best that they had, and each is farther
 -- from it. Before, each was as far as its depth says, from the base on. The one at the top lost its links to others;
 -- each link that the others had they have still. Within the tree a link leads one deeper or less deep by one, and each
@@ -208,17 +228,32 @@ pub record IsTreeTurned (g g' : Snapshot) (best : System) (t : Turning) : Type 0
       → Joins g' (port_of t.last q) (port_of t.out m)
       → p ≡ q
 
--- the system is unmoved, or in a tree that is so cut off from this best, or in one that turns
+-- the system is unmoved, or in a tree that is so cut off from this best, with one top or two, or in one that turns
 abbrev pub IsUnmovedOrInTree : Snapshot → Snapshot → System → ℕ → Type 0
 IsUnmovedOrInTree g g' best v = IsUnmoved g g' v
     ⊎ (((t : Tree) × IsTreeCutOff g g' best t × IsBest g' v t.next)
-    ⊎ ((t : Turning) × IsTreeTurned g g' best t × In v t.tree))
+    ⊎ (((t : Turning) × IsTreeTurned g g' best t × In v t.tree)
+    ⊎ ((t : TopsTree) × IsTreeCutTwice g g' best t × IsBest g' v t.next)))
 
 -- after these events this one so moves trees that had one best, and no other system
 abbrev pub MovesTreesFrom : NetworkState → List Timed → Timed → Type 0
 MovesTreesFrom n before event = (g g' : Snapshot) → StandsAfter n before g
     → StandsAfter n (before ++ event ∷ []) g'
     → (best : System) × ((v : ℕ) → In v (clocks g') → IsUnmovedOrInTree g g' best v)
+
+-- From the first snapshot to the second each live system is unmoved, or one of a tree with one top that is cut off.
+-- None is unmoved that lost its link to one that was nearer to the best, or as near with the lower clock.
+pub record CutsAllBeyond (g g' : Snapshot) : Type 0 where
+  pub each : (v : ℕ) → In v (clocks g') → IsUnmoved g g' v
+      ⊎ ((best : System) × (t : Tree) × IsTreeCutOff g g' best t × IsBest g' v t.next)
+  pub beyond : (from to : PortIdentity) → Joins g from to → In to.clock (clocks g') → (IsLinked g' to → ⊥)
+      → ((near far : ℕ) → IsDistance g from.clock near → IsDistance g to.clock far
+      → (near < far) ⊎ ((near ≡ far) × (from.clock < to.clock))) → IsUnmoved g g' to.clock → ⊥
+
+-- so it is from after the first of these events to after the second
+abbrev pub CutsAllBeyondFrom : NetworkState → List Timed → List Timed → Type 0
+CutsAllBeyondFrom n before events = (g g' : Snapshot) → StandsAfter n before g → StandsAfter n events g'
+    → CutsAllBeyond g g'
 
 -- After these events this one lets a live system fail, and so moves trees: they are cut off, or turn to their way out.
 -- The greatest delay of a link in use gets no greater, and no path longer. None had more than 255 systems.
