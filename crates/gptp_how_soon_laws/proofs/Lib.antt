@@ -37,6 +37,7 @@ mod ArrivedLemmas
 mod FlightLemmas
 mod RowLemmas
 mod TakenAwayLemmas
+mod CutsAllLemmas
 mod RowLossLemmas
 mod AnyLossLemmas
 mod AgedLemmas
