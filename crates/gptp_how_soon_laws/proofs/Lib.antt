@@ -34,9 +34,14 @@ mod RowReasonLemmas
 mod StartRowLemmas
 mod RowTestLemmas
 mod ArrivedLemmas
+mod FlightLemmas
 mod RowLemmas
-mod AnyLossLemmas
 mod TakenAwayLemmas
+mod CutsAllLemmas
+mod RowLossLemmas
+mod AnyLossLemmas
+mod AgedLemmas
+mod LossBoundLemmas
 pub mod ChoiceLemmas
 pub mod StepLemmas
 mod SettledLemmas

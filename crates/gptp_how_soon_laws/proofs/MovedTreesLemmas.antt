@@ -249,6 +249,14 @@ module _ (n : NetworkState) (network : IsNetwork n) (made events : List Timed) w
                 (below_same n network made events g h stands stands' well well' lived own.top i u.below),
           )
 
+      -- so is one that falls
+      pub cut_there : (i v : ℕ) → IsAt n i v → In v (clocks h) → falls_there i ≡ true
+          → (b : System) × (s : Tree) × IsTreeCutOff g h b s × IsBest h v s.next
+      cut_there i v at known falls =
+          let b : System = best_of (top_at i v at falls) in
+          let (s, cut, best) = in_tree i v at known falls b refl in
+          (b, s, cut, best)
+
       -- some top is known, or no system falls
       first_top : (vs : List ℕ) → ((v : ℕ) → In v vs → In v (clocks h))
           → TopOf ⊎ ((v : ℕ) → In v vs → (i : ℕ) → IsAt n i v → falls_there i ≡ false)
@@ -432,7 +440,7 @@ module _ (n : NetworkState) (network : IsNetwork n) (made events : List Timed) w
               inl (unmoved_at n network made events g h stands stands' well well' v (lived v known) known i s.at none)
           by i s true moves true turns (inl none) =
               let no : true ≡ false = sym turns ∙ none i v s.at in absurd cc
-          by i s true moves true turns (inr (x, same)) = inr (inr (in_turned x i v s.at known turns b same))
+          by i s true moves true turns (inr (x, same)) = inr (inr (inl (in_turned x i v s.at known turns b same)))
           by i s true moves false none may =
               let falls = and_from (is_moved_there i) (not (turns_there i)) moves (ap not none) in
               inr (inl (in_tree i v s.at known falls b (tops (top_at i v s.at falls))))
