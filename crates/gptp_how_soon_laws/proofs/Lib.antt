@@ -20,6 +20,8 @@ mod TreeBelowLemmas
 mod FallsBelowLemmas
 mod TreeLemmas
 mod TreeWorsenedLemmas
+mod TreeByLemmas
+mod TwoTopsLemmas
 mod TurnedTreeTestLemmas
 mod TurnsBelowLemmas
 mod TurnedTreeLemmas
