@@ -10,6 +10,7 @@ mod WorseningLemmas
 mod UnmovedLemmas
 mod RepeatLemmas
 mod LoweredLemmas
+mod IdleStandsLemmas
 mod FailedLemmas
 mod CutOffLemmas
 mod LivesOnLemmas
