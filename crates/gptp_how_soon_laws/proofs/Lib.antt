@@ -39,6 +39,7 @@ mod ArrivedLemmas
 mod FlightLemmas
 mod RowLemmas
 mod TakenAwayLemmas
+mod CutsAllLemmas
 mod RowLossLemmas
 mod AnyLossLemmas
 mod AgedLemmas
