@@ -14,9 +14,9 @@ use Rattle.gptp_network.specs.Snapshot.{events_by}
 use Rattle.gptp_invariants.specs.WorldEncodableLaws.{SetsAnOctet}
 use Rattle.gptp_how_soon.specs.Bounds.{gone_by, quiet_by}
 use Rattle.gptp_how_soon.specs.Chosen.{moves_joined, moves_some}
-use Rattle.gptp_how_soon.specs.Kinds.{begins_with, brings_nothing, fails_first, is_loss, is_lowering, is_worsening, lowers_one, takes_one, takes_several, worsens_first}
+use Rattle.gptp_how_soon.specs.Kinds.{begins_with, brings_nothing, fails_beside_idle, fails_first, is_loss, is_lowering, is_worsening, lowers_one, takes_one, takes_several, worsens_first}
 use Rattle.gptp_how_soon.specs.MovedTrees.{cuts_all_after, moves_trees_after}
-use Rattle.gptp_how_soon.specs.Rest.{is_failing_followed, is_from_rest, is_lowering_followed, is_taking_followed, is_worsening_followed, keeps_paths, rested}
+use Rattle.gptp_how_soon.specs.Rest.{is_end_followed, is_failing_followed, is_from_rest, is_lowering_followed, is_taking_followed, is_worsening_followed, keeps_paths, rested}
 use Rattle.gptp_how_soon.specs.Times.{View, events_at, has_come_after, loss_at, row_at, told_at, told_of, view_at}
 use Rattle.gptp_how_soon.specs.Tree.{cuts_tree_after, worsens_best_after}
 use Rattle.gptp_how_soon.specs.TurnedTree.{turns_tree_after}
@@ -36,7 +36,7 @@ use Rattle.gptp_settling_time.specs.Gains.{HasDelaysWithin}
 use Rattle.gptp_settling_time.proofs.MomentLemmas.{all_at}
 use Rattle.gptp_how_soon_laws.proofs.AnyLossLemmas.{all_losses}
 use Rattle.gptp_how_soon_laws.proofs.ArrivedLemmas.{all_within, has_come_so, longest_within}
-use Rattle.gptp_how_soon_laws.proofs.FailedLemmas.{fails_end_first, fails_heard_first, used_up}
+use Rattle.gptp_how_soon_laws.proofs.FailedLemmas.{fails_beside_first, fails_end_first, fails_heard_first, used_up}
 use Rattle.gptp_how_soon_laws.proofs.CutOffLemmas.{cuts_far}
 use Rattle.gptp_how_soon_laws.proofs.MovedTreesLemmas.{fails_trees_first, trees_move_so}
 use Rattle.gptp_how_soon_laws.proofs.LoweredLemmas.{lowers_link, used_on}
@@ -472,9 +472,22 @@ module _ (n : NetworkState) (network : IsNetwork n) (events : List Timed) (b : S
       → HasComeToRest b at × FailsEndFirst n made now
       × FlightIsGoneFrom n made (last_change (made ++ now)) (gone_by n v.paths_before (loss_at v).soon_before)
   failed well row =
-      let (from, fails, far) = why FailedEnd row in
-      let first = failing_end well fails far in
+      let (from, which) = why FailedEnd row in
+      let first = by which in
       (rest_so from, first, flight_before (λ none. subst (FailsEndFirst n made) none first))
+    where
+      followed : Bool
+      followed = is_end_followed v.paths_before v.paths v.told
+
+      by : (((is_failing_followed v.paths_before v.paths v.told && not v.moves.moved) ≡ true) × (v.moves.far ≡ true))
+          ⊎ ((followed && (v.moves.far && not v.moves.any_moved)) ≡ true) → FailsEndFirst n made now
+      by (inl (fails, far)) = failing_end well fails far
+      by (inr ends) =
+          let (end, both) = and_parts followed (v.moves.far && not v.moves.any_moved) ends in
+          let (keeps, beside) = and_parts (keeps_paths v.paths_before v.paths) (fails_beside_idle v.told) end in
+          let (far, still) = and_parts v.moves.far (not v.moves.any_moved) both in
+          let x = keeps_so keeps in
+          fails_beside_first n network made now well (not-true v.moves.any_moved still) x.delay x.paths x.few beside far
 
   -- or a system that others heard
   pub heard : AreWell n (made ++ now) → (row_at v ≡ FailedHeard) ⊎ (row_at v ≡ FailureCutsOff)
