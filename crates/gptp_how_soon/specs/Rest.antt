@@ -113,10 +113,14 @@ is_from_rest longest at paths_before paths told (Some b) =
 abbrev pub failed_row : Bool → Bool → Row
 failed_row far any_moved = if far then FailedEnd else if any_moved then FailureCutsOff else FailedHeard
 
--- Of other events it matters whether some are losses, and whether any is a gain then.
-abbrev pub other_row : List Told → Row
-other_row told =
-    if list_any is_loss told then if list_all brings_nothing told then AnyLosses else AnyPast else Gained
+-- What is known of a time whose events have no row among those where one is taken away: of a far end that fails beside
+-- events that change nothing, of several that are taken away, and of others.
+abbrev pub other_row : SyncPaths → SyncPaths → List Told → Moves → Row
+other_row paths_before paths told moves =
+    if is_end_followed paths_before paths told && (moves.far && not moves.any_moved) then FailedEnd
+    else if is_taking_followed paths_before paths told && moves.taken then TakenAway
+    else if list_any is_loss told then if list_all brings_nothing told then AnyLosses else AnyPast
+    else Gained
 
 -- What is known of a time, by what was seen of it. Not from rest, or where it both gains and loses, the network may
 -- come from any past. The first time has no loss: nothing was there to be lost. Events that make nothing of what stands
@@ -141,9 +145,7 @@ row_of from_rest first paths_before paths told moves =
     else if is_lowering_followed paths_before paths told && moves.tree_turns then TreeTurned
     else if is_failing_followed paths_before paths told && not moves.moved then failed_row moves.far moves.any_moved
     else if is_failing_followed paths_before paths told && moves.trees_move then FailureMovesTrees
-    else if is_end_followed paths_before paths told && (moves.far && not moves.any_moved) then FailedEnd
-    else if is_taking_followed paths_before paths told && moves.taken then TakenAway
-    else other_row told
+    else other_row paths_before paths told moves
 
 -- whether the row depends on whom the events move, and on whether one was a far end
 abbrev pub asks_who_is_moved : Bool → SyncPaths → SyncPaths → List Told → Bool

@@ -282,11 +282,15 @@ fn failed_row(far: bool, any_moved: bool) -> Row
     }
 }
 
-/// What is known of a time whose events have no row of their own.
-fn other_row(told: &[Told]) -> Row
-    ensures { result ≡ other_row told.now }
+/// What is known of a time whose events have no row among those where one is taken away.
+fn other_row(paths_before: SyncPaths, paths: SyncPaths, told: &[Told], moves: Moves) -> Row
+    ensures { result ≡ other_row paths_before paths told.now moves }
 {
-    if any_loss(told) {
+    if is_end_followed(paths_before, paths, told) && (moves.far && !moves.any_moved) {
+        Row::FailedEnd
+    } else if is_taking_followed(paths_before, paths, told) && moves.taken {
+        Row::TakenAway
+    } else if any_loss(told) {
         if all_bring_nothing(told) {
             Row::AnyLosses
         } else {
@@ -331,12 +335,8 @@ pub(crate) fn row_of(
         failed_row(moves.far, moves.any_moved)
     } else if is_failing_followed(paths_before, paths, told) && moves.trees_move {
         Row::FailureMovesTrees
-    } else if is_end_followed(paths_before, paths, told) && (moves.far && !moves.any_moved) {
-        Row::FailedEnd
-    } else if is_taking_followed(paths_before, paths, told) && moves.taken {
-        Row::TakenAway
     } else {
-        other_row(told)
+        other_row(paths_before, paths, told, moves)
     }
 }
 

@@ -20,6 +20,7 @@ use Rattle.gptp_how_soon.specs.Rest.{is_end_followed, is_failing_followed, is_fr
 use Rattle.gptp_how_soon.specs.Times.{View, events_at, has_come_after, loss_at, row_at, told_at, told_of, view_at}
 use Rattle.gptp_how_soon.specs.Tree.{cuts_tree_after, worsens_best_after}
 use Rattle.gptp_how_soon.specs.TurnedTree.{turns_tree_after}
+use Rattle.gptp_how_soon.specs.TwoTops.{trees_move_after}
 use Rattle.gptp_how_soon.specs.declared.bounds.Row.{Row}
 use Rattle.gptp_how_soon.specs.declared.bounds.Row.TheVariants.{AnyLosses, CutOff, FailedEnd, FailedHeard, FailureCutsOff, FailureMovesTrees, Lowered, SystemTurned, TakenAway, TreeFalls, TreeTurned}
 use Rattle.gptp_how_soon.specs.declared.bounds.SettlingTime.{SettlingTime}
@@ -37,7 +38,7 @@ use Rattle.gptp_how_soon_laws.proofs.AnyLossLemmas.{all_losses}
 use Rattle.gptp_how_soon_laws.proofs.ArrivedLemmas.{all_within, has_come_so, longest_within}
 use Rattle.gptp_how_soon_laws.proofs.FailedLemmas.{fails_beside_first, fails_end_first, fails_heard_first, used_up}
 use Rattle.gptp_how_soon_laws.proofs.CutOffLemmas.{cuts_far}
-use Rattle.gptp_how_soon_laws.proofs.MovedTreesLemmas.{fails_trees_first}
+use Rattle.gptp_how_soon_laws.proofs.MovedTreesLemmas.{fails_trees_first, trees_move_so}
 use Rattle.gptp_how_soon_laws.proofs.LoweredLemmas.{lowers_link, used_on}
 use Rattle.gptp_how_soon_laws.proofs.RepeatLemmas.{Begins, before_repeats, begins, cut_seen, falls_seen, first_same, first_well, joined_seen, paths_seen, turned_seen, turns_seen, used_still, whole, worsens_seen}
 use Rattle.gptp_how_soon_laws.proofs.TreeEventLemmas.{lowers_one_tree, turns_tree_link}
@@ -413,7 +414,7 @@ module _ (n : NetworkState) (network : IsNetwork n) (events : List Timed) (b : S
 
   trees_late : is_from_rest v.longest at v.paths_before v.paths v.told (Some b) ≡ true → AreWell n (made ++ now)
       → is_failing_followed v.paths_before v.paths v.told ≡ true → has_come_after n made (Some b) at ≡ true
-      → moves_trees_after n made (made ++ now) ≡ true → FailsLate
+      → trees_move_after n made (made ++ now) ≡ true → FailsLate
   trees_late from well followed come splits =
       let (keeps, one) = and_parts (keeps_paths v.paths_before v.paths) (fails_first v.told) followed in
       let x = keeps_so keeps in
@@ -429,7 +430,7 @@ module _ (n : NetworkState) (network : IsNetwork n) (events : List Timed) (b : S
       let (from, trees) = why FailureMovesTrees row in
       let (followed, both) = and_parts (is_failing_followed v.paths_before v.paths v.told) v.moves.trees_move trees in
       let (come, splits) =
-      and_parts (has_come_after n made (Some b) at) (moves_trees_after n made (made ++ now)) both in
+      and_parts (has_come_after n made (Some b) at) (trees_move_after n made (made ++ now)) both in
       trees_late from well followed come splits
 
   -- and so cuts off all that it moves
@@ -445,7 +446,7 @@ module _ (n : NetworkState) (network : IsNetwork n) (events : List Timed) (b : S
       let (both, all) = and_parts (come_test && moves_test) (cuts_all_after n made (made ++ now)) cuts in
       let (come, splits) = and_parts come_test moves_test both in
       let (from, followed) = by which in
-      let late = trees_late from well followed come splits in
+      let late = trees_late from well followed come (trees_move_so n made (made ++ now) splits) in
       record { late = late; beyond = all_beyond n network made now well late.fails splits all }
     where
       by : (row_at v ≡ FailureCutsOff) ⊎ (row_at v ≡ FailureMovesTrees)
