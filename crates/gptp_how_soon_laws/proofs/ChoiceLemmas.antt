@@ -7,7 +7,7 @@ use Rattle.std.proofs.lemmas.Bool.Decides.{nat_tests}
 use Rattle.gptp_lists.specs.Members.{In}
 use Rattle.gptp_lists.proofs.SystemSpecLemmas.{In-left, In-parts}
 use Rattle.gptp_setup.specs.SettlingParams.{largest_interval}
-use Rattle.gptp_scenario.specs.Calm.{IsCalm, NothingLapses}
+use Rattle.gptp_scenario.specs.Calm.{IsCalm, NothingLapses, last_change}
 use Rattle.gptp_scenario.specs.Network.{NetworkState, pace_of}
 use Rattle.gptp_scenario.specs.SettlingTime.{echo_span, silence_span, way_span, window_span}
 use Rattle.gptp_scenario.specs.SyncWait.{sync_paths}
@@ -27,8 +27,8 @@ use Rattle.gptp_how_soon.specs.declared.bounds.Row.TheVariants.{AnyLosses, AnyPa
 use Rattle.gptp_how_soon.specs.declared.bounds.Settling.{Settling}
 use Rattle.gptp_how_soon.specs.declared.bounds.SettlingTime.{SettlingTime}
 use Rattle.gptp_settling_time.specs.HowSoon.{BeforeRepeats, BoundsAnyLoss, BoundsChoice, BoundsEvents, BoundsLoss, BoundsSplit, BoundsStart, BoundsTree, FailsTreesFirst, IsChoiceBoundAfter, IsLossBoundAfter, IsRestBoundAfter, NoneBetween, RestsAfterAnyLoss, RestsAfterLoss, RestsOnceTold, RestsSplit, RestsTaken, RestsTree, RolesAfterFailure, TreeNext}
-use Rattle.gptp_settling_time.specs.EventKinds.{FlightIsGone, FlightIsGoneFrom}
-use Rattle.gptp_settling_time.specs.Rests.{turned_echo_span}
+use Rattle.gptp_settling_time.specs.EventKinds.{FlightIsGoneFrom}
+use Rattle.gptp_settling_time.specs.Rests.{FlightIsGoneSince, turned_echo_span}
 use Rattle.gptp_settling_time.specs.Losses.{NoneSilent}
 use Rattle.gptp_settling_time.specs.TreeLosses.{CutsAllBeyondFrom, FallsTree, TurnsTreeLink}
 use Rattle.gptp_settling_time.proofs.BesideIdleLemmas.{before_none}
@@ -223,7 +223,7 @@ module _ (d : DocumentState) (playable : IsPlayable d) where
     Enough sound choice roles =
         (max roles (choice + max (echo_span (pace_of n) (sync_paths n (made ++ now))) (largest_interval (pace_of n)))
         ≤ sound)
-        ⊎ (CutsAllBeyondFrom n made (made ++ now) × (flight : ℕ) × FlightIsGone n (made ++ now) flight
+        ⊎ (CutsAllBeyondFrom n made (made ++ now) × (flight : ℕ) × FlightIsGoneSince n made (made ++ now) flight
         × (max roles (choice + flight) ≤ sound))
 
     -- it comes to rest so after a loss, or after a tree is cut off, one turns, or a failure cuts trees off
@@ -378,11 +378,11 @@ module _ (d : DocumentState) (playable : IsPlayable d) where
         inr (inr (inr (x, split_rests sound x echo (told ∙ is) (λ later. inl later))))
     rests_by sound told (inr (inr (inr (inr (inr (inr (inr (inr (inr (which, cuts, is)))))))))) =
         let x = all_cut n playable.network all b at late well which cuts in
-        let gone : ℕ = gone_by n v.paths v.used in
-        let flight = flight_now n playable.network all b at late in
+        let gone : ℕ = gone_by n v.paths loss.soon in
+        let flight = flight_now n playable.network all b at late x.trees.fails in
         inr (inr (inr (
-          x.late,
-          split_rests sound x.late gone (told ∙ is) (λ later. inr (x.beyond, gone, flight, later)),
+          x.trees,
+          split_rests sound x.trees gone (told ∙ is) (λ later. inr (x.beyond, gone, flight, later)),
         )))
     rests_by sound told (inr (inr (inr (inr (inr (inr (inr (inr (inl (row, is)))))))))) =
         let x = taken n playable.network all b at late well row in

@@ -140,7 +140,7 @@ IsSoundSooner n loss paths row sound =
     (aged_by loss + 2 * way_span paths + max (echo_span (pace_of n) paths) (largest_interval (pace_of n)))))
     ⊎ (((row ≡ TakenAway) × (sound ≡ taken_echo_span n loss paths))
     ⊎ (((row ≡ FailureCutsOff) ⊎ (row ≡ FailureMovesTrees)) × (loss.cuts_all ≡ true)
-    × (sound ≡ quiet_by n loss (aged_by loss + 2 * way_span paths + gone_by n paths loss.used)))))))))))
+    × (sound ≡ quiet_by n loss (aged_by loss + 2 * way_span paths + gone_by n paths loss.soon)))))))))))
 
 pub sound_or_sooner : (n : NetworkState) (loss : Loss) (paths : SyncPaths) (row : Row)
     (gained : ℕ)
@@ -155,12 +155,12 @@ sound_or_sooner n loss paths row gained = by (n.params.sync_timeout == 0) refl r
     -- after a failure it matters whether all that is moved is cut off
     all : (r : Row) → (r ≡ FailureCutsOff) ⊎ (r ≡ FailureMovesTrees) → loss.cuts_all ≡ true
         → IsSoundSooner n loss paths r
-        (quiet_by n loss (aged_by loss + 2 * way_span paths + gone_by n paths loss.used))
+        (quiet_by n loss (aged_by loss + 2 * way_span paths + gone_by n paths loss.soon))
     all r which cuts = inr (inr (inr (inr (inr (inr (inr (inr (inr (which, cuts, refl)))))))))
 
     cut : (cuts : Bool) → loss.cuts_all ≡ cuts
         → IsSoundSooner n loss paths FailureCutsOff
-        (if cuts then quiet_by n loss (aged_by loss + 2 * way_span paths + gone_by n paths loss.used)
+        (if cuts then quiet_by n loss (aged_by loss + 2 * way_span paths + gone_by n paths loss.soon)
         else max (aged_by loss + 2 * way_span paths) (aged_echo_span n loss paths))
     cut true cuts = all FailureCutsOff (inl refl) cuts
     cut false cuts = inr (inr (inr (inr (inl (inr refl, omega arith)))))
@@ -169,7 +169,7 @@ sound_or_sooner n loss paths row gained = by (n.params.sync_timeout == 0) refl r
         → IsSoundSooner n loss paths FailureMovesTrees
         (quiet_by n loss
         (aged_by loss + 2 * way_span paths
-        + (if cuts then gone_by n paths loss.used
+        + (if cuts then gone_by n paths loss.soon
         else max (echo_span (pace_of n) paths) (largest_interval (pace_of n)))))
     moved true cuts = all FailureMovesTrees (inr refl) cuts
     moved false cuts = inr (inr (inr (inr (inr (inr (inr (inl (refl, refl))))))))

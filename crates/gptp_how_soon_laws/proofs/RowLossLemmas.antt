@@ -29,6 +29,7 @@ use Rattle.gptp_how_soon.specs.Links.{longest_delay}
 use Rattle.gptp_settling_time.specs.Arrivals.{HasArrivedBy, last_set}
 use Rattle.gptp_settling_time.specs.HowSoon.{BeforeRepeats, FailsEndFirst, FailsHeardFirst, FailsTreesFirst, LosesEvents, OneEvent, RolesAfterLoss, TakesSeveral}
 use Rattle.gptp_settling_time.specs.EventKinds.{FlightIsGone, FlightIsGoneFrom}
+use Rattle.gptp_settling_time.specs.Rests.{FlightIsGoneSince}
 use Rattle.gptp_settling_time.specs.Losses.{CutsFarEnd, LowersLink, MovesNoneInAll, NoneSilent, TurnsLink, UpIsUsed}
 use Rattle.gptp_settling_time.specs.TreeLosses.{CutsAllBeyondFrom, FallsTree, TurnsTreeLink}
 use Rattle.gptp_settling_time.proofs.SamePathsLemmas.{StandSame, same_itself}
@@ -51,7 +52,7 @@ use Rattle.gptp_how_soon_laws.proofs.SilentLemmas.{last_now, none_silent}
 use Rattle.gptp_how_soon_laws.proofs.RowTestLemmas.{HasComeToRest, at_most, counts_joined, failing_takes, lowering_takes}
 use Rattle.gptp_how_soon_laws.proofs.RowLemmas as rows
 use Rattle.gptp_how_soon_laws.proofs.TakenAwayLemmas.{several_taken, several_unmoved}
-use Rattle.gptp_how_soon_laws.proofs.FlightLemmas.{gone_soon, set_before}
+use Rattle.gptp_how_soon_laws.proofs.FlightLemmas.{fails_set_none, gone_since, gone_soon, repeats_set_none, set_before}
 use Rattle.gptp_how_soon_laws.proofs.CutsAllLemmas.{all_beyond}
 
 module _ (n : NetworkState) (network : IsNetwork n) (events : List Timed) (b : SettlingTime) (at : ℕ)
@@ -220,7 +221,7 @@ module _ (n : NetworkState) (network : IsNetwork n) (events : List Timed) (b : S
       subst (λ t. FlightIsGoneFrom n first t (gone_by n v.paths soon)) (sym (moment g.x.event g.x.others g.x.split).0)
       (subst (λ (p : SyncPaths). FlightIsGoneFrom n first at (gone_by n p soon)) (sym (same_paths is_lowering g))
       (gone_soon n network first (made ++ now) (first_stays is_lowering g) within
-      (set_before n first g.x.others g.x.each ∙ ap last_set all_is) at soon refl))
+      (set_before first g.x.others (repeats_set_none n first g.x.others g.x.each) ∙ ap last_set all_is) at soon refl))
     where
       first : List Timed
       first = made ++ g.x.event ∷ []
@@ -435,7 +436,7 @@ module _ (n : NetworkState) (network : IsNetwork n) (events : List Timed) (b : S
 
   -- and so cuts off all that it moves
   pub record CutsAll : Type 0 where
-    pub late : FailsLate
+    pub trees : FailsLate
     pub beyond : CutsAllBeyondFrom n made (made ++ now)
 
   pub all_cut : AreWell n (made ++ now) → (row_at v ≡ FailureCutsOff) ⊎ (row_at v ≡ FailureMovesTrees)
@@ -446,8 +447,8 @@ module _ (n : NetworkState) (network : IsNetwork n) (events : List Timed) (b : S
       let (both, all) = and_parts (come_test && moves_test) (cuts_all_after n made (made ++ now)) cuts in
       let (come, splits) = and_parts come_test moves_test both in
       let (from, followed) = by which in
-      let late = trees_late from well followed come (trees_move_so n made (made ++ now) splits) in
-      record { late = late; beyond = all_beyond n network made now well late.fails splits all }
+      let trees = trees_late from well followed come (trees_move_so n made (made ++ now) splits) in
+      record { trees = trees; beyond = all_beyond n network made now well trees.fails splits all }
     where
       by : (row_at v ≡ FailureCutsOff) ⊎ (row_at v ≡ FailureMovesTrees)
           → (is_from_rest v.longest at v.paths_before v.paths v.told (Some b) ≡ true)
@@ -460,12 +461,18 @@ module _ (n : NetworkState) (network : IsNetwork n) (events : List Timed) (b : S
           (from, (and_parts (is_failing_followed v.paths_before v.paths v.told) v.moves.trees_move trees).0)
 
   -- what is in flight behind all is gone by then
-  pub flight_now : FlightIsGone n (made ++ now) (gone_by n v.paths v.used)
-  flight_now = by v.used refl
+  pub flight_now : FailsTreesFirst n made now → FlightIsGoneSince n made (made ++ now) (gone_by n v.paths (loss_at v).soon)
+  flight_now fails =
+      gone_since n made now (gone_by n v.paths (loss_at v).soon) (fails_set_none n made now fails) (by now refl fails)
     where
-      by : (used : Bool) → v.used ≡ used → FlightIsGone n (made ++ now) (gone_by n v.paths used)
-      by true is = inl (used_up n network (made ++ now) is, refl)
-      by false is = inr refl
+      by : (es : List Timed) → now ≡ es → FailsTreesFirst n made es
+          → FlightIsGoneFrom n (made ++ now) (last_change (made ++ now)) (gone_by n v.paths (loss_at v).soon)
+      by [] split none = absurd none
+      by (event ∷ others) split first =
+          subst (λ t. FlightIsGoneFrom n (made ++ now) t (gone_by n v.paths (loss_at v).soon))
+          (sym (moment event others split).1)
+          (gone_soon n network (made ++ now) (made ++ now) (same_itself n (made ++ now)) (all_within n (made ++ now))
+          refl at (loss_at v).soon refl)
 
   -- or a far end fails
   pub failed : AreWell n (made ++ now) → row_at v ≡ FailedEnd
