@@ -1,5 +1,5 @@
 -- Behind an event that changes nothing the same snapshots stand, also where a failed system gets a priority1.
-use Rattle.std.proofs.Common.{◌≡◌, ℕ, Bool, true, false, ◌+◌, ◌*◌, ◌%◌, ◌^◌, List, [], ◌∷◌, ◌++◌, map, filter, Option, Some, None, refl, sym, ap, subst, ◌∙◌, inl, inr}
+use Rattle.std.proofs.Common.{◌≡◌, ℕ, Bool, true, false, ◌+◌, ◌*◌, ◌%◌, ◌^◌, List, [], ◌∷◌, ◌++◌, map, filter, Some, None, refl, sym, ap, subst, ◌∙◌, inl, inr}
 use Rattle.std.specs.Prelude.{◌==◌, if◌then◌else◌}
 use Rattle.std.specs.List.Sorted.{IsPermutation}
 use Rattle.std.proofs.lemmas.Bool.{eqb-true}
@@ -9,7 +9,6 @@ use Rattle.gptp_graph.specs.Snapshot.{Snapshot}
 use Rattle.gptp_roles.specs.Selection.{clock_of}
 use Rattle.gptp_scenario.specs.Change.{joined_after, link_acted, link_after, live_after, standing, system_acted, system_after, with_priority1}
 use Rattle.gptp_scenario.specs.Network.{IsNetwork, NetworkState}
-use Rattle.gptp_scenario.specs.declared.calm.Standing.{Standing}
 use Rattle.gptp_scenario.specs.declared.change.Act.{Act}
 use Rattle.gptp_scenario.specs.declared.change.Act.TheVariants as acts
 use Rattle.gptp_scenario.specs.declared.change.Change.TheVariants as changes
@@ -22,10 +21,6 @@ use Rattle.gptp_settling_time.specs.Gains.{ChangesNothing, KeepsIdentity}
 use Rattle.gptp_settling_time.proofs.SamePathsLemmas.{idle_same, map_same}
 use Rattle.gptp_how_soon_laws.proofs.RepeatLemmas.{stands_seen}
 
--- what a snapshot has of a system
-abbrev alive : SystemSpec → Standing → Option (ℕ × ℕ)
-alive m s = if s.live then Some (s.identity, m.ports) else None
-
 module _ (n : NetworkState) (network : IsNetwork n) (made : List Timed) (event : Timed)
     (nothing : ChangesNothing n made event.act) (h : Snapshot) (stands : StandsAfter n made h) where
   abbrev after : List Timed
@@ -37,10 +32,12 @@ module _ (n : NetworkState) (network : IsNetwork n) (made : List Timed) (event :
     kept = subst (ChangesNothing n made) is nothing
 
     gets : (m : SystemSpec) → In m n.systems → clock_of m.identity ≡ number
-        → alive m (with_priority1 value (system_after made m)) ≡ alive m (system_after made m)
+        → (if (with_priority1 value (system_after made m)).live
+        then Some ((with_priority1 value (system_after made m)).identity, m.ports) else None)
+        ≡ live_after made m
     gets m member own =
         let (place, there) = slice_get-In m n.systems member in
-        let s : Standing = system_after made m in
+        let s = system_after made m in
         elim (kept place m there own) [
           | inl failed ↦
               ap (λ live. if live then Some (value * 2 ^ 104 + s.identity % 2 ^ 104, m.ports) else None) failed
@@ -50,14 +47,16 @@ module _ (n : NetworkState) (network : IsNetwork n) (made : List Timed) (event :
 
     system_stays : (m : SystemSpec) → In m n.systems → live_after after m ≡ live_after made m
     system_stays m member =
-        ap (alive m)
+        ap (λ s. if s.live then Some (s.identity, m.ports) else None)
         (system_behind made event (clock_of m.identity) (standing m)
         ∙ ap (λ act. system_acted act (clock_of m.identity) (system_after made m)) is)
         ∙ by (number == clock_of m.identity) refl
       where
         by : (test : Bool) → (number == clock_of m.identity) ≡ test
-            → alive m (if test then with_priority1 value (system_after made m) else system_after made m)
-            ≡ alive m (system_after made m)
+            → (if (if test then with_priority1 value (system_after made m) else system_after made m).live
+            then Some ((if test then with_priority1 value (system_after made m) else system_after made m).identity, m.ports)
+            else None)
+            ≡ live_after made m
         by true own = gets m member (sym (eqb-true number (clock_of m.identity) own))
         by false own = refl
 
