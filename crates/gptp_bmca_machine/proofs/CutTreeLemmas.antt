@@ -1,16 +1,18 @@
 -- A tree that the loss of a link cuts off is moved by it, without a way out.
-use Rattle.std.proofs.Common.{◌≡◌, ◌⊎◌, ℕ, suc, ap, subst, inl}
+use Rattle.std.proofs.Common.{◌≡◌, ◌⊎◌, ℕ, suc, ap, subst, inl, inr, arith}
 use native.Mathlib.Decide.{ℕ_discrete}
 use Rattle.gptp_lists.specs.Members.{In}
 use Rattle.gptp_graph.specs.Best.{IsBest}
 use Rattle.gptp_graph.specs.Snapshot.{System, Snapshot, clocks, Adjacent}
 use Rattle.gptp_graph.proofs.BestLemmas.{IsBest-neighbour, IsBest-unique}
+use Rattle.gptp_graph.proofs.DecisionLemmas.{in_dec}
 use Rattle.gptp_graph.proofs.ExistenceLemmas.{best_exists}
 use Rattle.gptp_bmca_machine.specs.Clean.{Whole}
 use Rattle.gptp_bmca_machine.specs.CutTree.{CutsOff, CutsTree}
 use Rattle.gptp_bmca_machine.specs.Frame.{Announce}
 use Rattle.gptp_bmca_machine.specs.Network.{Network}
 use Rattle.gptp_bmca_machine.proofs.MovedTreeLemmas.{MovesTree, whole_or_named}
+use Rattle.gptp_bmca_machine.proofs.SoundLemmas.{nothing_lost}
 
 -- its systems are those whose best is another then
 abbrev pub IsCutOff : Network → System → ℕ → Type 0
@@ -44,13 +46,27 @@ module _ (g : Snapshot) (n : Network) (top : ℕ) (best next : System) (base : �
   beside v u joined in_v = IsBest-neighbour n.graph v u next t.well joined in_v
 
   -- it is moved
-  pub moves_off : MovesTree g n (IsCutOff n next) LeadsNowhere top best next base depth
+  abbrev pub moves_off : MovesTree g n (IsCutOff n next) LeadsNowhere top best next base depth
   moves_off = record {
     well = t.well;
     left = t.left;
+    ways = n.graph;
+    ways_well = t.well;
+    ways_left = nothing_lost n t.well;
+    ways_stand = λ s member. member;
+    stand = λ s member. elim (t.stand s member) [
+      | inl stood ↦ inl stood
+      | inr is_top ↦ inr (is_top, λ v u none. none)
+    ];
+    tree_ways = λ v i q in_v joins. joins;
+    far_now = λ v far around here. here;
     lives = λ v in_v. in_v.reached.1.begins;
-    within = off_dec;
+    within = λ v. elim (in_dec v (clocks n.graph)) [
+      | no dead ↦ no (λ is. dead is.reached.1.begins)
+      | yes known ↦ off_dec v known
+    ];
     was_best = t.was_best;
+    best_now = λ v in_v. in_v;
     is_best = λ v in_v. in_v;
     was = t.was;
     near = t.near;
@@ -65,16 +81,17 @@ module _ (g : Snapshot) (n : Network) (top : ℕ) (best next : System) (base : �
     unmoved = λ v u none. absurd none;
     one_out = λ v u x y none other. absurd none;
     out_port = λ v p q to u none. absurd none;
+    reach = n.reach;
     paths = t.paths;
-    few = t.few;
+    few = let few = t.few in omega (arith, few);
   }
 
   -- what comes to a system from below is of what is left, or names it
   pub off_whole : (v u : ℕ) (a : Announce) → IsCutOff n next v → IsCutOff n next u → Adjacent n.graph u v
       → depth v ≡ suc (depth u) → Whole g v a → Whole n.graph v a ⊎ In u a.path
   off_whole v u a in_v in_u joined higher whole =
-      whole_or_named g n (IsCutOff n next) LeadsNowhere top best next base depth moves_off u v joined in_u in_v higher a
-      whole (λ b z us none. absurd none)
+      whole_or_named g n (IsCutOff n next) LeadsNowhere top best next base depth moves_off u v joined in_u in_v higher
+      a whole (λ b z us none. absurd none)
 
 module _ (g : Snapshot) (n : Network) (top : ℕ) (best next : System) (base : ℕ) (depth : ℕ → ℕ)
     (t : CutsTree g n top best next base depth) where
@@ -83,6 +100,7 @@ module _ (g : Snapshot) (n : Network) (top : ℕ) (best next : System) (base : �
   cuts_off = record {
     well = t.well;
     left = t.left;
+    stand = t.stand;
     worse = t.worse;
     was_best = t.was_best;
     was = t.was;
@@ -100,7 +118,7 @@ module _ (g : Snapshot) (n : Network) (top : ℕ) (best next : System) (base : �
   pub tree_dec : (v : ℕ) → In v (clocks n.graph) → Dec (IsBest n.graph v next)
   tree_dec = off_dec g n top best next base depth cuts_off
 
-  pub moves_tree : MovesTree g n (IsCutOff n next) LeadsNowhere top best next base depth
+  abbrev pub moves_tree : MovesTree g n (IsCutOff n next) LeadsNowhere top best next base depth
   moves_tree = moves_off g n top best next base depth cuts_off
 
   pub cut_whole : (v u : ℕ) (a : Announce) → IsCutOff n next v → IsCutOff n next u → Adjacent n.graph u v

@@ -11,6 +11,7 @@ use Rattle.gptp_graph.proofs.SystemLemmas as systems
 use Rattle.gptp_graph.proofs.BestLemmas.{IsBest-neighbour}
 use Rattle.gptp_bmca_machine.specs.Frame.{Spelling, AnnounceFrame, Lane}
 use Rattle.gptp_bmca_machine.specs.EarlyPorts.{EarlyPortsHear}
+use Rattle.gptp_bmca_machine.specs.Facts.{station_system}
 use Rattle.gptp_bmca_machine.specs.Station.{Reception, Disabled, Mine, Received, Port, Station, MachineState}
 use Rattle.gptp_bmca_machine.specs.Vectors.{master}
 use Rattle.gptp_bmca_machine.specs.Sound.{RunIsSound}
@@ -22,7 +23,7 @@ use Rattle.gptp_bmca_machine.specs.Lapsing.{FollowsFrom, NothingNearLapses}
 use Rattle.gptp_bmca_machine.specs.Levels.{LeadsFarther}
 use Rattle.gptp_bmca_machine.proofs.ClearLemmas.{tells_clear, weaker_clear}
 use Rattle.gptp_bmca_machine.proofs.PlaceLemmas.{same_there}
-use Rattle.gptp_bmca_machine.proofs.RestLemmas.{Chooses, IsClear, bounded}
+use Rattle.gptp_bmca_machine.proofs.RestLemmas.{Chooses, IsClear, bounded, was_itself}
 
 -- the systems at distance d have settled
 abbrev pub AllChoose : Network → MachineState → ℕ → Type 0
@@ -35,7 +36,7 @@ module _ (n : Network) (net : IsSettlingNetwork n) (w : MachineState) (calm : Ca
       → IsClear n.graph s
   clear_at i s at live late = record {
     rest = (calm.stations i s at live).at_rest;
-    known = (calm.facts.stations i s at live).known;
+    known = was_itself n.graph (station_system s) (calm.facts.stations i s at live).known;
     held = λ place r holds. bounded n.graph s.clock (suc place) r (sound late i s place r at live holds);
   }
 

@@ -1,4 +1,5 @@
--- A link of a network at rest goes down, which moves a tree: its top answers, and it begins to fall back.
+-- A link of a network at rest goes down, or the best gets worse, which moves a tree: its top answers, and it begins to
+-- fall back.
 use Rattle.std.proofs.Common.{◌≡◌, ◌≢◌, ◌⊎◌, ◌<◌, ◌≤◌, ◌+◌, ℕ, suc, true, Some, slice_get, sym, ap, subst, ◌∙◌, inl, inr, arith}
 use native.Mathlib.Decide.{ℕ_discrete}
 use Rattle.gptp_lists.specs.Members.{In}
@@ -17,9 +18,9 @@ use Rattle.gptp_bmca_machine.specs.Network.{IsSettlingNetwork, Network, settled_
 use Rattle.gptp_bmca_machine.specs.Reacts.{PortStep}
 use Rattle.gptp_bmca_machine.specs.RestLaws.{LinkStays, SameWiring}
 use Rattle.gptp_bmca_machine.specs.Station.{Disabled, HoldsAt, MachineState, Mine, Port, Received, Reception, Station}
-use Rattle.gptp_bmca_machine.specs.Touch.{Disable, Hear, HeldInTouch, IsUsable, Replaces}
+use Rattle.gptp_bmca_machine.specs.Touch.{Hear, IsUsable, Replaces}
 use Rattle.gptp_bmca_machine.proofs.MovedTreeLemmas.{Around, IsBeyond, LeadsDown, MovesTree, around, child_leads}
-use Rattle.gptp_bmca_machine.proofs.FallLeaveLemmas.{TreeAnswers, leaves_old, tells_now}
+use Rattle.gptp_bmca_machine.proofs.FallLeaveLemmas.{OnlyDisables, TreeAnswers, leaves_old, tells_now}
 use Rattle.gptp_bmca_machine.proofs.FallHeldLemmas.{holds_by}
 use Rattle.gptp_bmca_machine.proofs.FallLemmas.{DownStage, HasChoice, HasLeft, HoldsInTree, HoldsLeft, IsAftermath, IsFalling, IsFreeAt, IsOld, falls_by, follows_old}
 use Rattle.gptp_bmca_machine.proofs.FallRestLemmas.{chosen, held_before, masters, stays0, was_x}
@@ -39,13 +40,13 @@ module _ (says : Spelling) (n0 n : Network) (Tree : ℕ → Type 0) (Out : ℕ �
     (came0 : (v p u q : ℕ) (l : Lane) (f : AnnounceFrame) (a : Announce) → Tree v → Tree u
     → Joins n.graph (port_of v (suc p)) (port_of u (suc q)) → depth v ≡ suc (depth u)
     → slice_get w.lanes (n.lane (port_of v (suc p))) ≡ Some l → In f l.frames → says f.octets a
-    → Whole n.graph v a ⊎ In u a.path)
+    → Whole t.ways v a ⊎ In u a.path)
     (same : SameWiring n0 n) (w' : MachineState) (in_top : Tree top)
-    (z : TreeAnswers says n (Around Tree Out) top w w') (lost : ℕ) (touch_is : z.touch ≡ Disable (suc lost))
+    (z : TreeAnswers says n (Around Tree Out) top w w') (only : OnlyDisables z.touch)
     (lanes_then : (p q : PortIdentity) (l' : Lane) → Joins n.graph p q → slice_get w'.lanes (n.lane p) ≡ Some l'
     → (l : Lane) × (slice_get w.lanes (n.lane p) ≡ Some l) × LaneStep z.s.clock z.sends l l')
     (m' : IsAftermath says n0.graph n w') (dark' : UnlinkedAreOff n.graph w') (inward' : (v p u q : ℕ) → Out u v
-    → Joins n.graph (port_of v (suc p)) (port_of u (suc q)) → IsFreeAt says n v p u q w') where
+    → Joins n.graph (port_of v (suc p)) (port_of u (suc q)) → IsFreeAt says t.ways n v p u q w') where
   abbrev g : Snapshot
   g = n0.graph
 
@@ -102,15 +103,14 @@ module _ (says : Spelling) (n0 n : Network) (Tree : ℕ → Type 0) (Out : ℕ �
                 in_v in_u joins higher z.s old r (subst (λ c. slice_get w.stations (n.place c) ≡ Some z.s) (sym is)
                 z.here) stood
                 was
-            | inr just ↦ absurd (let both : Disable (suc lost) ≡ Hear (suc q) just.said =
-                sym touch_is ∙ just.touched in cc)
+            | inr just ↦ absurd (only.deaf (suc q) just.said just.touched)
           ]
     ]
 
-    pub up_left : HoldsLeft says n v p u q w'
+    pub up_left : HoldsLeft says t.ways n v p u q w'
     up_left s pu l at there lane r holds = absurd (held_none s pu r at there holds)
 
-    pub up_free : IsFreeAt says n v p u q w'
+    pub up_free : IsFreeAt says t.ways n v p u q w'
     up_free s pu l' at there lane' = record {
       hears = λ r holds. absurd (held_none s pu r at there holds);
       flight = λ f a among said. flown f a among said
@@ -122,7 +122,7 @@ module _ (says : Spelling) (n0 n : Network) (Tree : ℕ → Type 0) (Out : ℕ �
 
         flown : (f : AnnounceFrame) (a : Announce) → In f l'.frames → says f.octets a
             → ((l : Lane) × (slice_get w.lanes (n.lane (port_of v (suc p))) ≡ Some l)
-            × LaneStep z.s.clock z.sends l l') → Whole n.graph v a ⊎ In u a.path
+            × LaneStep z.s.clock z.sends l l') → Whole t.ways v a ⊎ In u a.path
         flown f a among said (l, at_l, step) =
             let (from, to) = from_then v p u q joins l l' lane' step in
             elim (In-parts f l.frames step.news (subst (In f) step.behind among)) [
@@ -213,8 +213,7 @@ module _ (says : Spelling) (n0 n : Network) (Tree : ℕ → Type 0) (Out : ℕ �
       (down : LeadsDown g Tree Out base depth top u) where
     refuses_top : (a : Announce) → z.touch ≡ Hear (suc p) a → IsUsable top a
         → Replaces top (suc p) a (Mine best.identity (base + depth top)) → ⊥
-    refuses_top a touched usable replaces =
-        absurd (let both : Disable (suc lost) ≡ Hear (suc p) a = sym touch_is ∙ touched in cc)
+    refuses_top a touched usable replaces = only.deaf (suc p) a touched
 
     -- its port was master
     was_mine : (pv : Port) → slice_get z.s.ports p ≡ Some pv
@@ -243,10 +242,9 @@ module _ (says : Spelling) (n0 n : Network) (Tree : ℕ → Type 0) (Out : ℕ �
                 answered : ((old : Port) × (slice_get z.s.ports p ≡ Some old)
                     × PortStep says z.s.clock (suc p) w.time z.touch z.s'.root z.s'.steps old pv' z.sends) → ⊥
                 answered (old, stood', answer) =
-                    lit (elim (subst (λ k. HeldInTouch z.s.clock (suc p) k w.time old.held answer.mid) touch_is
-                    answer.before) [
-                      | inl (here, is) ↦ is
-                      | inr (other, is) ↦ is
+                    lit (elim (only.spares z.s.clock (suc p) w.time old.held answer.mid answer.before) [
+                      | inl is ↦ is
+                      | inr is ↦ is
                           ∙ ap (λ (y : Port). y.held) (same_there z.s.ports p old pv stood' stood) ∙ off
                     ])
                   where
@@ -261,7 +259,7 @@ module _ (says : Spelling) (n0 n : Network) (Tree : ℕ → Type 0) (Out : ℕ �
             z.here p pv u (suc q) stood on joins down
 
     -- it has left its old choice, and told so
-    top_left : DownStage says n best (base + depth top) (falls_by n w.time (suc (depth top))) top p u q w'
+    top_left : DownStage says t.ways n best (base + depth top) (falls_by n w.time (suc (depth top))) top p u q w'
     top_left = inr (inl (
       left_top,
       leaves_old says g n Tree Out top best next base depth t w.time w w' m' top in_top z holds_top not_top p u q joins
@@ -274,11 +272,12 @@ module _ (says : Spelling) (n0 n : Network) (Tree : ℕ → Type 0) (Out : ℕ �
 
   begins_down : (v p u q : ℕ) → Tree v → Joins n.graph (port_of v (suc p)) (port_of u (suc q))
       → LeadsDown g Tree Out base depth v u
-      → DownStage says n best (base + depth v) (falls_by n w.time (suc (depth v))) v p u q w'
+      → DownStage says t.ways n best (base + depth v) (falls_by n w.time (suc (depth v))) v p u q w'
   begins_down v p u q in_v joins down = elim (ℕ_discrete v top) [
     | no apart ↦ inl (old_led v p u q in_v joins down apart, stays_led v p u q in_v joins down apart)
     | yes is ↦
-        subst (λ c. DownStage says n best (base + depth c) (falls_by n w.time (suc (depth c))) c p u q w') (sym is)
+        subst (λ c. DownStage says t.ways n best (base + depth c) (falls_by n w.time (suc (depth c))) c p u q w')
+        (sym is)
         (top_left p u q (subst (λ c. Joins n.graph (port_of c (suc p)) (port_of u (suc q))) is joins)
         (subst (λ c. LeadsDown g Tree Out base depth c u) is down))
   ]

@@ -27,7 +27,7 @@ use Rattle.gptp_bmca_machine.proofs.MovedTreeLemmas.{MovesTree}
 use Rattle.gptp_bmca_machine.proofs.FallStepLemmas.{SaysSo}
 use Rattle.gptp_bmca_machine.proofs.FallKeptLemmas.{falling_kept}
 use Rattle.gptp_bmca_machine.proofs.FallHeldLemmas.{holds_in_tree, old_in_time}
-use Rattle.gptp_bmca_machine.proofs.FallLemmas.{HasChoice, HasLeft, IsAftermath, IsFalling, falls_by, free_fits, off_drop, off_hold_old, off_none}
+use Rattle.gptp_bmca_machine.proofs.FallLemmas.{HasChoice, HasLeft, IsAftermath, IsFalling, UnlinkedDrop, UnlinkedHoldNone, falls_by, free_fits, off_drop, off_hold_old, off_none}
 use Rattle.gptp_bmca_machine.proofs.FallLevelLemmas.{TreeSettles}
 use Rattle.gptp_bmca_machine.proofs.LossLemmas.{fits_kept}
 use Rattle.gptp_bmca_machine.proofs.PlaceLemmas.{same_there}
@@ -54,28 +54,31 @@ module _ (says : Spelling) (g : Snapshot) (n : Network) (Tree : ℕ → Type 0) 
       pub falling : IsFalling says g n Tree Out top best next base depth t start w
 
     -- every step keeps it, where what comes from outside is of what is left, or names who hears it
+    pub falls_then : (w w' : MachineState) (is : FallsBack w) (after' : IsAftermath says g n w')
+        (step : MachineSteps says w w') → UnlinkedDrop g n w w' → UnlinkedHoldNone g n start w' → ((v p u q : ℕ)
+        → Out u v → (joins : Joins n.graph (port_of v (suc p)) (port_of u (suc q)))
+        → SaysSo says g n Tree Out top best next base depth t w w' is.after after' step v p u q joins
+        (λ a. Whole t.ways v a ⊎ In u a.path)) → FallsBack w'
+    falls_then w w' is after' step drops none' comes = record {
+      after = after';
+      still = λ f.
+          levels_below says g n t.well t.left w w' is.after.kept after'.kept is.after.fits.stations
+          after'.fits.stations step is.still (suc f) f (omega arith);
+      falling = falling_kept says g n Tree Out top best next base depth t start w w' is.after after' step
+          drops is.falling none' comes;
+    }
+
+    -- so where ports without a link are off
     pub falls_on : (w w' : MachineState) (is : FallsBack w) (kept' : IsAfterLoss n w') (dark' : UnlinkedAreOff n.graph
         w')
         (step : MachineSteps says w w') → ((v p u q : ℕ) → Out u v
         → (joins : Joins n.graph (port_of v (suc p)) (port_of u (suc q)))
         → SaysSo says g n Tree Out top best next base depth t w w' is.after
         (after_step w w' is.after.kept.calm kept' dark' step is.after.fits) step v p u q joins
-        (λ a. Whole n.graph v a ⊎ In u a.path)) → FallsBack w'
-    falls_on w w' is kept' dark' step comes = record {
-      after = after';
-      still = λ f.
-          levels_below says g n t.well t.left w w' is.after.kept kept' is.after.fits.stations fits'.stations step
-          is.still
-          (suc f) f (omega arith);
-      falling = falling_kept says g n Tree Out top best next base depth t start w w' is.after after' step
-          (off_drop g n w w' dark') is.falling (off_none g n start w' dark') comes;
-    }
-      where
-        after' : IsAftermath says g n w'
-        after' = after_step w w' is.after.kept.calm kept' dark' step is.after.fits
-
-        fits' : EverythingFits says g n w'
-        fits' = after'.fits
+        (λ a. Whole t.ways v a ⊎ In u a.path)) → FallsBack w'
+    falls_on w w' is kept' dark' step comes =
+        falls_then w w' is (after_step w w' is.after.kept.calm kept' dark' step is.after.fits) step
+        (off_drop g n w w' dark') (off_none g n start w' dark') comes
 
 -- ---- a tree that is cut off
 

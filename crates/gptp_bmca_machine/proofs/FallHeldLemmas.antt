@@ -30,9 +30,9 @@ module _ (says : Spelling) (g : Snapshot) (n : Network) (Tree : ℕ → Type 0) 
       -- what a system of the tree holds, by the links that lead to it
       pub holds_by : (x : ℕ) → Tree x
           → ((v p i : ℕ) → Tree v → Joins n.graph (port_of v (suc p)) (port_of x (suc i)) → depth x ≡ suc (depth v)
-          → DownStage says n best (base + depth v) (falls_by n start (suc (depth v))) v p x i w)
+          → DownStage says t.ways n best (base + depth v) (falls_by n start (suc (depth v))) v p x i w)
           → ((v p i : ℕ) → Joins n.graph (port_of v (suc p)) (port_of x (suc i)) → IsBeyond Tree Out depth x v
-          → HoldsLeft says n v p x i w) → HoldsInTree says g n Tree Out top best next base depth t start x w
+          → HoldsLeft says t.ways n v p x i w) → HoldsInTree says g n Tree Out top best next base depth t start x w
       holds_by x in_x down up s i r at (q, there, holds) = by_link (IsLinked-dec n.graph (port_of s.clock (suc i)))
         where
           is : (s.live ≡ true) × (s.clock ≡ x)
@@ -86,14 +86,15 @@ module _ (says : Spelling) (g : Snapshot) (n : Network) (Tree : ℕ → Type 0) 
                   lane : (l : Lane) × (slice_get w.lanes (n.lane (port_of to.clock (suc p))) ≡ Some l)
                   lane = lane_there to.clock p x i joins
 
-                  from_beyond : IsBeyond Tree Out depth x to.clock → Whole n.graph to.clock r.said
+                  from_beyond : IsBeyond Tree Out depth x to.clock → Whole t.ways to.clock r.said
                   from_beyond beyond = up to.clock p i joins beyond s q lane.0 at there lane.1 r holds
 
                   by_stage : Tree to.clock → depth x ≡ suc (depth to.clock)
-                      → DownStage says n best (base + depth to.clock) (falls_by n start (suc (depth to.clock))) to.clock
+                      → DownStage says t.ways n best (base + depth to.clock) (falls_by n start (suc (depth to.clock)))
+                      to.clock
                       p
                       x i w
-                      → Whole n.graph to.clock r.said
+                      → Whole t.ways to.clock r.said
                       ⊎ (Tree to.clock × (depth x ≡ suc (depth to.clock)) × HasTold says g n Tree Out top best next base
                       depth t start r.said (base + depth to.clock))
                   by_stage in_v deeper (inl (old, stays)) =
@@ -185,7 +186,8 @@ module _ (says : Spelling) (g : Snapshot) (n : Network) (Tree : ℕ → Type 0) 
                     lane : (l : Lane) × (slice_get w.lanes (n.lane (port_of a.v (suc a.p))) ≡ Some l)
                     lane = lane_there a.v a.p x old.i a.joins
 
-                    by : DownStage says n best (base + depth a.v) (falls_by n start (suc (depth a.v))) a.v a.p x old.i w
+                    by : DownStage says t.ways n best (base + depth a.v) (falls_by n start (suc (depth a.v))) a.v a.p
+                        x old.i w
                         → w.time ≤ falls_by n start (suc d)
                     by (inl (root_v, stays)) =
                         let before : w.time ≤ falls_by n start d = sooner a.v up a.in_v root_v in
@@ -193,7 +195,7 @@ module _ (says : Spelling) (g : Snapshot) (n : Network) (Tree : ℕ → Type 0) 
                     by (inr (inl (not, told))) =
                         let left = told s old.holds.0 lane.0 at old.holds.1 lane.1 in
                         let (h, among, said, due) = told_due says (still n (base + depth a.v) best a.v a.p x old.i)
-                        (IsNewTold n.graph (port_of a.v (suc a.p)) x) (falls_by n start (suc (depth a.v))) lane.0.frames
+                        (IsNewTold t.ways (port_of a.v (suc a.p)) x) (falls_by n start (suc (depth a.v))) lane.0.frames
                         left.told in
                         let now = m.kept.calm.left (n.lane (port_of a.v (suc a.p))) lane.0 h lane.1 among in
                         let late : h.due ≤ falls_by n start (suc d) =

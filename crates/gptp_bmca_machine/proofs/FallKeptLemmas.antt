@@ -11,7 +11,6 @@ use Rattle.gptp_bmca_machine.specs.Clean.{Whole}
 use Rattle.gptp_bmca_machine.specs.Frame.{Announce, Lane, Spelling}
 use Rattle.gptp_bmca_machine.specs.Link.{LinkSettles, TellerIsReady}
 use Rattle.gptp_bmca_machine.specs.LinkStage.{Wiring}
-use Rattle.gptp_bmca_machine.specs.LossLaws.{Unmoved}
 use Rattle.gptp_bmca_machine.specs.Network.{Network}
 use Rattle.gptp_bmca_machine.specs.Reacts.{IsMasterAt, IsOwn}
 use Rattle.gptp_bmca_machine.specs.Station.{MachineState, Mine, Port, Received, Station}
@@ -97,7 +96,7 @@ module _ (says : Spelling) (g : Snapshot) (n : Network) (Tree : ℕ → Type 0) 
           (Joins-sym n.graph (port_of v (suc p)) (port_of u (suc q)) joins)
 
       -- it has its old choice
-      pub left_old : (last : ℕ) → IsLeft says n best (base + depth v) last v p u q w
+      pub left_old : (last : ℕ) → IsLeft says t.ways n best (base + depth v) last v p u q w
           → IsOld n w u best (base + depth u)
       left_old last (not, told) s at =
           let (pu, there) = has_port s at in
@@ -131,18 +130,18 @@ module _ (says : Spelling) (g : Snapshot) (n : Network) (Tree : ℕ → Type 0) 
           (pu, there, stay.holds) deeper (stay.final.root, stay.final.steps)
 
       -- or the link is free
-      pub hearer_old : (last : ℕ) → DownStage says n best (base + depth v) last v p u q w
-          → IsOld n w u best (base + depth u) ⊎ (HasLeft n w v best (base + depth v) × IsFreeAt says n v p u q w)
+      pub hearer_old : (last : ℕ) → DownStage says t.ways n best (base + depth v) last v p u q w
+          → IsOld n w u best (base + depth u) ⊎ (HasLeft n w v best (base + depth v) × IsFreeAt says t.ways n v p u q w)
       hearer_old last (inl led) = inl (led_old led)
       hearer_old last (inr (inl left)) = inl (left_old last left)
       hearer_old last (inr (inr free)) = inr free
 
     -- what is of what is left is worse than what was told before, seen from who told that
     not_replaces : (v u p : ℕ) (a : Announce) → Tree v → Adjacent n.graph v u → LeadsDown g Tree Out base depth v u
-        → a.source.clock ≡ u → Whole n.graph u a → Replaces v (suc p) a (Mine best.identity (base + depth v)) → ⊥
+        → a.source.clock ≡ u → Whole t.ways u a → Replaces v (suc p) a (Mine best.identity (base + depth v)) → ⊥
     not_replaces v u p a in_v joined leads source whole replaces = elim leads.beyond [
       | inl (in_u, deeper) ↦ below (own_new says g n Tree Out top best next base depth t start u a in_u whole) deeper
-      | inr out ↦ outside (t.unmoved v u out) (t.worse v in_v)
+      | inr out ↦ outside (λ far is. t.far_now u far (inr (v, out)) ((t.unmoved v u out).far far is)) (t.worse v in_v)
     ]
       where
         below : (best.identity < a.root) ⊎ ((a.root ≡ best.identity) × (base + depth u < a.steps))
@@ -157,28 +156,28 @@ module _ (says : Spelling) (g : Snapshot) (n : Network) (Tree : ℕ → Type 0) 
           | inr (same, inr (as_many, rest)) ↦ omega (arith, as_many, more, deeper)
         ]
 
-        is_next : IsBest n.graph u next
+        is_next : IsBest t.ways u next
         is_next = best_beside g n Tree Out top best next base depth t v u in_v joined
 
         least : next.identity ≤ a.root
-        least = root_not_better n.graph t.well u a whole next is_next
+        least = root_not_better t.ways t.ways_well u a whole next is_next
 
-        outside : Unmoved g n u → (best.identity < next.identity)
-            ⊎ ((best ≡ next) × ((far : ℕ) → IsDistance n.graph v far → base + depth v < far)) → ⊥
-        outside still_there (inl less) = by_root replaces
+        outside : ((far : ℕ) → IsDistance g u far → IsDistance t.ways u far) → (best.identity < next.identity)
+            ⊎ ((best ≡ next) × ((far : ℕ) → IsDistance t.ways v far → base + depth v < far)) → ⊥
+        outside as_far (inl less) = by_root replaces
           where
             by_root : Replaces v (suc p) a (Mine best.identity (base + depth v)) → ⊥
             by_root (inl lower) = omega (arith, lower, less, least)
             by_root (inr (same, rest)) = omega (arith, same, less, least)
-        outside still_there (inr (one, more)) = by replaces
+        outside as_far (inr (one, more)) = by replaces
           where
             identity : best.identity ≡ next.identity
             identity = ap (λ (b : System). b.identity) one
 
             many : a.root ≡ best.identity → leads.far ≤ a.steps
             many root =
-                steps_not_fewer n.graph t.well u a whole next is_next u leads.far (inl refl) is_next
-                (still_there.far leads.far leads.there) (root ∙ identity)
+                steps_not_fewer t.ways t.ways_well u a whole next is_next u leads.far (inl refl) is_next
+                (as_far leads.far leads.there) (root ∙ identity)
 
             by : Replaces v (suc p) a (Mine best.identity (base + depth v)) → ⊥
             by (inl lower) = omega (arith, lower, identity, least)
@@ -206,7 +205,7 @@ module _ (says : Spelling) (g : Snapshot) (n : Network) (Tree : ℕ → Type 0) 
 
       -- what is held over links from those beyond is of what is left
       up_held : (v p u q : ℕ) → Tree u → Joins n.graph (port_of v (suc p)) (port_of u (suc q))
-          → IsBeyond Tree Out depth u v → HoldsLeft says n v p u q w'
+          → IsBeyond Tree Out depth u v → HoldsLeft says t.ways n v p u q w'
       up_held v p u q in_u joins beyond =
           free_held says g n Tree Out top best next base depth t w w' m m' step v p u q joins
           (falling.up v p u q in_u joins beyond)
@@ -214,9 +213,9 @@ module _ (says : Spelling) (g : Snapshot) (n : Network) (Tree : ℕ → Type 0) 
       -- what a link that leads down comes to, and that a free one stays so
       abbrev Then : ℕ → ℕ → ℕ → ℕ → Type 0
       Then v p u q =
-          DownStage says n best (base + depth v) (falls_by n start (suc (depth v))) v p u q w'
-          × (HasLeft n w v best (base + depth v) × IsFreeAt says n v p u q w
-          → HasLeft n w' v best (base + depth v) × IsFreeAt says n v p u q w')
+          DownStage says t.ways n best (base + depth v) (falls_by n start (suc (depth v))) v p u q w'
+          × (HasLeft n w v best (base + depth v) × IsFreeAt says t.ways n v p u q w
+          → HasLeft n w' v best (base + depth v) × IsFreeAt says t.ways n v p u q w')
 
       module _ (v p u q : ℕ) (in_v : Tree v) (joins : Joins n.graph (port_of v (suc p)) (port_of u (suc q)))
           (leads : LeadsDown g Tree Out base depth v u)
@@ -263,7 +262,7 @@ module _ (says : Spelling) (g : Snapshot) (n : Network) (Tree : ℕ → Type 0) 
                 (child_leads g n Tree Out top best next base depth t a.v v in_v a.deeper)))
               where
                 by : IsOld n w v best (base + depth v)
-                    ⊎ (HasLeft n w a.v best (base + depth a.v) × IsFreeAt says n a.v a.p v old.i w) → ⊥
+                    ⊎ (HasLeft n w a.v best (base + depth a.v) × IsFreeAt says t.ways n a.v a.p v old.i w) → ⊥
                 by (inl was_old) = let (s, at, live, clock) = has in not s at (was_old s at)
                 by (inr free) =
                     let (not_then, free_then) = (above a.v a.p old.i a.in_v a.joins a.deeper).1 free in
@@ -276,7 +275,7 @@ module _ (says : Spelling) (g : Snapshot) (n : Network) (Tree : ℕ → Type 0) 
         -- what it says then
         new_then : HasLeft n w' v best (base + depth v)
             → SaysSo says g n Tree Out top best next base depth t w w' m m' step v p u q joins
-            (IsNewTold n.graph (port_of v (suc p)) u)
+            (IsNewTold t.ways (port_of v (suc p)) u)
         new_then not touch mid call z a sent from said =
             let (own, master) = call.reacts.tells z a sent said in
             let clock : call.s'.clock ≡ v =
@@ -289,8 +288,8 @@ module _ (says : Spelling) (g : Snapshot) (n : Network) (Tree : ℕ → Type 0) 
             joins leads.beyond z.port a own master (ap (λ (x : PortIdentity). x.port) (sym from))
 
         -- a free link stays so
-        free_then : HasLeft n w v best (base + depth v) × IsFreeAt says n v p u q w
-            → HasLeft n w' v best (base + depth v) × IsFreeAt says n v p u q w'
+        free_then : HasLeft n w v best (base + depth v) × IsFreeAt says t.ways n v p u q w
+            → HasLeft n w' v best (base + depth v) × IsFreeAt says t.ways n v p u q w'
         free_then (not, free) =
             let not' = left_stays not in (
               not',
@@ -302,12 +301,12 @@ module _ (says : Spelling) (g : Snapshot) (n : Network) (Tree : ℕ → Type 0) 
         -- it goes on to tell its old choice, or has left it now
         pub led_then : IsLed says n best (base + depth v) v p u q w
             → IsLed says n best (base + depth v) v p u q w'
-            ⊎ IsLeft says n best (base + depth v) (falls_by n start (suc (depth v))) v p u q w'
+            ⊎ IsLeft says t.ways n best (base + depth v) (falls_by n start (suc (depth v))) v p u q w'
         led_then (root, stays) = by (station_of g n t.well t.left w' m'.kept m'.fits.stations v (t.lives v in_v))
           where
             by : ((s : Station) × (slice_get w'.stations (n.place v) ≡ Some s) × (s.live ≡ true) × (s.clock ≡ v))
                 → IsLed says n best (base + depth v) v p u q w'
-                ⊎ IsLeft says n best (base + depth v) (falls_by n start (suc (depth v))) v p u q w'
+                ⊎ IsLeft says t.ways n best (base + depth v) (falls_by n start (suc (depth v))) v p u q w'
             by (s', at', live, clock) = elim (choice_dec s' best (base + depth v)) [
               | yes old' ↦ inl (goes_on (λ s at.
                   subst (λ (x : Station). HasChoice x best (base + depth v))
@@ -347,7 +346,7 @@ module _ (says : Spelling) (g : Snapshot) (n : Network) (Tree : ℕ → Type 0) 
                     TreeAnswers says
                     n (Around Tree Out) v w w'
                     → AtLink says n v p u q (HoldsTold says (still n (base + depth v) best v p u q)
-                    (IsNewTold n.graph (port_of v (suc p)) u) (falls_by n start (suc (depth v)))) w'
+                    (IsNewTold t.ways (port_of v (suc p)) u) (falls_by n start (suc (depth v)))) w'
                 leaves_now not' (inl stood) = absurd (not' (root s' stood))
                 leaves_now not' (inr z) =
                     leaves_old says g n Tree Out top best next base depth t start w w' m' v in_v z holds'
@@ -388,8 +387,8 @@ module _ (says : Spelling) (g : Snapshot) (n : Network) (Tree : ℕ → Type 0) 
         pub then_one : Then v p u q
         then_one = (by (falling.down v p u q in_v joins leads), free_then)
           where
-            by : DownStage says n best (base + depth v) (falls_by n start (suc (depth v))) v p u q w
-                → DownStage says n best (base + depth v) (falls_by n start (suc (depth v))) v p u q w'
+            by : DownStage says t.ways n best (base + depth v) (falls_by n start (suc (depth v))) v p u q w
+                → DownStage says t.ways n best (base + depth v) (falls_by n start (suc (depth v))) v p u q w'
             by (inl led) = elim (led_then led) [ inl on ↦ inl on | inr told ↦ inr (inl told) ]
             by (inr (inr free)) = inr (inr (free_then free))
             by (inr (inl (not, told))) =
@@ -425,7 +424,7 @@ module _ (says : Spelling) (g : Snapshot) (n : Network) (Tree : ℕ → Type 0) 
       module _ (v p u q : ℕ) (in_v : Tree v) (in_u : Tree u)
           (joins : Joins n.graph (port_of v (suc p)) (port_of u (suc q))) (higher : depth v ≡ suc (depth u)) where
         new_up : SaysSo says g n Tree Out top best next base depth t w w' m m' step v p u q joins
-            (λ a. Whole n.graph v a ⊎ In u a.path)
+            (λ a. Whole t.ways v a ⊎ In u a.path)
         new_up touch mid call z a sent from said = by (call.reacts.tells z a sent said)
           where
             number : z.port ≡ suc p
@@ -438,7 +437,7 @@ module _ (says : Spelling) (g : Snapshot) (n : Network) (Tree : ℕ → Type 0) 
                 subst (λ i. slice_get w'.stations i ≡ Some call.s')
                 (m'.kept.calm.placed call.place call.s' call.there ∙ ap n.place clock) call.there
 
-            by : IsOwn call.s' z.port a × IsMasterAt call.s' z.port → Whole n.graph v a ⊎ In u a.path
+            by : IsOwn call.s' z.port a × IsMasterAt call.s' z.port → Whole t.ways v a ⊎ In u a.path
             by (own, (i, pv, place, there, mine)) = elim (choice_dec call.s' best (base + depth v)) [
               | no not ↦ inl (says_whole says g n Tree Out top best next base depth t start w' m' v in_v call.s' at
                   (holds_then v in_v) not z.port a own)
@@ -461,7 +460,7 @@ module _ (says : Spelling) (g : Snapshot) (n : Network) (Tree : ℕ → Type 0) 
       pub led_next : (v p u q : ℕ) → Tree v → Joins n.graph (port_of v (suc p)) (port_of u (suc q))
           → LeadsDown g Tree Out base depth v u → IsLed says n best (base + depth v) v p u q w
           → IsLed says n best (base + depth v) v p u q w'
-          ⊎ IsLeft says n best (base + depth v) (falls_by n start (suc (depth v))) v p u q w'
+          ⊎ IsLeft says t.ways n best (base + depth v) (falls_by n start (suc (depth v))) v p u q w'
       led_next v p u q in_v joins leads led =
           led_then v p u q in_v joins leads (λ v0 p0 i in0 joined below.
           then_below (depth v) v0 p0 v i in0 joined (child_leads g n Tree Out top best next base depth t v0 v in_v
@@ -495,7 +494,7 @@ module _ (says : Spelling) (g : Snapshot) (n : Network) (Tree : ℕ → Type 0) 
           (suc
           p)) (port_of u (suc q)))
           → SaysSo says g n Tree Out top best next base depth t w w' m m' step v p u q joins
-          (λ a. Whole n.graph v a ⊎ In u a.path))
+          (λ a. Whole t.ways v a ⊎ In u a.path))
           → IsFalling says g n Tree Out top best next base depth t start w'
       falling_kept none comes = record {
         sooner = λ in_top. top_then in_top none;

@@ -11,7 +11,7 @@ use Rattle.gptp_bmca_machine.specs.Network.{Network}
 use Rattle.gptp_bmca_machine.specs.Reacts.{IsMasterAt, IsOwn, KeepsHeld, PortStep, StationReacts}
 use Rattle.gptp_bmca_machine.specs.RestLaws.{LinkStays}
 use Rattle.gptp_bmca_machine.specs.Station.{Aged, Disabled, Held, MachineState, Mine, Port, Received, Station}
-use Rattle.gptp_bmca_machine.specs.Touch.{Hear, IsUsable, Replaces, StationTouch}
+use Rattle.gptp_bmca_machine.specs.Touch.{Disable, Hear, HeldInTouch, IsUsable, Other, Replaces, StationTouch}
 use Rattle.gptp_bmca_machine.proofs.FallLemmas.{HasChoice, HoldsInTree, IsAftermath, IsNewTold, falls_by, says_usable, says_whole}
 use Rattle.gptp_bmca_machine.proofs.MovedTreeLemmas.{Around, IsBeyond, MovesTree, around}
 use Rattle.gptp_bmca_machine.proofs.HearingLemmas.{mid_mine}
@@ -59,7 +59,7 @@ pub tells_new : (says : Spelling) (g : Snapshot) (n : Network) (Tree : ℕ → T
     (not : HasChoice s best (base + depth x) → ⊥) (p u q : ℕ)
     (joins : Joins n.graph (port_of x (suc p)) (port_of u (suc q))) (beyond : IsBeyond Tree Out depth x u) (number : ℕ)
     (a : Announce) → IsOwn s number a → IsMasterAt s number → number ≡ suc p
-    → IsNewTold n.graph (port_of x (suc p)) u a
+    → IsNewTold t.ways (port_of x (suc p)) u a
 tells_new says g n Tree Out top best next base depth t start w m x in_x s at holds not p u q joins beyond number a own
     (i, pv, place, there, mine) is = record {
       source = own.source ∙ (λ j. port_of (clock j) (is j));
@@ -74,6 +74,22 @@ tells_new says g n Tree Out top best next base depth t start w m x in_x s at hol
 
     same : i ≡ p
     same = let both = sym place ∙ is in omega (arith, both)
+
+-- By the touch nothing is heard, and a port holds what it held or is disabled.
+pub record OnlyDisables (touch : StationTouch) : Type 0 where
+  pub deaf : (m : ℕ) (a : Announce) → touch ≡ Hear m a → ⊥
+  pub spares : (c n now : ℕ) (held mid : Held) → HeldInTouch c n touch now held mid → (mid ≡ Disabled) ⊎ (mid ≡ held)
+
+-- so it is where a port is disabled
+pub disable_only : (number : ℕ) → OnlyDisables (Disable number)
+disable_only number = record {
+  deaf = λ m a same. absurd cc;
+  spares = λ c n now held mid is. elim is [ inl (here, off) ↦ inl off | inr (other, kept) ↦ inr kept ];
+}
+
+-- and where nothing is heard and no port changes
+pub other_only : OnlyDisables Other
+other_only = record { deaf = λ m a same. absurd cc; spares = λ c n now held mid is. inr is }
 
 -- A system of the tree answers, and whoever else is in it or beside it stands as it did: its sends enter the lanes to
 -- others.
@@ -114,7 +130,7 @@ module _ (says : Spelling) (g : Snapshot) (n : Network) (Tree : ℕ → Type 0) 
   k = still n (base + depth x) best x p u q
 
   abbrev New : Announce → Type 0
-  New = IsNewTold n.graph (port_of x (suc p)) u
+  New = IsNewTold t.ways (port_of x (suc p)) u
 
   abbrev last : ℕ
   last = falls_by n start (suc (depth x))
@@ -158,7 +174,7 @@ module _ (says : Spelling) (g : Snapshot) (n : Network) (Tree : ℕ → Type 0) 
     from_x = let (y, same, from, loss, up) = has_then in sym step.from ∙ ap (λ (y : Lane). y.from) (sym same) ∙ from
 
     -- what enters it, those below can use
-    news_new : AllSay says (IsNewTold n.graph (port_of x (suc p)) u) step.news
+    news_new : AllSay says (IsNewTold t.ways (port_of x (suc p)) u) step.news
     news_new f a among said =
         let (y, sent, from, octets) = step.sent f among in
         new_told y a sent (sym from_x ∙ from) (subst (λ o. says o a) octets said)
@@ -187,7 +203,7 @@ module _ (says : Spelling) (g : Snapshot) (n : Network) (Tree : ℕ → Type 0) 
               (f, among, (a, subst (λ o. says o a) (sym octets) said), omega (arith, by, same_time))
 
   pub leaves_old : AtLink says n x p u q (HoldsTold says (still n (base + depth x) best x p u q)
-      (IsNewTold n.graph (port_of x (suc p)) u) (falls_by n start (suc (depth x)))) w'
+      (IsNewTold t.ways (port_of x (suc p)) u) (falls_by n start (suc (depth x)))) w'
   leaves_old su pu l' at there lane' =
       by_lane (z.lanes (port_of x (suc p)) (port_of u (suc q)) l' joins apart lane')
       (port_there g n t.well t.left w' m'.kept m'.fits.stations x p (port_of u (suc q)) z.s' z.there joins)

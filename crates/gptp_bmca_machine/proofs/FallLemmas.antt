@@ -5,9 +5,9 @@ use Rattle.gptp_lists.specs.Members.{In}
 use Rattle.gptp_lists.proofs.SystemSpecLemmas.{In-parts}
 use Rattle.gptp_graph.specs.Best.{IsBest}
 use Rattle.gptp_graph.specs.Order.{IsLower}
-use Rattle.gptp_graph.specs.Path.{Reaches}
+use Rattle.gptp_graph.specs.Path.{IsPath, Reaches}
 use Rattle.gptp_graph.specs.Distance.{IsDistance}
-use Rattle.gptp_graph.specs.Snapshot.{Adjacent, IsLinked, Joins, PortIdentity, Snapshot, System, port_of}
+use Rattle.gptp_graph.specs.Snapshot.{Adjacent, IsLinked, Joins, PortIdentity, Snapshot, System, clocks, port_of}
 use Rattle.gptp_graph.proofs.BestLemmas.{IsBest-unique}
 use Rattle.gptp_graph.proofs.DistanceLemmas.{IsDistance-best, IsDistance-neighbour}
 use Rattle.gptp_graph.proofs.ExistenceLemmas.{distance_exists}
@@ -15,7 +15,7 @@ use Rattle.gptp_graph.proofs.LinkLemmas.{Adjacent-clock, Adjacent-sym, Joins-sym
 use Rattle.gptp_graph.proofs.PathLemmas.{Reaches-self}
 use Rattle.gptp_graph.proofs.SystemLemmas.{same_identity}
 use Rattle.gptp_bmca_machine.specs.AtRest.{StationIsAtRest}
-use Rattle.gptp_bmca_machine.specs.Clean.{CameFits, Whole}
+use Rattle.gptp_bmca_machine.specs.Clean.{CameFits, CameOverLink, Whole}
 use Rattle.gptp_bmca_machine.specs.Facts.{FollowsItself, FollowsPort, station_system}
 use Rattle.gptp_bmca_machine.specs.Frame.{Announce, AnnounceFrame, Spelling}
 use Rattle.gptp_bmca_machine.specs.LossLaws.{EverythingFits, IsAfterLoss, Unmoved}
@@ -26,11 +26,11 @@ use Rattle.gptp_bmca_machine.specs.SoundLaws.{UnlinkedAreOff}
 use Rattle.gptp_bmca_machine.specs.Station.{Disabled, Held, HoldsAt, MachineState, Mine, Port, Received, Reception, Station}
 use Rattle.gptp_bmca_machine.specs.Touch.{IsUsable}
 use Rattle.gptp_bmca_machine.specs.Vectors.{path_vector}
-use Rattle.gptp_bmca_machine.proofs.MovedTreeLemmas.{IsBeyond, LeadsDown, MovesTree, best_beside, names_beyond, one_port}
+use Rattle.gptp_bmca_machine.proofs.MovedTreeLemmas.{Around, IsBeyond, LeadsDown, MovesTree, best_beside, named, names_beyond, one_port, to_ways, ways_lives}
 use Rattle.gptp_bmca_machine.proofs.LinkStepLemmas.{AtLink, lives_at}
 use Rattle.gptp_bmca_machine.proofs.NearestLemmas.{came_fits, path_length, root_not_better, steps_not_fewer}
 use Rattle.gptp_bmca_machine.proofs.PlaceLemmas.{same_there}
-use Rattle.gptp_bmca_machine.proofs.RestLemmas.{IsClear, bounded, root_above, steps_above}
+use Rattle.gptp_bmca_machine.proofs.RestLemmas.{CameBounded, IsClear, bounded, root_above, steps_above, was_itself}
 use Rattle.gptp_bmca_machine.proofs.StillLemmas.{clear_at, still}
 use Rattle.gptp_bmca_machine.proofs.ToldLemmas.{AllSay, HoldsTold}
 use Rattle.gptp_bmca_machine.proofs.TraceLemmas.{whole_on, whole_own}
@@ -74,24 +74,24 @@ falls_by n start deep = start + deep * n.most
 abbrev pub IsLed : Spelling → Network → System → ℕ → ℕ → ℕ → ℕ → ℕ → MachineState → Type 0
 IsLed says n best far v p u q w = IsOld n w v best far × LinkStays says (still n far best v p u q) w
 
-abbrev pub IsLeft : Spelling → Network → System → ℕ → ℕ → ℕ → ℕ → ℕ → ℕ → MachineState → Type 0
-IsLeft says n best far last v p u q w =
+abbrev pub IsLeft : Spelling → Snapshot → Network → System → ℕ → ℕ → ℕ → ℕ → ℕ → ℕ → MachineState → Type 0
+IsLeft says ways n best far last v p u q w =
     HasLeft n w v best far
     × AtLink says n v p u q
-    (HoldsTold says (still n far best v p u q) (IsNewTold n.graph (port_of v (suc p)) u) last) w
+    (HoldsTold says (still n far best v p u q) (IsNewTold ways (port_of v (suc p)) u) last) w
 
-abbrev pub IsFreeAt : Spelling → Network → ℕ → ℕ → ℕ → ℕ → MachineState → Type 0
-IsFreeAt says n v p u q w = AtLink says n v p u q (IsFree says n.graph v u) w
+abbrev pub IsFreeAt : Spelling → Snapshot → Network → ℕ → ℕ → ℕ → ℕ → MachineState → Type 0
+IsFreeAt says ways n v p u q w = AtLink says n v p u q (IsFree says ways v u) w
 
 -- what the port at its end holds is of what is left
-abbrev pub HoldsLeft : Spelling → Network → ℕ → ℕ → ℕ → ℕ → MachineState → Type 0
-HoldsLeft says n v p u q w =
-    AtLink says n v p u q (λ held fs. (r : Reception) → held ≡ Received r → Whole n.graph v r.said) w
+abbrev pub HoldsLeft : Spelling → Snapshot → Network → ℕ → ℕ → ℕ → ℕ → MachineState → Type 0
+HoldsLeft says ways n v p u q w =
+    AtLink says n v p u q (λ held fs. (r : Reception) → held ≡ Received r → Whole ways v r.said) w
 
-abbrev pub DownStage : Spelling → Network → System → ℕ → ℕ → ℕ → ℕ → ℕ → ℕ → MachineState → Type 0
-DownStage says n best far last v p u q w =
+abbrev pub DownStage : Spelling → Snapshot → Network → System → ℕ → ℕ → ℕ → ℕ → ℕ → ℕ → MachineState → Type 0
+DownStage says ways n best far last v p u q w =
     IsLed says n best far v p u q w
-    ⊎ (IsLeft says n best far last v p u q w ⊎ (HasLeft n w v best far × IsFreeAt says n v p u q w))
+    ⊎ (IsLeft says ways n best far last v p u q w ⊎ (HasLeft n w v best far × IsFreeAt says ways n v p u q w))
 
 -- the system is moved
 abbrev pub IsMoved : Snapshot → Network → ℕ → Type 0
@@ -161,11 +161,11 @@ module _ (says : Spelling) (g : Snapshot) (n : Network) (Tree : ℕ → Type 0) 
       pub sooner : Tree top → IsOld n w top best (base + depth top) → w.time ≤ start
       pub down : (v p u q : ℕ) → Tree v → Joins n.graph (port_of v (suc p)) (port_of u (suc q))
           → LeadsDown g Tree Out base depth v u
-          → DownStage says n best (base + depth v) (falls_by n start (suc (depth v))) v p u q w
+          → DownStage says t.ways n best (base + depth v) (falls_by n start (suc (depth v))) v p u q w
       pub up : (v p u q : ℕ) → Tree u → Joins n.graph (port_of v (suc p)) (port_of u (suc q)) → IsBeyond Tree Out depth
           u
           v
-          → IsFreeAt says n v p u q w
+          → IsFreeAt says t.ways n v p u q w
 
     -- ---- what one system holds
 
@@ -179,7 +179,7 @@ module _ (says : Spelling) (g : Snapshot) (n : Network) (Tree : ℕ → Type 0) 
       pub p : ℕ
       pub joins : Joins n.graph (port_of v (suc p)) (port_of x (suc i))
       pub source : r.said.source ≡ port_of v (suc p)
-      pub said : Whole n.graph v r.said
+      pub said : Whole t.ways v r.said
           ⊎ (Tree v × (depth x ≡ suc (depth v)) × HasTold r.said (base + depth v))
 
     -- or it came over a lost link to the system at the top, and was told before
@@ -198,7 +198,7 @@ module _ (says : Spelling) (g : Snapshot) (n : Network) (Tree : ℕ → Type 0) 
       pub p : ℕ
       pub joins : Joins n.graph (port_of v (suc p)) (port_of x (suc i))
       pub source : r.said.source ≡ port_of v (suc p)
-      pub whole : Whole n.graph v r.said
+      pub whole : Whole t.ways v r.said
 
     -- a nearer system told it over the link at this port
     pub record IsToldByNearer (x i : ℕ) (r : Reception) : Type 0 where
@@ -226,18 +226,23 @@ module _ (says : Spelling) (g : Snapshot) (n : Network) (Tree : ℕ → Type 0) 
     is_moved x in_x unmoved = elim (t.worse x in_x) [
       | inl less ↦
           let one = ap (λ (b : System). b.identity)
-          (IsBest-unique n.graph x best next t.well (unmoved.best best (t.was_best x in_x)) (t.is_best x in_x)) in
+          (IsBest-unique n.graph x best next t.well (unmoved.best best (t.was_best x in_x)) (t.best_now x in_x)) in
           omega (arith, less, one)
       | inr (same, more) ↦
-          let far = more (base + depth x) (unmoved.far (base + depth x) (t.was x in_x)) in omega (arith, far)
+          let far = more (base + depth x) (t.far_now x (base + depth x) (inl in_x) (unmoved.far (base + depth x)
+          (t.was x in_x))) in
+          omega (arith, far)
     ]
 
     abbrev pub HoldsInTree : ℕ → MachineState → Type 0
     HoldsInTree x w = (s : Station) (i : ℕ) (r : Reception) → slice_get w.stations (n.place x) ≡ Some s
         → HoldsAt s i r → HeldInTree x i r
 
+    lives_then : (v : ℕ) → In v (clocks n.graph) → In v (clocks t.ways)
+    lives_then = ways_lives g n Tree Out top best next base depth t
+
     -- what is of what is left and comes to a system of the tree isn't what was told to it before, nor better
-    pub whole_new : (x v : ℕ) (a : Announce) → Tree x → Adjacent n.graph x v → Whole n.graph v a
+    pub whole_new : (x v : ℕ) (a : Announce) → Tree x → Adjacent n.graph x v → Whole t.ways v a
         → (best.identity < a.root) ⊎ ((a.root ≡ best.identity) × (base + depth x ≤ a.steps))
     whole_new x v a in_x joined whole = elim (t.worse x in_x) [
       | inl less ↦ inl (omega (arith, less, least))
@@ -246,23 +251,27 @@ module _ (says : Spelling) (g : Snapshot) (n : Network) (Tree : ℕ → Type 0) 
         | yes below ↦
             let root : a.root ≡ next.identity = omega (arith, below, least) in
             let one = ap (λ (b : System). b.identity) same in
-            let (far, here) = distance_exists n.graph x t.well (t.lives x in_x) in
-            let (near, there) = distance_exists n.graph v t.well (Adjacent-clock n.graph x v t.well joined) in
-            let by = IsDistance-neighbour n.graph v x near far t.well (Adjacent-sym n.graph x v joined) there here in
-            let few = steps_not_fewer n.graph t.well v a whole next is_next v near (inl (λ i. v)) is_next there root in
+            let (far, here) = distance_exists t.ways x t.ways_well (lives_then x (t.lives x in_x)) in
+            let (near, there) = distance_exists t.ways v t.ways_well (Adjacent-clock t.ways x v t.ways_well over) in
+            let by = IsDistance-neighbour t.ways v x near far t.ways_well (Adjacent-sym t.ways x v over) there here in
+            let few = steps_not_fewer t.ways t.ways_well v a whole next is_next v near (inl (λ i. v)) is_next there
+            root in
             let farther = more far here in
             inr (root ∙ sym one, omega (arith, by, few, farther))
       ]
     ]
       where
-        is_next : IsBest n.graph v next
+        over : Adjacent t.ways x v
+        over = to_ways g n Tree Out top best next base depth t x v joined
+
+        is_next : IsBest t.ways v next
         is_next = best_beside g n Tree Out top best next base depth t x v in_x joined
 
         least : next.identity ≤ a.root
-        least = root_not_better n.graph t.well v a whole next is_next
+        least = root_not_better t.ways t.ways_well v a whole next is_next
 
     -- what a system of the tree tells of what is left is worse than what it told before
-    pub own_new : (v : ℕ) (a : Announce) → Tree v → Whole n.graph v a
+    pub own_new : (v : ℕ) (a : Announce) → Tree v → Whole t.ways v a
         → (best.identity < a.root) ⊎ ((a.root ≡ best.identity) × (base + depth v < a.steps))
     own_new v a in_v whole = elim (t.worse v in_v) [
       | inl less ↦ inl (omega (arith, less, least))
@@ -271,22 +280,23 @@ module _ (says : Spelling) (g : Snapshot) (n : Network) (Tree : ℕ → Type 0) 
         | yes below ↦
             let root : a.root ≡ next.identity = omega (arith, below, least) in
             let one = ap (λ (b : System). b.identity) same in
-            let (far, here) = distance_exists n.graph v t.well (t.lives v in_v) in
-            let few = steps_not_fewer n.graph t.well v a whole next is_next v far (inl (λ i. v)) is_next here root in
+            let (far, here) = distance_exists t.ways v t.ways_well (lives_then v (t.lives v in_v)) in
+            let few = steps_not_fewer t.ways t.ways_well v a whole next is_next v far (inl (λ i. v)) is_next here
+            root in
             let farther = more far here in
             inr (root ∙ sym one, omega (arith, few, farther))
       ]
     ]
       where
-        is_next : IsBest n.graph v next
+        is_next : IsBest t.ways v next
         is_next = t.is_best v in_v
 
         least : next.identity ≤ a.root
-        least = root_not_better n.graph t.well v a whole next is_next
+        least = root_not_better t.ways t.ways_well v a whole next is_next
 
     -- what was told before isn't of what is left
     pub not_free_old : (v x p i : ℕ) (a : Announce) → Tree x → Joins n.graph (port_of v (suc p)) (port_of x (suc i))
-        → Whole n.graph v a → depth x ≡ suc (depth v) → HasTold a (base + depth v) → ⊥
+        → Whole t.ways v a → depth x ≡ suc (depth v) → HasTold a (base + depth v) → ⊥
     not_free_old v x p i a in_x joins whole deeper (root, steps) =
         elim (whole_new x v a in_x (suc i, suc p, Joins-sym n.graph (port_of v (suc p)) (port_of x (suc i)) joins)
         whole) [
@@ -304,6 +314,9 @@ module _ (says : Spelling) (g : Snapshot) (n : Network) (Tree : ℕ → Type 0) 
 
       pub known : In (station_system s) n.graph.systems
       known = (m.kept.calm.facts.stations (n.place x) s at is_x.0).known
+
+      known_then : In (station_system s) t.ways.systems
+      known_then = t.ways_stand (station_system s) known
 
       -- it is clear in the snapshot of before
       pub was_clear : IsClear g s
@@ -346,15 +359,15 @@ module _ (says : Spelling) (g : Snapshot) (n : Network) (Tree : ℕ → Type 0) 
       own_not_old : s.root ≡ s.identity → s.steps ≡ 0 → HasChoice s best (base + depth x) → ⊥
       own_not_old own none (root, steps) = elim (t.worse x in_x) [
         | inl less ↦
-            let least = (t.is_best x in_x).least (station_system s) known
-            (subst (Reaches n.graph x) (sym is_x.1) (Reaches-self n.graph x (t.lives x in_x))) in
+            let least = (t.is_best x in_x).least (station_system s) known_then
+            (subst (Reaches t.ways x) (sym is_x.1) (Reaches-self t.ways x (lives_then x (t.lives x in_x)))) in
             absurd (omega (arith, least, less, own, root))
         | inr (same, more) ↦
-            let one = same_identity n.graph next (station_system s) t.well (t.is_best x in_x).live known
+            let one = same_identity t.ways next (station_system s) t.ways_well (t.is_best x in_x).live known_then
             (ap (λ (b : System). b.identity) (sym same) ∙ sym root ∙ own) in
             let clock : next.clock ≡ x = ap (λ (b : System). b.clock) one ∙ is_x.1 in
-            let here = subst (λ c. IsDistance n.graph c 0) clock
-            (IsDistance-best n.graph next (subst (λ c. IsBest n.graph c next) (sym clock) (t.is_best x in_x))) in
+            let here = subst (λ c. IsDistance t.ways c 0) clock
+            (IsDistance-best t.ways next (subst (λ c. IsBest t.ways c next) (sym clock) (t.is_best x in_x))) in
             let far = more 0 here in
             absurd (omega (arith, far))
       ]
@@ -373,22 +386,78 @@ module _ (says : Spelling) (g : Snapshot) (n : Network) (Tree : ℕ → Type 0) 
 
         -- it fits
         pub free_fits : (HasChoice s best (base + depth x) → ⊥) → (i : ℕ) (r : Reception) → HoldsAt s i r
-            → CameFits n.graph s.clock (suc i) r
+            → CameFits t.ways s.clock (suc i) r
         free_fits not i r holds =
             let h = free_holds not i r holds in
-            came_fits n.graph s.clock (suc i) r t.well (record {
+            came_fits t.ways s.clock (suc i) r t.ways_well (record {
               from = port_of h.v (suc h.p);
-              joins = subst (λ c. Joins n.graph (port_of h.v (suc h.p)) (port_of c (suc i))) (sym is_x.1) h.joins;
+              joins = t.ways_left.links (port_of h.v (suc h.p)) (port_of s.clock (suc i))
+                  (subst (λ c. Joins n.graph (port_of h.v (suc h.p)) (port_of c (suc i))) (sym is_x.1) h.joins);
               source = h.source;
               sound = inr h.whole;
             })
 
-        pub free_clear : (HasChoice s best (base + depth x) → ⊥) → IsClear n.graph s
+        pub free_clear : (HasChoice s best (base + depth x) → ⊥) → IsClear t.ways s
         free_clear not = record {
           rest = rest;
-          known = known;
-          held = λ i r holds. bounded n.graph s.clock (suc i) r (free_fits not i r holds);
+          known = was_itself t.ways (station_system s) known_then;
+          held = λ i r holds. bounded t.ways s.clock (suc i) r (free_fits not i r holds);
         }
+
+        -- and by what is left it is clear
+        pub clear_left : (HasChoice s best (base + depth x) → ⊥) → IsClear n.graph s
+        clear_left not =
+            record { rest = rest; known = was_itself n.graph (station_system s) known; held = bounded_left }
+          where
+            is_best : (b : System) → IsBest n.graph s.clock b → IsBest t.ways s.clock b
+            is_best b is =
+                let one = IsBest-unique n.graph x next b t.well (t.best_now x in_x)
+                (subst (λ c. IsBest n.graph c b) is_x.1 is) in
+                subst (λ c. IsBest t.ways c b) (sym is_x.1) (subst (IsBest t.ways x) one (t.is_best x in_x))
+
+            far_now : (v far : ℕ) → Around Tree Out v → IsDistance n.graph v far → IsDistance t.ways v far
+            far_now = t.far_now
+
+            bounded_left : (i : ℕ) (r : Reception) → HoldsAt s i r → CameBounded n.graph s.clock (suc i) r
+            bounded_left i r holds = record {
+              over = λ linked. over_link linked.0 linked.1;
+              root = λ b is. fits.fits.root b (is_best b is);
+              here = λ b far is root there. fits.fits.here b far (is_best b is) root
+                  (subst (λ c. IsDistance t.ways c far) (sym is_x.1)
+                  (far_now x far (inl in_x) (subst (λ c. IsDistance n.graph c far) is_x.1 there)));
+            }
+              where
+                fits : CameFits t.ways s.clock (suc i) r
+                fits = free_fits not i r holds
+
+                over_link : (u : PortIdentity) → Joins n.graph (port_of s.clock (suc i)) u
+                    → CameOverLink n.graph s.clock (suc i) r.said
+                over_link u joined = record {
+                  from = u;
+                  joins = Joins-sym n.graph (port_of s.clock (suc i)) u joined;
+                  source = came.source ∙ same;
+                  sender = λ b far is root there. came.sender b far (is_best b is) root
+                      (subst (λ (k : PortIdentity). IsDistance t.ways k.clock far) (sym same)
+                      (far_now u.clock far beside there));
+                }
+                  where
+                    joins_ways : Joins t.ways (port_of s.clock (suc i)) u
+                    joins_ways = t.ways_left.links (port_of s.clock (suc i)) u joined
+
+                    came : CameOverLink t.ways s.clock (suc i) r.said
+                    came = fits.over (u, joins_ways)
+
+                    same : came.from ≡ u
+                    same =
+                        t.ways_well.one_link (port_of s.clock (suc i)) came.from u
+                        (Joins-sym t.ways came.from (port_of s.clock (suc i)) came.joins) joins_ways
+
+                    beside : Around Tree Out u.clock
+                    beside = elim (t.beside x u.clock in_x
+                        (suc i, u.port, subst (λ c. Joins n.graph (port_of c (suc i)) u) is_x.1 joined)) [
+                          | inl in_u ↦ inl in_u
+                          | inr out ↦ inr (x, out)
+                        ]
 
         -- ---- who has its old choice
 
@@ -462,22 +531,25 @@ module _ (says : Spelling) (g : Snapshot) (n : Network) (Tree : ℕ → Type 0) 
                 (subst (λ c. In c r.said.path) (sym is_x.1) names)
 
             -- it is of what is left
-            pub says_whole : Whole n.graph x a
+            pub says_whole : Whole t.ways x a
             says_whole = by follows
               where
-                by : FollowsItself s ⊎ FollowsPort s → Whole n.graph x a
+                by : FollowsItself s ⊎ FollowsPort s → Whole t.ways x a
                 by (inl itself) =
-                    subst (λ c. Whole n.graph c a) is_x.1
-                    (whole_own n.graph (station_system s) a known (own.root ∙ itself.root) (own.steps ∙ itself.steps)
+                    subst (λ c. Whole t.ways c a) is_x.1
+                    (whole_own t.ways (station_system s) a known_then (own.root ∙ itself.root)
+                    (own.steps ∙ itself.steps)
                     (own.path ∙ itself.trace))
                 by (inr port) =
                     let h = free_holds not port.place port.r port.holds in
-                    whole_on n.graph x h.v port.r.said a h.whole (t.lives x in_x) (
+                    whole_on t.ways x h.v port.r.said a h.whole (lives_then x (t.lives x in_x)) (to_ways g n Tree Out
+                    top best next
+                    base depth t x h.v (
                       suc port.place,
                       suc h.p,
                       Joins-sym n.graph (port_of h.v (suc h.p)) (port_of x (suc port.place))
                           h.joins,
-                    )
+                    ))
                     (no_loop port.place port.r port.holds) (own.root ∙ port.root) (own.steps ∙ port.steps)
                     (own.path ∙ subst (λ c. s.trace ≡ port.r.said.path ++ c ∷ []) is_x.1 port.trace)
 
@@ -528,12 +600,31 @@ module _ (says : Spelling) (g : Snapshot) (n : Network) (Tree : ℕ → Type 0) 
                     | inr (inr none) ↦ none
                   ]
 
+              -- its way goes on to whoever is beyond it
+              way_on : (whole : Whole t.ways x a) → IsPath t.ways u whole.first.clock (x ∷ whole.others)
+              way_on whole = record {
+                begins = Adjacent-clock t.ways x u t.ways_well
+                    (to_ways g n Tree Out top best next base depth t x u (suc p, suc q, joins));
+                route = (
+                  to_ways g n Tree Out top best next base depth t u x (
+                    suc q,
+                    suc p,
+                    Joins-sym n.graph (port_of x (suc p)) (port_of u (suc q)) joins,
+                  ),
+                  whole.way.route,
+                );
+                different = (
+                  (λ among. names_not follows (named t.ways x a whole u among)),
+                  whole.way.different,
+                );
+              }
+
               pub says_usable : IsUsable u a
               says_usable =
                   let whole = says_whole in
-                  let short = t.paths x whole.first.clock whole.others whole.way in
+                  let short = t.paths u whole.first.clock (x ∷ whole.others) (way_on whole) in
                   let steps_are = whole.steps in
-                  let long = path_length n.graph t.well x a whole next (t.is_best x in_x) in
+                  let long = path_length t.ways t.ways_well x a whole next (t.is_best x in_x) in
                   let few = t.few in
                   record {
                     foreign = λ same. apart (sym (ap (λ (z : PortIdentity). z.clock) own.source ∙ is_x.1) ∙ same);

@@ -2,6 +2,7 @@
 -- as soon as the system that tells has settled.
 use Rattle.std.proofs.Common.{◌≡◌, ◌⊎◌, ◌<◌, ◌≤◌, ◌+◌, ℕ, suc, Some, slice_get, refl, sym, ap, subst, ◌∙◌, inl, inr, arith}
 use Rattle.gptp_graph.specs.Best.{IsBest}
+use Rattle.gptp_graph.specs.Distance.{IsDistance}
 use Rattle.gptp_graph.specs.Order.{IsLower}
 use Rattle.gptp_graph.specs.Snapshot.{Joins, Snapshot, System, port_of}
 use Rattle.gptp_graph.proofs.LinkLemmas.{Joins-sym}
@@ -32,8 +33,18 @@ module _ (says : Spelling) (g : Snapshot) (n : Network) (Tree : ℕ → Type 0) 
 
   module _ (f v p u q : ℕ) (close : f < 255) (in_v : Tree v) (in_u : Tree u)
       (leads : LeadsFarther n.graph f next v p u q) (delay : n.most ≤ before f) where
-    best_u : IsBest n.graph u next
+    best_u : IsBest t.ways u next
     best_u = t.is_best u in_u
+
+    -- how far both are by what is told since
+    here_v : IsDistance t.ways v f
+    here_v = t.far_now v f (inl in_v) leads.here
+
+    there_u : IsDistance t.ways u leads.far
+    there_u = t.far_now u leads.far (inl in_u) leads.there
+
+    joins_ways : Joins t.ways (port_of v (suc p)) (port_of u (suc q))
+    joins_ways = t.ways_left.links (port_of v (suc p)) (port_of u (suc q)) leads.joins
 
     back : Joins n.graph (port_of u (suc q)) (port_of v (suc p))
     back = Joins-sym n.graph (port_of v (suc p)) (port_of u (suc q)) leads.joins
@@ -45,7 +56,7 @@ module _ (says : Spelling) (g : Snapshot) (n : Network) (Tree : ℕ → Type 0) 
     settled_left : (s : Station) → HasChoice s next f → HasChoice s best (base + depth v) → ⊥
     settled_left s (root, steps) (was, were) = elim (t.worse v in_v) [
       | inl less ↦ omega (arith, less, root, was)
-      | inr (same, more) ↦ let far = more f leads.here in omega (arith, far, steps, were)
+      | inr (same, more) ↦ let far = more f here_v in omega (arith, far, steps, were)
     ]
 
     -- until then there is time
@@ -61,13 +72,13 @@ module _ (says : Spelling) (g : Snapshot) (n : Network) (Tree : ℕ → Type 0) 
     show w m falling early down = record {
       settled = λ s pv at there ready.
           let (live, clock) = lives_at n w m.kept.calm v (t.lives v in_v) s at in
-          tells_clear n.graph t.well k next refl leads.far best_u leads.there leads.farther s
+          tells_clear t.ways t.ways_well k next refl leads.far best_u there_u leads.farther s
           (free_clear says g n Tree Out top best next base depth t start w m v in_v s at
           (holds_in_tree says g n Tree Out top best next base depth t start w m falling v in_v)
           (settled_left s ready.0))
           (λ place r holds. (free_fits says g n Tree Out top best next base depth t start w m v in_v s at
           (holds_in_tree says g n Tree Out top best next base depth t start w m falling v in_v) (settled_left s ready.0)
-          place r holds).fits) clock leads.is_best (port_of u (suc q)) leads.joins refl
+          place r holds).fits) clock (t.is_best v in_v) (port_of u (suc q)) joins_ways refl
           (t.well.apart (port_of v (suc p)) (port_of u (suc q)) leads.joins) close
           (m.kept.calm.facts.stations (n.place v) s at live).follows pv there ready;
       early = early;
@@ -79,7 +90,7 @@ module _ (says : Spelling) (g : Snapshot) (n : Network) (Tree : ℕ → Type 0) 
             → IsLower (final_vector k) (master r d u (suc q))
         weaker s pu at there r d mine (no not) =
             let (live, clock) = lives_at n w m.kept.calm u (t.lives u in_u) s at in
-            weaker_clear n.graph t.well k next refl leads.far best_u leads.there leads.farther s
+            weaker_clear t.ways t.ways_well k next refl leads.far best_u there_u leads.farther s
             (free_clear says g n Tree Out top best next base depth t start w m u in_u s at
             (holds_in_tree says g n Tree Out top best next base depth t start w m falling u in_u) not) clock pu there r
             d mine
@@ -136,7 +147,7 @@ module _ (says : Spelling) (g : Snapshot) (n : Network) (Tree : ℕ → Type 0) 
           not_led : HasLeft n w u best (base + depth u) → LinkSettles says (telling n (before f) f next v p u q) w'
           not_led not = elim after [ inl root ↦ not_ready w' root | inr not' ↦ kept_by (inr not) (inr not') ]
 
-          by : DownStage says n best (base + depth u) (falls_by n start (suc (depth u))) u q v p w
+          by : DownStage says t.ways n best (base + depth u) (falls_by n start (suc (depth u))) u q v p w
               → LinkSettles says (telling n (before f) f next v p u q) w'
           by (inl led) = not_ready w' (elim (led_next says g n Tree Out top best next base depth t start w w' m m' step
               drops falling u

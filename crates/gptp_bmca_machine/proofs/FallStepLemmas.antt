@@ -81,50 +81,50 @@ module _ (says : Spelling) (g : Snapshot) (n : Network) (Tree : ℕ → Type 0) 
 
   -- ---- what is held over a free link stays so
 
-  pub free_held : IsFreeAt says n v p u q w → HoldsLeft says n v p u q w'
+  pub free_held : IsFreeAt says t.ways n v p u q w → HoldsLeft says t.ways n v p u q w'
   free_held free =
       link_steps says n v p u q t.well joins w w' m.kept.calm m'.kept.calm is_on m.kept.lapses
-      (IsFree says n.graph v u) (λ held fs. (r : Reception) → held ≡ Received r → Whole n.graph v r.said) (λ a. ⊤)
+      (IsFree says t.ways v u) (λ held fs. (r : Reception) → held ≡ Received r → Whole t.ways v r.said) (λ a. ⊤)
       (record {
         news = λ touch mid call z a sent from said. tt;
         stays = λ held fs is. is.hears;
         enters = λ held fs news new is. is;
         misses = λ held f fs silent is. record { hears = is.hears; flight = λ h a among. is.flight h a (inr among) };
         answers = λ touch now root steps pu pu' sends fs end end' time left answer deaf aged is.
-            (free_answers says n.graph v u q touch now root steps pu pu' sends answer fs deaf is).hears;
+            (free_answers says t.ways v u q touch now root steps pu pu' sends answer fs deaf is).hears;
         hears = λ now root steps pu pu' sends l f fs a end end' time at frames said answer is.
-            (free_hears says n.graph v u q now root steps pu pu' sends f fs a said answer is).hears;
+            (free_hears says t.ways v u q now root steps pu pu' sends f fs a said answer is).hears;
       }) step free
 
   -- and so does the link, where what is said is so
-  pub free_kept : SaysSo (λ a. Whole n.graph v a ⊎ In u a.path) → IsFreeAt says n v p u q w
-      → IsFreeAt says n v p u q w'
+  pub free_kept : SaysSo (λ a. Whole t.ways v a ⊎ In u a.path) → IsFreeAt says t.ways n v p u q w
+      → IsFreeAt says t.ways n v p u q w'
   free_kept new free =
       link_steps says n v p u q t.well joins w w' m.kept.calm m'.kept.calm is_on m.kept.lapses
-      (IsFree says n.graph v u) (IsFree says n.graph v u) (λ a. Whole n.graph v a ⊎ In u a.path)
+      (IsFree says t.ways v u) (IsFree says t.ways v u) (λ a. Whole t.ways v a ⊎ In u a.path)
       (record {
         news = new;
         stays = λ held fs is. is;
         enters = λ held fs news entered is. record {
           hears = is.hears;
-          flight = all_more says (λ a. Whole n.graph v a ⊎ In u a.path) fs news is.flight entered;
+          flight = all_more says (λ a. Whole t.ways v a ⊎ In u a.path) fs news is.flight entered;
         };
         misses = λ held f fs silent is. record { hears = is.hears; flight = λ h a among. is.flight h a (inr among) };
         answers = λ touch now root steps pu pu' sends fs end end' time left answer deaf aged is.
-            free_answers says n.graph v u q touch now root steps pu pu' sends answer fs deaf is;
+            free_answers says t.ways v u q touch now root steps pu pu' sends answer fs deaf is;
         hears = λ now root steps pu pu' sends l f fs a end end' time at frames said answer is.
-            free_hears says n.graph v u q now root steps pu pu' sends f fs a said answer is;
+            free_hears says t.ways v u q now root steps pu pu' sends f fs a said answer is;
       }) step free
 
   -- ---- what was told before is held until what is told since comes
 
   module _ (in_v : Tree v) (leads : LeadsDown g Tree Out base depth v u) (last : ℕ)
-      (new : SaysSo (IsNewTold n.graph (port_of v (suc p)) u)) where
+      (new : SaysSo (IsNewTold t.ways (port_of v (suc p)) u)) where
     abbrev k : Wiring
     k = still n (base + depth v) best v p u q
 
     abbrev New : Announce → Type 0
-    New = IsNewTold n.graph (port_of v (suc p)) u
+    New = IsNewTold t.ways (port_of v (suc p)) u
 
     known_u : In u (clocks n.graph)
     known_u = hearer_known g n t.well t.left n.most 0 best v p u q joins (omega arith)
@@ -184,7 +184,7 @@ module _ (says : Spelling) (g : Snapshot) (n : Network) (Tree : ℕ → Type 0) 
         (fs : List AnnounceFrame) (a : Announce) → StandsAtEnd says n v p u q w pu → StandsAtEnd says n v p u q w' pu'
         → now ≡ w.time → slice_get w.lanes (n.lane (port_of v (suc p))) ≡ Some l → l.frames ≡ f ∷ fs
         → says f.octets a → PortStep says u (suc q) now (Hear (suc q) a) root steps pu pu' sends
-        → Holds pu.held (f ∷ fs) → Holds pu'.held fs ⊎ IsFree says n.graph v u pu'.held fs
+        → Holds pu.held (f ∷ fs) → Holds pu'.held fs ⊎ IsFree says t.ways v u pu'.held fs
     hears_next now root steps pu pu' sends l f fs a end end' time at frames said answer old =
         elim (told_front says k New last f fs a said old.told) [
           | inl (fresh, all) ↦ inr (record {
@@ -196,7 +196,7 @@ module _ (says : Spelling) (g : Snapshot) (n : Network) (Tree : ℕ → Type 0) 
         ]
       where
         heard_new : New a → (r : Reception) → pu'.held ≡ Received r
-            → HeldInTouch u (suc q) (Hear (suc q) a) now pu.held answer.mid → Whole n.graph v r.said
+            → HeldInTouch u (suc q) (Hear (suc q) a) now pu.held answer.mid → Whole t.ways v r.said
         heard_new fresh r holds (inr (apart, is)) = absurd (apart refl)
         heard_new fresh r holds (inl (same, on, inr refuses)) =
             absurd (refuses.fails fresh.usable
@@ -207,7 +207,7 @@ module _ (says : Spelling) (g : Snapshot) (n : Network) (Tree : ℕ → Type 0) 
               let both : Received (record { said = a; at = now; span = takes.span }) ≡ Received r =
               sym takes.is ∙ sym kept ∙ holds in
               let one : a ≡ r.said = cc in
-              subst (Whole n.graph v) one fresh.whole
+              subst (Whole t.ways v) one fresh.whole
         ]
 
         soon : (h : AnnounceFrame) → In h fs → h.due ≤ now + n.most
@@ -230,10 +230,10 @@ module _ (says : Spelling) (g : Snapshot) (n : Network) (Tree : ℕ → Type 0) 
 
     -- so it is held, or the link is free
     pub old_kept : AtLink says n v p u q Holds w
-        → AtLink says n v p u q (λ held fs. Holds held fs ⊎ IsFree says n.graph v u held fs) w'
+        → AtLink says n v p u q (λ held fs. Holds held fs ⊎ IsFree says t.ways v u held fs) w'
     old_kept is =
         link_steps says n v p u q t.well joins w w' m.kept.calm m'.kept.calm is_on m.kept.lapses Holds
-        (λ held fs. Holds held fs ⊎ IsFree says n.graph v u held fs) New
+        (λ held fs. Holds held fs ⊎ IsFree says t.ways v u held fs) New
         (record {
           news = new;
           stays = λ held fs old. inl old;
@@ -241,7 +241,7 @@ module _ (says : Spelling) (g : Snapshot) (n : Network) (Tree : ℕ → Type 0) 
             | inl old ↦ inl (old_more says k New last held fs news entered old)
             | inr free ↦ inr (record {
               hears = free.hears;
-              flight = all_more says (λ a. Whole n.graph v a ⊎ In u a.path) fs news free.flight
+              flight = all_more says (λ a. Whole t.ways v a ⊎ In u a.path) fs news free.flight
                   (λ f a among said. inl (entered f a among said).whole);
             })
           ];
@@ -253,12 +253,12 @@ module _ (says : Spelling) (g : Snapshot) (n : Network) (Tree : ℕ → Type 0) 
         }) step is
 
     -- one or the other, as there is one port and one lane
-    pub old_or_free : AtLink says n v p u q (λ held fs. Holds held fs ⊎ IsFree says n.graph v u held fs) w'
-        → AtLink says n v p u q Holds w' ⊎ IsFreeAt says n v p u q w'
+    pub old_or_free : AtLink says n v p u q (λ held fs. Holds held fs ⊎ IsFree says t.ways v u held fs) w'
+        → AtLink says n v p u q Holds w' ⊎ IsFreeAt says t.ways n v p u q w'
     old_or_free is = by (station_of g n t.well t.left w' m'.kept m'.fits.stations u known_u)
       where
         by : ((s : Station) × (slice_get w'.stations (n.place u) ≡ Some s) × (s.live ≡ true) × (s.clock ≡ u))
-            → AtLink says n v p u q Holds w' ⊎ IsFreeAt says n v p u q w'
+            → AtLink says n v p u q Holds w' ⊎ IsFreeAt says t.ways n v p u q w'
         by (s, at, live, clock) =
             let (pu, there) = port_there g n t.well t.left w' m'.kept m'.fits.stations u q (port_of v (suc p)) s at
             (link_back g n t.well t.left n.most 0 best v p u q joins (omega arith)) in
@@ -268,7 +268,7 @@ module _ (says : Spelling) (g : Snapshot) (n : Network) (Tree : ℕ → Type 0) 
                   l2 at2
                   there2 lane2)
               | inr free ↦ inr (λ s2 pu2 l2 at2 there2 lane2. one s pu has.lane at there has.there
-                  (IsFree says n.graph v u) free s2 pu2 l2 at2 there2 lane2)
+                  (IsFree says t.ways v u) free s2 pu2 l2 at2 there2 lane2)
             ]
           where
             one : (s : Station) (pu : Port) (l : Lane) → slice_get w'.stations (n.place u) ≡ Some s

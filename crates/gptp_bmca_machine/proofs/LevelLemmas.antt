@@ -119,7 +119,7 @@ module _ (says : Spelling) (n : Network) (net : IsSettlingNetwork n) (w : Machin
       go (live, clock) =
           zero_settles n.graph net.graph s (clear_at n net w calm sound (n.place v) s at live (omega arith)) best
           (subst (λ c. IsBest n.graph c best) (sym clock) is_best)
-          (subst (λ c. IsDistance n.graph c 0) (sym clock) here)
+          (calm.facts.stations (n.place v) s at live).known (subst (λ c. IsDistance n.graph c 0) (sym clock) here)
   chooses (suc e) levels near late v best s at is_best here =
       by_neighbour (nearer_neighbour n.graph v e net.graph here)
       (chooses e (λ f below. levels f (omega arith)) (omega arith) (omega arith))
@@ -155,7 +155,7 @@ module _ (says : Spelling) (n : Network) (net : IsSettlingNetwork n) (w : Machin
               (subst (λ c. IsDistance n.graph c (suc e)) (sym clock) here) holds final.root final.steps
 
 -- time doesn't go back
-steps_on : (says : Spelling) (w w' : MachineState) → MachineSteps says w w' → w.time ≤ w'.time
+pub steps_on : (says : Spelling) (w w' : MachineState) → MachineSteps says w w' → w.time ≤ w'.time
 steps_on says w w' (inl wait) = subst (λ (x : MachineState). w.time ≤ x.time) (sym wait.is) wait.later
 steps_on says w w' (inr (inl act)) =
     let one = act.call.time in let two = act.pops.time in omega (arith, one, two)

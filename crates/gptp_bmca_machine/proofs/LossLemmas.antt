@@ -25,9 +25,9 @@ use Rattle.gptp_bmca_machine.specs.Calm.{Calm}
 use Rattle.gptp_bmca_machine.specs.Levels.{LeadsFarther, LevelSettles, Invariant}
 use Rattle.gptp_bmca_machine.specs.Run.{last_state, NearHaveSettled}
 use Rattle.gptp_bmca_machine.specs.RestLaws.{IsResting}
-use Rattle.gptp_bmca_machine.specs.LossLaws.{FlightFits, EverythingFits, IsWhatIsLeft, IsLoss, NothingMoved, IsLossRun}
+use Rattle.gptp_bmca_machine.specs.LossLaws.{FlightFits, EverythingFits, IsWhatIsLeft, IsLoss, NothingMoved, IsLossRun, WasSystem}
 use Rattle.gptp_bmca_machine.proofs.NearestLemmas.{came_fits}
-use Rattle.gptp_bmca_machine.proofs.RestLemmas.{IsClear, bounded, root_above, steps_above}
+use Rattle.gptp_bmca_machine.proofs.RestLemmas.{IsClear, bounded, root_above, steps_above, was_there}
 use Rattle.gptp_bmca_machine.proofs.ReactsLemmas.{JustHeard, held_from}
 use Rattle.gptp_bmca_machine.proofs.EndsLemmas.{is_station}
 use Rattle.gptp_bmca_machine.proofs.LevelLemmas.{invariant_kept}
@@ -35,8 +35,8 @@ use Rattle.gptp_bmca_machine.proofs.SettledLemmas.{network_settles}
 use Rattle.gptp_bmca_machine.proofs.RestingLemmas.{links_stay, stays_so}
 
 module _ (says : Spelling) (g : Snapshot) (n : Network) (left : IsWhatIsLeft g n) where
-  -- the system is one of the snapshot
-  known_in : (now : ℕ) (s : Station) → IsLiveStationState (network_setting n) now s → In (station_system s) g.systems
+  -- the system is one of the snapshot, maybe with a better identity
+  known_in : (now : ℕ) (s : Station) → IsLiveStationState (network_setting n) now s → WasSystem g (station_system s)
   known_in now s is = left.systems (station_system s) is.known
 
   -- all that the station holds fits
@@ -113,7 +113,7 @@ module _ (says : Spelling) (g : Snapshot) (n : Network) (left : IsWhatIsLeft g n
       fits = record {
         root = λ best is_best. above best (there best is_best);
         here = λ best far is_best root far_is. by best far is_best root far_is
-            (distance_exists g s.clock left.graph (In-clocks g (station_system s) (known_in w.time s is)));
+            (distance_exists g s.clock left.graph (was_there g (station_system s) (known_in w.time s is)));
         members = λ best x far is_best root. members best x far (there best is_best) root;
         long = λ best is_best. long best (there best is_best);
       };
@@ -323,7 +323,7 @@ module _ (says : Spelling) (n n' : Network) (net : IsSettlingNetwork n) (net' : 
   live_before : (v : ℕ) → In v (clocks n'.graph) → In v (clocks n.graph)
   live_before v known =
       let (s, here, clock) = live_system n'.graph v known in
-      subst (λ c. In c (clocks n.graph)) clock (In-clocks n.graph s (moved.loss.left.systems s here))
+      subst (λ c. In c (clocks n.graph)) clock (was_there n.graph s (moved.loss.left.systems s here))
 
   -- what is best and how far is so for both
   best_back : (v : ℕ) (b : System) → In v (clocks n'.graph) → IsBest n'.graph v b → IsBest n.graph v b

@@ -1,4 +1,4 @@
--- A system of a network at rest fails: the top of a tree that this cuts off holds what it told last.
+-- A system of a network at rest fails: the top of a tree that this moves holds what it told last.
 use Rattle.std.proofs.Common.{◌≡◌, ◌≢◌, ◌<◌, ◌≤◌, ◌+◌, ℕ, ℤ, suc, pred, true, Some, slice_get, refl, sym, ap, subst, ◌∙◌, inl, inr, arith}
 use Rattle.gptp_lists.specs.Members.{In}
 use Rattle.gptp_graph.specs.Best.{IsBest}
@@ -8,7 +8,7 @@ use Rattle.gptp_graph.proofs.BestLemmas.{IsBest-neighbour}
 use Rattle.gptp_graph.proofs.LinkLemmas.{Joins-clock, Joins-sym}
 use Rattle.gptp_graph.proofs.PathBoundLemmas.{IsDistance-within}
 use Rattle.gptp_bmca_machine.specs.Calm.{IsCalmPort}
-use Rattle.gptp_bmca_machine.specs.CutTree.{CutsOff, LosesSystem}
+use Rattle.gptp_bmca_machine.specs.CutTree.{LosesSystem}
 use Rattle.gptp_bmca_machine.specs.Frame.{AnnounceFrame, Lane, Spelling}
 use Rattle.gptp_bmca_machine.specs.Levels.{LeadsFarther}
 use Rattle.gptp_bmca_machine.specs.LinkStage.{FinalAnnounceStays}
@@ -20,15 +20,16 @@ use Rattle.gptp_bmca_machine.proofs.LevelLemmas.{port_there}
 use Rattle.gptp_bmca_machine.proofs.LinkStepLemmas.{lives_at}
 use Rattle.gptp_bmca_machine.proofs.LostPortLemmas.{HoldsLast, StaysAsNamed}
 use Rattle.gptp_bmca_machine.proofs.LostTopLemmas.{TopHolds, base_is, lost_far}
+use Rattle.gptp_bmca_machine.proofs.MovedTreeLemmas.{MovesTree}
 use Rattle.gptp_bmca_machine.proofs.PlaceLemmas.{same_there}
 use Rattle.gptp_bmca_machine.proofs.RestLemmas.{Chooses, is_master}
 use Rattle.gptp_bmca_machine.proofs.RestingLemmas.{all_choose, by_then_at, links_stay, stays_so}
 use Rattle.gptp_bmca_machine.proofs.StillLemmas.{still, still_stays}
 
 module _ (says : Spelling) (n0 n : Network) (net0 : IsSettlingNetwork n0) (w w' : MachineState)
-    (loss : IsLoss says n0 n w w') (kept' : IsAfterLoss n w') (lost top : ℕ) (best next : System) (base : ℕ)
-    (depth : ℕ → ℕ) (loses : LosesSystem n0.graph n lost) (t : CutsOff n0.graph n top best next base depth)
-    (in_top : IsBest n.graph top next)
+    (loss : IsLoss says n0 n w w') (kept' : IsAfterLoss n w') (Tree : ℕ → Type 0) (Out : ℕ → ℕ → Type 0)
+    (lost top : ℕ) (best next : System) (base : ℕ) (depth : ℕ → ℕ) (loses : LosesSystem n0.graph n lost)
+    (t : MovesTree n0.graph n Tree Out top best next base depth) (in_top : Tree top)
     (stood : (p i : ℕ) → Joins n0.graph (port_of lost (suc p)) (port_of top (suc i)) → (l : Lane)
     → slice_get w'.lanes (n.lane (port_of lost (suc p))) ≡ Some l
     → slice_get w.lanes (n.lane (port_of lost (suc p))) ≡ Some l) (stay : ℤ → ℕ) (named : StaysAsNamed stay w) where
@@ -39,19 +40,19 @@ module _ (says : Spelling) (n0 n : Network) (net0 : IsSettlingNetwork n0) (w w' 
   d = pred base
 
   far : IsDistance g lost d
-  far = lost_far says g n lost top best next base depth loses t in_top d
-      (base_is says g n lost top best next base depth loses t in_top)
+  far = lost_far says g n Tree Out lost top best next base depth loses t in_top d
+      (base_is says g n Tree Out lost top best next base depth loses t in_top)
 
   -- the top stands as it did
   stood_top : (s : Station) → slice_get w'.stations (n.place top) ≡ Some s
       → slice_get w.stations (n0.place top) ≡ Some s
   stood_top s at =
       subst (λ i. slice_get w.stations i ≡ Some s) (loss.same.place top)
-      (loss.stations (n.place top) s at (lives_at n w' kept'.calm top in_top.reached.1.begins s at).0)
+      (loss.stations (n.place top) s at (lives_at n w' kept'.calm top (t.lives top in_top) s at).0)
 
   module _ (p i : ℕ) (joins : Joins g (port_of lost (suc p)) (port_of top (suc i))) where
     nearer : d < base + depth top
-    nearer = let above = base_is says g n lost top best next base depth loses t in_top in omega (arith, above)
+    nearer = let above = base_is says g n Tree Out lost top best next base depth loses t in_top in omega (arith, above)
 
     leads : LeadsFarther g d best lost p top i
     leads = record {
@@ -67,7 +68,7 @@ module _ (says : Spelling) (n0 n : Network) (net0 : IsSettlingNetwork n0) (w w' 
     close : d < 255
     close =
         let near = t.near top in_top in
-        let above = base_is says g n lost top best next base depth loses t in_top in
+        let above = base_is says g n Tree Out lost top best next base depth loses t in_top in
         omega (arith, near, above)
 
     known : In lost (clocks g)
@@ -219,10 +220,10 @@ module _ (says : Spelling) (n0 n : Network) (net0 : IsSettlingNetwork n0) (w w' 
             ]
 
   -- other ports hold nothing
-  bare_begins : (x : ℕ) → IsBest n.graph x next → (s : Station) (i : ℕ) (r : Reception)
+  bare_begins : (x : ℕ) → Tree x → (s : Station) (i : ℕ) (r : Reception)
       → slice_get w'.stations (n.place x) ≡ Some s → HoldsAt s i r → IsLinked g (port_of x (suc i))
   bare_begins x in_x s i r at holds =
-      let is = lives_at n w' kept'.calm x in_x.reached.1.begins s at in
+      let is = lives_at n w' kept'.calm x (t.lives x in_x) s at in
       let came = loss.rests.whole.stations (n.place x) s i r (loss.stations (n.place x) s at is.0) is.0 holds in (
         came.from,
         subst (λ c. Joins g (port_of c (suc i)) came.from) is.1
@@ -232,7 +233,8 @@ module _ (says : Spelling) (n0 n : Network) (net0 : IsSettlingNetwork n0) (w w' 
   module _ (shorter : n.most ≤ n0.most)
       (long : (p i : ℕ) → Joins g (port_of lost (suc p)) (port_of top (suc i))
       → n.interval_of (port_of lost (suc p)) + n0.most < stay (n.log_of (port_of lost (suc p)))) where
-    pub top_begins : TopHolds says g n lost top best next base depth loses t in_top stay w.time n0.most shorter long w'
+    pub top_begins : TopHolds says g n Tree Out lost top best next base depth loses t in_top stay w.time n0.most
+        shorter long w'
     top_begins = record {
       last = λ p i joins bare s pu l at there lane. inl (last_begins p i joins s pu l at there lane);
       bare = bare_begins;

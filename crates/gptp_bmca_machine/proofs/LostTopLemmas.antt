@@ -1,4 +1,4 @@
--- Trees that the failure of a system cuts off: what the system at the top of one holds that was told over a lost link.
+-- Trees that the failure of a system moves: what the system at the top of one holds that was told over a lost link.
 -- That is what the failed system told last, which was the nearer one.
 use Rattle.std.proofs.Common.{◌≡◌, ◌⊎◌, ◌<◌, ◌≤◌, ◌+◌, ℕ, ℤ, zero, suc, pred, true, Some, slice_get, refl, sym, ap, subst, ◌∙◌, inl, inr, arith}
 use Rattle.gptp_lists.specs.Members.{In}
@@ -8,12 +8,13 @@ use Rattle.gptp_graph.specs.Distance.{IsDistance}
 use Rattle.gptp_graph.specs.Path.{Reaches}
 use Rattle.gptp_graph.specs.Snapshot.{Adjacent, IsLinked, Joins, PortIdentity, Snapshot, System, clocks, port_of}
 use Rattle.gptp_graph.proofs.BestLemmas.{IsBest-neighbour, IsBest-unique}
-use Rattle.gptp_graph.proofs.DistanceLemmas.{IsDistance-clock, IsDistance-unique, best_at_zero, nearer_neighbour}
-use Rattle.gptp_graph.proofs.LinkLemmas.{Adjacent-clock, Joins-clock, Joins-sym}
+use Rattle.gptp_graph.proofs.DistanceLemmas.{IsDistance-best, IsDistance-clock, IsDistance-neighbour, IsDistance-unique, best_at_zero, nearer_neighbour}
+use Rattle.gptp_graph.proofs.ExistenceLemmas.{distance_exists}
+use Rattle.gptp_graph.proofs.LinkLemmas.{Adjacent-clock, Adjacent-sym, Joins-clock, Joins-sym}
 use Rattle.gptp_graph.proofs.PathLemmas.{Reaches-self}
 use Rattle.gptp_graph.proofs.SystemLemmas.{same_clock, system_of}
 use Rattle.gptp_bmca_machine.specs.Acts.{MachineSteps}
-use Rattle.gptp_bmca_machine.specs.CutTree.{CutsOff, LosesSystem}
+use Rattle.gptp_bmca_machine.specs.CutTree.{LosesSystem}
 use Rattle.gptp_bmca_machine.specs.Facts.{station_system}
 use Rattle.gptp_bmca_machine.specs.Frame.{Spelling}
 use Rattle.gptp_bmca_machine.specs.LossLaws.{EverythingFits, IsAfterLoss}
@@ -23,31 +24,41 @@ use Rattle.gptp_bmca_machine.proofs.FallLeaveLemmas.{TreeAnswers, answers_or_sta
 use Rattle.gptp_bmca_machine.proofs.FallLemmas.{IsOldTold}
 use Rattle.gptp_bmca_machine.proofs.LevelLemmas.{places_of}
 use Rattle.gptp_bmca_machine.proofs.LinkStepLemmas.{AtLink, LaneStands, lives_at}
+use Rattle.gptp_bmca_machine.proofs.MovedTreeLemmas.{MovesTree}
 use Rattle.gptp_bmca_machine.proofs.LostPortLemmas.{HasLetGo, HoldsLast, IsLastState, StaysAsNamed, last_on}
 use Rattle.gptp_bmca_machine.proofs.PlaceLemmas.{received_injective, same_there}
 use Rattle.gptp_bmca_machine.proofs.ReactsLemmas.{held_from}
-use Rattle.gptp_bmca_machine.proofs.StillLemmas.{station_of, still}
+use Rattle.gptp_bmca_machine.proofs.StillLemmas.{adjacent_before, live_before, station_of, still}
 
-module _ (says : Spelling) (g : Snapshot) (n : Network) (lost top : ℕ) (best next : System) (base : ℕ)
-    (depth : ℕ → ℕ) (loses : LosesSystem g n lost) (t : CutsOff g n top best next base depth)
-    (in_top : IsBest n.graph top next) where
+module _ (says : Spelling) (g : Snapshot) (n : Network) (Tree : ℕ → Type 0) (Out : ℕ → ℕ → Type 0) (lost top : ℕ)
+    (best next : System) (base : ℕ) (depth : ℕ → ℕ) (loses : LosesSystem g n lost)
+    (t : MovesTree g n Tree Out top best next base depth) (in_top : Tree top) where
   known : In top (clocks n.graph)
-  known = in_top.reached.1.begins
+  known = t.lives top in_top
 
   top_far : (d : ℕ) → base ≡ d → IsDistance g top d
   top_far d is = subst (IsDistance g top) (let none = t.first in omega (arith, is, none)) (t.was top in_top)
 
   -- the top wasn't the best of before
   not_zero : base ≡ 0 → ⊥
-  not_zero none =
-      let clock = best_at_zero g top best t.left.graph (t.was_best top in_top) (top_far 0 none) in
-      let (s, live, named) = system_of n.graph top known in
-      let one = same_clock g s best t.left.graph (t.left.systems s live) (t.was_best top in_top).live
-      (named ∙ sym clock) in
-      let least = in_top.least s live (subst (Reaches n.graph top) (sym named) (Reaches-self n.graph top known)) in
-      let identity = ap (λ (b : System). b.identity) one in
-      let worse = t.worse in
-      omega (arith, least, identity, worse)
+  not_zero none = elim (t.worse top in_top) [
+    | inl worse ↦
+        let (s, live, named) = system_of n.graph top known in
+        let one = same_clock g s best t.left.graph (loses.systems s live) (t.was_best top in_top).live
+        (named ∙ sym clock) in
+        let least = (t.best_now top in_top).least s live
+        (subst (Reaches n.graph top) (sym named) (Reaches-self n.graph top known)) in
+        let identity = ap (λ (b : System). b.identity) one in
+        omega (arith, least, identity, worse)
+    | inr (same, more) ↦
+        let is = subst (λ b. IsBest t.ways b.clock b) (sym same)
+        (subst (λ c. IsBest t.ways c next) (sym clock ∙ ap (λ (b : System). b.clock) same) (t.is_best top in_top)) in
+        let here = more 0 (subst (λ c. IsDistance t.ways c 0) clock (IsDistance-best t.ways best is)) in
+        omega (arith, here)
+  ]
+    where
+      clock : best.clock ≡ top
+      clock = best_at_zero g top best t.left.graph (t.was_best top in_top) (top_far 0 none)
 
   -- the failed system was nearer by one
   pub lost_far : (d : ℕ) → base ≡ suc d → IsDistance g lost d
@@ -56,12 +67,33 @@ module _ (says : Spelling) (g : Snapshot) (n : Network) (lost top : ℕ) (best n
       go : ((u : ℕ) × Adjacent g top u × IsDistance g u d) → IsDistance g lost d
       go (u, (i, k, joins), far) = elim (loses.others u (IsDistance-clock g u d t.left.graph far)) [
         | inr is_lost ↦ subst (λ c. IsDistance g c d) is_lost far
-        | inl live ↦
-            let joined = loses.links (port_of top i) (port_of u k) joins known live in
-            let in_u = IsBest-neighbour n.graph top u next t.well (i, k, joined) in_top in
-            let one = IsDistance-unique g u d (base + depth u) t.left.graph far (t.was u in_u) in
-            absurd (omega (arith, one, is))
+        | inl live ↦ absurd (elim (t.beside top u in_top (joined live)) [
+          | inl in_u ↦
+              let one = IsDistance-unique g u d (base + depth u) t.left.graph far (t.was u in_u) in
+              omega (arith, one, is)
+          | inr out ↦ beyond out (joined live) (t.worse top in_top)
+        ])
       ]
+        where
+          joined : In u (clocks n.graph) → Adjacent n.graph top u
+          joined live = (i, k, loses.links (port_of top i) (port_of u k) joins known live)
+
+          beyond : Out top u → Adjacent n.graph top u → (best.identity < next.identity)
+              ⊎ ((best ≡ next) × ((far : ℕ) → IsDistance t.ways top far → base + depth top < far)) → ⊥
+          beyond out next_to (inl worse) =
+              let was = IsBest-neighbour g top u best t.left.graph (i, k, joins) (t.was_best top in_top) in
+              let now = IsBest-neighbour n.graph top u next t.well next_to (t.best_now top in_top) in
+              let one = ap (λ (b : System). b.identity)
+              (IsBest-unique n.graph u best next t.well ((t.unmoved top u out).best best was) now) in
+              omega (arith, worse, one)
+          beyond out next_to (inr (same, more)) =
+              let (e, here) = distance_exists t.ways top t.ways_well (live_before t.ways n t.well t.ways_left top known)
+              in
+              let there = t.far_now u d (inr (top, out)) ((t.unmoved top u out).far d far) in
+              let over = adjacent_before t.ways n t.well t.ways_left top u next_to in
+              let by = IsDistance-neighbour t.ways u top d e t.ways_well (Adjacent-sym t.ways top u over) there here in
+              let less = more e here in
+              omega (arith, by, less, is)
 
   pub base_is : base ≡ suc (pred base)
   base_is = go base refl
@@ -71,13 +103,13 @@ module _ (says : Spelling) (g : Snapshot) (n : Network) (lost top : ℕ) (best n
       go (suc b) is = omega (arith, is)
 
   -- a link of before at a port that none is at now led from the failed system to the top
-  pub lost_at : (x : ℕ) (to : PortIdentity) (i : ℕ) → IsBest n.graph x next → Joins g (port_of x (suc i)) to
+  pub lost_at : (x : ℕ) (to : PortIdentity) (i : ℕ) → Tree x → Joins g (port_of x (suc i)) to
       → (IsLinked n.graph (port_of x (suc i)) → ⊥) → (x ≡ top) × (to.clock ≡ lost)
   lost_at x to i in_x joins bare = elim (loses.others to.clock (Joins-clock g to (port_of x (suc i)) t.left.graph
       (Joins-sym g (port_of x (suc i)) to joins))) [
         | inl live ↦ absurd (bare (
           to,
-          loses.links (port_of x (suc i)) to joins in_x.reached.1.begins live,
+          loses.links (port_of x (suc i)) to joins (t.lives x in_x) live,
         ))
         | inr is_lost ↦ (
           (elim (t.lost x to.clock in_x (suc i, to.port, joins)) [
@@ -111,7 +143,7 @@ module _ (says : Spelling) (g : Snapshot) (n : Network) (lost top : ℕ) (best n
     pub record TopHolds (w : MachineState) : Type 0 where
       pub last : (p i : ℕ) → Joins g (port_of lost (suc p)) (port_of top (suc i))
           → (IsLinked n.graph (port_of top (suc i)) → ⊥) → HoldsOrNot p i w
-      pub bare : (x : ℕ) → IsBest n.graph x next → (s : Station) (i : ℕ) (r : Reception)
+      pub bare : (x : ℕ) → Tree x → (s : Station) (i : ℕ) (r : Reception)
           → slice_get w.stations (n.place x) ≡ Some s → HoldsAt s i r → IsLinked g (port_of x (suc i))
 
     -- ports that aren't capable stay so, where their link is lost
@@ -141,7 +173,7 @@ module _ (says : Spelling) (g : Snapshot) (n : Network) (lost top : ℕ) (best n
             (Joins-sym g (port_of lost (suc p)) (port_of top (suc i)) joins) in
             let same : y ≡ station_system s =
             same_clock g y (station_system s) t.left.graph in_y
-            (t.left.systems (station_system s) (m.kept.calm.facts.stations (n.place top) s at live).known)
+            (loses.systems (station_system s) (m.kept.calm.facts.stations (n.place top) s at live).known)
             (is_port.clock ∙ sym clock) in
             let (pu, there) = member_there s.ports i (subst (λ (z : System). suc i ≤ z.ports) same is_port.last) in
             record { s = s; at = at; pu = pu; there = there }
@@ -170,10 +202,10 @@ module _ (says : Spelling) (g : Snapshot) (n : Network) (lost top : ℕ) (best n
             (is.last p i joins bare)
 
       -- nothing is heard at a port that never had a link
-      bare_then : (x : ℕ) → IsBest n.graph x next → (s' : Station) (i : ℕ) (r : Reception)
+      bare_then : (x : ℕ) → Tree x → (s' : Station) (i : ℕ) (r : Reception)
           → slice_get w'.stations (n.place x) ≡ Some s' → HoldsAt s' i r → IsLinked g (port_of x (suc i))
       bare_then x in_x s' i r at' holds = elim (answers_or_stands says n (λ c. ⊥) x w w' m.kept.calm m'.kept.calm
-          in_x.reached.1.begins step
+          (t.lives x in_x) step
           s' at') [
             | inl stood ↦ is.bare x in_x s' i r stood holds
             | inr z ↦ answered z (same_there w'.stations (n.place x) z.s' s' z.there at')
@@ -185,10 +217,10 @@ module _ (says : Spelling) (g : Snapshot) (n : Network) (lost top : ℕ) (best n
                 | inl before ↦ is.bare x in_x z.s i r z.here before
                 | inr just ↦
                     let (j, l, f, at_j, among, said, to) = z.heard i just.said just.touched in
-                    let clock = (lives_at n w m.kept.calm x in_x.reached.1.begins z.s z.here).1 in
+                    let clock = (lives_at n w m.kept.calm x (t.lives x in_x) z.s z.here).1 in
                     let ends : l.to ≡ port_of x (suc i) = to ∙ (λ j. port_of (clock j) (suc i)) in
                     let fits = m.fits.lanes j l f just.said at_j among said
-                    (subst (λ (k : PortIdentity). In k.clock (clocks n.graph)) (sym ends) in_x.reached.1.begins) in (
+                    (subst (λ (k : PortIdentity). In k.clock (clocks n.graph)) (sym ends) (t.lives x in_x)) in (
                       l.from,
                       Joins-sym g l.from (port_of x (suc i)) (subst (Joins g l.from) ends fits.joins),
                     )
@@ -203,7 +235,7 @@ module _ (says : Spelling) (g : Snapshot) (n : Network) (lost top : ℕ) (best n
 
     -- ---- so what such a port holds was told last
 
-    module _ (w : MachineState) (m : IsTopState w) (is : TopHolds w) (x : ℕ) (in_x : IsBest n.graph x next)
+    module _ (w : MachineState) (m : IsTopState w) (is : TopHolds w) (x : ℕ) (in_x : Tree x)
         (s : Station) (at : slice_get w.stations (n.place x) ≡ Some s) (i : ℕ) (r : Reception) (holds : HoldsAt s i r)
         (bare : IsLinked n.graph (port_of x (suc i)) → ⊥) where
       -- its lost link
@@ -265,7 +297,7 @@ module _ (says : Spelling) (g : Snapshot) (n : Network) (lost top : ℕ) (best n
 
     module _ (w w' : MachineState) (m : IsTopState w) (m' : IsTopState w') (step : MachineSteps says w w')
         (off : LostStayOff w w') (is : TopHolds w) where
-      pub top_drops : (x : ℕ) → IsBest n.graph x next → (s s' : Station) (i : ℕ) (r' : Reception)
+      pub top_drops : (x : ℕ) → Tree x → (s s' : Station) (i : ℕ) (r' : Reception)
           → slice_get w.stations (n.place x) ≡ Some s → slice_get w'.stations (n.place x) ≡ Some s'
           → (IsLinked n.graph (port_of x (suc i)) → ⊥) → HoldsAt s' i r'
           → (r : Reception) × HoldsAt s i r

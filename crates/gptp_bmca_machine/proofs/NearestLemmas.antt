@@ -20,7 +20,7 @@ use Rattle.gptp_lists.proofs.ReverseLemmas.{In-reverse}
 use Rattle.gptp_bmca_machine.proofs.TraceLemmas.{way_on}
 
 -- the part of a route from one of its systems on
-route_from : (g : Snapshot) (u end x : ℕ) (us : List ℕ) → Route g u end us → In x (u ∷ us)
+pub route_from : (g : Snapshot) (u end x : ℕ) (us : List ℕ) → Route g u end us → In x (u ∷ us)
     → (ts : List ℕ) × Route g x end ts × (length ts ≤ length us)
 route_from g u end x us r (inl e) = (us, subst (λ y. Route g y end us) (sym e) r, omega arith)
 route_from g u end x [] r (inr h) = absurd h

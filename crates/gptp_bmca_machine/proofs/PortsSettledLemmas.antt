@@ -21,7 +21,7 @@ use Rattle.gptp_bmca_machine.specs.AtRest.{ChoosesPort}
 use Rattle.gptp_bmca_machine.specs.Network.{Network}
 use Rattle.gptp_bmca_machine.specs.Calm.{IsCalmPort}
 use Rattle.gptp_bmca_machine.specs.Levels.{LeadsFarther}
-use Rattle.gptp_bmca_machine.specs.Settled.{PlaysRole, IsSlaveOf, HasBest, FollowsBest, HasSettledRoles}
+use Rattle.gptp_bmca_machine.specs.Settled.{FollowsBest, HasBest, HasLinkedRoles, HasSettledRoles, IsSlaveOf, PlaysRole}
 use Rattle.gptp_bmca_machine.proofs.PlaceLemmas.{same_there, received_injective}
 use Rattle.gptp_bmca_machine.proofs.RestLemmas.{Chooses, IsClear, chosen_port, chosen_itself, chosen_said, is_master}
 use Rattle.gptp_bmca_machine.proofs.LevelLemmas.{places_of, chooses}
@@ -378,13 +378,17 @@ module _ (n : Network) (wf : IsWellFormed n.graph) (now : ℕ) (s : Station) (d 
           }
     ]
 
-    -- every port has its settled role
+    -- every port on a link has its settled role
+    pub linked_roles : n.bare ≤ now → HasLinkedRoles n.graph s
+    linked_roles bare p q at_p (u, joins) =
+        let (e, there) = distance_exists n.graph u.clock wf
+        (Joins-clock n.graph u (port_of s.clock (suc p)) wf
+        (Joins-sym n.graph (port_of s.clock (suc p)) u joins)) in
+        plays p q at_p u joins e there bare
+
+    -- and so has every port
     pub settled_roles : n.bare ≤ n.off → n.off ≤ now → HasSettledRoles n.graph s
     settled_roles later off p q at_p = elim (IsLinked-dec n.graph (port_of s.clock (suc p))) [
       | no unlinked ↦ (role.Disabled, (calm_port p q at_p).unlinked off unlinked, unlinked)
-      | yes (u, joins) ↦
-          let (e, there) = distance_exists n.graph u.clock wf
-          (Joins-clock n.graph u (port_of s.clock (suc p)) wf
-          (Joins-sym n.graph (port_of s.clock (suc p)) u joins)) in
-          plays p q at_p u joins e there (omega (arith, later, off))
+      | yes linked ↦ linked_roles (omega (arith, later, off)) p q at_p linked
     ]

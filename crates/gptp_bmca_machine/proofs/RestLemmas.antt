@@ -3,7 +3,8 @@ use Rattle.std.proofs.Common.{◌≡◌, ◌≢◌, ◌⊎◌, ◌≤◌, ◌<�
 use native.Mathlib.Decide.{dec_le}
 use Rattle.gptp_lists.specs.Members.{In}
 use Rattle.gptp_graph.specs.Order.{IsLower}
-use Rattle.gptp_graph.specs.Snapshot.{System, PortIdentity, Snapshot, IsWellFormed, port_of, Joins, IsLinked}
+use Rattle.gptp_graph.specs.Path.{Reaches}
+use Rattle.gptp_graph.specs.Snapshot.{System, PortIdentity, Snapshot, IsWellFormed, clocks, port_of, Joins, IsLinked}
 use Rattle.gptp_graph.specs.Best.{IsBest}
 use Rattle.gptp_graph.specs.Distance.{IsDistance}
 use Rattle.gptp_graph.proofs.LinkLemmas.{Joins-sym}
@@ -15,7 +16,24 @@ use Rattle.gptp_bmca_machine.specs.Vectors.{message, path_vector, master, system
 use Rattle.gptp_bmca_machine.specs.Clean.{CameOverLink, CameFits}
 use Rattle.gptp_bmca_machine.specs.Facts.{station_system}
 use Rattle.gptp_bmca_machine.specs.AtRest.{ChoosesItself, ChoosesPort, StationIsAtRest}
+use Rattle.gptp_bmca_machine.specs.LossLaws.{IsWhatIsLeft, WasSystem}
+use Rattle.gptp_bmca_machine.specs.Network.{Network}
 use Rattle.gptp_bmca_machine.proofs.PlaceLemmas.{same_place}
+
+-- a system that a snapshot has is one of it whose identity was the same
+pub was_itself : (g : Snapshot) (s : System) → In s g.systems → WasSystem g s
+was_itself g s known =
+    record { old = s; known = known; clock = refl; identity = omega arith }
+
+-- a network of which each system is one of the snapshot, and each link, is what is left of it
+pub left_of : (g : Snapshot) (n : Network) → IsWellFormed g → ((s : System) → In s n.graph.systems → In s g.systems)
+    → ((p q : PortIdentity) → Joins n.graph p q → Joins g p q) → IsWhatIsLeft g n
+left_of g n well systems links =
+    record { graph = well; systems = λ s known. was_itself g s (systems s known); links = links }
+
+-- its clock is one of the snapshot
+pub was_there : (g : Snapshot) (s : System) → WasSystem g s → In s.clock (clocks g)
+was_there g s was = subst (λ c. In c (clocks g)) was.clock (In-clocks g was.old was.known)
 
 -- a system that has the best's identity as its root, and so many steps
 pub record Chooses (s : Station) (best : System) (d : ℕ) : Type 0 where
@@ -34,10 +52,10 @@ pub record CameBounded (g : Snapshot) (c n : ℕ) (r : Reception) : Type 0 where
 pub bounded : (g : Snapshot) (c n : ℕ) (r : Reception) → CameFits g c n r → CameBounded g c n r
 bounded g c n r came = record { over = came.over; root = came.fits.root; here = came.fits.here }
 
--- it is at rest, the snapshot has it, and all it holds respects that
+-- it is at rest, the snapshot has it, maybe with a better identity, and all it holds respects that
 pub record IsClear (g : Snapshot) (s : Station) : Type 0 where
   pub rest : StationIsAtRest s
-  pub known : In (station_system s) g.systems
+  pub known : WasSystem g (station_system s)
   pub held : (i : ℕ) (r : Reception) → HoldsAt s i r → CameBounded g s.clock (suc i) r
 
 -- a list's first two members are those of its parts
@@ -50,27 +68,39 @@ module _ (g : Snapshot) (wf : IsWellFormed g) (s : Station) (clear : IsClear g s
   pub held_root : (i : ℕ) (r : Reception) → HoldsAt s i r → best.identity ≤ r.said.root
   held_root i r holds = (clear.held i r holds).root best is_best
 
+  -- what it was
+  was : WasSystem g (station_system s)
+  was = clear.known
+
+  old_identity : was.old.identity ≤ s.identity
+  old_identity = was.identity
+
+  old_root : best.identity ≤ was.old.identity
+  old_root =
+      is_best.least was.old was.known
+      (subst (Reaches g s.clock) (sym was.clock) (Reaches-self g s.clock (was_there g (station_system s) was)))
+
   -- nor is its own
   pub own_root : best.identity ≤ s.identity
-  own_root =
-      is_best.least (station_system s) clear.known (Reaches-self g s.clock (In-clocks g (station_system s) clear.known))
+  own_root = let least = old_root in let worse = old_identity in omega (arith, least, worse)
 
   -- a system with the identity of the best is the best
   pub own_best : best.identity ≡ s.identity → IsDistance g s.clock 0
   own_best e =
-      let same : best ≡ station_system s = same_identity g best (station_system s) wf is_best.live clear.known e in
-      let clock : best.clock ≡ s.clock = ap (λ (x : System). x.clock) same in
+      let least = old_root in
+      let worse = old_identity in
+      let same : best ≡ was.old =
+      same_identity g best was.old wf is_best.live was.known (omega (arith, e, least, worse)) in
+      let clock : best.clock ≡ s.clock = ap (λ (x : System). x.clock) same ∙ was.clock in
       subst (λ v. IsDistance g v 0) clock
       (IsDistance-best g best (subst (λ v. IsBest g v best) (sym clock) is_best))
 
-  -- the best chooses itself
-  pub zero_settles : IsDistance g s.clock 0 → Chooses s best 0
-  zero_settles here = by_choice clear.rest.chosen
+  -- the best chooses itself, where its identity is the same still
+  pub zero_settles : In (station_system s) g.systems → IsDistance g s.clock 0 → Chooses s best 0
+  zero_settles known here = by_choice clear.rest.chosen
     where
       same : best ≡ station_system s
-      same =
-          same_clock g best (station_system s) wf is_best.live clear.known
-          (best_at_zero g s.clock best wf is_best here)
+      same = same_clock g best (station_system s) wf is_best.live known (best_at_zero g s.clock best wf is_best here)
 
       identity : best.identity ≡ s.identity
       identity = ap (λ (x : System). x.identity) same

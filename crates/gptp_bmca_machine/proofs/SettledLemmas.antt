@@ -11,7 +11,7 @@ use Rattle.gptp_bmca_machine.specs.Clean.{CameWhole, CameSound}
 use Rattle.gptp_bmca_machine.specs.Network.{Network, IsSettlingNetwork, since, settled_from}
 use Rattle.gptp_bmca_machine.specs.Calm.{IsCalmPort, Calm}
 use Rattle.gptp_bmca_machine.specs.Levels.{LeadsFarther, IsHeardFrom, Invariant}
-use Rattle.gptp_bmca_machine.specs.Settled.{HasBest, FollowsBest, HasSettledRoles}
+use Rattle.gptp_bmca_machine.specs.Settled.{FollowsBest, HasBest, HasLinkedRoles, HasSettledRoles}
 use Rattle.gptp_bmca_machine.proofs.NearestLemmas.{equal_within}
 use Rattle.gptp_bmca_machine.proofs.RestLemmas.{Chooses, IsClear, root_above, steps_above}
 use Rattle.gptp_bmca_machine.proofs.EndsLemmas.{clear_at}
@@ -86,7 +86,13 @@ module _ (says : Spelling) (n : Network) (net : IsSettlingNetwork n) (w : Machin
           by.settled_whole n net.graph w.time s d here near (clear late) (chosen late) calm_port Told
           (holds_final late) told_nearer heard ready
 
-      -- every port has its settled role
+      -- every port on a link has its settled role
+      pub linked_roles : n.bare ≤ w.time → HasLinkedRoles n.graph s
+      linked_roles =
+          by.linked_roles n net.graph w.time s d here near (clear late) (chosen late) calm_port Told (holds_final late)
+          told_nearer heard ready
+
+      -- and so has every port
       pub settled_roles : n.off ≤ w.time → HasSettledRoles n.graph s
       settled_roles =
           by.settled_roles n net.graph w.time s d here near (clear late) (chosen late) calm_port Told
@@ -118,10 +124,15 @@ pub network_settles : (says : Spelling) (n : Network) (w : MachineState) (i : �
     → Calm n w
     → Invariant says n w → slice_get w.stations i ≡ Some s → s.live ≡ true → IsNear n.graph s.clock
     → settled_from n ≤ w.time
-    → HasBest n.graph s × (n.bare ≤ w.time → FollowsBest n.graph s) × (n.off ≤ w.time → HasSettledRoles n.graph s)
+    → HasBest n.graph s × (n.bare ≤ w.time → FollowsBest n.graph s × HasLinkedRoles n.graph s)
+    × (n.off ≤ w.time → HasSettledRoles n.graph s)
 network_settles says n w i s net calm invariant at live (d, here, near) late = (
   has_best says n net w calm invariant i s at live d here near (in_time n net w d s here late),
-  follows_best says n net w calm invariant i s at live d here near (in_time n net w d s here late),
+  (λ bare. (
+    follows_best says n net w calm invariant i s at live d here near (in_time n net w d s here late) bare,
+    linked_roles says n net w calm invariant i s at live d here near (in_time n net w d s here late)
+        (heard n net w d s here late) bare,
+  )),
   settled_roles says n net w calm invariant i s at live d here near (in_time n net w d s here late)
       (heard n net w d s here late),
 )

@@ -4,9 +4,10 @@ use native.Mathlib.Decide.{dec_le}
 use Rattle.gptp_lists.specs.Members.{In}
 use Rattle.gptp_lists.proofs.SystemSpecLemmas.{In-parts}
 use Rattle.gptp_graph.specs.Snapshot.{System, PortIdentity, Snapshot, clocks, port_of, Joins, Adjacent, IsWellFormed}
-use Rattle.gptp_graph.specs.Path.{Route, IsPath}
+use Rattle.gptp_graph.specs.Path.{Reaches, Route, IsPath}
 use Rattle.gptp_graph.proofs.LinkLemmas.{Joins-sym}
 use Rattle.gptp_graph.proofs.LinkDecisions.{IsLinked-dec}
+use Rattle.gptp_graph.proofs.PathLemmas.{Reaches-self}
 use Rattle.gptp_graph.proofs.SystemLemmas.{In-clocks}
 use Rattle.gptp_graph.proofs.SystemLemmas as systems
 use Rattle.gptp_graph.proofs.BestLemmas.{IsBest-neighbour}
@@ -19,13 +20,14 @@ use Rattle.gptp_bmca_machine.specs.Clean.{IsWorse, Whole, CameSound}
 use Rattle.gptp_bmca_machine.specs.Facts.{station_system, FollowsPort, IsLiveStationState}
 use Rattle.gptp_bmca_machine.specs.Network.{Network, IsSettlingNetwork, network_setting}
 use Rattle.gptp_bmca_machine.specs.Calm.{HasLane, Calm}
-use Rattle.gptp_bmca_machine.specs.LossLaws.{IsWhatIsLeft}
+use Rattle.gptp_bmca_machine.specs.LossLaws.{EverythingFits, FlightFits, IsWhatIsLeft, WasSystem}
 use Rattle.gptp_bmca_machine.specs.SoundLaws.{IsSoundFrom, IsSoundOnLinks, UnlinkedAreOff, HasNews, AllIsWhole}
 use Rattle.gptp_bmca_machine.specs.Sound.{ReceivedFits}
 use Rattle.gptp_bmca_machine.proofs.NearestLemmas.{came_fits}
 use Rattle.gptp_bmca_machine.proofs.PlaceLemmas.{same_there}
 use Rattle.gptp_bmca_machine.proofs.TraceLemmas.{whole_own, whole_on}
 use Rattle.gptp_bmca_machine.proofs.ReactsLemmas.{JustHeard, held_from}
+use Rattle.gptp_bmca_machine.proofs.RestLemmas.{left_of, was_there}
 
 -- a port that received something after a touch wasn't disabled before
 on_before : (c n now : ℕ) (touch : StationTouch) (held mid : Held) (r : Reception) → HeldInTouch c n touch now held mid
@@ -57,7 +59,7 @@ was_on says s s' touch now sends reacts i r (q', at, holds) =
 
 -- all of a network is left of its own snapshot
 pub nothing_lost : (n : Network) → IsWellFormed n.graph → IsWhatIsLeft n.graph n
-nothing_lost n well = record { graph = well; systems = λ s known. known; links = λ p q joins. joins }
+nothing_lost n well = left_of n.graph n well (λ s known. known) (λ p q joins. joins)
 
 -- what is left of a snapshot: there it stays sound by the snapshot
 module _ (says : Spelling) (g : Snapshot) (n : Network) (left : IsWhatIsLeft g n) where
@@ -65,14 +67,29 @@ module _ (says : Spelling) (g : Snapshot) (n : Network) (left : IsWhatIsLeft g n
   abbrev IsSoundStation : Station → Type 0
   IsSoundStation s = (place : ℕ) (r : Reception) → HoldsAt s place r → CameSound g s.clock (suc place) r
 
+  -- what a system says of itself is sound, where its identity was as good or better
+  says_itself : (s : System) (a : Announce) → WasSystem g s → a.root ≡ s.identity → a.steps ≡ 0
+      → a.path ≡ s.clock ∷ [] → IsWorse g s.clock a ⊎ Whole g s.clock a
+  says_itself s a was root steps path = elim (dec_le s.identity was.old.identity) [
+    | yes same ↦
+        let better = was.identity in
+        let one : s.identity ≡ was.old.identity = omega (arith, same, better) in
+        inr (subst (λ c. Whole g c a) was.clock
+        (whole_own g was.old a was.known (root ∙ one) steps (path ∙ ap (λ c. c ∷ []) (sym was.clock))))
+    | no worse ↦ inl (λ best is_best.
+        let least = is_best.least was.old was.known
+        (subst (Reaches g s.clock) (sym was.clock) (Reaches-self g s.clock (was_there g s was))) in
+        omega (arith, least, worse, root))
+  ]
+
   -- what a system says is sound where what it holds is
   pub says_sound : (now : ℕ) (s : Station) → IsLiveStationState (network_setting n) now s → IsSoundStation s
       → (p : ℕ) (a : Announce)
       → IsOwn s p a → IsWorse g s.clock a ⊎ Whole g s.clock a
   says_sound now s is held p a own = elim is.follows [
-    | inl itself ↦ inr (whole_own g (station_system s) a (left.systems (station_system s) is.known) (own.root ∙
-        itself.root) (own.steps ∙ itself.steps)
-        (own.path ∙ itself.trace))
+    | inl itself ↦
+        says_itself (station_system s) a (left.systems (station_system s) is.known) (own.root ∙ itself.root)
+        (own.steps ∙ itself.steps) (own.path ∙ itself.trace)
     | inr port ↦ on port (held port.place port.r port.holds)
   ]
     where
@@ -85,8 +102,8 @@ module _ (says : Spelling) (g : Snapshot) (n : Network) (left : IsWhatIsLeft g n
             | inl worse ↦ inl (λ best is_best. subst (λ m. best.identity < m) (sym (own.root ∙ port.root))
                 (worse best (IsBest-neighbour g s.clock came.from.clock best left.graph joined is_best)))
             | inr whole ↦ inr (whole_on g s.clock came.from.clock port.r.said a whole
-                (In-clocks g (station_system s) (left.systems (station_system s) is.known)) joined (is.held port.place
-                port.r port.holds).no_loop
+                (was_there g (station_system s) (left.systems (station_system s) is.known)) joined
+                (is.held port.place port.r port.holds).no_loop
                 (own.root ∙ port.root) (own.steps ∙ port.steps) (own.path ∙ port.trace))
           ]
 
@@ -207,6 +224,32 @@ module _ (says : Spelling) (g : Snapshot) (n : Network) (left : IsWhatIsLeft g n
           from_is : act.l.from ≡ from
           from_is = ap (λ (l : Lane). l.from) (sym lane_is) ∙ has.from
 
+  -- and so did all that is on its way to a live system, where that fits
+  arrived_so : (w w' : MachineState) (act : Arrives says w w') → Calm n w → EverythingFits says g n w
+      → IsSoundOnLinks says g w → HeardIsSound act.call.s act.touch
+  unfolding HeardIsSound
+  arrived_so w w' act calm fits all i q a touched at on = (
+    act.l.from,
+    subst (Joins g act.l.from) to came.joins,
+    all.lanes act.j act.l act.f a act.pops.here among (act.heard (suc i) a touched).1 came.joins,
+  )
+    where
+      to : act.l.to ≡ port_of act.call.s.clock (suc i)
+      to = λ j. port_of (sym act.owner j) (sym (act.heard (suc i) a touched).0 j)
+
+      among : In act.f act.l.frames
+      among = subst (In act.f) (sym act.pops.frames) (inl (λ j. act.f))
+
+      known : In act.l.to.clock (clocks n.graph)
+      known =
+          subst (λ c. In c (clocks n.graph)) act.owner
+          (In-clocks n.graph (station_system act.call.s)
+          (calm.facts.stations act.call.place act.call.s
+          (act.pops.stations act.call.place act.call.s act.call.here) act.call.live).known)
+
+      came : FlightFits g act.l a
+      came = fits.lanes act.j act.l act.f a act.pops.here among (act.heard (suc i) a touched).1 known
+
   -- nothing is heard
   heard_none : (s : Station) (touch : StationTouch) → ((m : ℕ) (a : Announce) → touch ≡ Hear m a → ⊥)
       → HeardIsSound s touch
@@ -224,6 +267,19 @@ module _ (says : Spelling) (g : Snapshot) (n : Network) (left : IsWhatIsLeft g n
       (arrived w w' act calm off all)
   left_sound_kept w w' calm calm' off (inr (inr (inl act))) all = popped act.j act.l act.f act.fs w w' act.pops all
   left_sound_kept w w' calm calm' off (inr (inr (inr act))) all =
+      called act.touch w w' act.call calm' all (heard_none act.call.s act.touch act.deaf)
+
+  -- and so where all that is on its way to live systems fits
+  pub fits_sound_kept : (w w' : MachineState) → Calm n w → Calm n w' → EverythingFits says g n w
+      → MachineSteps says w w' → IsSoundOnLinks says g w → IsSoundOnLinks says g w'
+  fits_sound_kept w w' calm calm' fits (inl wait) all =
+      subst (IsSoundOnLinks says g) (sym wait.is) (record { lanes = all.lanes; stations = all.stations })
+  fits_sound_kept w w' calm calm' fits (inr (inl act)) all =
+      called act.touch act.mid w' act.call calm' (popped act.j act.l act.f act.fs w act.mid act.pops all)
+      (arrived_so w w' act calm fits all)
+  fits_sound_kept w w' calm calm' fits (inr (inr (inl act))) all =
+      popped act.j act.l act.f act.fs w w' act.pops all
+  fits_sound_kept w w' calm calm' fits (inr (inr (inr act))) all =
       called act.touch w w' act.call calm' all (heard_none act.call.s act.touch act.deaf)
 
 module _ (says : Spelling) (n : Network) (net : IsSettlingNetwork n) where

@@ -28,7 +28,7 @@ use Rattle.gptp_bmca_machine.specs.LossLaws.{EverythingFits, IsWhatIsLeft, IsLos
 use Rattle.gptp_bmca_machine.proofs.ClearLemmas.{tells_clear, weaker_clear}
 use Rattle.gptp_bmca_machine.proofs.PlaceLemmas.{same_there}
 use Rattle.gptp_bmca_machine.proofs.LinkLemmas.{link_kept, link_settled}
-use Rattle.gptp_bmca_machine.proofs.RestLemmas.{Chooses, IsClear, bounded, zero_settles, suc_settles}
+use Rattle.gptp_bmca_machine.proofs.RestLemmas.{Chooses, IsClear, bounded, zero_settles, suc_settles, was_there}
 use Rattle.gptp_bmca_machine.proofs.LevelLemmas.{places_of}
 use Rattle.gptp_bmca_machine.proofs.RestingLemmas.{links_stay, stays_so}
 use Rattle.gptp_bmca_machine.proofs.LossLemmas.{fits_kept, loss_fits}
@@ -82,7 +82,7 @@ module _ (g : Snapshot) (n : Network) (wf : IsWellFormed n.graph) (left : IsWhat
   pub live_before : (v : ℕ) → In v (clocks n.graph) → In v (clocks g)
   live_before v known =
       let (s, here, clock) = systems.system_of n.graph v known in
-      subst (λ c. In c (clocks g)) clock (systems.In-clocks g s (left.systems s here))
+      subst (λ c. In c (clocks g)) clock (was_there g s (left.systems s here))
 
   -- what is the best of an unmoved system was, and it was as far
   pub best_was : (v : ℕ) (c : System) → Unmoved g n v → IsBest n.graph v c → IsBest g v c
@@ -96,7 +96,7 @@ module _ (g : Snapshot) (n : Network) (wf : IsWellFormed n.graph) (left : IsWhat
       subst (IsDistance g v) (IsDistance-unique n.graph v f far wf (u.far f was) is) was
 
   -- no system was farther before
-  nearer_before : (d x e : ℕ) (best : System) → IsBest g x best → IsBest n.graph x best → IsDistance n.graph x d
+  pub nearer_before : (d x e : ℕ) (best : System) → IsBest g x best → IsBest n.graph x best → IsDistance n.graph x d
       → IsDistance g x e → e ≤ d
   nearer_before zero x e best was is here there =
       let clock : best.clock ≡ x = best_at_zero n.graph x best wf is here in
@@ -405,8 +405,13 @@ module _ (says : Spelling) (g : Snapshot) (n : Network) (wf : IsWellFormed n.gra
     where
       go : (s.live ≡ true) × (s.clock ≡ v) → Chooses s best 0
       go (live, clock) =
+          let one : best ≡ station_system s =
+          systems.same_clock n.graph best (station_system s) wf (unmoved.best best is_best).live
+          (kept.calm.facts.stations (n.place v) s at live).known
+          (best_at_zero g v best left.graph is_best here ∙ sym clock) in
           zero_settles g left.graph s (clear_at g n wf left w kept all (n.place v) s at live) best
           (subst (λ c. IsBest g c best) (sym clock) is_best)
+          (subst (λ (y : System). In y g.systems) one is_best.live)
           (subst (λ c. IsDistance g c 0) (sym clock) here)
   chooses_still w kept all (suc e) levels near v best s at unmoved is_best here =
       by_neighbour (nearer_unmoved g n wf left v e best unmoved is_best here)

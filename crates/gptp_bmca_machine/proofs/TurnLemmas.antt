@@ -14,12 +14,12 @@ use Rattle.gptp_bmca_machine.specs.Reacts.{IsOwn}
 use Rattle.gptp_bmca_machine.specs.SoundLaws.{IsSoundOnLinks, UnlinkedAreOff}
 use Rattle.gptp_bmca_machine.specs.Station.{MachineState, Station}
 use Rattle.gptp_bmca_machine.specs.TurnTree.{TurnsTree}
-use Rattle.gptp_bmca_machine.proofs.FallEndLemmas.{FallsBack, after_step, falls_on}
-use Rattle.gptp_bmca_machine.proofs.FallLemmas.{IsAftermath}
+use Rattle.gptp_bmca_machine.proofs.FallEndLemmas.{FallsBack, after_step, falls_then}
+use Rattle.gptp_bmca_machine.proofs.FallLemmas.{IsAftermath, UnlinkedDrop, UnlinkedHoldNone, off_drop, off_none}
 use Rattle.gptp_bmca_machine.proofs.LinkStepLemmas.{lives_at}
 use Rattle.gptp_bmca_machine.proofs.MovedTreeLemmas.{MovesTree}
 use Rattle.gptp_bmca_machine.proofs.RestLemmas.{Chooses}
-use Rattle.gptp_bmca_machine.proofs.SoundLemmas.{left_sound_kept, says_sound}
+use Rattle.gptp_bmca_machine.proofs.SoundLemmas.{fits_sound_kept, says_sound}
 use Rattle.gptp_bmca_machine.proofs.StillLemmas.{StillSettles, chooses_still, levels_below, live_before}
 use Rattle.gptp_bmca_machine.proofs.TurnTreeLemmas.{IsOf, LeadsOut, out_lives, out_unmoved, out_was_best, out_whole, turns_moves}
 
@@ -79,7 +79,7 @@ module _ (says : Spelling) (g : Snapshot) (n : Network) (tree : List ℕ) (top o
           ]
 
       -- so it is of what is left, or names the system at the other end
-      pub out_tells : Whole n.graph out b ⊎ In last b.path
+      pub out_tells : Whole t.ways out b ⊎ In last b.path
       out_tells =
           out_whole g n tree top other last out best base depth t b out_says (own.root ∙ out_chooses.root)
 
@@ -89,36 +89,39 @@ module _ (says : Spelling) (g : Snapshot) (n : Network) (tree : List ℕ) (top o
     -- the tree falls back, and all is sound by the snapshot of before
     pub record TurnsBack (w : MachineState) : Type 0 where
       pub back : FallsBack says g n (IsOf tree) (LeadsOut last out) top best best base depth m start w
-      pub dark : UnlinkedAreOff n.graph w
       pub sound : IsSoundOnLinks says g w
 
     -- every step keeps it
-    pub turns_on : (w w' : MachineState) → TurnsBack w → IsAfterLoss n w' → UnlinkedAreOff n.graph w'
-        → MachineSteps says w w' → TurnsBack w'
-    turns_on w w' is kept' dark' step = record {
-      back = falls_on says g n (IsOf tree) (LeadsOut last out) top best best base depth m start w w' is.back kept' dark'
-          step (λ v p u q (is_u, is_v) joins touch mid call z a sent from said.
+    pub turns_then : (w w' : MachineState) → TurnsBack w → IsAftermath says g n w' → UnlinkedDrop g n w w'
+        → UnlinkedHoldNone g n start w' → MachineSteps says w w' → TurnsBack w'
+    turns_then w w' is after' drops none' step = record {
+      back = falls_then says g n (IsOf tree) (LeadsOut last out) top best best base depth m start w w' is.back after'
+          step drops none' (λ v p u q (is_u, is_v) joins touch mid call z a sent from said.
           let own = (call.reacts.tells z a sent said).0 in
           let clock = call.reacts.clock ∙ ap (λ (e : PortIdentity). e.clock) (sym from) ∙ is_v in
           let at = subst (λ i. slice_get w'.stations i ≡ Some call.s')
-          (kept'.calm.placed call.place call.s' call.there ∙ ap n.place clock) call.there in
-          subst (λ c. Whole n.graph v a ⊎ In c a.path) (sym is_u)
-          (subst (λ c. Whole n.graph c a ⊎ In last a.path) (sym is_v)
+          (after'.kept.calm.placed call.place call.s' call.there ∙ ap n.place clock) call.there in
+          subst (λ c. Whole t.ways v a ⊎ In c a.path) (sym is_u)
+          (subst (λ c. Whole t.ways c a ⊎ In last a.path) (sym is_v)
           (out_tells w' after' still' call.s' at sound' z.port a own)));
-      dark = dark';
       sound = sound';
     }
       where
-        after' : IsAftermath says g n w'
-        after' =
-            after_step says g n (IsOf tree) (LeadsOut last out) top best best base depth m start w w'
-            is.back.after.kept.calm kept' dark' step is.back.after.fits
-
         still' : (f : ℕ) → StillSettles says g n f w'
         still' f =
-            levels_below says g n t.well t.left w w' is.back.after.kept kept' is.back.after.fits.stations
+            levels_below says g n t.well t.left w w' is.back.after.kept after'.kept is.back.after.fits.stations
             after'.fits.stations step is.back.still (suc f) f (omega arith)
 
         sound' : IsSoundOnLinks says g w'
         sound' =
-            left_sound_kept says g n t.left w w' is.back.after.kept.calm kept'.calm is.dark step is.sound
+            fits_sound_kept says g n t.left w w' is.back.after.kept.calm after'.kept.calm is.back.after.fits step
+            is.sound
+
+    -- so where ports without a link are off
+    pub turns_on : (w w' : MachineState) → TurnsBack w → IsAfterLoss n w' → UnlinkedAreOff n.graph w'
+        → MachineSteps says w w' → TurnsBack w'
+    turns_on w w' is kept' dark' step =
+        turns_then w w' is
+        (after_step says g n (IsOf tree) (LeadsOut last out) top best best base depth m start w w'
+        is.back.after.kept.calm kept' dark' step is.back.after.fits) (off_drop g n w w' dark')
+        (off_none g n start w' dark') step

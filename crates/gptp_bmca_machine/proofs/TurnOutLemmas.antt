@@ -4,11 +4,10 @@ use Rattle.std.proofs.Common.{◌≡◌, ◌≢◌, ◌⊎◌, ◌<◌, ◌≤�
 use Rattle.gptp_lists.specs.Members.{In}
 use Rattle.gptp_lists.proofs.SystemSpecLemmas.{In-parts, In-right}
 use Rattle.gptp_graph.specs.Best.{IsBest}
-use Rattle.gptp_graph.specs.Snapshot.{Adjacent, IsLinked, Joins, PortIdentity, Snapshot, System, clocks, port_of}
+use Rattle.gptp_graph.specs.Snapshot.{Adjacent, Joins, PortIdentity, Snapshot, System, clocks, port_of}
 use Rattle.gptp_graph.proofs.BestLemmas.{IsBest-neighbour}
 use Rattle.gptp_graph.proofs.DistanceLemmas.{IsDistance-neighbour, IsDistance-unique}
 use Rattle.gptp_graph.proofs.ExistenceLemmas.{distance_exists}
-use Rattle.gptp_graph.proofs.LinkDecisions.{IsLinked-dec}
 use Rattle.gptp_graph.proofs.LinkLemmas.{Joins-sym}
 use Rattle.gptp_bmca_machine.specs.Acts.{LaneStep, MachineSteps}
 use Rattle.gptp_bmca_machine.specs.AtRest.{ChoosesItself, ChoosesPort, StationIsAtRest}
@@ -26,7 +25,7 @@ use Rattle.gptp_bmca_machine.specs.TurnTree.{TurnsTree}
 use Rattle.gptp_bmca_machine.proofs.ClearLemmas.{trace_short, weaker_clear}
 use Rattle.gptp_bmca_machine.proofs.FallLeaveLemmas.{TreeAnswers, answers_or_stands}
 use Rattle.gptp_bmca_machine.proofs.FallHeldLemmas.{holds_in_tree, old_in_time}
-use Rattle.gptp_bmca_machine.proofs.FallLemmas.{HasLeft, IsFreeAt, IsLed, IsLeft, IsNewTold, falls_by, free_clear, own_new}
+use Rattle.gptp_bmca_machine.proofs.FallLemmas.{HasLeft, IsFreeAt, IsLed, IsLeft, IsNewTold, clear_left, falls_by, own_new}
 use Rattle.gptp_bmca_machine.proofs.LinkEndsLemmas.{ShowEnds, on_time, teller_on, telling, telling_kept}
 use Rattle.gptp_bmca_machine.proofs.LinkStageLemmas.{begins}
 use Rattle.gptp_bmca_machine.proofs.LinkStepLemmas.{AtLink, lives_at}
@@ -38,7 +37,7 @@ use Rattle.gptp_bmca_machine.proofs.StillLemmas.{port_there, station_of, still}
 use Rattle.gptp_bmca_machine.proofs.TellsLemmas.{master_announces, news_final}
 use Rattle.gptp_bmca_machine.proofs.ToldLemmas.{HoldsTold, told_due}
 use Rattle.gptp_bmca_machine.proofs.TurnLemmas.{OutIsAt, TurnsBack, out_chooses, out_is, out_is_at}
-use Rattle.gptp_bmca_machine.proofs.TurnTreeLemmas.{IsOf, LeadsOut, beyond_out, out_lives, out_was_best, turns_moves}
+use Rattle.gptp_bmca_machine.proofs.TurnTreeLemmas.{IsOf, LeadsOut, best_told, beyond_out, far_told, out_lives, out_was_best, turns_moves}
 
 module _ (says : Spelling) (g : Snapshot) (n : Network) (tree : List ℕ) (top other last out : ℕ) (best : System)
     (base : ℕ) (depth : ℕ → ℕ) (t : TurnsTree g n tree top other last out best base depth) (start : ℕ) (p k : ℕ)
@@ -67,7 +66,7 @@ module _ (says : Spelling) (g : Snapshot) (n : Network) (tree : List ℕ) (top o
       )
 
   -- what the system at the other end says of what is left is worse than the own choice
-  pub worse_out : (a : Announce) → Whole n.graph last a
+  pub worse_out : (a : Announce) → Whole t.ways last a
       → (best.identity < a.root) ⊎ ((a.root ≡ best.identity) × (suc o.d ≤ a.steps))
   worse_out a whole = elim (own_new says g n (IsOf tree) (LeadsOut last out) top best best base depth m start last a
       t.in_last whole) [
@@ -77,9 +76,9 @@ module _ (says : Spelling) (g : Snapshot) (n : Network) (tree : List ℕ) (top o
           (
               let (far, here) = distance_exists n.graph last t.well (t.lives last t.in_last) in
               let by = beyond_out g n tree top other last out best base depth t far last o.d t.in_last here o.now in
-              let is_best = t.is_best last t.in_last in
-              let few = steps_not_fewer n.graph t.well last a whole best is_best last far (inl refl) is_best here root
-              in
+              let is_best = best_told g n tree top other last out best base depth t last t.in_last in
+              let few = steps_not_fewer t.ways t.told.well last a whole best is_best last far (inl refl) is_best
+              (far_told g n tree top other last out best base depth t last far t.in_last here) root in
               omega (arith, by, few)),
         )
       ]
@@ -88,17 +87,17 @@ module _ (says : Spelling) (g : Snapshot) (n : Network) (tree : List ℕ) (top o
   abbrev Told : MachineState → Type 0
   Told w =
       AtLink says n last p out k
-      (HoldsTold says (still n (base + depth last) best last p out k) (IsNewTold n.graph (port_of last (suc p)) out)
+      (HoldsTold says (still n (base + depth last) best last p out k) (IsNewTold t.ways (port_of last (suc p)) out)
       (falls_by n start (suc (depth last)))) w
 
   -- the state of a link that has turned: what comes over it from the tree is of what is left
   abbrev pub HasTurned : MachineState → Type 0
-  HasTurned w = HasLeft n w last best (base + depth last) × IsFreeAt says n last p out k w
+  HasTurned w = HasLeft n w last best (base + depth last) × IsFreeAt says t.ways n last p out k w
 
   -- before that what was told before is still told, or on its way
   not_later : (w : MachineState) → TurnsBack says g n tree top other last out best base depth t start w
       → IsLed says n best (base + depth last) last p out k w
-      ⊎ IsLeft says n best (base + depth last) (falls_by n start (suc (depth last))) last p out k w
+      ⊎ IsLeft says t.ways n best (base + depth last) (falls_by n start (suc (depth last))) last p out k w
       → w.time ≤ falls_by n start (suc (depth last))
   not_later w is (inl (old, stays)) =
       let by = old_in_time says g n (IsOf tree) (LeadsOut last out) top best best base depth m start w is.back.after
@@ -112,7 +111,7 @@ module _ (says : Spelling) (g : Snapshot) (n : Network) (tree : List ℕ) (top o
       let has = is.back.after.kept.calm.lanes (port_of last (suc p)) (port_of out (suc k)) joins in
       let old = told s pv has.lane at there has.there in
       let (h, among, said, due) = told_due says (still n (base + depth last) best last p out k)
-      (IsNewTold n.graph (port_of last (suc p)) out) (falls_by n start (suc (depth last))) has.lane.frames old.told in
+      (IsNewTold t.ways (port_of last (suc p)) out) (falls_by n start (suc (depth last))) has.lane.frames old.told in
       let now = is.back.after.kept.calm.left (n.lane (port_of last (suc p))) has.lane h has.there among in
       omega (arith, now, due)
 
@@ -207,31 +206,17 @@ module _ (says : Spelling) (g : Snapshot) (n : Network) (tree : List ℕ) (top o
               absurd (let both : Mine best.identity o.d ≡ Received port.r =
               sym mine ∙ ap (λ (z : Port). z.held) (sym one) ∙ port.holds.2 in cc)
 
-          linked : IsLinked n.graph (port_of s.clock (suc port.place))
-          linked = elim (IsLinked-dec n.graph (port_of s.clock (suc port.place))) [
-            | yes is_linked ↦ is_linked
-            | no none ↦
-                let off = is.dark (n.place out) s port.place port.holds.0 at lives.0 port.holds.1 none in
-                absurd (let both : Received port.r ≡ Disabled = sym port.holds.2 ∙ off in cc)
-          ]
-
           came : CameSound g s.clock (suc port.place) port.r
           came = is.sound.stations (n.place out) s port.place port.r at lives.0 port.holds
 
-          over : Joins n.graph (port_of out (suc port.place)) came.from
-          over =
-              let joined = linked.1 in
-              let one = t.left.graph.one_link (port_of s.clock (suc port.place)) linked.0 came.from
-              (t.left.links (port_of s.clock (suc port.place)) linked.0 joined)
-              (Joins-sym g came.from (port_of s.clock (suc port.place)) came.joins) in
-              subst (λ c. Joins n.graph (port_of c (suc port.place)) came.from) lives.1
-              (subst (Joins n.graph (port_of s.clock (suc port.place))) one joined)
+          over : Joins g came.from (port_of out (suc port.place))
+          over = subst (λ c. Joins g came.from (port_of c (suc port.place))) lives.1 came.joins
 
           other_end : came.from.clock ≢ last
           other_end same =
               let to_last : Joins n.graph (port_of last came.from.port) (port_of out (suc port.place)) =
-              subst (λ c. Joins n.graph (port_of c came.from.port) (port_of out (suc port.place))) same
-              (Joins-sym n.graph (port_of out (suc port.place)) came.from over) in
+              t.way_stood came.from.port (suc port.place)
+              (subst (λ c. Joins g (port_of c came.from.port) (port_of out (suc port.place))) same over) in
               let number = t.one_way came.from.port (suc p) (suc port.place) (suc k) to_last joins in
               let one = t.well.one_link (port_of last (suc p)) (port_of out (suc port.place)) (port_of out (suc k))
               (subst (λ j. Joins n.graph (port_of last j) (port_of out (suc port.place))) number to_last) joins in
@@ -244,7 +229,7 @@ module _ (says : Spelling) (g : Snapshot) (n : Network) (tree : List ℕ) (top o
           from_best : IsBest g came.from.clock best
           from_best =
               IsBest-neighbour g out came.from.clock best t.left.graph
-              (suc port.place, came.from.port, t.left.links (port_of out (suc port.place)) came.from over)
+              (suc port.place, came.from.port, Joins-sym g came.from (port_of out (suc port.place)) over)
               (out_was_best g n tree top other last out best base depth t)
 
           whole : Whole g came.from.clock port.r.said
@@ -314,7 +299,7 @@ module _ (says : Spelling) (g : Snapshot) (n : Network) (tree : List ℕ) (top o
             let (e, here) = distance_exists n.graph last t.well (t.lives last t.in_last) in
             let by = beyond_out g n tree top other last out best base depth t e last o.d t.in_last here o.now in
             weaker_clear n.graph t.well k_out best refl e (t.is_best last t.in_last) here (inl (omega (arith, by))) s
-            (free_clear says g n (IsOf tree) (LeadsOut last out) top best best base depth m start w is.back.after last
+            (clear_left says g n (IsOf tree) (LeadsOut last out) top best best base depth m start w is.back.after last
             t.in_last s at
             (holds_in_tree says g n (IsOf tree) (LeadsOut last out) top best best base depth m start w is.back.after
             is.back.falling last t.in_last) (turned.0 s at)) clock pu there r far mine;

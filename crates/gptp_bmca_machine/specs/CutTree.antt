@@ -10,12 +10,13 @@ use Rattle.gptp_bmca_machine.specs.LossLaws.{IsWhatIsLeft, Unmoved}
 
 -- Of what is left of a snapshot the systems whose best is `next` are cut off, a tree, and all others are unmoved. The
 -- best of those systems was another before, with the lower identity. Each was as far from it as the depth says, from
--- `base` on: the one at the top had its link to a nearer system, and each other has one link to one that was nearer by
--- one. No link leads to a system that was as far.
+-- `base` on: the one at the top had its link to a nearer system, or was the best and got a worse identity. Each other
+-- has one link to one that was nearer by one. No link leads to a system that was as far.
 pub record CutsTree (g : Snapshot) (n : Network) (top : ℕ) (best next : System) (base : ℕ) (depth : ℕ → ℕ)
     : Type 0 where
   pub well : IsWellFormed n.graph
   pub left : IsWhatIsLeft g n
+  pub stand : (s : System) → In s n.graph.systems → In s g.systems ⊎ (s.clock ≡ top)
   pub others : (v : ℕ) → In v (clocks n.graph) → (IsBest n.graph v next → ⊥) → Unmoved g n v
   pub worse : best.identity < next.identity
   pub was_best : (v : ℕ) → IsBest n.graph v next → IsBest g v best
@@ -37,6 +38,7 @@ pub record CutsOff (g : Snapshot) (n : Network) (top : ℕ) (best next : System)
     : Type 0 where
   pub well : IsWellFormed n.graph
   pub left : IsWhatIsLeft g n
+  pub stand : (s : System) → In s n.graph.systems → In s g.systems ⊎ (s.clock ≡ top)
   pub worse : best.identity < next.identity
   pub was_best : (v : ℕ) → IsBest n.graph v next → IsBest g v best
   pub was : (v : ℕ) → IsBest n.graph v next → IsDistance g v (base + depth v)
@@ -59,17 +61,10 @@ pub record Tree : Type 0 where
   pub base : ℕ
   pub depth : ℕ → ℕ
 
--- Each system that is left is unmoved, or one of a tree that is cut off.
-pub record CutsTrees (g : Snapshot) (n : Network) (best : System) (IsCut : Tree → Type 0) : Type 0 where
-  pub well : IsWellFormed n.graph
-  pub left : IsWhatIsLeft g n
-  pub each : (t : Tree) → IsCut t → CutsOff g n t.top best t.next t.base t.depth
-  pub tops : (t : Tree) → IsCut t → IsBest n.graph t.top t.next
-  pub all : (v : ℕ) → In v (clocks n.graph) → Unmoved g n v ⊎ ((t : Tree) × IsCut t × IsBest n.graph v t.next)
-
--- The snapshot loses one system, and no link between two others.
+-- The snapshot loses one system, and no link between two others. The others stand as they did.
 pub record LosesSystem (g : Snapshot) (n : Network) (lost : ℕ) : Type 0 where
   pub dead : In lost (clocks n.graph) → ⊥
+  pub systems : (s : System) → In s n.graph.systems → In s g.systems
   pub others : (v : ℕ) → In v (clocks g) → In v (clocks n.graph) ⊎ (v ≡ lost)
   pub links : (p q : PortIdentity) → Joins g p q → In p.clock (clocks n.graph) → In q.clock (clocks n.graph)
       → Joins n.graph p q

@@ -32,7 +32,9 @@ pub mod RestLaws
 pub mod ReactionLaws
 pub mod LossLaws
 pub mod CutTree
+pub mod TwoTops
 pub mod TurnTree
+pub mod FailureTrees
 pub mod SyncLaws
 pub mod Example
 pub mod ExampleLaws

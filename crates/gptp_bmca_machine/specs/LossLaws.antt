@@ -33,10 +33,17 @@ pub record EverythingFits (says : Spelling) (g : Snapshot) (n : Network) (w : Ma
       → says f.octets a → In l.to.clock (clocks n.graph) → FlightFits g l a
   pub stations : ReceivedFits g w
 
--- the network is what is left of a snapshot
+-- the snapshot has the system, where its identity was as good or better
+pub record WasSystem (g : Snapshot) (s : System) : Type 0 where
+  pub old : System
+  pub known : In old g.systems
+  pub clock : old.clock ≡ s.clock
+  pub identity : old.identity ≤ s.identity
+
+-- the network is what is left of a snapshot: systems, whose identities may have got worse, and links
 pub record IsWhatIsLeft (g : Snapshot) (n : Network) : Type 0 where
   pub graph : IsWellFormed g
-  pub systems : (s : System) → In s n.graph.systems → In s g.systems
+  pub systems : (s : System) → In s n.graph.systems → WasSystem g s
   pub links : (p q : PortIdentity) → Joins n.graph p q → Joins g p q
 
 -- every step of what is left of a snapshot keeps that all fits the snapshot

@@ -1,6 +1,6 @@
 -- A system that has settled, in the words of the snapshot's graph.
 use Rattle.std.specs.Prelude.{◌≡◌, ◌≢◌, ℕ, suc, Option, Some, None, slice_get}
-use Rattle.gptp_graph.specs.Snapshot.{Snapshot, port_of}
+use Rattle.gptp_graph.specs.Snapshot.{IsLinked, Snapshot, port_of}
 use Rattle.gptp_graph.specs.Distance.{IsDistance}
 use Rattle.gptp_graph.specs.Parent.{ParentLink, IsParent}
 use Rattle.gptp_graph.specs.SettledRole.{Role, Master, Slave, Passive, IsSettledRole}
@@ -34,4 +34,9 @@ pub record FollowsBest (g : Snapshot) (s : Station) : Type 0 where
 -- every port has its settled role
 abbrev pub HasSettledRoles : Snapshot → Station → Type 0
 HasSettledRoles g s = (i : ℕ) (q : Port) → slice_get s.ports i ≡ Some q
+    → (r : Role) × PlaysRole s.slave (suc i) q.held r × IsSettledRole g (port_of s.clock (suc i)) r
+
+-- every port on a link has its settled role
+abbrev pub HasLinkedRoles : Snapshot → Station → Type 0
+HasLinkedRoles g s = (i : ℕ) (q : Port) → slice_get s.ports i ≡ Some q → IsLinked g (port_of s.clock (suc i))
     → (r : Role) × PlaysRole s.slave (suc i) q.held r × IsSettledRole g (port_of s.clock (suc i)) r

@@ -13,7 +13,7 @@ use Rattle.gptp_bmca_machine.specs.Sound.{RunIsSound}
 use Rattle.gptp_bmca_machine.specs.EarlyPorts.{EarlyPortsHear}
 use Rattle.gptp_bmca_machine.specs.Lapsing.{NothingNearLapses}
 use Rattle.gptp_bmca_machine.specs.Levels.{IsHeardFrom, Invariant}
-use Rattle.gptp_bmca_machine.specs.Settled.{HasBest, FollowsBest, HasSettledRoles}
+use Rattle.gptp_bmca_machine.specs.Settled.{FollowsBest, HasBest, HasLinkedRoles, HasSettledRoles}
 
 -- before what is held must be sound the invariant claims nothing
 abbrev pub InvariantBegins : Spelling → Type 0
@@ -59,7 +59,8 @@ NetworkSettles says = (n : Network) (w : MachineState) (i : ℕ) (s : Station)
     → IsSettlingNetwork n → Calm n w → Invariant says n w
     → slice_get w.stations i ≡ Some s → s.live ≡ true → IsNear n.graph s.clock
     → settled_from n ≤ w.time
-    → HasBest n.graph s × (n.bare ≤ w.time → FollowsBest n.graph s) × (n.off ≤ w.time → HasSettledRoles n.graph s)
+    → HasBest n.graph s × (n.bare ≤ w.time → FollowsBest n.graph s × HasLinkedRoles n.graph s)
+    × (n.off ≤ w.time → HasSettledRoles n.graph s)
 
 -- Once all that is held is sound, no system, near or far, has a root below the identity of its component's best,
 -- nor that identity as its root over fewer steps than its distance.

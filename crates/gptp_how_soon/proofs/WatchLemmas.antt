@@ -13,7 +13,7 @@ use Rattle.gptp_how_soon.specs.Kinds.{sets_link}
 use Rattle.gptp_how_soon.specs.Times.{View, events_at, events_before, gained_at, loss_at, row_at, settling_times, settling_times_from, time_at, view_at}
 use Rattle.gptp_how_soon.specs.declared.bounds.Loss.{Loss}
 use Rattle.gptp_how_soon.specs.declared.bounds.Row.{Row}
-use Rattle.gptp_how_soon.specs.declared.bounds.Row.TheVariants.{AnyLosses, AnyPast, CutOff, FailedEnd, FailedHeard, FailureCutsOff, FailureCutsTrees, Gained, Lowered, OneTurned, TreeCutOff, TreeTurned, Unchanged}
+use Rattle.gptp_how_soon.specs.declared.bounds.Row.TheVariants.{AnyLosses, AnyPast, CutOff, FailedEnd, FailedHeard, FailureCutsOff, FailureMovesTrees, Gained, Lowered, SystemTurned, TakenAway, TreeFalls, TreeTurned, Unchanged}
 use Rattle.gptp_how_soon.specs.declared.bounds.Settling.{Settling}
 use Rattle.gptp_how_soon.specs.declared.bounds.SettlingTime.{SettlingTime}
 
@@ -42,10 +42,11 @@ roles_later n loss paths row gained = by (n.params.sync_timeout == 0) row
     by true FailedEnd = omega arith
     by true FailedHeard = quiet (choice_of_row n loss paths FailedHeard gained)
     by true FailureCutsOff = quiet (choice_of_row n loss paths FailureCutsOff gained)
-    by true OneTurned = omega arith
-    by true TreeCutOff = omega arith
+    by true SystemTurned = omega arith
+    by true TreeFalls = omega arith
     by true TreeTurned = omega arith
-    by true FailureCutsTrees = quiet (choice_of_row n loss paths FailureCutsTrees gained)
+    by true FailureMovesTrees = quiet (choice_of_row n loss paths FailureMovesTrees gained)
+    by true TakenAway = omega arith
     by true AnyLosses = quiet (any_loss_span n loss paths)
     by true Gained = omega arith
 

@@ -2,7 +2,7 @@
 -- is cut off that was; and whether each link that is up is in use.
 --
 -- The far end of a link has chosen more steps, or as many and has the higher clock.
-use Rattle.std.specs.Prelude.{ℕ, ◌==◌, ◌&&◌, ◌||◌, nat_lt, not, Bool, false, List, Option, Some, None, slice_get}
+use Rattle.std.specs.Prelude.{ℕ, ◌==◌, ◌&&◌, ◌||◌, nat_le, nat_lt, not, Bool, false, List, Option, Some, None, slice_get}
 use Rattle.std.specs.List.{list_all}
 use Rattle.gptp_scenario.specs.Network.{NetworkState}
 use Rattle.gptp_scenario.specs.declared.change.Timed.{Timed}
@@ -11,7 +11,7 @@ use Rattle.gptp_topology.specs.Course.{cable_is_used}
 use Rattle.gptp_topology.specs.declared.course.Standing.{Standing}
 use Rattle.gptp_topology.specs.declared.nodes.System.{System}
 use Rattle.gptp_how_soon.specs.Chosen.{chosen_after, is_joined, lost_ends, place_of, used_ends}
-use Rattle.gptp_how_soon.specs.Kinds.{lowers_unused}
+use Rattle.gptp_how_soon.specs.Kinds.{makes_nothing}
 use Rattle.gptp_how_soon.specs.declared.chosen.Chosen.{Chosen}
 use Rattle.gptp_how_soon.specs.declared.chosen.Ends.{Ends}
 use Rattle.gptp_how_soon.specs.declared.kinds.Told.{Told}
@@ -43,9 +43,9 @@ is_far_over systems cs place e =
 abbrev pub is_far_end : List System → List Chosen → List Ends → ℕ → Bool
 is_far_end systems cs links place = list_all (is_far_over systems cs place) links
 
--- so is the system that an event names, if it isn't one by which a link goes down of which an end has failed
+-- so is the system that an event names, if it makes something of what stands
 abbrev pub is_far_named : List System → List Chosen → List Ends → Told → Bool
-is_far_named systems cs links e = lowers_unused e || is_far_end systems cs links (place_of systems e.clock)
+is_far_named systems cs links e = makes_nothing e || is_far_end systems cs links (place_of systems e.clock)
 
 abbrev pub are_far : List System → List Chosen → List Ends → List Told → Bool
 are_far systems cs links told = list_all (is_far_named systems cs links) told
@@ -83,3 +83,10 @@ is_down_or_used s = not s.cable.up || cable_is_used s
 
 abbrev pub up_is_used : List Standing → Bool
 up_is_used standings = list_all is_down_or_used standings
+
+-- none that is up takes longer than this
+abbrev pub is_down_or_short : ℕ → Standing → Bool
+is_down_or_short delay s = not s.cable.up || nat_le s.cable.bounds.max delay
+
+abbrev pub none_up_longer : ℕ → List Standing → Bool
+none_up_longer delay standings = list_all (is_down_or_short delay) standings

@@ -5,7 +5,8 @@ pub mod Far
 pub mod Turned
 pub mod Tree
 pub mod TurnedTree
-pub mod CutTrees
+pub mod MovedTrees
+pub mod TwoTops
 pub mod Silent
 pub mod Bounds
 pub mod Rest

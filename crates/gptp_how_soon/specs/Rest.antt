@@ -6,9 +6,9 @@ use Rattle.std.specs.Prelude.{ℕ, ◌+◌, ◌*◌, ◌&&◌, ◌||◌, nat_le,
 use Rattle.std.specs.List.{list_all, list_any}
 use Rattle.gptp_scenario.specs.SettlingTime.{way_span}
 use Rattle.gptp_scenario.specs.declared.sync_wait.SyncPaths.{SyncPaths}
-use Rattle.gptp_how_soon.specs.Kinds.{are_heard, begins_wider, brings_nothing, fails_and_recovers, fails_first, first_wider_by, is_better, is_gain, is_loss, is_other, is_recovery, is_wider, leaves_links, lowers_one, lowers_unused, makes_nothing, tells_nothing}
+use Rattle.gptp_how_soon.specs.Kinds.{are_heard, begins_wider, brings_nothing, fails_and_recovers, fails_beside_idle, fails_first, first_wider_by, is_better, is_gain, is_loss, is_other, is_recovery, is_wider, leaves_links, lowers_one, lowers_unused, makes_nothing, takes_several, tells_nothing, worsens_first}
 use Rattle.gptp_how_soon.specs.declared.bounds.Row.{Row}
-use Rattle.gptp_how_soon.specs.declared.bounds.Row.TheVariants.{AnyLosses, AnyPast, CutOff, FailedEnd, FailedHeard, FailureCutsOff, FailureCutsTrees, Gained, Lowered, OneTurned, TreeCutOff, TreeTurned, Unchanged}
+use Rattle.gptp_how_soon.specs.declared.bounds.Row.TheVariants.{AnyLosses, AnyPast, CutOff, FailedEnd, FailedHeard, FailureCutsOff, FailureMovesTrees, Gained, Lowered, SystemTurned, TakenAway, TreeFalls, TreeTurned, Unchanged}
 use Rattle.gptp_how_soon.specs.declared.bounds.Settling.{Settling}
 use Rattle.gptp_how_soon.specs.declared.bounds.SettlingTime.{SettlingTime}
 use Rattle.gptp_how_soon.specs.declared.kinds.Told.{Told}
@@ -35,6 +35,11 @@ has_come_by interval delay arrived b at (Some s) =
 abbrev pub has_come : ℕ → ℕ → ℕ → Option SettlingTime → ℕ → Bool
 has_come interval delay arrived None at = false
 has_come interval delay arrived (Some b) at = has_come_by interval delay arrived b at b.settling
+
+-- What was in flight at a time has come within the greatest delay of a link in use: each link that is up is in use, or
+-- none takes longer, and what was in flight as a link was last set has arrived as soon.
+abbrev pub comes_soon : Bool → Bool → ℕ → ℕ → ℕ → Bool
+comes_soon used none_longer delay arrived at = used || (none_longer && nat_le arrived (at + delay))
 
 -- Events are followed where what each does is, and no system both fails and recovers.
 abbrev pub are_events_followed : List Told → Bool
@@ -72,13 +77,25 @@ keeps_paths paths_before paths =
     nat_le paths_before.systems 255 && nat_le paths.delay paths_before.delay
     && nat_le paths.systems paths_before.systems
 
--- Then a link that goes down by the one event of a time is followed. So is a system that fails, alone or as it loses
--- its power.
+-- Then a link that goes down by the first event of a time is followed, where the others repeat what stands. So is a
+-- system that fails, alone or as it loses its power.
 abbrev pub is_lowering_followed : SyncPaths → SyncPaths → List Told → Bool
 is_lowering_followed paths_before paths told = keeps_paths paths_before paths && lowers_one told
 
 abbrev pub is_failing_followed : SyncPaths → SyncPaths → List Told → Bool
 is_failing_followed paths_before paths told = keeps_paths paths_before paths && fails_first told
+
+-- So is a far end that fails beside events that change nothing, where nobody is moved.
+abbrev pub is_end_followed : SyncPaths → SyncPaths → List Told → Bool
+is_end_followed paths_before paths told = keeps_paths paths_before paths && fails_beside_idle told
+
+-- So are several events that take links and systems away.
+abbrev pub is_taking_followed : SyncPaths → SyncPaths → List Told → Bool
+is_taking_followed paths_before paths told = keeps_paths paths_before paths && takes_several told
+
+-- So is a priority1 by which a live system gets worse, as the first event.
+abbrev pub is_worsening_followed : SyncPaths → SyncPaths → List Told → Bool
+is_worsening_followed paths_before paths told = keeps_paths paths_before paths && worsens_first told
 
 -- Time 0 is from rest where its events, if any, leave it so that nothing is told.
 abbrev pub is_from_rest : ℕ → ℕ → SyncPaths → SyncPaths → List Told → Option SettlingTime → Bool
@@ -94,15 +111,26 @@ is_from_rest longest at paths_before paths told (Some b) =
 
 -- A system fails, and none is moved but such as are cut off: whether it was a far end, and whether one is cut off so.
 abbrev pub failed_row : Bool → Bool → Row
-failed_row far any = if far then FailedEnd else if any then FailureCutsOff else FailedHeard
+failed_row far any_moved = if far then FailedEnd else if any_moved then FailureCutsOff else FailedHeard
+
+-- What is known of a time whose events have no row among those where one is taken away: of a far end that fails beside
+-- events that change nothing, of several that are taken away, and of others.
+abbrev pub other_row : SyncPaths → SyncPaths → List Told → Moves → Row
+other_row paths_before paths told moves =
+    if is_end_followed paths_before paths told && (moves.far && not moves.any_moved) then FailedEnd
+    else if is_taking_followed paths_before paths told && moves.taken then TakenAway
+    else if list_any is_loss told then if list_all brings_nothing told then AnyLosses else AnyPast
+    else Gained
 
 -- What is known of a time, by what was seen of it. Not from rest, or where it both gains and loses, the network may
 -- come from any past. The first time has no loss: nothing was there to be lost. Events that make nothing of what stands
 -- leave it as it was. So does a link that gets wider, and so do losses that are followed, where no system is moved.
 -- Where one link or one system is taken away such as are cut off don't count as moved. There it matters whether the
 -- link that goes down cuts off a far end, and whether the one system that it moves turns, or a tree falls off or turns.
--- Of a system that fails it matters whether it was a far end, so that no other heard it, and whether it cuts off
--- another, or trees. All other losses have one row.
+-- A tree falls back too as its best gets worse. Of a system that fails it matters whether it was a far end, so that no
+-- other heard it, and whether it cuts off another, or trees. Where several are taken away it matters whether all of
+-- them together move any system, also one that is cut off, and whether a link is left silent. All other losses have one
+-- row.
 abbrev pub row_of : Bool → Bool → SyncPaths → SyncPaths → List Told → Moves → Row
 row_of from_rest first paths_before paths told moves =
     if not from_rest then AnyPast
@@ -110,31 +138,37 @@ row_of from_rest first paths_before paths told moves =
     else if list_all makes_nothing told || begins_wider told then Unchanged
     else if are_losses_followed paths_before told && not moves.moved then Unchanged
     else if is_lowering_followed paths_before paths told && not moves.moved then if moves.cut then CutOff else Lowered
-    else if is_lowering_followed paths_before paths told && moves.turned then OneTurned
-    else if is_lowering_followed paths_before paths told && moves.falls then TreeCutOff
+    else if is_lowering_followed paths_before paths told && moves.turned then SystemTurned
+    else if (is_lowering_followed paths_before paths told && moves.falls)
+    || (is_worsening_followed paths_before paths told && moves.worsens)
+    then TreeFalls
     else if is_lowering_followed paths_before paths told && moves.tree_turns then TreeTurned
-    else if is_failing_followed paths_before paths told && not moves.moved then failed_row moves.far moves.any
-    else if is_failing_followed paths_before paths told && moves.trees_fall then FailureCutsTrees
-    else if list_any is_loss told then if list_all brings_nothing told then AnyLosses else AnyPast
-    else Gained
+    else if is_failing_followed paths_before paths told && not moves.moved then failed_row moves.far moves.any_moved
+    else if is_failing_followed paths_before paths told && moves.trees_move then FailureMovesTrees
+    else other_row paths_before paths told moves
 
 -- whether the row depends on whom the events move, and on whether one was a far end
 abbrev pub asks_who_is_moved : Bool → SyncPaths → SyncPaths → List Told → Bool
 asks_who_is_moved from_rest paths_before paths told =
     from_rest
     && (are_losses_followed paths_before told || is_lowering_followed paths_before paths told
-    || is_failing_followed paths_before paths told)
+    || is_failing_followed paths_before paths told || is_end_followed paths_before paths told
+    || is_taking_followed paths_before paths told
+    || is_worsening_followed paths_before paths told)
 
 -- no system is moved, nor a far end, and others hold nothing
 abbrev pub no_moves : Moves
 no_moves = record {
   moved = false;
-  any = false;
+  any_moved = false;
   cut = false;
   turned = false;
   falls = false;
+  worsens = false;
   tree_turns = false;
-  trees_fall = false;
+  trees_move = false;
+  taken = false;
+  cuts_all = false;
   far = false;
   held = 0;
 }

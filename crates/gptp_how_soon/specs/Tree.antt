@@ -1,17 +1,19 @@
--- Whether events cut off a tree of systems, by one link that is lost (profile).
+-- Whether a tree of systems falls back to a worse root: events cut it off, by one link that is lost, or its best gets
+-- worse (profile).
 --
--- What each system of the tree had chosen says where it stands in it: from the one at the top, which lost the link,
--- each link leads one step farther or one step nearer.
+-- What each system of the tree had chosen says where it stands in it: from the one at the top, which lost the link or
+-- was the best, each link leads one step farther or one step nearer.
 use Rattle.std.specs.Prelude.{ℕ, ◌-◌, ◌==◌, ◌&&◌, ◌||◌, nat_le, nat_lt, not, Bool, false, if◌then◌else◌, List, [], ◌∷◌, length, Option, Some, None, slice_get}
 use Rattle.std.specs.List.{count_by, list_all, range_with_len}
 use Rattle.gptp_scenario.specs.Network.{NetworkState}
 use Rattle.gptp_scenario.specs.declared.change.Timed.{Timed}
 use Rattle.gptp_topology.specs.After.{systems_after}
 use Rattle.gptp_topology.specs.declared.nodes.System.{System}
-use Rattle.gptp_how_soon.specs.Chosen.{chosen_after, is_moved_at, lost_ends, used_ends}
+use Rattle.gptp_how_soon.specs.Chosen.{chosen_after, is_moved_at, lost_ends, place_of, used_ends}
 use Rattle.gptp_how_soon.specs.Turned.{leads_nearer}
 use Rattle.gptp_how_soon.specs.declared.chosen.Chosen.{Chosen}
 use Rattle.gptp_how_soon.specs.declared.chosen.Ends.{Ends}
+use Rattle.gptp_how_soon.specs.declared.kinds.Told.{Told}
 
 -- ---- what two systems choose
 
@@ -69,13 +71,17 @@ is_below_or_apart systems links before now top place =
     if is_moved_at systems before now place then is_below links before now top place
     else not (has_same_root (slice_get now top) (slice_get now place))
 
--- a link that led from the top to the other is lost: the top is moved, to a worse root, and the other isn't
-abbrev pub cuts_below : List System → List Ends → List Chosen → List Chosen → ℕ → ℕ → Bool
-cuts_below systems links before now top other =
+-- the top is moved, to a worse root, and so is each system below it
+abbrev pub falls_below : List System → List Ends → List Chosen → List Chosen → ℕ → Bool
+falls_below systems links before now top =
     is_moved_at systems before now top
-    && not (is_moved_at systems before now other)
     && has_better_root (slice_get before top) (slice_get now top)
     && list_all (is_below_or_apart systems links before now top) (range_with_len 0 (length systems))
+
+-- a link that led from the top to the other is lost, which isn't moved
+abbrev pub cuts_below : List System → List Ends → List Chosen → List Chosen → ℕ → ℕ → Bool
+cuts_below systems links before now top other =
+    falls_below systems links before now top && not (is_moved_at systems before now other)
 
 -- it is so of one end of the one link that is lost
 abbrev pub cuts_tree : List System → List Ends → List Ends → List Chosen → List Chosen → Bool
@@ -84,8 +90,24 @@ cuts_tree systems (e ∷ []) links before now =
     cuts_below systems links before now e.a e.b || cuts_below systems links before now e.b e.a
 cuts_tree systems (e ∷ f ∷ es) links before now = false
 
+-- the top had chosen itself
+abbrev pub chose_itself : Option Chosen → Bool
+chose_itself None = false
+chose_itself (Some c) = c.steps == 0
+
+-- the system that the first event names was the best of a tree, which falls back
+abbrev pub worsens_best : List System → List Ends → List Chosen → List Chosen → List Told → Bool
+worsens_best systems links before now [] = false
+worsens_best systems links before now (e ∷ es) =
+    chose_itself (slice_get before (place_of systems e.clock))
+    && falls_below systems links before now (place_of systems e.clock)
+
 -- between these events and more of them
 abbrev pub cuts_tree_after : NetworkState → List Timed → List Timed → Bool
 cuts_tree_after n made events =
     cuts_tree (systems_after n events) (lost_ends n made events) (used_ends n events) (chosen_after n made)
     (chosen_after n events)
+
+abbrev pub worsens_best_after : NetworkState → List Timed → List Timed → List Told → Bool
+worsens_best_after n made events told =
+    worsens_best (systems_after n events) (used_ends n events) (chosen_after n made) (chosen_after n events) told

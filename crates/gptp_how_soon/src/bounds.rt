@@ -7,7 +7,7 @@ ghost use Rattle.gptp_setup.specs.SettlingParams.{largest_interval};
 ghost use Rattle.gptp_scenario.specs.Network.{pace_of};
 ghost use Rattle.gptp_scenario.specs.SettlingAtOnce.{settling_span_at_once};
 ghost use Rattle.gptp_scenario.specs.SettlingTime.{capability_span, echo_span, silence_span, way_span};
-ghost use Rattle.gptp_how_soon.specs.Bounds.{aged_by, aged_echo_span, any_loss_span, arrived_by, asked_again, choice_by, exact_from, exact_span, gone_by, heard_by, is_again, is_hard_to_hear, quiet_by, ready, retold_by, roles_by, set_span, settled, sound_by, times_by, two_exchanges, watch};
+ghost use Rattle.gptp_how_soon.specs.Bounds.{aged_by, aged_echo_span, any_loss_span, arrived_by, asked_again, choice_by, exact_from, exact_span, gone_by, heard_by, is_again, is_hard_to_hear, quiet_by, ready, retold_by, roles_by, set_span, settled, sound_by, taken_echo_span, times_by, two_exchanges, watch};
 
 use crate::kinds::{Told, recovers};
 use crate::links::varies;
@@ -49,6 +49,12 @@ pub struct Loss {
     /// Whether each link that was up just before was in use, and whether each that is up then is.
     pub used_before: bool,
     pub used: bool,
+    /// Whether what was in flight then comes within the greatest delay of a link in use; and so what was just before,
+    /// of one in use then.
+    pub soon: bool,
+    pub soon_before: bool,
+    /// Whether each system that is moved gets a worse root, and so does each live far end of a link that is lost.
+    pub cuts_all: bool,
     /// Whether a link is left silent: it was in use, and is up, but one of its ends has failed.
     pub silent: bool,
     /// For how long it counts what others hold of a system that fails, in ns; 0 where no link is left silent whose far
@@ -63,9 +69,10 @@ pub enum Row {
     AnyPast,
     /// Its events leave what stands as it was.
     Unchanged,
-    /// By its one event a link goes down. No system is moved but such as are cut off, none of which was a far end.
+    /// By the first event a link goes down, and the others repeat what stands. No system is moved but such as are cut
+    /// off, none of which was a far end.
     Lowered,
-    /// By its one event a link goes down that cuts off its far end. No other system is moved.
+    /// One link goes down so that cuts off its far end. No other system is moved.
     CutOff,
     /// A system fails that was the far end of its links.
     FailedEnd,
@@ -73,14 +80,18 @@ pub enum Row {
     FailedHeard,
     /// So it is, but systems are moved, all of which are cut off.
     FailureCutsOff,
-    /// By its one event a link goes down that moves one system alone. That keeps its root, and turns to others for it.
-    OneTurned,
-    /// By its one event a link goes down that cuts off a tree, whose systems have a worse root then.
-    TreeCutOff,
-    /// By its one event a link goes down that moves a tree. Its systems keep their root, and get it by one other link.
+    /// One link goes down so that moves one system alone. That keeps its root, and turns to others for it.
+    SystemTurned,
+    /// One link goes down so that cuts off a tree, or its best gets worse. Its systems have a worse root then.
+    TreeFalls,
+    /// One link goes down so that moves a tree. Its systems keep their root, and get it by one other link.
     TreeTurned,
-    /// A system fails, and all that are moved are trees that it cuts off.
-    FailureCutsTrees,
+    /// A system fails, and all that are moved are trees: some are cut off, one may turn by one other link.
+    FailureMovesTrees,
+    /// By the first event a link in use goes down or a system fails. So it is of the others, or links go down of which
+    /// an end has failed, or they repeat what stands. All together move no system, also none that is cut off, and leave
+    /// no link silent.
+    TakenAway,
     /// Some of its events are losses, the others make nothing of what stands, and no other row of a loss is so.
     AnyLosses,
     /// None of its events is a loss.
@@ -272,10 +283,10 @@ fn choice_by(network: &Network, loss: Loss, paths: SyncPaths, row: Row, gained: 
     }
     match row {
         Row::AnyPast => settling_span_at_once(network, paths),
-        Row::Unchanged | Row::Lowered | Row::FailedEnd => 0,
+        Row::Unchanged | Row::Lowered | Row::FailedEnd | Row::TakenAway => 0,
         Row::FailedHeard => aged_by(loss),
-        Row::FailureCutsOff | Row::FailureCutsTrees => aged_by(loss) + 2 * way_span(paths),
-        Row::CutOff | Row::OneTurned | Row::TreeCutOff | Row::TreeTurned => 2 * way_span(paths),
+        Row::FailureCutsOff | Row::FailureMovesTrees => aged_by(loss) + 2 * way_span(paths),
+        Row::CutOff | Row::SystemTurned | Row::TreeFalls | Row::TreeTurned => 2 * way_span(paths),
         Row::AnyLosses => any_loss_span(network, loss, paths),
         Row::Gained => gained,
     }
@@ -296,13 +307,13 @@ fn roles_by(network: &Network, loss: Loss, paths: SyncPaths, row: Row, gained: u
     }
     match row {
         Row::AnyPast => settling_span_at_once(network, paths),
-        Row::Unchanged | Row::Lowered => 0,
+        Row::Unchanged | Row::Lowered | Row::TakenAway => 0,
         Row::FailedEnd => quiet_by(network, loss, 0),
         Row::FailedHeard => quiet_by(network, loss, aged_by(loss)),
-        Row::FailureCutsOff | Row::FailureCutsTrees => {
+        Row::FailureCutsOff | Row::FailureMovesTrees => {
             quiet_by(network, loss, aged_by(loss) + 2 * way_span(paths))
         }
-        Row::CutOff | Row::OneTurned | Row::TreeCutOff | Row::TreeTurned => 2 * way_span(paths),
+        Row::CutOff | Row::SystemTurned | Row::TreeFalls | Row::TreeTurned => 2 * way_span(paths),
         Row::AnyLosses => quiet_by(network, loss, any_loss_span(network, loss, paths)),
         Row::Gained => gained,
     }
@@ -320,13 +331,13 @@ fn echo_span(network: &Network, paths: SyncPaths) -> u64
 }
 
 /// By how much later than a time what was in flight is gone, in ns.
-fn gone_by(network: &Network, paths: SyncPaths, used_before: bool) -> u64
+fn gone_by(network: &Network, paths: SyncPaths, soon: bool) -> u64
     requires { paths.delay ≤ 16000000000 }
-    ensures is { result ≡ gone_by network.now paths used_before }
+    ensures is { result ≡ gone_by network.now paths soon }
     ensures bound { result ≤ 16000000000 }
 {
     network.well_formed();
-    if used_before {
+    if soon {
         paths.delay
     } else {
         interval_of(network.largest())
@@ -351,6 +362,21 @@ fn aged_echo_span(network: &Network, loss: Loss, paths: SyncPaths) -> u64
     silence_span(network).max(aged_by(loss) + 1 + gone)
 }
 
+/// By how much later than several are taken away each tells a right trace, in ns, and what was in flight is gone.
+fn taken_echo_span(network: &Network, loss: Loss, paths: SyncPaths) -> u64
+    requires few { paths.systems ≤ 512 }
+    requires short { paths.delay ≤ 16000000000 }
+    requires short_before { loss.paths_before.delay ≤ 16000000000 }
+    ensures is { result ≡ taken_echo_span network.now loss paths }
+    ensures bound { result ≤ 110000000000000 }
+{
+    if loss.used {
+        echo_span(network, paths).max(paths.delay)
+    } else {
+        any_loss_span(network, loss, paths)
+    }
+}
+
 /// The bound of what is held and in flight, in ns.
 fn sound_by(network: &Network, loss: Loss, paths: SyncPaths, row: Row, gained: u64) -> u64
     requires few { paths.systems ≤ 512 }
@@ -364,23 +390,33 @@ fn sound_by(network: &Network, loss: Loss, paths: SyncPaths, row: Row, gained: u
     if network.params().sync_timeout != 0 {
         return network.settling_span_with(paths);
     }
-    let gone = gone_by(network, paths, loss.used_before);
-    let gone_before = gone_by(network, loss.paths_before, loss.used_before);
+    let gone = gone_by(network, paths, loss.soon);
+    let gone_before = gone_by(network, loss.paths_before, loss.soon_before);
     match row {
         Row::AnyPast => settling_span_at_once(network, paths),
         Row::Unchanged => 0,
-        Row::Lowered => echo_span(network, paths).max(gone),
-        Row::CutOff | Row::TreeCutOff => (2 * way_span(paths)).max(gone),
+        Row::Lowered => echo_span(network, paths).max(gone_by(network, paths, loss.used_before)),
+        Row::TakenAway => taken_echo_span(network, loss, paths),
+        Row::CutOff => (2 * way_span(paths)).max(gone),
+        Row::TreeFalls => (2 * way_span(paths)).max(gone_by(network, paths, loss.used_before)),
         Row::FailedEnd => quiet_by(network, loss, gone_before),
         Row::FailedHeard => aged_echo_span(network, loss, paths),
         Row::FailureCutsOff => {
             let aged = aged_by(loss) + 2 * way_span(paths);
-            aged.max(aged_echo_span(network, loss, paths))
+            if loss.cuts_all {
+                quiet_by(network, loss, aged + gone)
+            } else {
+                aged.max(aged_echo_span(network, loss, paths))
+            }
         }
-        Row::OneTurned | Row::TreeTurned => 2 * way_span(paths) + echo_span(network, paths),
-        Row::AnyLosses | Row::FailureCutsTrees => {
-            quiet_by(network, loss, any_loss_span(network, loss, paths))
+        Row::SystemTurned | Row::TreeTurned => 2 * way_span(paths) + echo_span(network, paths),
+        Row::FailureMovesTrees => {
+            network.well_formed();
+            let told = echo_span(network, paths).max(interval_of(network.largest()));
+            let later = if loss.cuts_all { gone } else { told };
+            quiet_by(network, loss, aged_by(loss) + 2 * way_span(paths) + later)
         }
+        Row::AnyLosses => quiet_by(network, loss, any_loss_span(network, loss, paths)),
         Row::Gained => gained,
     }
 }
@@ -401,13 +437,18 @@ fn retold_by(network: &Network, loss: Loss, paths: SyncPaths, row: Row, gained: 
     match row {
         Row::AnyPast => settling_span_at_once(network, paths),
         Row::Unchanged | Row::FailedEnd => 0,
-        Row::Lowered => echo_span(network, paths),
+        Row::Lowered | Row::TakenAway => echo_span(network, paths),
         Row::FailedHeard => aged_by(loss) + echo_span(network, paths),
-        Row::FailureCutsOff | Row::FailureCutsTrees => {
-            aged_by(loss) + 2 * way_span(paths) + echo_span(network, paths)
+        Row::FailureCutsOff | Row::FailureMovesTrees => {
+            let echo = if loss.cuts_all {
+                0
+            } else {
+                echo_span(network, paths)
+            };
+            aged_by(loss) + 2 * way_span(paths) + echo
         }
-        Row::OneTurned | Row::TreeTurned => echo_span(network, paths) + 2 * way_span(paths),
-        Row::CutOff | Row::TreeCutOff => 2 * way_span(paths),
+        Row::SystemTurned | Row::TreeTurned => echo_span(network, paths) + 2 * way_span(paths),
+        Row::CutOff | Row::TreeFalls => 2 * way_span(paths),
         Row::AnyLosses => any_loss_span(network, loss, paths),
         Row::Gained => gained,
     }

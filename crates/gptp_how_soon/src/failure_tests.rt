@@ -101,13 +101,14 @@ fn what_is_held_ages_by_the_interval_of_its_port(rt: HostRuntime) -> Result<(), 
 }
 
 #[test]
-fn what_a_failure_cuts_off_costs_two_ways(rt: HostRuntime) -> Result<(), Fail> {
+fn what_a_failure_cuts_off_or_turns_costs_two_ways(rt: HostRuntime) -> Result<(), Fail> {
     const HANGS: &str =
         "[[event]]\nat = 30000000000\nkind = \"fail\"\nclock = \"000000000000000b\"\n";
     const DOWN: &str =
         "[[event]]\nat = 30000000000\nkind = \"link_down\"\nclock = \"000000000000000b\"\nport = ";
-    // In each row b fails, or loses its power and so many links. The second moves another that isn't cut off, the last
-    // two that are joined beside it.
+    // In each row b fails, or loses its power and so many links. The next three move others that keep their root and get
+    // it by one link; after them one gets it by two. The last three cut off such as are joined beside b at two of them,
+    // the last one of all besides.
     for (case, ports, links, hang, power) in [
         (
             "one is cut off",
@@ -121,7 +122,7 @@ fn what_a_failure_cuts_off_costs_two_ways(rt: HostRuntime) -> Result<(), Fail> {
             (820, 820),
         ),
         (
-            "one goes over another",
+            "one turns to another",
             2,
             &[
                 ("a", "1", "b", "1"),
@@ -130,8 +131,51 @@ fn what_a_failure_cuts_off_costs_two_ways(rt: HostRuntime) -> Result<(), Fail> {
                 ("d", "2", "e", "1"),
                 ("e", "2", "c", "2"),
             ] as &[(&str, &str, &str, &str)],
-            (13_000_002_870, 13_000_002_870),
-            (13_000_002_870, 13_000_002_870),
+            (3_000_002_870, 11_000_000_000),
+            (2_460, 2_460),
+        ),
+        (
+            "two turn to another",
+            2,
+            &[
+                ("a", "1", "b", "1"),
+                ("b", "2", "c", "1"),
+                ("c", "2", "d", "1"),
+                ("c", "3", "e", "1"),
+                ("e", "2", "f", "1"),
+                ("f", "2", "a", "2"),
+            ] as &[(&str, &str, &str, &str)],
+            (3_000_003_690, 11_000_000_000),
+            (3_280, 3_280),
+        ),
+        (
+            "one turns to another, and one is cut off",
+            3,
+            &[
+                ("a", "1", "b", "1"),
+                ("b", "2", "c", "1"),
+                ("a", "2", "d", "1"),
+                ("d", "2", "e", "1"),
+                ("e", "2", "c", "2"),
+                ("b", "3", "f", "1"),
+            ] as &[(&str, &str, &str, &str)],
+            (3_000_002_870, 11_000_000_000),
+            (2_460, 2_460),
+        ),
+        (
+            "one has two ways to others",
+            2,
+            &[
+                ("a", "1", "b", "1"),
+                ("b", "2", "c", "1"),
+                ("a", "2", "d", "1"),
+                ("d", "2", "e", "1"),
+                ("d", "3", "f", "1"),
+                ("e", "2", "c", "2"),
+                ("f", "2", "c", "3"),
+            ] as &[(&str, &str, &str, &str)],
+            (16_000_003_690, 16_000_003_690),
+            (16_000_003_690, 16_000_003_690),
         ),
         (
             "a line and an end station",
@@ -144,6 +188,31 @@ fn what_a_failure_cuts_off_costs_two_ways(rt: HostRuntime) -> Result<(), Fail> {
             ] as &[(&str, &str, &str, &str)],
             (3_000_001_230, 11_000_000_000),
             (820, 820),
+        ),
+        (
+            "a triangle",
+            3,
+            &[
+                ("a", "1", "b", "1"),
+                ("b", "2", "c", "1"),
+                ("c", "2", "d", "1"),
+                ("b", "3", "d", "2"),
+            ] as &[(&str, &str, &str, &str)],
+            (3_000_001_230, 11_000_000_000),
+            (820, 820),
+        ),
+        (
+            "a ring behind it",
+            3,
+            &[
+                ("a", "1", "b", "1"),
+                ("b", "2", "c", "1"),
+                ("c", "2", "e", "1"),
+                ("e", "2", "d", "1"),
+                ("b", "3", "d", "2"),
+            ] as &[(&str, &str, &str, &str)],
+            (3_000_002_050, 11_000_000_000),
+            (1_640, 1_640),
         ),
         (
             "a triangle and an end station",
@@ -159,7 +228,7 @@ fn what_a_failure_cuts_off_costs_two_ways(rt: HostRuntime) -> Result<(), Fail> {
             (7_000_001_230, 7_000_001_230),
         ),
     ] {
-        let clocks = &["a", "b", "c", "d", "e"];
+        let clocks = &["a", "b", "c", "d", "e", "f"];
         let hangs = joined(rt.alloc(), clocks, links, HANGS)?;
         assert_eq!(rt; bounds(&hangs, 30_000_000_000), Some(hang), "{case}");
         let mut off = String::new(rt.alloc());
@@ -280,19 +349,110 @@ fn an_end_station_may_be_left_without_a_link(rt: HostRuntime) -> Result<(), Fail
 }
 
 #[test]
-fn other_losses_cost_a_turn_for_each_system_of_a_path(rt: HostRuntime) -> Result<(), Fail> {
-    // Three announce intervals and a delay for each, an interval, and a way. The link from a to b is wider first.
+fn losses_that_move_no_system_together_cost_nothing(rt: HostRuntime) -> Result<(), Fail> {
+    // Each of b, c and d has a link to a. In the row before the last c is farther then; in the last two links are left
+    // silent.
+    for (case, events, bound) in [
+        (
+            "two links go down",
+            &[("link_down", "b", "2"), ("link_down", "d", "2")] as &[(&str, &str, &str)],
+            (0, 0),
+        ),
+        (
+            "two links go down, and one of them again",
+            &[
+                ("link_down", "b", "2"),
+                ("link_down", "d", "2"),
+                ("link_down", "c", "2"),
+            ] as &[(&str, &str, &str)],
+            (0, 0),
+        ),
+        (
+            "two lose their power",
+            &[
+                ("fail", "b", ""),
+                ("link_down", "b", "1"),
+                ("link_down", "b", "2"),
+                ("fail", "d", ""),
+                ("link_down", "d", "1"),
+                ("link_down", "d", "2"),
+            ] as &[(&str, &str, &str)],
+            (0, 0),
+        ),
+        (
+            "one loses its links, is moved so, and fails",
+            &[
+                ("link_down", "a", "2"),
+                ("link_down", "b", "2"),
+                ("link_down", "d", "2"),
+                ("fail", "c", ""),
+            ] as &[(&str, &str, &str)],
+            (0, 0),
+        ),
+        (
+            "one is moved",
+            &[("link_down", "a", "2"), ("link_down", "d", "2")] as &[(&str, &str, &str)],
+            (13_000_002_870, 13_000_002_870),
+        ),
+        (
+            "one hangs behind a link that goes down",
+            &[("link_down", "b", "2"), ("fail", "d", "")] as &[(&str, &str, &str)],
+            (10_000_002_050, 11_000_000_000),
+        ),
+    ] {
+        let mut text = String::new(rt.alloc());
+        for (kind, clock, port) in events {
+            writeln!(
+                text,
+                "[[event]]\nat = 30000000000\nkind = \"{kind}\"\nclock = \"000000000000000{clock}\""
+            )?;
+            if !port.is_empty() {
+                writeln!(text, "port = {port}")?;
+            }
+        }
+        let links = &[
+            ("a", "1", "b", "1"),
+            ("a", "2", "c", "1"),
+            ("a", "3", "d", "1"),
+            ("b", "2", "c", "2"),
+            ("c", "3", "d", "2"),
+        ];
+        let times = joined(rt.alloc(), &["a", "b", "c", "d"], links, text.as_str())?;
+        assert_eq!(rt; bounds(&times, 30_000_000_000), Some(bound), "{case}");
+    }
+    Ok(())
+}
+
+#[test]
+fn the_best_of_a_ring_that_fails_costs_two_ways(rt: HostRuntime) -> Result<(), Fail> {
+    // Both its neighbours lose it, and are joined by the other. Its link to b takes longer.
+    const SLOWER: &str =
+        "[[event]]\nat = 30000000000\nkind = \"link_set\"\nclock = \"000000000000000a\"\nport = 1\nmin = 380\nmax = 500\nloss = 0\n";
     for (case, events, bound) in [
         (
             "the root hangs",
             "[[event]]\nat = 60000000000\nkind = \"fail\"\nclock = \"000000000000000a\"\n",
-            (10_000_002_320, 11_000_000_000),
+            (3_000_002_140, 11_000_000_000),
         ),
         (
             "the root loses its power",
             "[[event]]\nat = 60000000000\nkind = \"fail\"\nclock = \"000000000000000a\"\n[[event]]\nat = 60000000000\nkind = \"link_down\"\nclock = \"000000000000000a\"\nport = 1\n[[event]]\nat = 60000000000\nkind = \"link_down\"\nclock = \"000000000000000a\"\nport = 2\n",
-            (10_000_002_320, 10_000_002_320),
+            (1_640, 1_640),
         ),
+    ] {
+        let mut text = String::new(rt.alloc());
+        text.push_str(SLOWER)?;
+        text.push_str(events)?;
+        let times = ring(rt.alloc(), text.as_str())?;
+        assert_eq!(rt; bounds(&times, 60_000_000_000), Some(bound), "{case}");
+    }
+    Ok(())
+}
+
+#[test]
+fn other_losses_cost_a_turn_for_each_system_of_a_path(rt: HostRuntime) -> Result<(), Fail> {
+    // Three announce intervals and a delay for each, an interval, and a way. The link from a to b is wider first.
+    for (case, events, bound) in [
         (
             "the root gets worse",
             "[[event]]\nat = 60000000000\nkind = \"priority1\"\nclock = \"000000000000000a\"\nvalue = 250\n",

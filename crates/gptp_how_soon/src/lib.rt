@@ -6,7 +6,6 @@
 
 mod bounds;
 mod chosen;
-mod cut_trees;
 #[cfg(test)]
 mod documents;
 #[cfg(test)]
@@ -18,6 +17,7 @@ mod kinds;
 #[cfg(test)]
 mod link_tests;
 mod links;
+mod moved_trees;
 mod rest;
 #[cfg(test)]
 mod rest_tests;
@@ -26,6 +26,7 @@ mod times;
 mod tree;
 mod turned;
 mod turned_tree;
+mod two_tops;
 mod walk;
 
 pub use bounds::{Loss, Row, Settling, SettlingTime};

@@ -1,6 +1,6 @@
 //! Worked times after links go down; what they expect was counted by hand.
 
-use crate::documents::{bounds, cut, rests, ring, soon};
+use crate::documents::{bounds, cut, joined, rests, ring, soon};
 use crate::{Settling, SettlingTime, settling_at};
 use std::test::Fail;
 
@@ -52,6 +52,34 @@ fn a_far_end_that_a_link_cuts_off_costs_two_ways(rt: HostRuntime) -> Result<(), 
         soon(&times, 100_000_000_000),
         Some((1_640, 100_000_007_040))
     );
+    Ok(())
+}
+
+#[test]
+fn events_that_repeat_what_stands_cost_nothing_behind_a_loss(rt: HostRuntime) -> Result<(), Fail> {
+    const DOWN: &str =
+        "[[event]]\nat = 30000000000\nkind = \"link_down\"\nclock = \"000000000000000b\"\nport = 2\n";
+    const FAILS: &str =
+        "[[event]]\nat = 30000000000\nkind = \"fail\"\nclock = \"000000000000000c\"\n";
+    const LIVES: &str =
+        "[[event]]\nat = 30000000000\nkind = \"recover\"\nclock = \"000000000000000a\"\n";
+    for (case, events, bound) in [
+        ("a link goes down twice", [DOWN, DOWN], (0, 0)),
+        ("a live system recovers behind it", [DOWN, LIVES], (0, 0)),
+        ("a system fails twice", [FAILS, FAILS], (0, 11_000_000_000)),
+        (
+            "a live one recovers behind it",
+            [FAILS, LIVES],
+            (0, 11_000_000_000),
+        ),
+    ] {
+        let mut text = String::new(rt.alloc());
+        for event in events {
+            text.push_str(event)?;
+        }
+        let times = ring(rt.alloc(), text.as_str())?;
+        assert_eq!(rt; bounds(&times, 30_000_000_000), Some(bound), "{case}");
+    }
     Ok(())
 }
 
@@ -247,6 +275,86 @@ fn a_tree_that_a_link_cuts_off_settles_within_two_ways(rt: HostRuntime) -> Resul
         let times = cut(rt.alloc(), clocks, links)?;
         assert_eq!(rt;
             soon(&times, 30_000_000_000).map(|bound| bound.0),
+            Some(choice),
+            "{case}"
+        );
+    }
+    Ok(())
+}
+
+#[test]
+fn a_tree_whose_best_gets_worse_settles_within_two_ways(rt: HostRuntime) -> Result<(), Fail> {
+    // The best gets worse than all others. The ring is no tree; in the last rows another event comes besides, or this
+    // one does as the line rests, 1000003460 ns after its start, and 1 ns later.
+    let line = &[
+        ("a", "1", "b", "1"),
+        ("b", "2", "c", "1"),
+        ("c", "2", "d", "1"),
+    ] as &[(&str, &str, &str, &str)];
+    for (case, links, at, besides, choice) in [
+        ("a line", line, 30_000_000_000, "", 2_460),
+        (
+            "a star with the best at its end",
+            &[
+                ("c", "1", "a", "1"),
+                ("c", "2", "b", "1"),
+                ("c", "3", "d", "1"),
+            ] as &[(&str, &str, &str, &str)],
+            30_000_000_000,
+            "",
+            1_640,
+        ),
+        (
+            "one of two lines",
+            &[("a", "1", "b", "1"), ("c", "1", "d", "1")] as &[(&str, &str, &str, &str)],
+            30_000_000_000,
+            "",
+            820,
+        ),
+        (
+            "a ring",
+            &[
+                ("a", "1", "b", "1"),
+                ("b", "2", "c", "1"),
+                ("c", "2", "d", "1"),
+                ("d", "2", "a", "2"),
+            ] as &[(&str, &str, &str, &str)],
+            30_000_000_000,
+            "",
+            13_000_002_870,
+        ),
+        (
+            "a line, and a link that is up comes up",
+            line,
+            30_000_000_000,
+            "[[event]]\nat = 30000000000\nkind = \"link_up\"\nclock = \"000000000000000a\"\nport = 1\n",
+            2_460,
+        ),
+        (
+            "a line, and another gets worse",
+            line,
+            30_000_000_000,
+            "[[event]]\nat = 30000000000\nkind = \"priority1\"\nclock = \"000000000000000d\"\nvalue = 250\n",
+            13_000_002_870,
+        ),
+        (
+            "a line that comes to rest",
+            line,
+            1_000_003_460,
+            "",
+            15_000_002_870,
+        ),
+        ("a line that rests", line, 1_000_003_461, "", 2_460),
+    ] {
+        let mut events = String::new(rt.alloc());
+        writeln!(
+            events,
+            "[[event]]\nat = {at}\nkind = \"priority1\"\nclock = \"000000000000000a\"\nvalue = 250"
+        )?;
+        events.push_str(besides)?;
+        let times = joined(rt.alloc(), &["a", "b", "c", "d"], links, events.as_str())?;
+        assert_eq!(rt;
+            soon(&times, at).map(|bound| bound.0),
             Some(choice),
             "{case}"
         );

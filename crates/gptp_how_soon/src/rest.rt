@@ -2,13 +2,14 @@
 
 ghost use Rattle.std.specs.Prelude.{◌≡◌, ◌≤◌, ◌+◌, ◌*◌, ◌&&◌, ◌||◌, nat_le, nat_lt};
 ghost use Rattle.gptp_scenario.specs.SettlingTime.{way_span};
-ghost use Rattle.gptp_how_soon.specs.Rest.{are_events_followed, are_losses_followed, are_recoveries_followed, are_turns_followed, asks_who_is_moved, heard_at_once, is_failing_followed, failed_row, has_come, is_from_rest, is_lowering_followed, is_wider_followed, keeps_paths, rested, row_of, settles_wider_by};
+ghost use Rattle.gptp_how_soon.specs.Rest.{are_events_followed, are_losses_followed, are_recoveries_followed, are_turns_followed, asks_who_is_moved, comes_soon, heard_at_once, is_end_followed, is_failing_followed, failed_row, has_come, is_from_rest, is_lowering_followed, is_taking_followed, is_wider_followed, is_worsening_followed, keeps_paths, other_row, rested, row_of, settles_wider_by};
 
 use crate::bounds::{Row, SettlingTime, way_span};
 use crate::kinds::{
     Told, all_bring_nothing, all_leave_links, all_make_nothing, all_tell_nothing, any_better,
     any_gain, any_loss, any_lowers_unused, any_other, any_recovery, any_wider, are_heard,
-    begins_wider, fails_and_recovers, fails_first, first_wider_by, lowers_one,
+    begins_wider, fails_and_recovers, fails_beside_idle, fails_first, first_wider_by, lowers_one,
+    takes_several, worsens_first,
 };
 use gptp_scenario::SyncPaths;
 
@@ -18,17 +19,23 @@ pub struct Moves {
     /// Whether they move a system that counts: one that is cut off doesn't where one link or one system is taken away.
     pub moved: bool,
     /// Whether they move any, also one that is cut off.
-    pub any: bool,
+    pub any_moved: bool,
     /// Whether each link that is lost cuts off a far end.
     pub cut: bool,
     /// Whether they move one alone, and that turns.
     pub turned: bool,
     /// Whether they cut off a tree, once all that was in flight as all became sound has come.
     pub falls: bool,
+    /// Whether then the first of them worsens the best of a tree, which falls back.
+    pub worsens: bool,
     /// Whether then a tree turns by one other link.
     pub tree_turns: bool,
-    /// Whether then all that they move are trees that are cut off.
-    pub trees_fall: bool,
+    /// Whether then all that they move are trees: some are cut off, one may turn by one other link.
+    pub trees_move: bool,
+    /// Whether they move none, also none that is cut off, and leave no link silent.
+    pub taken: bool,
+    /// Whether then each system of these trees gets a worse root, and each live far end of a link that is lost is moved.
+    pub cuts_all: bool,
     /// Whether those that they name were far ends.
     pub far: bool,
     /// For how long it counts what others hold of a system that fails, in ns; 0 where no link is left silent whose far
@@ -82,6 +89,14 @@ pub(crate) fn has_come(
         },
         None => false,
     }
+}
+
+/// Whether what was in flight at a time has come within this greatest delay of a link in use: each link that is up is
+/// in use, or none takes longer, and what was in flight as a link was last set has arrived as soon.
+pub(crate) fn comes_soon(used: bool, none_longer: bool, delay: u64, arrived: u128, at: u64) -> bool
+    ensures { result ≡ comes_soon used none_longer delay arrived at }
+{
+    used || (none_longer && arrived <= u128::from(at) + u128::from(delay))
 }
 
 /// Whether each of these events is followed.
@@ -214,6 +229,27 @@ fn is_failing_followed(paths_before: SyncPaths, paths: SyncPaths, told: &[Told])
     keeps_paths(paths_before, paths) && fails_first(told)
 }
 
+/// Whether a far end that fails beside events that change nothing is followed.
+fn is_end_followed(paths_before: SyncPaths, paths: SyncPaths, told: &[Told]) -> bool
+    ensures { result ≡ is_end_followed paths_before paths told.now }
+{
+    keeps_paths(paths_before, paths) && fails_beside_idle(told)
+}
+
+/// Whether links and systems that are taken away are followed.
+fn is_taking_followed(paths_before: SyncPaths, paths: SyncPaths, told: &[Told]) -> bool
+    ensures { result ≡ is_taking_followed paths_before paths told.now }
+{
+    keeps_paths(paths_before, paths) && takes_several(told)
+}
+
+/// Whether a system that gets worse is followed.
+fn is_worsening_followed(paths_before: SyncPaths, paths: SyncPaths, told: &[Told]) -> bool
+    ensures { result ≡ is_worsening_followed paths_before paths told.now }
+{
+    keeps_paths(paths_before, paths) && worsens_first(told)
+}
+
 /// Whether it counts whom its events move.
 pub(crate) fn asks_who_is_moved(
     from_rest: bool,
@@ -226,20 +262,42 @@ pub(crate) fn asks_who_is_moved(
     from_rest
         && (are_losses_followed(paths_before, told)
             || is_lowering_followed(paths_before, paths, told)
-            || is_failing_followed(paths_before, paths, told))
+            || is_failing_followed(paths_before, paths, told)
+            || is_end_followed(paths_before, paths, told)
+            || is_taking_followed(paths_before, paths, told)
+            || is_worsening_followed(paths_before, paths, told))
 }
 
 /// What is known of a time at which a system fails and none is moved but such as are cut off, by whether the one that
 /// fails was a far end, and whether another is cut off.
-fn failed_row(far: bool, any: bool) -> Row
-    ensures { result ≡ failed_row far any }
+fn failed_row(far: bool, any_moved: bool) -> Row
+    ensures { result ≡ failed_row far any_moved }
 {
     if far {
         Row::FailedEnd
-    } else if any {
+    } else if any_moved {
         Row::FailureCutsOff
     } else {
         Row::FailedHeard
+    }
+}
+
+/// What is known of a time whose events have no row among those where one is taken away.
+fn other_row(paths_before: SyncPaths, paths: SyncPaths, told: &[Told], moves: Moves) -> Row
+    ensures { result ≡ other_row paths_before paths told.now moves }
+{
+    if is_end_followed(paths_before, paths, told) && (moves.far && !moves.any_moved) {
+        Row::FailedEnd
+    } else if is_taking_followed(paths_before, paths, told) && moves.taken {
+        Row::TakenAway
+    } else if any_loss(told) {
+        if all_bring_nothing(told) {
+            Row::AnyLosses
+        } else {
+            Row::AnyPast
+        }
+    } else {
+        Row::Gained
     }
 }
 
@@ -266,23 +324,19 @@ pub(crate) fn row_of(
     } else if is_lowering_followed(paths_before, paths, told) && !moves.moved {
         if moves.cut { Row::CutOff } else { Row::Lowered }
     } else if is_lowering_followed(paths_before, paths, told) && moves.turned {
-        Row::OneTurned
-    } else if is_lowering_followed(paths_before, paths, told) && moves.falls {
-        Row::TreeCutOff
+        Row::SystemTurned
+    } else if (is_lowering_followed(paths_before, paths, told) && moves.falls)
+        || (is_worsening_followed(paths_before, paths, told) && moves.worsens)
+    {
+        Row::TreeFalls
     } else if is_lowering_followed(paths_before, paths, told) && moves.tree_turns {
         Row::TreeTurned
     } else if is_failing_followed(paths_before, paths, told) && !moves.moved {
-        failed_row(moves.far, moves.any)
-    } else if is_failing_followed(paths_before, paths, told) && moves.trees_fall {
-        Row::FailureCutsTrees
-    } else if any_loss(told) {
-        if all_bring_nothing(told) {
-            Row::AnyLosses
-        } else {
-            Row::AnyPast
-        }
+        failed_row(moves.far, moves.any_moved)
+    } else if is_failing_followed(paths_before, paths, told) && moves.trees_move {
+        Row::FailureMovesTrees
     } else {
-        Row::Gained
+        other_row(paths_before, paths, told, moves)
     }
 }
 

@@ -70,9 +70,16 @@ fn events_come_from_rest_soon_after_a_loss(rt: HostRuntime) -> Result<(), Fail> 
         (
             "d loses its power, and cuts c off",
             "[[event]]\nat = 100000000000\nkind = \"fail\"\nclock = \"000000000000000d\"\n[[event]]\nat = 100000000000\nkind = \"link_down\"\nclock = \"000000000000000d\"\nport = 1\n[[event]]\nat = 100000000000\nkind = \"link_down\"\nclock = \"000000000000000d\"\nport = 2\n[[event]]\nat = 102000000000\nkind = \"recover\"\nclock = \"000000000000000d\"\n",
-            1_000_001_640,
+            1_230,
             102_000_000_000,
             410,
+        ),
+        (
+            "d hangs, and cuts c off",
+            "[[event]]\nat = 100000000000\nkind = \"fail\"\nclock = \"000000000000000d\"\n[[event]]\nat = 100375001231\nkind = \"recover\"\nclock = \"000000000000000d\"\n[network]\npdelay = -3\nlost = 1\n",
+            375_001_230,
+            100_375_001_231,
+            1_250_003_050,
         ),
         (
             "b hangs",
@@ -89,17 +96,17 @@ fn events_come_from_rest_soon_after_a_loss(rt: HostRuntime) -> Result<(), Fail> 
             1_000_003_050,
         ),
         (
-            "the root gets worse",
-            "[[event]]\nat = 100000000000\nkind = \"priority1\"\nclock = \"000000000000000a\"\nvalue = 250\n[[event]]\nat = 101000000000\nkind = \"link_up\"\nclock = \"000000000000000b\"\nport = 2\n",
-            13_000_003_280,
-            101_000_000_000,
+            "the root gets worse, and a link comes up as the network rests",
+            "[[event]]\nat = 100000000000\nkind = \"priority1\"\nclock = \"000000000000000a\"\nvalue = 250\n[[event]]\nat = 100000002870\nkind = \"link_up\"\nclock = \"000000000000000b\"\nport = 2\n",
+            2_870,
+            100_000_002_870,
             15_000_002_870,
         ),
         (
             "the root gets worse, and then a link comes up",
-            "[[event]]\nat = 100000000000\nkind = \"priority1\"\nclock = \"000000000000000a\"\nvalue = 250\n[[event]]\nat = 113000003281\nkind = \"link_up\"\nclock = \"000000000000000b\"\nport = 2\n",
-            13_000_003_280,
-            113_000_003_281,
+            "[[event]]\nat = 100000000000\nkind = \"priority1\"\nclock = \"000000000000000a\"\nvalue = 250\n[[event]]\nat = 100000002871\nkind = \"link_up\"\nclock = \"000000000000000b\"\nport = 2\n",
+            2_870,
+            100_000_002_871,
             1_000_003_050,
         ),
     ] {
@@ -112,6 +119,64 @@ fn events_come_from_rest_soon_after_a_loss(rt: HostRuntime) -> Result<(), Fail> 
         assert_eq!(rt;
             rests(&times, 100_000_000_000, next),
             Some((rest, choice)),
+            "{case}"
+        );
+    }
+    Ok(())
+}
+
+#[test]
+fn events_come_from_rest_soon_after_several_losses(rt: HostRuntime) -> Result<(), Fail> {
+    // Two links go down that nobody's choice comes by. One comes up again as the network rests, or 1 ns later.
+    for (case, next, choice) in [
+        ("too soon", 32_000_001_230, 15_000_002_870),
+        ("from rest", 32_000_001_231, 1_000_003_050),
+    ] {
+        let mut text = String::new(rt.alloc());
+        for (at, kind, clock) in [
+            (30_000_000_000, "link_down", "b"),
+            (30_000_000_000, "link_down", "d"),
+            (next, "link_up", "b"),
+        ] {
+            writeln!(
+                text,
+                "[[event]]\nat = {at}\nkind = \"{kind}\"\nclock = \"000000000000000{clock}\"\nport = 2"
+            )?;
+        }
+        let links = &[
+            ("a", "1", "b", "1"),
+            ("a", "2", "c", "1"),
+            ("a", "3", "d", "1"),
+            ("b", "2", "c", "2"),
+            ("c", "3", "d", "2"),
+        ];
+        let times = joined(rt.alloc(), &["a", "b", "c", "d"], links, text.as_str())?;
+        assert_eq!(rt;
+            rests(&times, 30_000_000_000, next),
+            Some((2_000_001_230, choice)),
+            "{case}"
+        );
+    }
+    Ok(())
+}
+
+#[test]
+fn events_come_from_rest_soon_beside_links_that_a_failure_left_up(
+    rt: HostRuntime,
+) -> Result<(), Fail> {
+    // c hangs, and its links stay up: as slow as the one that is in use once b is cut off, or one is slower.
+    const SLOWER: &str =
+        "[[event]]\nat = 10000000000\nkind = \"link_set\"\nclock = \"000000000000000b\"\nport = 2\nmin = 380\nmax = 500\nloss = 0\n";
+    for (case, before, rest) in [("as slow", "", 1_230), ("slower", SLOWER, 1_000_000_000)] {
+        let mut text = String::new(rt.alloc());
+        text.push_str(before)?;
+        text.push_str(
+            "[[event]]\nat = 30000000000\nkind = \"fail\"\nclock = \"000000000000000c\"\n[[event]]\nat = 100000000000\nkind = \"link_down\"\nclock = \"000000000000000b\"\nport = 1\n",
+        )?;
+        let times = ring(rt.alloc(), text.as_str())?;
+        assert_eq!(rt;
+            rests(&times, 100_000_000_000, 100_000_000_000),
+            Some((rest, 820)),
             "{case}"
         );
     }

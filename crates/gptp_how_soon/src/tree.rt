@@ -1,10 +1,12 @@
-//! Whether events cut off a tree of systems, by one link that is lost.
+//! Whether a tree of systems falls back to a worse root: events cut it off, by one link that is lost, or its best gets
+//! worse.
 
 ghost use Rattle.std.specs.Prelude.{◌≡◌, length, slice_get};
 ghost use Rattle.std.specs.List.{list_all, range_with_len};
-ghost use Rattle.gptp_how_soon.specs.Tree.{cuts_below, cuts_tree, has_better_root, has_no_more_steps, has_one_nearer, has_same_root, is_below, is_below_or_apart, is_one_apart, leads_one_on};
+ghost use Rattle.gptp_how_soon.specs.Tree.{chose_itself, cuts_below, cuts_tree, falls_below, has_better_root, has_no_more_steps, has_one_nearer, has_same_root, is_below, is_below_or_apart, is_one_apart, leads_one_on, worsens_best};
 
-use crate::chosen::{Chosen, Ends, is_moved_at};
+use crate::chosen::{Chosen, Ends, is_moved_at, place_of};
+use crate::kinds::Told;
 use crate::turned::leads_nearer;
 use gptp_topology::System;
 
@@ -139,6 +141,21 @@ fn all_are_below_or_apart(
     (0..systems.len()).all(|place| is_below_or_apart(systems, links, before, now, top, place))
 }
 
+/// Whether the top has a worse root now, and so has each system below it.
+fn falls_below(
+    systems: &[System],
+    links: &[Ends],
+    before: &[Chosen],
+    now: &[Chosen],
+    top: usize,
+) -> bool
+    ensures { result ≡ falls_below systems.now links.now before.now now.now top }
+{
+    is_moved_at(systems, before, now, top)
+        && had_better_root(before, now, top)
+        && all_are_below_or_apart(systems, links, before, now, top)
+}
+
 /// Whether a tree below the top is cut off, as a link is lost from it to the other.
 fn cuts_below(
     systems: &[System],
@@ -150,10 +167,7 @@ fn cuts_below(
 ) -> bool
     ensures { result ≡ cuts_below systems.now links.now before.now now.now top other }
 {
-    is_moved_at(systems, before, now, top)
-        && !is_moved_at(systems, before, now, other)
-        && had_better_root(before, now, top)
-        && all_are_below_or_apart(systems, links, before, now, top)
+    falls_below(systems, links, before, now, top) && !is_moved_at(systems, before, now, other)
 }
 
 /// Whether a tree is cut off, as these links are lost.
@@ -172,5 +186,34 @@ pub(crate) fn cuts_tree(
                 || cuts_below(systems, links, before, now, ends.b, ends.a)
         }
         _ => false,
+    }
+}
+
+/// Whether the system at a place had chosen itself.
+pub(crate) fn chose_itself(chosen: &[Chosen], place: usize) -> bool
+    ensures { result ≡ chose_itself (slice_get chosen.now place) }
+{
+    match chosen.get(place) {
+        Some(chosen) => chosen.steps == 0,
+        None => false,
+    }
+}
+
+/// Whether the system that the first of these events names was the best of a tree, which falls back.
+pub(crate) fn worsens_best(
+    systems: &[System],
+    links: &[Ends],
+    before: &[Chosen],
+    now: &[Chosen],
+    told: &[Told],
+) -> bool
+    ensures { result ≡ worsens_best systems.now links.now before.now now.now told.now }
+{
+    match told.first() {
+        Some(first) => {
+            let top = place_of(systems, first.clock);
+            chose_itself(before, top) && falls_below(systems, links, before, now, top)
+        }
+        None => false,
     }
 }

@@ -1,6 +1,6 @@
 //! How a document stands at each time, as its events come.
 
-ghost use Rattle.std.specs.Prelude.{◌≡◌, ◌≤◌, if◌then◌else◌, IfOk, IfSome, OnOk};
+ghost use Rattle.std.specs.Prelude.{◌≡◌, ◌≤◌, ◌&&◌, if◌then◌else◌, IfOk, IfSome, OnOk};
 ghost use Rattle.gptp_network.specs.declared.keys.TheConstants.{LATEST_EVENT};
 ghost use Rattle.gptp_topology.specs.Tables.{AreMarked, marked_paths};
 ghost use Rattle.gptp_how_soon.specs.Times.{settling_time};
@@ -14,15 +14,18 @@ use crate::bounds::{
 use crate::chosen::{
     Chosen, Ends, any_counted, any_moved, choose, copy_systems, ends_in_use, ends_of,
 };
-use crate::cut_trees::cuts_trees;
-use crate::far::{all_cut_far_ends, are_far, up_is_used};
+use crate::far::{all_cut_far_ends, are_far, none_up_longer, up_is_used};
 use crate::kinds::{Told, sets_bounds, sets_link, takes_one, tell};
 use crate::links::{delay_set, longest_among, lost_among, mark_used, new_links};
-use crate::rest::{Moves, asks_who_is_moved, has_come, heard_at_once, is_from_rest, row_of};
+use crate::moved_trees::{cuts_all, moves_trees};
+use crate::rest::{
+    Moves, asks_who_is_moved, comes_soon, has_come, heard_at_once, is_from_rest, row_of,
+};
 use crate::silent::{any_silent, heard_links, held_among, own_intervals};
-use crate::tree::cuts_tree;
+use crate::tree::{cuts_tree, worsens_best};
 use crate::turned::turns_one;
 use crate::turned_tree::turns_tree;
+use crate::two_tops::or_falls_twice;
 use gptp_scenario::{Act, Network, SyncPaths};
 use gptp_topology::{System, Tables, cables_of};
 use std::alloc::{AllocError, Global};
@@ -50,6 +53,15 @@ pub(crate) struct Walk {
     pub used_before: Vec<bool>,
     pub paths_before: SyncPaths,
     pub all_used_before: bool,
+    /// Whether none that was up took longer than those in use.
+    pub none_longer_before: bool,
+}
+
+/// Whether two things are so, each of which is told.
+fn both(one: bool, other: bool) -> bool
+    ensures { result ≡ (one && other) }
+{
+    one && other
 }
 
 impl Walk {
@@ -67,6 +79,7 @@ impl Walk {
         mark_used(&mut used_before, &tables.standings)?;
         let paths_before = tables.sync_paths();
         let all_used_before = up_is_used(&tables.standings);
+        let none_longer_before = none_up_longer(paths_before.delay, &tables.standings);
         let longest = longest_among(&cables);
         Ok(Walk {
             tables,
@@ -81,6 +94,7 @@ impl Walk {
             used_before,
             paths_before,
             all_used_before,
+            none_longer_before,
         })
     }
 
@@ -111,6 +125,7 @@ impl Walk {
         self.longest_before = self.longest;
         self.paths_before = paths;
         self.all_used_before = up_is_used(&self.tables.standings);
+        self.none_longer_before = none_up_longer(paths.delay, &self.tables.standings);
         self.told.clear();
         self.before = Some(time);
         Ok(())
@@ -138,14 +153,24 @@ impl Walk {
         let come = has_come(announce_interval(network), delay, arrived, self.before, at);
         let own = own_intervals(network, self.before, at);
         let heard = heard_links(alloc, &systems, &before, &self.used_before, &self.ends)?;
+        let any_moved = any_moved(&systems, &before, &now);
+        let silent = any_silent(&self.used_before, &self.tables.standings);
+        let moves = moves_trees(&systems, &lost, &links, &before, &now);
+        let trees = or_falls_twice(alloc, moves, &systems, &lost, &links, &before, &now)?;
         Ok(Moves {
             moved: any_counted(joined, &systems, &links, &before, &now),
-            any: any_moved(&systems, &before, &now),
+            any_moved,
             cut: all_cut_far_ends(&systems, &before, &links_before, &links, &lost),
             turned,
-            falls: come && cuts_tree(&systems, &lost, &links, &before, &now),
-            tree_turns: come && turns_tree(&systems, &lost, &links, &before, &now),
-            trees_fall: come && cuts_trees(&systems, &lost, &links, &before, &now),
+            falls: both(come, cuts_tree(&systems, &lost, &links, &before, &now)),
+            worsens: both(
+                come,
+                worsens_best(&systems, &links, &before, &now, &self.told),
+            ),
+            tree_turns: both(come, turns_tree(&systems, &lost, &links, &before, &now)),
+            trees_move: both(come, trees),
+            taken: both(!any_moved, !silent),
+            cuts_all: both(both(come, moves), cuts_all(&systems, &lost, &before, &now)),
             far: are_far(&self.systems_before, &before, &links_before, &self.told),
             held: held_among(network, own, &heard, &self.tables.standings),
         })
@@ -167,12 +192,15 @@ impl Walk {
         } else {
             Ok(Moves {
                 moved: false,
-                any: false,
+                any_moved: false,
                 cut: false,
                 turned: false,
                 falls: false,
+                worsens: false,
                 tree_turns: false,
-                trees_fall: false,
+                trees_move: false,
+                taken: false,
+                cuts_all: false,
                 far: false,
                 held: 0,
             })
@@ -210,17 +238,28 @@ impl Walk {
         let from_rest = is_from_rest(self.longest, at, paths_before, paths, told, self.before);
         let asked = asks_who_is_moved(from_rest, paths_before, paths, told);
         let moves = self.moves_if(alloc, network, at, asked)?;
+        let arrived = arrived_by(at, self.longest, self.last_set);
+        let arrived_before = arrived_before(self.longest_before, self.set_before);
+        let all_used = up_is_used(standings);
+        let none_longer = none_up_longer(paths.delay, standings);
+        let soon = comes_soon(all_used, none_longer, paths.delay, u128::from(arrived), at);
+        let used_before = self.all_used_before;
+        let longer = self.none_longer_before;
+        let soon_before = comes_soon(used_before, longer, paths_before.delay, arrived_before, at);
         let loss = Loss {
             paths_before,
-            used_before: self.all_used_before,
-            used: up_is_used(standings),
+            used_before,
+            used: all_used,
+            soon,
+            soon_before,
+            cuts_all: moves.cuts_all,
             silent: any_silent(used, standings),
             held: moves.held,
         };
         Ok(times_by(
             network,
             at,
-            arrived_by(at, self.longest, self.last_set),
+            arrived,
             loss,
             paths,
             self.tables.is_calm(network, paths),

@@ -1,15 +1,13 @@
 -- Events of a time that bring nothing, and of which some are losses, are such as are told.
-use Rattle.std.proofs.Common.{◌≡◌, inl, inr, Bool, true, false, List, [], ◌∷◌, ◌++◌, refl, sym, ap, ◌∙◌}
-use Rattle.std.specs.Prelude.{◌||◌}
+use Rattle.std.proofs.Common.{◌≡◌, inl, inr, Bool, true, false, List, [], ◌∷◌, ◌++◌, refl, sym, ◌∙◌}
 use Rattle.std.specs.List.{list_all, list_any}
-use Rattle.std.proofs.Math.Bool.{or-true}
-use Rattle.std.proofs.lemmas.Bool.{and_from, and_parts, or_cases}
+use Rattle.std.proofs.lemmas.Bool.{and_parts, or_cases}
 use Rattle.gptp_scenario.specs.Network.{IsNetwork, NetworkState}
 use Rattle.gptp_scenario.specs.declared.change.Act.{Act}
 use Rattle.gptp_scenario.specs.declared.change.Act.TheVariants as acts
 use Rattle.gptp_scenario.specs.declared.change.Change.TheVariants as changes
 use Rattle.gptp_scenario.specs.declared.change.Timed.{Timed}
-use Rattle.gptp_how_soon.specs.Kinds.{brings_nothing, fails_first, is_fail, is_failing, is_idle, is_link_down, is_loss, is_unused, kind_of_link_set, kind_of_link_up, kind_of_recovery, lowers_unused, makes_nothing}
+use Rattle.gptp_how_soon.specs.Kinds.{brings_nothing, is_idle, is_loss, is_unused, kind_of_link_set, kind_of_link_up, kind_of_recovery, makes_nothing}
 use Rattle.gptp_how_soon.specs.Times.{told_at, told_of}
 use Rattle.gptp_how_soon.specs.declared.kinds.Told.{Told}
 use Rattle.gptp_how_soon.specs.declared.kinds.What.TheVariants as whats
@@ -18,37 +16,12 @@ use Rattle.gptp_settling_time.specs.Losses.{LosesAny}
 use Rattle.gptp_how_soon_laws.proofs.KindLemmas.{IsRecovery, IsSet, IsUp, loss_found, recovery_found, set_found, up_found}
 use Rattle.gptp_how_soon_laws.proofs.ToldLemmas.{idle_changes, link_at, loss_fails, loss_lowers, loss_worsens, system_at, unused_turns}
 
--- ---- what is told
-
--- a system that fails first is a loss, and then nothing is brought
-pub failing_loses : (es : List Told) → fails_first es ≡ true
-    → (list_all brings_nothing es ≡ true) × (list_any is_loss es ≡ true)
-failing_loses [] is = absurd cc
-failing_loses (e ∷ es) is =
-    let (failing, lowers) = and_parts (is_failing e) (list_all lowers_unused es) is in
-    let (loss, fail) = and_parts (is_loss e) (is_fail e) failing in (
-      and_from (brings_nothing e) (list_all brings_nothing es)
-          (ap (λ test. makes_nothing e || test) loss ∙ or-true (makes_nothing e)) (each es lowers),
-      ap (λ test. test || list_any is_loss es) loss,
-    )
-  where
-    one : (x : Told) → lowers_unused x ≡ true → brings_nothing x ≡ true
-    one x is =
-        let (unused, down) = and_parts (is_unused x) (is_link_down x) is in
-        ap (λ test. test || is_loss x) (ap (λ test. is_idle x || test) unused ∙ or-true (is_idle x))
-
-    each : (xs : List Told) → list_all lowers_unused xs ≡ true → list_all brings_nothing xs ≡ true
-    each [] all = refl
-    each (x ∷ xs) all =
-        let (first, rest) = and_parts (lowers_unused x) (list_all lowers_unused xs) all in
-        and_from (brings_nothing x) (list_all brings_nothing xs) (one x first) (each xs rest)
-
 -- ---- one event
 
 module _ (n : NetworkState) (network : IsNetwork n) where
   module _ (made : List Timed) where
     -- what is told to be a loss takes something away
-    loses : (act : Act) → is_loss (told_at n made act) ≡ true → LosesAny n made act
+    pub loses : (act : Act) → is_loss (told_at n made act) ≡ true → LosesAny n made act
     loses (acts.Change (changes.LinkDown clock port)) is = loss_lowers n network made clock port is
     loses (acts.Change (changes.Fail number)) is = loss_fails n network made number is
     loses (acts.Change (changes.Priority1 number value)) is =

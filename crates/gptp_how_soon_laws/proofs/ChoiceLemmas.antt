@@ -1,75 +1,51 @@
 -- What is told of each time of a document is so: its choice and roles are choice bounds or loss bounds. The network has
 -- come to rest by a rest bound.
-use Rattle.std.proofs.Common.{◌≡◌, ◌<◌, ◌≤◌, ◌⊎◌, inl, inr, ◌+◌, ◌*◌, max, ℕ, Bool, true, false, cond, List, [], ◌∷◌, ◌++◌, Some, None, refl, sym, ap, subst, ◌∙◌, arith}
-use Rattle.std.specs.Prelude.{◌==◌, if◌then◌else◌, min, nat_le, nat_lt}
-use Rattle.std.specs.List.{AllByRecursion}
-use Rattle.std.proofs.lemmas.Bool.{eqb-false, eqb-true}
-use Rattle.std.proofs.lemmas.Bool.Decides.{nat_tests}
+use Rattle.std.proofs.Common.{◌≡◌, ◌<◌, ◌≤◌, ◌⊎◌, inl, inr, ◌+◌, ◌*◌, max, ℕ, Bool, true, false, List, [], ◌∷◌, ◌++◌, Some, None, refl, sym, ap, subst, ◌∙◌, arith}
+use Rattle.std.specs.Prelude.{◌==◌, if◌then◌else◌, nat_le}
 use Rattle.gptp_lists.specs.Members.{In}
 use Rattle.gptp_lists.proofs.SystemSpecLemmas.{In-left, In-parts}
-use Rattle.gptp_setup.specs.SettlingParams.{largest_interval, longest_span}
+use Rattle.gptp_setup.specs.SettlingParams.{largest_interval}
 use Rattle.gptp_scenario.specs.Calm.{IsCalm, NothingLapses, last_change}
 use Rattle.gptp_scenario.specs.Network.{NetworkState, pace_of}
 use Rattle.gptp_scenario.specs.SettlingTime.{echo_span, silence_span, way_span, window_span}
 use Rattle.gptp_scenario.specs.SyncWait.{sync_paths}
 use Rattle.gptp_scenario.specs.declared.change.Timed.{Timed}
+use Rattle.gptp_scenario.specs.declared.sync_wait.SyncPaths.{SyncPaths}
 use Rattle.gptp_network.specs.Document.{DocumentState}
 use Rattle.gptp_network.specs.Snapshot.{events_by}
 use Rattle.gptp_network.proofs.SnapshotLemmas.{from_filter}
 use Rattle.gptp_theorem.specs.PlayedLaws.{IsPlayable}
 use Rattle.gptp_how_soon.specs.Bounds.{aged_by, aged_echo_span, any_loss_span, arrived_by, choice_by, choice_of_row, gone_by, quiet_by, roles_of_row, sound_by}
+use Rattle.gptp_how_soon.specs.Kinds.{is_lowering}
 use Rattle.gptp_how_soon.specs.Links.{longest_delay}
-use Rattle.gptp_how_soon.specs.Silent.{own_intervals}
 use Rattle.gptp_how_soon.specs.Times.{View, events_at, gained_at, last_set, loss_at, ready_at, row_at, settling_time, settling_times, settling_times_from, time_at, view_at}
 use Rattle.gptp_how_soon.specs.declared.bounds.Loss.{Loss}
 use Rattle.gptp_how_soon.specs.declared.bounds.Row.{Row}
-use Rattle.gptp_how_soon.specs.declared.bounds.Row.TheVariants.{AnyLosses, AnyPast, CutOff, FailedEnd, FailedHeard, FailureCutsOff, FailureCutsTrees, Gained, Lowered, OneTurned, TreeCutOff, TreeTurned, Unchanged}
+use Rattle.gptp_how_soon.specs.declared.bounds.Row.TheVariants.{AnyLosses, AnyPast, CutOff, FailedEnd, FailedHeard, FailureCutsOff, FailureMovesTrees, Gained, Lowered, SystemTurned, TakenAway, TreeFalls, TreeTurned, Unchanged}
 use Rattle.gptp_how_soon.specs.declared.bounds.Settling.{Settling}
 use Rattle.gptp_how_soon.specs.declared.bounds.SettlingTime.{SettlingTime}
-use Rattle.gptp_settling_time.specs.HowSoon.{BesideIdle, BoundsAging, BoundsAnyLoss, BoundsChoice, BoundsEvents, BoundsLoss, BoundsSplit, BoundsStart, BoundsTree, CutsOneEnd, FailsEndFirst, FailsHeardFirst, FailsTreesFirst, HeldFor, IsChoiceBoundAfter, IsLossBoundAfter, IsRestBoundAfter, LosesEvents, LowersOneLink, NoneBetween, OneEvent, RestsAfterLoss, RestsOnceTold, RestsTree, RolesAfterFailure, TreeNext, TurnsOneLink}
-use Rattle.gptp_settling_time.specs.InTurn.{FlightIsGone, turned_echo_span}
+use Rattle.gptp_settling_time.specs.HowSoon.{BeforeRepeats, BoundsAnyLoss, BoundsChoice, BoundsEvents, BoundsLoss, BoundsSplit, BoundsStart, BoundsTree, FailsTreesFirst, IsChoiceBoundAfter, IsLossBoundAfter, IsRestBoundAfter, NoneBetween, RestsAfterAnyLoss, RestsAfterLoss, RestsOnceTold, RestsSplit, RestsTaken, RestsTree, RolesAfterFailure, TreeNext}
+use Rattle.gptp_settling_time.specs.EventKinds.{FlightIsGoneFrom}
+use Rattle.gptp_settling_time.specs.Rests.{turned_echo_span}
 use Rattle.gptp_settling_time.specs.Losses.{NoneSilent}
-use Rattle.gptp_settling_time.specs.TreeLosses.{LowersTree, TurnsTreeLink}
-use Rattle.gptp_settling_time.proofs.BesideIdleLemmas.{before_none, beside_none}
-use Rattle.gptp_settling_time.proofs.MomentLemmas.{all_at, last_by, parted}
+use Rattle.gptp_settling_time.specs.TreeLosses.{FallsTree, TurnsTreeLink}
+use Rattle.gptp_settling_time.proofs.BesideIdleLemmas.{before_none}
+use Rattle.gptp_settling_time.proofs.MomentLemmas.{parted}
 use Rattle.gptp_settling_time.proofs.WellFormedLemmas.{after_well}
 use Rattle.gptp_how_soon_laws.specs.Choice.{SettlingsAreChoiceBounds}
 use Rattle.gptp_how_soon_laws.proofs.FailedLemmas.{used_up}
 use Rattle.gptp_how_soon_laws.proofs.RowBoundLemmas.{HasOwnBounds, IsSoundSooner, IsTelling, bounds_choice, choice_or_own, past_row, sound_or_sooner, tells}
-use Rattle.gptp_how_soon_laws.proofs.RowLemmas.{ComesLate, CutsLate, FailsLate, cut_off, failed, failure_cuts, gained, heard, losses, lowered, none_left, tree_cut, tree_turned, turned, unchanged}
+use Rattle.gptp_how_soon_laws.proofs.RowLemmas.{gained, unchanged}
+use Rattle.gptp_how_soon_laws.proofs.RowLossLemmas.{ComesLate, FailsLate, FallsLate, GoesFirst, TakesSome, all_cut, cut_off, failed, failure_cuts, flight_now, heard, losses, lowered, none_left, same_paths, taken, tree_falls, tree_turned, turned}
+use Rattle.gptp_how_soon_laws.proofs.AgedLemmas.{aged, aging, quiet_later, split_rests}
+use Rattle.gptp_how_soon_laws.proofs.LossBoundLemmas.{beside, greater, no_later, some_before, some_heard, some_lost, some_rested, some_trees}
+use Rattle.gptp_how_soon_laws.proofs.RepeatLemmas.{before_repeats}
 use Rattle.gptp_how_soon_laws.proofs.RowTestLemmas.{HasComeToRest}
-use Rattle.gptp_how_soon_laws.proofs.SilentLemmas.{held_for, last_now, none_ages}
 use Rattle.gptp_how_soon_laws.proofs.StartRowLemmas.{first_past, first_roles, first_sound, never_unchanged, started}
 use Rattle.gptp_how_soon_laws.proofs.UnmovedLemmas.{AreWell}
-use Rattle.gptp_how_soon_laws.proofs.TimesLemmas.{AreTimes, later_times, times_after, times_parts}
-
--- the events up to time 0 are those at it
-begin_at : (events : List Timed) → events_by 0 events ≡ events_at 0 events
-begin_at [] = refl
-begin_at (event ∷ events) = by (nat_le event.at 0) (event.at == 0) refl refl (begin_at events)
-  where
-    by : (soon now : Bool) → nat_le event.at 0 ≡ soon → (event.at == 0) ≡ now → events_by 0 events ≡ events_at 0 events
-        → cond soon (event ∷ events_by 0 events) (events_by 0 events)
-        ≡ cond now (event ∷ events_at 0 events) (events_at 0 events)
-    by true true f g rest = ap (λ es. event ∷ es) rest
-    by true false f g rest =
-        let apart = eqb-false event.at 0 g in
-        let early : event.at ≤ 0 = grind (arith, nat_tests) in
-        absurd (apart (omega (arith, early)))
-    by false true f g rest =
-        let is = eqb-true event.at 0 g in
-        let behind : 0 < event.at = grind (arith, nat_tests) in
-        absurd (omega (arith, is, behind))
-    by false false f g rest = rest
-
-lesser : (choice roles a b : ℕ) → choice ≡ min a b → roles ≡ b → choice ≤ roles
-lesser choice roles a b is same = omega (arith, is, same)
-
-below : (a b : ℕ) → nat_lt a b ≡ true → a < b
-below a b is = grind (arith, nat_tests)
-
-greater : (choice roles a : ℕ) → roles ≡ max choice a → choice ≤ roles
-greater choice roles a same = omega (arith, same)
+use Rattle.gptp_how_soon_laws.proofs.TreeWorsenedLemmas.{octets_at}
+use Rattle.gptp_how_soon_laws.proofs.TimesLemmas.{AreTimes, begin_at, later_times, times_after, times_parts}
+use Rattle.gptp_how_soon_laws.proofs.TakenAwayLemmas.{several_lost}
 
 module _ (d : DocumentState) (playable : IsPlayable d) where
   abbrev n : NetworkState
@@ -188,95 +164,19 @@ module _ (d : DocumentState) (playable : IsPlayable d) where
               (sym (parted all b.at at playable.events.in_order late between)) bound,
         )
 
-    -- what others hold of a system that fails has aged so much later
-    held : (now ≡ [] → ⊥) → HeldFor n made now v.moves.held
-    held some =
-        held_for n playable.network made now (own_intervals n (Some b) at) (late_so now some (all_at at all))
-        (well made now refl)
-      where
-        late_so : (events : List Timed) → (events ≡ [] → ⊥)
-            → AllByRecursion (λ (t : Timed). t.at ≡ at) events → own_intervals n (Some b) at ≡ true
-            → last_change made + largest_interval (pace_of n) + longest_span (pace_of n)
-            < last_change (made ++ events)
-        late_so [] none at_all own = absurd (none refl)
-        late_so (event ∷ events) some at_all own =
-            let last = last_by b.at all in
-            let moment = last_now at made event events at_all in
-            let passed = below (b.at + largest_interval (pace_of n) + longest_span (pace_of n)) at own in
-            omega (arith, last, moment, passed)
+    -- what is so of all events, or of the first, before such that repeat what stands
+    alone : (Are : List Timed → List Timed → Type 0) → Are made now → BeforeRepeats n Are made now
+    alone Are is = before_none n Are made now is
 
-    -- it has an event where this isn't so of none
-    some_now : (Are : List Timed → Type 0) → (Are [] → ⊥) → Are now → now ≡ [] → ⊥
-    some_now Are none are same = none (subst Are same are)
+    behind : (g : GoesFirst n playable.network all b at late is_lowering) (Are : List Timed → List Timed → Type 0)
+        → Are made (g.x.event ∷ []) → BeforeRepeats n Are made now
+    behind g Are is = before_repeats n playable.network is_lowering made now g.x Are is
 
-    -- nothing has to age where no lost link is silent
-    aged : (now ≡ [] → ⊥) → HeldFor n made now (aged_by loss)
-    aged some = by v.silent refl
-      where
-        by : (silent : Bool) → v.silent ≡ silent → HeldFor n made now (if silent then v.moves.held else 0)
-        by true is = held some
-        by false is =
-            let none = none_left n playable.network all b at late is in
-            (0, none_ages n made (made ++ now) (last_change (made ++ now)) none, omega arith)
+    abbrev Resting : ℕ → List Timed → List Timed → Type 0
+    Resting sound made now = RestsAfterLoss n made now sound
 
-    -- and roles stand then, or once ports at silent links are off
-    aging : (now ≡ [] → ⊥) → BoundsAging n made now (aged_by loss) (quiet_by n loss (aged_by loss))
-    aging some = by v.silent refl
-      where
-        by : (silent : Bool) → v.silent ≡ silent
-            → BoundsAging n made now (if silent then v.moves.held else 0)
-            (if silent then max (if silent then v.moves.held else 0) (silence_span (pace_of n))
-            else if silent then v.moves.held else 0)
-        by true is =
-            let (span, ages, least) = held some in
-            inr ((span, ages, least), omega (arith, least))
-        by false is = inl (none_left n playable.network all b at late is, refl, refl)
-
-    -- so they do where the choice stands later
-    quiet_later : (more : ℕ)
-        → quiet_by n loss (aged_by loss + more) ≡ max (aged_by loss + more) (quiet_by n loss (aged_by loss))
-    quiet_later more = by v.silent
-      where
-        by : (silent : Bool)
-            → (if silent then max ((if silent then v.moves.held else 0) + more) (silence_span (pace_of n))
-            else (if silent then v.moves.held else 0) + more)
-            ≡ max ((if silent then v.moves.held else 0) + more)
-            (if silent then max (if silent then v.moves.held else 0) (silence_span (pace_of n))
-            else if silent then v.moves.held else 0)
-        by true = omega arith
-        by false = omega arith
-
-    some_heard : FailsHeardFirst n made now → now ≡ [] → ⊥
-    some_heard = some_now (FailsHeardFirst n made) (λ none. none)
-
-    some_trees : FailsTreesFirst n made now → now ≡ [] → ⊥
-    some_trees = some_now (FailsTreesFirst n made) (λ none. none)
-
-    -- no event stands beside what is lost
-    beside : (settled : ℕ) (Are : List Timed → List Timed → Type 0) → (now ≡ [] → ⊥) → Are made now
-        → BesideIdle n settled at Are made now
-    beside settled Are some is = by now refl
-      where
-        by : (events : List Timed) → now ≡ events → BesideIdle n settled at Are made events
-        by [] none = absurd (some none)
-        by (event ∷ events) same = beside_none n settled at Are made event events (subst (Are made) same is)
-
-    -- an event comes by which something is taken away
-    some_lost : (choice roles : ℕ) → BoundsLoss n made now choice roles → now ≡ [] → ⊥
-    some_lost choice roles (inl (lowers, same, which)) = some_now (LowersOneLink n made) (λ none. none) lowers
-    some_lost choice roles (inr (inl (fails, none, which))) = some_now (FailsEndFirst n made) (λ none. none) fails
-    some_lost choice roles (inr (inr (inl (turns, is, same)))) = some_now (TurnsOneLink n made) (λ none. none) turns
-    some_lost choice roles (inr (inr (inr (inl (fails, aging))))) = some_heard fails
-    some_lost choice roles (inr (inr (inr (inr (loses, is, later))))) =
-        some_now (LosesEvents n made) (λ none. none) loses
-
-    some_rested : (sound : ℕ) → RestsAfterLoss n made now sound → now ≡ [] → ⊥
-    some_rested sound (inl (inl (cuts, gone))) = some_now (CutsOneEnd n made) (λ none. none) cuts
-    some_rested sound (inl (inr (inl (fails, gone)))) = some_now (FailsEndFirst n made) (λ none. none) fails
-    some_rested sound (inl (inr (inr (inl (lowers, gone))))) = some_now (LowersOneLink n made) (λ none. none) lowers
-    some_rested sound (inl (inr (inr (inr (inl (turns, is)))))) = some_now (TurnsOneLink n made) (λ none. none) turns
-    some_rested sound (inl (inr (inr (inr (inr (fails, told)))))) = some_heard fails
-    some_rested sound (inr (choice, bounds)) = some_now (LosesEvents n made) (λ none. none) bounds.0
+    abbrev Losing : ℕ → ℕ → List Timed → List Timed → Type 0
+    Losing choice roles made now = BoundsLoss n made now choice roles
 
     -- an event of this kind comes once what was in flight has arrived, and all ask for this
     tree_next : (Is : List Timed → Timed → Type 0) (Asks : List Timed → Type 0) → IsCalm n (events_by at all)
@@ -289,18 +189,19 @@ module _ (d : DocumentState) (playable : IsPlayable d) where
       calm,
       off,
       (rest.settling.sound, (sound_before rest).0, tree.come),
-      before_none n (OneEvent Is) made now tree.lowers,
+      tree.lowers,
       subst Asks (sym (parted all b.at at playable.events.in_order late between)) asks,
     )
 
-    -- it comes to rest so after a loss, after a tree is cut off, or after one turns
+    -- it comes to rest so after a loss, or after a tree is cut off, one turns, or a failure cuts trees off
     abbrev Rests : ℕ → Type 0
     Rests sound =
-        (HasComeToRest b at × RestsAfterLoss n made now sound)
-        ⊎ (((rest : HasComeToRest b at) × CutsLate n playable.network all b at late rest
+        (HasComeToRest b at × BeforeRepeats n (Resting sound) made now)
+        ⊎ (((rest : HasComeToRest b at) × FallsLate n playable.network all b at late rest
         × (sound ≡ max (2 * way_span v.paths) (gone_by n v.paths v.used_before)))
-        ⊎ ((rest : HasComeToRest b at) × ComesLate n playable.network all b at late (TurnsTreeLink n) rest
-        × (sound ≡ turned_echo_span n (made ++ now))))
+        ⊎ (((rest : HasComeToRest b at) × ComesLate n playable.network all b at late (TurnsTreeLink n) rest
+        × (sound ≡ turned_echo_span n (made ++ now)))
+        ⊎ (FailsLate n playable.network all b at late × RestsSplit n sound made now)))
 
     rests : (sound : ℕ) → IsCalm n (events_by at all) → NothingLapses n.params → Rests sound
         → IsRestBoundAfter n all (b.at ∷ earlier) at sound
@@ -315,54 +216,78 @@ module _ (d : DocumentState) (playable : IsPlayable d) where
             rest.settling.sound,
             bound,
             past,
-            beside (b.at + rest.settling.sound) (λ made now. RestsAfterLoss n made now sound) (some_rested sound loses)
+            beside n made now (b.at + rest.settling.sound) at (Resting sound)
+                (some_before n made now (Resting sound) (some_rested n made now sound) loses)
                 loses,
           ),
         ))
     rests sound calm off (inr (inl (rest, tree, is))) =
-        inr (inr (inl (tree_next (LowersTree n) (RestsTree n sound) calm off rest tree.comes
+        inr (inr (inl (tree_next (FallsTree n) (RestsTree n sound) calm off rest tree.comes
         (gone_by n v.paths v.used_before, tree.flight, is))))
-    rests sound calm off (inr (inr (rest, tree, is))) =
-        inr (inr (inr (tree_next (TurnsTreeLink n) (λ events. sound ≡ turned_echo_span n events) calm off rest tree
-        is)))
+    rests sound calm off (inr (inr (inr (x, splits)))) =
+        inr (inr (inr (inr (
+          late,
+          between,
+          calm,
+          off,
+          (x.rest.settling.sound, (sound_before x.rest).0, x.come),
+          before_none n (λ made now. FailsTreesFirst n made now × RestsSplit n sound made now) made now
+              (x.fails, splits),
+        ))))
+    rests sound calm off (inr (inr (inl (rest, tree, is)))) =
+        inr (inr (inr (inl (tree_next (TurnsTreeLink n) (λ events. sound ≡ turned_echo_span n events) calm off rest
+        tree is))))
 
     -- it has come to rest by what the row of this loss says
     rests_by : (sound : ℕ) → sound ≡ sound_by n loss v.paths (row_at v) (gained_at n v)
         → IsSoundSooner n loss v.paths (row_at v) (sound_by n loss v.paths (row_at v) (gained_at n v)) → Rests sound
     rests_by sound told (inl (row, is)) =
         let (rest, fails, flight) = failed n playable.network all b at late well row in
-        inl (rest, inl (inr (inl (fails, by v.silent refl flight (told ∙ is)))))
+        inl (rest, alone (Resting sound) (inl (inr (inl (fails, by v.silent refl flight (told ∙ is))))))
       where
         gone : ℕ
-        gone = gone_by n v.paths_before v.used_before
+        gone = gone_by n v.paths_before loss.soon_before
 
-        by : (silent : Bool) → v.silent ≡ silent → FlightIsGone n made gone
+        by : (silent : Bool) → v.silent ≡ silent → FlightIsGoneFrom n made (last_change (made ++ now)) gone
             → sound ≡ (if silent then max gone (silence_span (pace_of n)) else gone)
-            → (NoneSilent n made (made ++ now) × FlightIsGone n made sound)
-            ⊎ ((time : ℕ) × FlightIsGone n made time × (sound ≡ max (silence_span (pace_of n)) time))
+            → (NoneSilent n made (made ++ now) × FlightIsGoneFrom n made (last_change (made ++ now)) sound)
+            ⊎ ((time : ℕ) × FlightIsGoneFrom n made (last_change (made ++ now)) time
+            × (sound ≡ max (silence_span (pace_of n)) time))
         by true silent flight same = inr (gone, flight, omega (arith, same))
         by false silent flight same =
-            inl (none_left n playable.network all b at late silent, subst (FlightIsGone n made) (sym same) flight)
+            inl (
+              none_left n playable.network all b at late silent,
+              subst (FlightIsGoneFrom n made (last_change (made ++ now))) (sym same) flight,
+            )
     rests_by sound told (inr (inl (row, is))) =
-        let (rest, lowers, flight) = lowered n playable.network all b at late well row in
-        inl (rest, inl (inr (inr (inl (lowers, (gone_by n v.paths v.used_before, flight, told ∙ is))))))
+        let (rest, (l, flight)) = lowered n playable.network all b at late well row in
+        let same = same_paths n playable.network all b at late is_lowering l.first in
+        let gone : ℕ = gone_by n v.paths v.used_before in
+        let is_first = told ∙ is ∙ ap (λ (p : SyncPaths). max (echo_span (pace_of n) p) gone) same in
+        inl (rest, behind l.first (Resting sound) (inl (inr (inr (inl (l.lowers, (gone, flight, is_first)))))))
     rests_by sound told (inr (inr (inl (row, is)))) =
         let x = cut_off n playable.network all b at late well row in
-        inl (x.rested, inl (inl (x.cuts, (gone_by n v.paths v.used_before, x.flight, told ∙ is))))
+        let same = same_paths n playable.network all b at late is_lowering x.none.first in
+        let gone : ℕ = gone_by n v.paths loss.soon in
+        let is_first = told ∙ is ∙ ap (λ (p : SyncPaths). max (2 * way_span p) gone) same in
+        inl (x.rested, behind x.none.first (Resting sound) (inl (inl (x.cuts, (gone, x.flight, is_first)))))
     rests_by sound told (inr (inr (inr (inl (inr row, is))))) =
         let (rest, tree) = tree_turned n playable.network all b at late well row in
-        inr (inr (rest, tree, told ∙ is))
+        inr (inr (inl (rest, tree, told ∙ is)))
     rests_by sound told (inr (inr (inr (inl (inl row, is))))) =
-        let (rest, turns) = turned n playable.network all b at late well row in
-        inl (rest, inl (inr (inr (inr (inl (turns, told ∙ is))))))
+        let (rest, (g, turns)) = turned n playable.network all b at late well row in
+        let same = same_paths n playable.network all b at late is_lowering g in
+        let is_first = told ∙ is ∙ ap (λ (p : SyncPaths). 2 * way_span p + echo_span (pace_of n) p) same in
+        inl (rest, behind g (Resting sound) (inl (inr (inr (inr (inl (turns, is_first)))))))
     rests_by sound told (inr (inr (inr (inr (inl (row, long)))))) =
         let (rest, fails) = heard n playable.network all b at late well row in
         inl (
           rest,
-          inl (inr (inr (inr (inr (
+          alone (Resting sound) (inl (inr (inr (inr (inr (
             fails,
-            by (some_heard fails) v.used refl (subst (λ t. aged_echo_span n loss v.paths ≤ t) (sym told) long),
-          ))))),
+            by (some_heard n made now fails) v.used refl
+                (subst (λ t. aged_echo_span n loss v.paths ≤ t) (sym told) long),
+          )))))),
         )
       where
         by : (now ≡ [] → ⊥) → (used : Bool) → v.used ≡ used
@@ -373,19 +298,52 @@ module _ (d : DocumentState) (playable : IsPlayable d) where
             → RestsOnceTold n made now sound
         by some true used late_then = inl (used_up n playable.network (made ++ now) used, late_then)
         by some false used late_then =
-            inr (largest_interval (pace_of n), inr refl, (aged_by loss, aged some, late_then))
+            let is_aged = aged n playable.network all b at late well some in
+            inr (largest_interval (pace_of n), inr refl, (aged_by loss, is_aged, late_then))
     rests_by sound told (inr (inr (inr (inr (inr (inl (row, is))))))) =
         let (rest, loses, roles) = losses n playable.network all b at late row in
         inl (
           rest,
-          inr (
+          alone (Resting sound) (inr (inl (
             any_loss_span n loss v.paths,
             subst (λ t. BoundsAnyLoss n made now (any_loss_span n loss v.paths) t) (sym (told ∙ is))
                 (loses, refl, roles (any_loss_span n loss v.paths)),
-          ),
+          ))),
         )
-    rests_by sound told (inr (inr (inr (inr (inr (inr (row, is))))))) =
-        let (rest, tree) = tree_cut n playable.network all b at late well row in inr (inl (rest, tree, told ∙ is))
+    rests_by sound told (inr (inr (inr (inr (inr (inr (inl (row, is)))))))) =
+        let (rest, tree) = tree_falls n playable.network all b at late well (octets_at d playable at) row in
+        inr (inl (rest, tree, told ∙ is))
+    rests_by sound told (inr (inr (inr (inr (inr (inr (inr (inl (row, is))))))))) =
+        let x = failure_cuts n playable.network all b at late well row in
+        let echo : ℕ = max (echo_span (pace_of n) v.paths) (largest_interval (pace_of n)) in
+        inr (inr (inr (
+          x,
+          split_rests n playable.network all b at late well sound echo (some_trees n made now x.fails) (told ∙ is)
+              (λ later. inl later),
+        )))
+    rests_by sound told (inr (inr (inr (inr (inr (inr (inr (inr (inr (which, cuts, is)))))))))) =
+        let x = all_cut n playable.network all b at late well which cuts in
+        let gone : ℕ = gone_by n v.paths loss.soon in
+        let flight = flight_now n playable.network all b at late x.trees.fails in
+        inr (inr (inr (
+          x.trees,
+          split_rests n playable.network all b at late well sound gone (some_trees n made now x.trees.fails) (told ∙ is)
+              (λ later. inr (x.beyond, gone, flight, later)),
+        )))
+    rests_by sound told (inr (inr (inr (inr (inr (inr (inr (inr (inl (row, is)))))))))) =
+        let x = taken n playable.network all b at late well row in
+        inl (x.rested, alone (Resting sound) (inr (by x v.used refl (told ∙ is))))
+      where
+        span : ℕ
+        span = any_loss_span n loss v.paths
+
+        by : TakesSome n playable.network all b at late → (used : Bool) → v.used ≡ used
+            → sound ≡ (if used then max (echo_span (pace_of n) v.paths) v.paths.delay else span)
+            → RestsAfterAnyLoss n made now sound ⊎ RestsTaken n made now sound
+        by x true used same =
+            inr (x.takes, x.moves, x.few, used_up n playable.network (made ++ now) used, omega (arith, same))
+        by x false used same =
+            inl (span, (several_lost n playable.network made now x.takes, refl, inl (x.none, same)))
 
     -- it has come to rest as soon as it settles from any past, or sooner after a loss
     rest_so : (s : Settling) → IsTelling n v s → IsChoiceBoundAfter n all (b.at ∷ earlier) at settled_by
@@ -407,9 +365,9 @@ module _ (d : DocumentState) (playable : IsPlayable d) where
     -- What a loss asks for from rest, or a tree that falls off or turns, or a failure that cuts trees off.
     abbrev Asks : ℕ → ℕ → Type 0
     Asks choice roles =
-        (HasComeToRest b at × BoundsLoss n made now choice roles)
+        (HasComeToRest b at × BeforeRepeats n (Losing choice roles) made now)
         ⊎ ((((rest : HasComeToRest b at)
-        × (CutsLate n playable.network all b at late rest
+        × (FallsLate n playable.network all b at late rest
         ⊎ ComesLate n playable.network all b at late (TurnsTreeLink n) rest))
         × (choice ≡ 2 * way_span v.paths) × (roles ≡ choice))
         ⊎ (FailsLate n playable.network all b at late × BoundsSplit n choice roles made now))
@@ -428,12 +386,12 @@ module _ (d : DocumentState) (playable : IsPlayable d) where
             rest.settling.sound,
             bound,
             past,
-            beside (b.at + rest.settling.sound) (λ made now. BoundsLoss n made now s.choice s.roles)
-                (some_lost s.choice s.roles loses) loses,
+            beside n made now (b.at + rest.settling.sound) at (Losing s.choice s.roles)
+                (some_before n made now (Losing s.choice s.roles) (some_lost n made now s.choice s.roles) loses) loses,
           ),
         )
     lost s settles off (inr (inl ((rest, inl tree), choice, roles))) =
-        inr (inl (tree_next (LowersTree n) (BoundsTree n s.choice s.roles) settles.2.0 off rest tree.comes
+        inr (inl (tree_next (FallsTree n) (BoundsTree n s.choice s.roles) settles.2.0 off rest tree.comes
         (choice, roles)))
     lost s settles off (inr (inl ((rest, inr tree), choice, roles))) =
         inr (inr (inl (tree_next (TurnsTreeLink n) (BoundsTree n s.choice s.roles) settles.2.0 off rest tree
@@ -449,28 +407,11 @@ module _ (d : DocumentState) (playable : IsPlayable d) where
               (x.fails, splits),
         )))
 
-    -- what ages does no later than ports beside a failed system are off
-    ages_first : (aged quiet : ℕ) → BoundsAging n made now aged quiet → aged ≤ quiet
-    ages_first aged quiet (inl (used, none, no_roles)) = omega (arith, none)
-    ages_first aged quiet (inr ((span, within, is), is_roles)) =
-        lesser aged quiet span (silence_span (pace_of n)) is is_roles
-
-    no_later : (choice roles : ℕ) → BoundsLoss n made now choice roles → choice ≤ roles
-    no_later choice roles (inl (lowers, same, which)) = omega (arith, same)
-    no_later choice roles (inr (inl (fails, none, which))) = omega (arith, none)
-    no_later choice roles (inr (inr (inl (turns, is, same)))) = omega (arith, same)
-    no_later choice roles (inr (inr (inr (inl (fails, (aged, quiet, aging, inl (same, roles_same))))))) =
-        let first = ages_first aged quiet aging in omega (arith, same, roles_same, first)
-    no_later choice roles (inr (inr (inr (inl (fails, (aged, quiet, aging, inr (is, later))))))) =
-        greater choice roles quiet later
-    no_later choice roles (inr (inr (inr (inr (loses, is, inl (quiet, same)))))) = omega (arith, same)
-    no_later choice roles (inr (inr (inr (inr (loses, is, inr later))))) =
-        greater choice roles (silence_span (pace_of n)) later
-
     asked_later : (choice roles : ℕ) → Asks choice roles → choice ≤ roles
-    asked_later choice roles (inl (rest, loses)) = no_later choice roles loses
+    asked_later choice roles (inl (rest, (first, others, split, each, loses))) =
+        no_later n made now choice roles first loses
     asked_later choice roles (inr (inl (tree, is, same))) = omega (arith, same)
-    asked_later choice roles (inr (inr (x, (aged, quiet, aging, is, later)))) = greater choice roles quiet later
+    asked_later choice roles (inr (inr (x, (age, quiet, ages, is, later)))) = greater choice roles quiet later
 
     -- what is lost at this time asks for what its row says
     asks_by : (r : Row) → row_at v ≡ r → HasOwnBounds r
@@ -480,24 +421,35 @@ module _ (d : DocumentState) (playable : IsPlayable d) where
     asks_by Unchanged row own = absurd own
     asks_by Gained row own = absurd own
     asks_by Lowered row own =
-        let (rest, lowers, flight) = lowered n playable.network all b at late well row in
-        inl (rest, inl (lowers, refl, inl refl))
+        let (rest, (l, flight)) = lowered n playable.network all b at late well row in
+        inl (rest, behind l.first (Losing 0 0) (inl (l.lowers, refl, inl refl)))
     asks_by CutOff row own =
         let x = cut_off n playable.network all b at late well row in
-        inl (x.rested, inl (x.lowers, refl, inr (x.cuts, refl)))
+        let way : ℕ = 2 * way_span v.paths in
+        let same = same_paths n playable.network all b at late is_lowering x.none.first in
+        inl (
+          x.rested,
+          behind x.none.first (Losing way way)
+              (inl (x.none.lowers, refl, inr (x.cuts, ap (λ (p : SyncPaths). 2 * way_span p) same))),
+        )
     asks_by FailedEnd row own =
         let (rest, fails, flight) = failed n playable.network all b at late well row in
-        inl (rest, inr (inl (fails, refl, by v.silent refl)))
+        inl (rest, alone (Losing 0 (quiet_by n loss 0)) (inr (inl (fails, refl, by v.silent refl))))
       where
         by : (silent : Bool) → v.silent ≡ silent
             → RolesAfterFailure n made now (if silent then max 0 (silence_span (pace_of n)) else 0)
         by true is = inr (omega arith)
         by false is = inl (none_left n playable.network all b at late is, refl)
-    asks_by OneTurned row own =
-        let (rest, turns) = turned n playable.network all b at late well row in
-        inl (rest, inr (inr (inl (turns, refl, refl))))
-    asks_by TreeCutOff row own =
-        let (rest, tree) = tree_cut n playable.network all b at late well row in
+    asks_by SystemTurned row own =
+        let (rest, (g, turns)) = turned n playable.network all b at late well row in
+        let way : ℕ = 2 * way_span v.paths in
+        let same = same_paths n playable.network all b at late is_lowering g in
+        inl (
+          rest,
+          behind g (Losing way way) (inr (inr (inl (turns, ap (λ (p : SyncPaths). 2 * way_span p) same, refl)))),
+        )
+    asks_by TreeFalls row own =
+        let (rest, tree) = tree_falls n playable.network all b at late well (octets_at d playable at) row in
         inr (inl ((rest, inl tree), refl, refl))
     asks_by TreeTurned row own =
         let (rest, tree) = tree_turned n playable.network all b at late well row in
@@ -506,40 +458,50 @@ module _ (d : DocumentState) (playable : IsPlayable d) where
         let (rest, fails) = heard n playable.network all b at late well (inl row) in
         inl (
           rest,
-          inr (inr (inr (inl (
+          alone (Losing (aged_by loss) (quiet_by n loss (aged_by loss))) (inr (inr (inr (inl (
             fails,
-            (aged_by loss, quiet_by n loss (aged_by loss), aging (some_heard fails), inl (refl, refl)),
-          )))),
+            (
+              aged_by loss,
+              quiet_by n loss (aged_by loss),
+              aging n playable.network all b at late well (some_heard n made now fails),
+              inl (refl, refl),
+            ),
+          ))))),
         )
     asks_by FailureCutsOff row own =
         let (rest, fails) = heard n playable.network all b at late well (inr row) in
         inl (
           rest,
-          inr (inr (inr (inl (
-            fails,
-            (
-              aged_by loss,
-              quiet_by n loss (aged_by loss),
-              aging (some_heard fails),
-              inr (refl, quiet_later (2 * way_span v.paths)),
-            ),
-          )))),
+          alone (Losing (aged_by loss + 2 * way_span v.paths) (quiet_by n loss (aged_by loss + 2 * way_span v.paths)))
+              (inr (inr (inr (inl (
+                fails,
+                (
+                  aged_by loss,
+                  quiet_by n loss (aged_by loss),
+                  aging n playable.network all b at late well (some_heard n made now fails),
+                  inr (refl, quiet_later n playable.network all b at late well (2 * way_span v.paths)),
+                ),
+              ))))),
         )
-    asks_by FailureCutsTrees row own =
+    asks_by FailureMovesTrees row own =
         let x = failure_cuts n playable.network all b at late well row in
         inr (inr (
           x,
           (
             aged_by loss,
             quiet_by n loss (aged_by loss),
-            aging (some_trees x.fails),
+            aging n playable.network all b at late well (some_trees n made now x.fails),
             refl,
-            quiet_later (2 * way_span v.paths),
+            quiet_later n playable.network all b at late well (2 * way_span v.paths),
           ),
         ))
+    asks_by TakenAway row own =
+        let x = taken n playable.network all b at late well row in
+        inl (x.rested, alone (Losing 0 0) (inr (inr (inr (inr (inr (x.takes, x.moves, x.none, refl, refl)))))))
     asks_by AnyLosses row own =
-        let (rest, loses, roles) = losses n playable.network all b at late (inl row) in
-        inl (rest, inr (inr (inr (inr (loses, refl, roles (any_loss_span n loss v.paths))))))
+        let (rest, loses, roles) = losses n playable.network all b at late row in
+        let span : ℕ = any_loss_span n loss v.paths in
+        inl (rest, alone (Losing span (quiet_by n loss span)) (inr (inr (inr (inr (inl (loses, refl, roles span)))))))
 
     sooner_so : (s : Settling) → IsTelling n v s → IsChoiceBoundAfter n all (b.at ∷ earlier) at settled_by → IsSooner s
     sooner_so s it settles = elim (choice_or_own n loss v.paths (row_at v) (gained_at n v)) [

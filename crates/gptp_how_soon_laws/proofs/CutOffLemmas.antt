@@ -1,5 +1,5 @@
 -- A link that goes down by the one event of a time, and cuts off a far end, does so as its event is told.
-use Rattle.std.proofs.Common.{◌≡◌, ◌≤◌, ◌⊎◌, inl, inr, ℕ, true, false, List, [], ◌∷◌, ◌++◌, Some, slice_get, refl, sym, ap, subst, ◌∙◌, append-nil}
+use Rattle.std.proofs.Common.{◌≡◌, ◌⊎◌, inl, inr, ℕ, true, false, List, [], ◌∷◌, ◌++◌, Some, slice_get, refl, sym, ap, subst, ◌∙◌, append-nil}
 use Rattle.std.specs.Prelude.{not}
 use Rattle.std.proofs.lemmas.Bool.{and_parts, not-true, or_cases}
 use Rattle.gptp_graph.proofs.LinkLemmas.{Adjacent-clock}
@@ -8,24 +8,22 @@ use Rattle.gptp_network.proofs.ExistenceLemmas.{stands_after}
 use Rattle.gptp_network.specs.Snapshot.{StandsAfter}
 use Rattle.gptp_scenario.specs.Change.{link_after}
 use Rattle.gptp_scenario.specs.Network.{IsEnd, IsNetwork, NetworkState}
-use Rattle.gptp_scenario.specs.SyncWait.{sync_paths}
 use Rattle.gptp_scenario.specs.declared.change.Timed.{Timed}
 use Rattle.gptp_scenario.specs.declared.network.LinkSpec.{LinkSpec}
 use Rattle.gptp_scenario.proofs.AfterLemmas.{after_keeps}
 use Rattle.gptp_model.specs.World.{port_id}
 use Rattle.gptp_topology.specs.After.{systems_after}
 use Rattle.gptp_topology.specs.declared.nodes.System as ours
-use Rattle.gptp_how_soon.specs.Chosen.{chosen_after, ends_of, is_joined, lost_ends, moves_joined, used_ends}
+use Rattle.gptp_how_soon.specs.Chosen.{chosen_after, ends_of, is_joined, lost_ends, used_ends}
 use Rattle.gptp_how_soon.specs.Far.{cut_far_ends_after, cuts_far_end, is_cut_at, is_far_end}
-use Rattle.gptp_how_soon.specs.Kinds.{is_link_down, is_loss, is_lowering, lowers_one}
-use Rattle.gptp_how_soon.specs.Times.{told_at, told_of}
+use Rattle.gptp_how_soon.specs.Kinds.{is_link_down, is_loss, is_lowering}
+use Rattle.gptp_how_soon.specs.Times.{told_at}
 use Rattle.gptp_how_soon.specs.declared.chosen.Chosen.{Chosen}
 use Rattle.gptp_how_soon.proofs.ChosenLemmas.{IsAt, at_clock, at_port, touched}
-use Rattle.gptp_settling_time.specs.HowSoon.{CutsOneEnd}
 use Rattle.gptp_settling_time.specs.Losses.{CutsFarEnd, IsCutOff, IsFarEnd, LowersLink}
 use Rattle.gptp_how_soon_laws.proofs.FailedLemmas.{each_is, far_at}
 use Rattle.gptp_how_soon_laws.proofs.ToldLemmas.{loss_names}
-use Rattle.gptp_how_soon_laws.proofs.LoweredLemmas.{TakesDown, is_lost_there, joined_by, lowers_link}
+use Rattle.gptp_how_soon_laws.proofs.LoweredLemmas.{TakesDown, is_lost_there, joined_by}
 use Rattle.gptp_how_soon_laws.proofs.NamedLemmas.{at_end, end_first}
 use Rattle.gptp_how_soon_laws.proofs.UnmovedLemmas.{AreWell}
 
@@ -111,7 +109,7 @@ module _ (n : NetworkState) (network : IsNetwork n) (made : List Timed) (event :
 
   -- ---- the event
 
-  cuts_far : cut_far_ends_after n made later ≡ true → is_lowering (told_at n made event.act) ≡ true
+  pub cuts_far : cut_far_ends_after n made later ≡ true → is_lowering (told_at n made event.act) ≡ true
       → LowersLink n made event → CutsFarEnd n made event
   cuts_far cut is lowers =
       let loss = (and_parts (is_loss (told_at n made event.act)) (is_link_down (told_at n made event.act)) is).0 in
@@ -122,17 +120,3 @@ module _ (n : NetworkState) (network : IsNetwork n) (made : List Timed) (event :
         loss = subst (λ a. is_loss (told_at n made a) ≡ true) lowers.act loss;
       }) cut in
       record { lowers = lowers; lost = one.clock; lost_end = one.lost_end; far = one.far; cut = one.off }
-
--- the events of a time
-pub cuts_one_end : (n : NetworkState) (network : IsNetwork n) (made now : List Timed) → AreWell n (made ++ now)
-    → moves_joined n made (made ++ now) ≡ false
-    → cut_far_ends_after n made (made ++ now) ≡ true
-    → (sync_paths n (made ++ now)).delay ≤ (sync_paths n made).delay
-    → (sync_paths n (made ++ now)).systems ≤ (sync_paths n made).systems
-    → (sync_paths n made).systems ≤ 255
-    → lowers_one (told_of n made now) ≡ true
-    → CutsOneEnd n made now
-cuts_one_end n network made [] well unmoved cut delay paths few is = absurd cc
-cuts_one_end n network made (event ∷ []) well unmoved cut delay paths few is =
-    cuts_far n network made event well cut is (lowers_link n network made event well unmoved delay paths few is)
-cuts_one_end n network made (event ∷ other ∷ events) well unmoved cut delay paths few is = absurd cc

@@ -16,7 +16,9 @@ use Rattle.gptp_theorem.proofs.SnapshotLemmas.{snapshots_stand}
 use Rattle.gptp_settling_time.specs.ChoiceAlone.{ChoiceStandsAs}
 use Rattle.gptp_settling_time.specs.Documents.{IsSettledAs}
 use Rattle.gptp_settling_time.specs.HowSoon.{IsChoiceAloneBound, IsChoiceBound, NoneBetween}
-use Rattle.gptp_settling_time.specs.InTurn.{ChoosesAfter, ComesByEvents, IsTakenAs, LeadOn, Past, SettlesAfter}
+use Rattle.gptp_settling_time.specs.Pasts.{Past}
+use Rattle.gptp_settling_time.specs.Rests.{IsTakenAs}
+use Rattle.gptp_settling_time.specs.InTurn.{ChoosesAfter, ComesByEvents, LeadOn, SettlesAfter}
 use Rattle.gptp_settling_time.proofs.BoundSettlesLemmas.{bound_chooses, bound_settles}
 use Rattle.gptp_settling_time.proofs.AfterLemmas.{IsAfter, after_act, after_chooses, after_keeps, after_later, after_settles, begins_after, taken_as}
 use Rattle.gptp_settling_time.proofs.BegunLemmas.{begun_last}

@@ -35,7 +35,7 @@ use Rattle.gptp_how_soon.specs.Times.{told_at, told_of}
 use Rattle.gptp_how_soon.specs.declared.kinds.Told.{Told}
 use Rattle.gptp_settling_time.specs.Gains.{AreSparedBy, ChangesNothing, HasDelaysWithin, IsNoWorse, IsSparedBy, JoinsLive, LeavesCapable, SparesFailed, TakesNothing, UsesNoLink, exchanged_again_from}
 use Rattle.gptp_settling_time.specs.HowSoon.{IsGainEvent, IsGainToo, IsHeardEvent, IsIdleEvent, TurnsUnused}
-use Rattle.gptp_settling_time.specs.InTurn.{AddsHeard, BettersClock, BringsUp, MakesNothing, RecoversAlone, TurnsInVain}
+use Rattle.gptp_settling_time.specs.EventKinds.{AddsHeard, BettersClock, BringsUp, MakesNothing, RecoversAlone, TurnsInVain}
 use Rattle.gptp_settling_time.proofs.SamePathsLemmas.{idle_paths, turned_paths}
 use Rattle.gptp_topology.proofs.RestLemmas.{lives_to, three_from, three_parts, used_cable}
 use Rattle.gptp_how_soon_laws.proofs.KindLemmas.{gain_is_not_idle, nothing_or_gain}

@@ -18,7 +18,7 @@ use Rattle.gptp_how_soon.specs.Kinds.{are_heard, is_better, is_gain, is_heard_to
 use Rattle.gptp_how_soon.specs.Times.{told_at, told_of}
 use Rattle.gptp_how_soon.specs.declared.kinds.Told.{Told}
 use Rattle.gptp_settling_time.specs.HowSoon.{AfterIdleEvents, AreGainEvents, AreHeardEvents, EachEvent, IsGainToo, IsHeardEvent, IsHeardToo, IsIdleEvent, AreWiderEvents}
-use Rattle.gptp_settling_time.specs.InTurn.{AddsHeard}
+use Rattle.gptp_settling_time.specs.EventKinds.{AddsHeard}
 use Rattle.gptp_how_soon_laws.proofs.ToldLemmas.{idle_changes, wider_widens}
 use Rattle.gptp_how_soon_laws.proofs.MoreLemmas.{IsMore, same_more}
 use Rattle.gptp_how_soon_laws.proofs.GainLemmas.{all_told, gains, gains_too, heard_first, heard_then, idle_ways, idles, idles_late, more_left, so_on}

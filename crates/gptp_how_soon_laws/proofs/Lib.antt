@@ -8,7 +8,9 @@ mod GainLemmas
 mod GainedLemmas
 mod WorseningLemmas
 mod UnmovedLemmas
+mod RepeatLemmas
 mod LoweredLemmas
+mod IdleStandsLemmas
 mod FailedLemmas
 mod CutOffLemmas
 mod LivesOnLemmas
@@ -16,10 +18,16 @@ mod LostLinkLemmas
 mod OneLostLemmas
 mod TreeTestLemmas
 mod TreeBelowLemmas
+mod FallsBelowLemmas
 mod TreeLemmas
-mod CutTreesLemmas
+mod TreeWorsenedLemmas
+mod TreeByLemmas
+mod TwoTopsLemmas
 mod TurnedTreeTestLemmas
+mod TurnsBelowLemmas
 mod TurnedTreeLemmas
+mod MovedTreesTestLemmas
+mod MovedTreesLemmas
 mod TreeEventLemmas
 mod TurnedLemmas
 mod LiveEndsLemmas
@@ -29,8 +37,14 @@ mod RowReasonLemmas
 mod StartRowLemmas
 mod RowTestLemmas
 mod ArrivedLemmas
+mod FlightLemmas
 mod RowLemmas
+mod TakenAwayLemmas
+mod CutsAllLemmas
+mod RowLossLemmas
 mod AnyLossLemmas
+mod AgedLemmas
+mod LossBoundLemmas
 pub mod ChoiceLemmas
 pub mod StepLemmas
 mod SettledLemmas

@@ -26,10 +26,9 @@ use Rattle.gptp_topology.proofs.RestLemmas.{used_cable}
 use Rattle.gptp_how_soon.specs.Chosen.{ends_at, ends_of, is_joined, is_used_then, lost_ends, moves_joined, used_ends}
 use Rattle.gptp_how_soon.proofs.ChosenLemmas.{IsAt, at_clock, touched}
 use Rattle.gptp_how_soon.proofs.RoundsLemmas.{Touches}
-use Rattle.gptp_how_soon.specs.Kinds.{is_link_down, is_loss, is_lowering, lowers_one}
+use Rattle.gptp_how_soon.specs.Kinds.{is_link_down, is_loss, is_lowering}
 use Rattle.gptp_how_soon.specs.Links.{is_lost}
-use Rattle.gptp_how_soon.specs.Times.{told_at, told_of}
-use Rattle.gptp_settling_time.specs.HowSoon.{LowersOneLink, OneEvent}
+use Rattle.gptp_how_soon.specs.Times.{told_at}
 use Rattle.gptp_settling_time.specs.Losses.{IsCutOff, IsUnmoved, IsUnmovedOrCutOff, LowersLink, MovesNoneJoined, UpIsUsed}
 use Rattle.gptp_settling_time.proofs.EventStillLemmas.{at_end}
 use Rattle.gptp_how_soon_laws.proofs.ToldLemmas.{link_down_is, loss_lowers}
@@ -154,66 +153,44 @@ module _ (n : NetworkState) (network : IsNetwork n) (made : List Timed) (event :
           few = few;
         }
 
--- the events of a time
-pub lowers_one_link : (n : NetworkState) (network : IsNetwork n) (made now : List Timed) → AreWell n (made ++ now)
-    → moves_joined n made (made ++ now) ≡ false
-    → (sync_paths n (made ++ now)).delay ≤ (sync_paths n made).delay
-    → (sync_paths n (made ++ now)).systems ≤ (sync_paths n made).systems
-    → (sync_paths n made).systems ≤ 255
-    → lowers_one (told_of n made now) ≡ true
-    → LowersOneLink n made now
-lowers_one_link n network made [] well unmoved delay paths few is = absurd cc
-lowers_one_link n network made (event ∷ []) well unmoved delay paths few is =
-    lowers_link n network made event well unmoved delay paths few is
-lowers_one_link n network made (event ∷ other ∷ events) well unmoved delay paths few is = absurd cc
-
--- by it a link goes down
-abbrev pub GoesDown : List Timed → Timed → Type 0
-GoesDown made event = (clock : ℕ) × (port : ℕ) × (event.act ≡ acts.Change (changes.LinkDown clock port))
-
--- what is so of the one event is so by another word
-pub one_as : (P Q : List Timed → Timed → Type 0) (made now : List Timed)
-    → ((event : Timed) → P made event → Q made event) → OneEvent P made now → OneEvent Q made now
-one_as P Q made [] each is = is
-one_as P Q made (event ∷ []) each is = each event is
-one_as P Q made (event ∷ other ∷ events) each is = is
-
 -- where each link that is up was in use, each is after such an event
-pub used_on : (n : NetworkState) (made now : List Timed) → OneEvent GoesDown made now → UpIsUsed n made
-    → UpIsUsed n (made ++ now)
-used_on n made [] down used place v there up = absurd down
-used_on n made (event ∷ other ∷ events) down used place v there up = absurd down
-used_on n made (event ∷ []) (clock, port, act) used place v there up = by (is_at clock port (link_after made v)) refl
-  where
-    now_is : link_after (made ++ event ∷ []) v
-        ≡ (if is_at clock port (link_after made v) then with_up false (link_after made v) else link_after made v)
-    now_is = link_behind made event v ∙ ap (λ a. link_acted a (link_after made v)) act
+module _ (n : NetworkState) (network : IsNetwork n) (made : List Timed) (event : Timed)
+    (is : is_lowering (told_at n made event.act) ≡ true) where
+  x : TakesDown n network made event
+  x = takes_down n network made event is
 
-    lives_on : (name : ℕ) → IsLive n.systems made name → IsLive n.systems (made ++ event ∷ []) name
-    lives_on name live = record {
-      place = live.place;
-      system = live.system;
-      there = live.there;
-      clock = live.clock;
-      live = ap (λ s. s.live) (system_behind made event (clock_of live.system.identity) (standing live.system))
-          ∙ ap (λ a. (system_acted a (clock_of live.system.identity) (system_after made live.system)).live) act
-          ∙ live.live;
-    }
+  pub used_on : UpIsUsed n made → UpIsUsed n (made ++ event ∷ [])
+  used_on used place v there up = by (is_at x.clock x.port (link_after made v)) refl
+    where
+      now_is : link_after (made ++ event ∷ []) v
+          ≡ (if is_at x.clock x.port (link_after made v) then with_up false (link_after made v) else link_after made v)
+      now_is = link_behind made event v ∙ ap (λ a. link_acted a (link_after made v)) x.act
 
-    by : (at : Bool) → is_at clock port (link_after made v) ≡ at
-        → IsUsed n.systems (made ++ event ∷ []) (link_after (made ++ event ∷ []) v)
-    by true is =
-        let down : (link_after (made ++ event ∷ []) v).up ≡ false =
-        ap (λ (w : LinkSpec). w.up)
-        (now_is ∙ ap (λ b. if b then with_up false (link_after made v) else link_after made v) is) in
-        absurd (let both : true ≡ false = sym up ∙ down in cc)
-    by false is =
-        let same : link_after (made ++ event ∷ []) v ≡ link_after made v =
-        now_is ∙ ap (λ b. if b then with_up false (link_after made v) else link_after made v) is in
-        let was = used place v there (ap (λ (w : LinkSpec). w.up) (sym same) ∙ up) in
-        subst (IsUsed n.systems (made ++ event ∷ [])) (sym same)
-        (record {
-          up = was.up;
-          a = lives_on (link_after made v).a.clock was.a;
-          b = lives_on (link_after made v).b.clock was.b;
-        })
+      lives_on : (name : ℕ) → IsLive n.systems made name → IsLive n.systems (made ++ event ∷ []) name
+      lives_on name live = record {
+        place = live.place;
+        system = live.system;
+        there = live.there;
+        clock = live.clock;
+        live = ap (λ s. s.live) (system_behind made event (clock_of live.system.identity) (standing live.system))
+            ∙ ap (λ a. (system_acted a (clock_of live.system.identity) (system_after made live.system)).live) x.act
+            ∙ live.live;
+      }
+
+      by : (at : Bool) → is_at x.clock x.port (link_after made v) ≡ at
+          → IsUsed n.systems (made ++ event ∷ []) (link_after (made ++ event ∷ []) v)
+      by true at =
+          let down : (link_after (made ++ event ∷ []) v).up ≡ false =
+          ap (λ (w : LinkSpec). w.up)
+          (now_is ∙ ap (λ b. if b then with_up false (link_after made v) else link_after made v) at) in
+          absurd (let both : true ≡ false = sym up ∙ down in cc)
+      by false at =
+          let same : link_after (made ++ event ∷ []) v ≡ link_after made v =
+          now_is ∙ ap (λ b. if b then with_up false (link_after made v) else link_after made v) at in
+          let was = used place v there (ap (λ (w : LinkSpec). w.up) (sym same) ∙ up) in
+          subst (IsUsed n.systems (made ++ event ∷ [])) (sym same)
+          (record {
+            up = was.up;
+            a = lives_on (link_after made v).a.clock was.a;
+            b = lives_on (link_after made v).b.clock was.b;
+          })

@@ -89,7 +89,7 @@ module _ (n : NetworkState) (network : IsNetwork n) (made events : List Timed) w
 
   -- ---- its ends
 
-  module _ (t : OneLost) (g : Snapshot) (stands : StandsAfter n made g) (well : IsWellFormed g) where
+  module _ (g : Snapshot) (stands : StandsAfter n made g) (well : IsWellFormed g) where
     place_a : (w : LinkSpec) → In w n.links → IsAt n (ends_of n w).a w.a.clock
     place_a w member =
         let (place, there) = slice_get-In w n.links member in
@@ -111,11 +111,15 @@ module _ (n : NetworkState) (network : IsNetwork n) (made events : List Timed) w
       subst (λ c. IsAt n j c) a (subst (λ k. IsAt n k w.a.clock) first (place_a w known)),
     )
 
+  module _ (t : OneLost) (g : Snapshot) (stands : StandsAfter n made g) (well : IsWellFormed g) where
+    ends_there : IsAt n t.top t.top_clock × IsAt n t.other t.other_clock
+    ends_there = ends_at_places g stands well t.wire t.top t.other t.top_clock t.other_clock t.known t.ends
+
     pub at_top : IsAt n t.top t.top_clock
-    at_top = (ends_at_places t.wire t.top t.other t.top_clock t.other_clock t.known t.ends).0
+    at_top = ends_there.0
 
     pub at_other : IsAt n t.other t.other_clock
-    at_other = (ends_at_places t.wire t.top t.other t.top_clock t.other_clock t.known t.ends).1
+    at_other = ends_there.1
 
     -- both stood in the snapshot
     pub known_ends : In t.top_clock (clocks g) × In t.other_clock (clocks g)

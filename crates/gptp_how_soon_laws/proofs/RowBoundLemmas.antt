@@ -4,6 +4,7 @@ use Rattle.std.proofs.Common.{◌≡◌, ◌≤◌, ◌⊎◌, inl, inr, ◌+◌
 use Rattle.std.specs.Prelude.{⊤, ◌==◌, not, max, if◌then◌else◌}
 use Rattle.std.proofs.lemmas.Bool.{eqb-false, eqb-true}
 use Rattle.gptp_lists.proofs.MappedLemmas.{some_same}
+use Rattle.gptp_setup.specs.SettlingParams.{largest_interval}
 use Rattle.gptp_scenario.specs.Calm.{NothingLapses}
 use Rattle.gptp_scenario.specs.Network.{NetworkState, pace_of}
 use Rattle.gptp_scenario.specs.SettlingAtOnce.{settling_span_at_once}
@@ -12,12 +13,12 @@ use Rattle.gptp_scenario.specs.SyncWait.{sync_paths}
 use Rattle.gptp_scenario.specs.declared.change.Timed.{Timed}
 use Rattle.gptp_scenario.specs.declared.sync_wait.SyncPaths.{SyncPaths}
 use Rattle.gptp_topology.specs.After.{is_calm}
-use Rattle.gptp_how_soon.specs.Bounds.{aged_echo_span, any_loss_span, arrived_by, choice_by, choice_of_row, gone_by, quiet_by, roles_by, roles_of_row, settled, sound_by, sound_of_row}
+use Rattle.gptp_how_soon.specs.Bounds.{aged_by, aged_echo_span, any_loss_span, arrived_by, choice_by, choice_of_row, gone_by, quiet_by, roles_by, roles_of_row, settled, sound_by, sound_of_row, taken_echo_span}
 use Rattle.gptp_how_soon.specs.Kinds.{sets_link}
 use Rattle.gptp_how_soon.specs.Times.{View, gained_at, loss_at, row_at, settling_time}
 use Rattle.gptp_how_soon.specs.declared.bounds.Loss.{Loss}
 use Rattle.gptp_how_soon.specs.declared.bounds.Row.{Row}
-use Rattle.gptp_how_soon.specs.declared.bounds.Row.TheVariants.{AnyLosses, AnyPast, CutOff, FailedEnd, FailedHeard, FailureCutsOff, FailureCutsTrees, Gained, Lowered, OneTurned, TreeCutOff, TreeTurned, Unchanged}
+use Rattle.gptp_how_soon.specs.declared.bounds.Row.TheVariants.{AnyLosses, AnyPast, CutOff, FailedEnd, FailedHeard, FailureCutsOff, FailureMovesTrees, Gained, Lowered, SystemTurned, TakenAway, TreeTurned, Unchanged, TreeFalls}
 use Rattle.gptp_how_soon.specs.declared.bounds.Settling.{Settling}
 use Rattle.gptp_settling_time.specs.HowSoon.{BoundsChoice}
 use Rattle.gptp_topology.proofs.RestLemmas.{calm_from}
@@ -31,10 +32,11 @@ past_row CutOff = AnyPast
 past_row FailedEnd = AnyPast
 past_row FailedHeard = AnyPast
 past_row FailureCutsOff = AnyPast
-past_row OneTurned = AnyPast
-past_row TreeCutOff = AnyPast
+past_row SystemTurned = AnyPast
+past_row TreeFalls = AnyPast
 past_row TreeTurned = AnyPast
-past_row FailureCutsTrees = AnyPast
+past_row FailureMovesTrees = AnyPast
+past_row TakenAway = AnyPast
 past_row AnyLosses = AnyPast
 past_row Gained = Gained
 
@@ -62,10 +64,11 @@ bounds_choice n Sharp loss events row gained calm unchanged is_gained =
     by_row off FailedEnd is = inl refl
     by_row off FailedHeard is = inl refl
     by_row off FailureCutsOff is = inl refl
-    by_row off OneTurned is = inl refl
-    by_row off TreeCutOff is = inl refl
+    by_row off SystemTurned is = inl refl
+    by_row off TreeFalls is = inl refl
     by_row off TreeTurned is = inl refl
-    by_row off FailureCutsTrees is = inl refl
+    by_row off FailureMovesTrees is = inl refl
+    by_row off TakenAway is = inl refl
     by_row off AnyLosses is = inl refl
     by_row off Unchanged is = inr (unchanged is)
     by_row off Gained is = inr (is_gained is off)
@@ -115,26 +118,29 @@ choice_or_own n loss paths row gained = by (n.params.sync_timeout == 0) refl row
     by true is FailedEnd = inr (eqb-true n.params.sync_timeout 0 is, tt, refl, refl)
     by true is FailedHeard = inr (eqb-true n.params.sync_timeout 0 is, tt, refl, refl)
     by true is FailureCutsOff = inr (eqb-true n.params.sync_timeout 0 is, tt, refl, refl)
-    by true is OneTurned = inr (eqb-true n.params.sync_timeout 0 is, tt, refl, refl)
-    by true is TreeCutOff = inr (eqb-true n.params.sync_timeout 0 is, tt, refl, refl)
+    by true is SystemTurned = inr (eqb-true n.params.sync_timeout 0 is, tt, refl, refl)
+    by true is TreeFalls = inr (eqb-true n.params.sync_timeout 0 is, tt, refl, refl)
     by true is TreeTurned = inr (eqb-true n.params.sync_timeout 0 is, tt, refl, refl)
-    by true is FailureCutsTrees = inr (eqb-true n.params.sync_timeout 0 is, tt, refl, refl)
+    by true is FailureMovesTrees = inr (eqb-true n.params.sync_timeout 0 is, tt, refl, refl)
+    by true is TakenAway = inr (eqb-true n.params.sync_timeout 0 is, tt, refl, refl)
     by true is AnyLosses = inr (eqb-true n.params.sync_timeout 0 is, tt, refl, refl)
-
--- all is sound as after any loss
-abbrev pub HasLossSpan : Row → Type 0
-HasLossSpan row = (row ≡ AnyLosses) ⊎ (row ≡ FailureCutsTrees)
 
 -- All is sound by that bound. Or nothing lapses, and it is sooner after a loss.
 abbrev pub IsSoundSooner : NetworkState → Loss → SyncPaths → Row → ℕ → Type 0
 IsSoundSooner n loss paths row sound =
-    ((row ≡ FailedEnd) × (sound ≡ quiet_by n loss (gone_by n loss.paths_before loss.used_before)))
+    ((row ≡ FailedEnd) × (sound ≡ quiet_by n loss (gone_by n loss.paths_before loss.soon_before)))
     ⊎ (((row ≡ Lowered) × (sound ≡ max (echo_span (pace_of n) paths) (gone_by n paths loss.used_before)))
-    ⊎ (((row ≡ CutOff) × (sound ≡ max (2 * way_span paths) (gone_by n paths loss.used_before)))
-    ⊎ ((((row ≡ OneTurned) ⊎ (row ≡ TreeTurned)) × (sound ≡ 2 * way_span paths + echo_span (pace_of n) paths))
+    ⊎ (((row ≡ CutOff) × (sound ≡ max (2 * way_span paths) (gone_by n paths loss.soon)))
+    ⊎ ((((row ≡ SystemTurned) ⊎ (row ≡ TreeTurned)) × (sound ≡ 2 * way_span paths + echo_span (pace_of n) paths))
     ⊎ ((((row ≡ FailedHeard) ⊎ (row ≡ FailureCutsOff)) × (aged_echo_span n loss paths ≤ sound))
-    ⊎ ((HasLossSpan row × (sound ≡ quiet_by n loss (any_loss_span n loss paths)))
-    ⊎ ((row ≡ TreeCutOff) × (sound ≡ max (2 * way_span paths) (gone_by n paths loss.used_before))))))))
+    ⊎ (((row ≡ AnyLosses) × (sound ≡ quiet_by n loss (any_loss_span n loss paths)))
+    ⊎ (((row ≡ TreeFalls) × (sound ≡ max (2 * way_span paths) (gone_by n paths loss.used_before)))
+    ⊎ (((row ≡ FailureMovesTrees)
+    × (sound ≡ quiet_by n loss
+    (aged_by loss + 2 * way_span paths + max (echo_span (pace_of n) paths) (largest_interval (pace_of n)))))
+    ⊎ (((row ≡ TakenAway) × (sound ≡ taken_echo_span n loss paths))
+    ⊎ (((row ≡ FailureCutsOff) ⊎ (row ≡ FailureMovesTrees)) × (loss.cuts_all ≡ true)
+    × (sound ≡ quiet_by n loss (aged_by loss + 2 * way_span paths + gone_by n paths loss.soon)))))))))))
 
 pub sound_or_sooner : (n : NetworkState) (loss : Loss) (paths : SyncPaths) (row : Row)
     (gained : ℕ)
@@ -145,6 +151,28 @@ sound_or_sooner n loss paths row gained = by (n.params.sync_timeout == 0) refl r
   where
     span : ℕ
     span = settling_span_with (pace_of n) paths paths.systems
+
+    -- after a failure it matters whether all that is moved is cut off
+    all : (r : Row) → (r ≡ FailureCutsOff) ⊎ (r ≡ FailureMovesTrees) → loss.cuts_all ≡ true
+        → IsSoundSooner n loss paths r
+        (quiet_by n loss (aged_by loss + 2 * way_span paths + gone_by n paths loss.soon))
+    all r which cuts = inr (inr (inr (inr (inr (inr (inr (inr (inr (which, cuts, refl)))))))))
+
+    cut : (cuts : Bool) → loss.cuts_all ≡ cuts
+        → IsSoundSooner n loss paths FailureCutsOff
+        (if cuts then quiet_by n loss (aged_by loss + 2 * way_span paths + gone_by n paths loss.soon)
+        else max (aged_by loss + 2 * way_span paths) (aged_echo_span n loss paths))
+    cut true cuts = all FailureCutsOff (inl refl) cuts
+    cut false cuts = inr (inr (inr (inr (inl (inr refl, omega arith)))))
+
+    moved : (cuts : Bool) → loss.cuts_all ≡ cuts
+        → IsSoundSooner n loss paths FailureMovesTrees
+        (quiet_by n loss
+        (aged_by loss + 2 * way_span paths
+        + (if cuts then gone_by n paths loss.soon
+        else max (echo_span (pace_of n) paths) (largest_interval (pace_of n)))))
+    moved true cuts = all FailureMovesTrees (inr refl) cuts
+    moved false cuts = inr (inr (inr (inr (inr (inr (inr (inl (refl, refl))))))))
 
     by : (off : Bool) → (n.params.sync_timeout == 0) ≡ off → (r : Row)
         → (cond (not off) span (sound_of_row n loss paths r gained)
@@ -159,18 +187,18 @@ sound_or_sooner n loss paths row gained = by (n.params.sync_timeout == 0) refl r
     by true is FailedEnd = inr (eqb-true n.params.sync_timeout 0 is, inl (refl, refl))
     by true is Lowered = inr (eqb-true n.params.sync_timeout 0 is, inr (inl (refl, refl)))
     by true is CutOff = inr (eqb-true n.params.sync_timeout 0 is, inr (inr (inl (refl, refl))))
-    by true is OneTurned = inr (eqb-true n.params.sync_timeout 0 is, inr (inr (inr (inl (inl refl, refl)))))
+    by true is SystemTurned = inr (eqb-true n.params.sync_timeout 0 is, inr (inr (inr (inl (inl refl, refl)))))
     by true is TreeTurned = inr (eqb-true n.params.sync_timeout 0 is, inr (inr (inr (inl (inr refl, refl)))))
     by true is FailedHeard =
         inr (eqb-true n.params.sync_timeout 0 is, inr (inr (inr (inr (inl (inl refl, omega arith))))))
-    by true is FailureCutsOff =
-        inr (eqb-true n.params.sync_timeout 0 is, inr (inr (inr (inr (inl (inr refl, omega arith))))))
+    by true is FailureCutsOff = inr (eqb-true n.params.sync_timeout 0 is, cut loss.cuts_all refl)
     by true is AnyLosses =
-        inr (eqb-true n.params.sync_timeout 0 is, inr (inr (inr (inr (inr (inl (inl refl, refl)))))))
-    by true is FailureCutsTrees =
-        inr (eqb-true n.params.sync_timeout 0 is, inr (inr (inr (inr (inr (inl (inr refl, refl)))))))
-    by true is TreeCutOff =
-        inr (eqb-true n.params.sync_timeout 0 is, inr (inr (inr (inr (inr (inr (refl, refl)))))))
+        inr (eqb-true n.params.sync_timeout 0 is, inr (inr (inr (inr (inr (inl (refl, refl)))))))
+    by true is FailureMovesTrees = inr (eqb-true n.params.sync_timeout 0 is, moved loss.cuts_all refl)
+    by true is TakenAway =
+        inr (eqb-true n.params.sync_timeout 0 is, inr (inr (inr (inr (inr (inr (inr (inr (inl (refl, refl))))))))))
+    by true is TreeFalls =
+        inr (eqb-true n.params.sync_timeout 0 is, inr (inr (inr (inr (inr (inr (inl (refl, refl))))))))
 
 -- what is told of a calm network
 pub record IsTelling (n : NetworkState) (v : View) (s : Settling) : Type 0 where

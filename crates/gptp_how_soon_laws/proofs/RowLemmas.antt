@@ -1,6 +1,6 @@
 -- What is told of a time after the first one, by its row, is so by its events.
-use Rattle.std.proofs.Common.{◌≡◌, ◌<◌, ◌≤◌, ◌⊎◌, inl, inr, ◌+◌, ◌*◌, ℕ, Bool, true, false, cond, List, [], ◌∷◌, ◌++◌, Option, Some, None, suc, refl, sym, ap, subst, ◌∙◌, arith}
-use Rattle.std.specs.Prelude.{◌&&◌, ◌||◌, not, if◌then◌else◌, nat_le, nat_lt, max}
+use Rattle.std.proofs.Common.{◌≡◌, ◌<◌, ◌≤◌, ◌⊎◌, inl, inr, ◌+◌, ◌*◌, ℕ, Bool, true, false, cond, List, [], ◌∷◌, ◌++◌, Option, Some, None, refl, sym, ap, subst, ◌∙◌, arith}
+use Rattle.std.specs.Prelude.{◌&&◌, ◌||◌, not, nat_le, nat_lt}
 use Rattle.std.specs.List.{list_all, list_any}
 use Rattle.std.proofs.lemmas.Bool.{and_parts, not-true, or_cases, or_parts}
 use Rattle.std.proofs.lemmas.Bool.Decides.{nat_tests}
@@ -8,46 +8,29 @@ use Rattle.gptp_lists.proofs.MappedLemmas.{some_same}
 use Rattle.gptp_setup.specs.SettlingParams.{largest_interval}
 use Rattle.gptp_scenario.specs.Calm.{NothingLapses}
 use Rattle.gptp_scenario.specs.Network.{IsNetwork, NetworkState, pace_of}
-use Rattle.gptp_scenario.specs.SettlingTime.{silence_span, way_span}
+use Rattle.gptp_scenario.specs.SettlingTime.{way_span}
 use Rattle.gptp_scenario.specs.SyncWait.{sync_paths}
 use Rattle.gptp_scenario.specs.declared.change.Timed.{Timed}
 use Rattle.gptp_network.specs.Snapshot.{events_by}
-use Rattle.gptp_how_soon.specs.Bounds.{is_hard_to_hear, gone_by, quiet_by}
-use Rattle.gptp_how_soon.specs.Chosen.{moves_joined}
-use Rattle.gptp_how_soon.specs.CutTrees.{cuts_trees_after}
-use Rattle.gptp_how_soon.specs.Kinds.{are_heard, brings_nothing, fails_and_recovers, fails_first, is_better, is_gain, is_idle, is_loss, is_other, is_recovery, leaves_links, lowers_one, lowers_unused, makes_nothing, recovers, takes_one, begins_wider, first_wider_by, is_wider}
-use Rattle.gptp_how_soon.specs.Rest.{are_events_followed, are_losses_followed, are_recoveries_followed, are_turns_followed, heard_at_once, is_failing_followed, is_from_rest, is_lowering_followed, keeps_paths, rested, is_wider_followed, settles_wider_by}
-use Rattle.gptp_how_soon.specs.Times.{View, events_at, gained_at, has_come_after, loss_at, ready_at, row_at, view_at}
-use Rattle.gptp_how_soon.specs.Tree.{cuts_tree_after}
-use Rattle.gptp_how_soon.specs.TurnedTree.{turns_tree_after}
+use Rattle.gptp_how_soon.specs.Bounds.{is_hard_to_hear}
+use Rattle.gptp_how_soon.specs.Kinds.{are_heard, brings_nothing, fails_and_recovers, is_better, is_gain, is_idle, is_loss, is_other, is_recovery, leaves_links, lowers_unused, makes_nothing, recovers, takes_one, begins_wider, first_wider_by, is_wider}
+use Rattle.gptp_how_soon.specs.Rest.{are_events_followed, are_losses_followed, are_recoveries_followed, are_turns_followed, heard_at_once, is_end_followed, is_failing_followed, is_from_rest, is_lowering_followed, is_taking_followed, is_wider_followed, rested, settles_wider_by, is_worsening_followed}
+use Rattle.gptp_how_soon.specs.Times.{View, events_at, gained_at, ready_at, row_at, view_at}
 use Rattle.gptp_how_soon.specs.declared.bounds.Row.{Row}
-use Rattle.gptp_how_soon.specs.declared.bounds.Row.TheVariants.{AnyLosses, CutOff, FailedEnd, FailedHeard, FailureCutsOff, FailureCutsTrees, Gained, Lowered, OneTurned, TreeCutOff, TreeTurned, Unchanged}
+use Rattle.gptp_how_soon.specs.declared.bounds.Row.TheVariants.{Gained, Unchanged}
 use Rattle.gptp_how_soon.specs.declared.bounds.Settling.{Settling}
 use Rattle.gptp_how_soon.specs.declared.bounds.SettlingTime.{SettlingTime}
 use Rattle.gptp_how_soon.specs.declared.kinds.Told.{Told}
-use Rattle.gptp_settling_time.specs.Arrivals.{HasArrivedBy}
-use Rattle.gptp_settling_time.specs.HowSoon.{AreWiderEvents, BoundsGains, CutsOneEnd, EachEvent, FailsEndFirst, FailsHeardFirst, FailsTreesFirst, IsStillEvent, LosesEvents, LowersOneLink, OneEvent, RolesAfterLoss, TurnsOneLink}
-use Rattle.gptp_settling_time.specs.InTurn.{FlightIsGone}
-use Rattle.gptp_settling_time.specs.Losses.{LowersLink, NoneSilent}
-use Rattle.gptp_settling_time.specs.TreeLosses.{LowersTree, TurnsTreeLink}
+use Rattle.gptp_settling_time.specs.HowSoon.{AreWiderEvents, BoundsGains, EachEvent, IsStillEvent}
 use Rattle.gptp_settling_time.proofs.CutLemmas.{all_by}
 use Rattle.gptp_settling_time.proofs.LeadOnLemmas.{all_still}
 use Rattle.gptp_settling_time.proofs.MomentLemmas.{all_at}
-use Rattle.gptp_how_soon_laws.proofs.AnyLossLemmas.{all_losses, failing_loses}
-use Rattle.gptp_how_soon_laws.proofs.ArrivedLemmas.{has_come_so, longest_within}
+use Rattle.gptp_how_soon_laws.proofs.ArrivedLemmas.{longest_within}
 use Rattle.gptp_how_soon_laws.proofs.GainLemmas.{AreFollowed, AreTurnsFollowed}
 use Rattle.gptp_how_soon_laws.proofs.GainedLemmas.{all_gained, all_heard, all_idle, all_wider}
-use Rattle.gptp_how_soon_laws.proofs.FailedLemmas.{fails_end_first, fails_heard_first, used_up}
-use Rattle.gptp_how_soon_laws.proofs.CutOffLemmas.{cuts_one_end}
-use Rattle.gptp_how_soon_laws.proofs.CutTreesLemmas.{fails_trees_first}
-use Rattle.gptp_how_soon_laws.proofs.LoweredLemmas.{GoesDown, lowers_one_link, one_as, used_on}
-use Rattle.gptp_how_soon_laws.proofs.TreeEventLemmas.{lowers_tree, turns_tree_by}
-use Rattle.gptp_how_soon_laws.proofs.TurnedLemmas.{turns_one_link}
 use Rattle.gptp_how_soon_laws.proofs.UnmovedLemmas.{AreWell, all_still_unmoved}
-use Rattle.gptp_how_soon_laws.proofs.RowBoundLemmas.{HasLossSpan}
 use Rattle.gptp_how_soon_laws.proofs.RowReasonLemmas.{ReasonOf, Tests, reason_of}
-use Rattle.gptp_how_soon_laws.proofs.SilentLemmas.{none_silent}
-use Rattle.gptp_how_soon_laws.proofs.RowTestLemmas.{HasComeToRest, at_most, counts_all, counts_joined, failing_takes, leaves_all, lowering_takes, not_both, over_before, rested_so}
+use Rattle.gptp_how_soon_laws.proofs.RowTestLemmas.{HasComeToRest, at_most, counts_all, leaves_all, not_both, over_before, rested_so}
 
 module _ (n : NetworkState) (network : IsNetwork n) (events : List Timed) (b : SettlingTime) (at : ℕ)
     (late : b.at < at) where
@@ -60,7 +43,7 @@ module _ (n : NetworkState) (network : IsNetwork n) (events : List Timed) (b : S
   abbrev v : View
   v = view_at n made now (Some b) at
 
-  abbrev tests : Tests
+  abbrev pub tests : Tests
   tests = record {
     rest = is_from_rest v.longest at v.paths_before v.paths v.told (Some b);
     idle = list_all makes_nothing v.told || begins_wider v.told;
@@ -68,21 +51,24 @@ module _ (n : NetworkState) (network : IsNetwork n) (events : List Timed) (b : S
     lowers = is_lowering_followed v.paths_before v.paths v.told && not v.moves.moved;
     cut = v.moves.cut;
     turns = is_lowering_followed v.paths_before v.paths v.told && v.moves.turned;
-    falls = is_lowering_followed v.paths_before v.paths v.told && v.moves.falls;
+    falls = (is_lowering_followed v.paths_before v.paths v.told && v.moves.falls)
+        || (is_worsening_followed v.paths_before v.paths v.told && v.moves.worsens);
     branch = is_lowering_followed v.paths_before v.paths v.told && v.moves.tree_turns;
     fails = is_failing_followed v.paths_before v.paths v.told && not v.moves.moved;
     far = v.moves.far;
-    any = v.moves.any;
-    trees = is_failing_followed v.paths_before v.paths v.told && v.moves.trees_fall;
+    moved = v.moves.any_moved;
+    trees = is_failing_followed v.paths_before v.paths v.told && v.moves.trees_move;
+    ends = is_end_followed v.paths_before v.paths v.told && (v.moves.far && not v.moves.any_moved);
+    taken = is_taking_followed v.paths_before v.paths v.told && v.moves.taken;
     loss = list_any is_loss v.told;
     only = list_all brings_nothing v.told;
   }
 
-  why : (row : Row) → row_at v ≡ row → ReasonOf tests row
+  pub why : (row : Row) → row_at v ≡ row → ReasonOf tests row
   why row is = reason_of tests row is
 
   -- it is from rest
-  record IsFromRest : Type 0 where
+  pub record IsFromRest : Type 0 where
     pub rested : HasComeToRest b at
     pub others : list_any is_other v.told ≡ false
     pub turns : AreTurnsFollowed n network at made now
@@ -95,7 +81,7 @@ module _ (n : NetworkState) (network : IsNetwork n) (events : List Timed) (b : S
       not_both (list_any lowers_unused v.told) (list_any is_gain v.told)
       (not-true (list_any lowers_unused v.told && list_any is_gain v.told) is)
 
-  from_rest : is_from_rest v.longest at v.paths_before v.paths v.told (Some b) ≡ true → IsFromRest
+  pub from_rest : is_from_rest v.longest at v.paths_before v.paths v.told (Some b) ≡ true → IsFromRest
   from_rest is =
       let (four, fourth) =
       and_parts
@@ -252,250 +238,3 @@ module _ (n : NetworkState) (network : IsNetwork n) (events : List Timed) (b : S
             narrow facts.others some,
         refl,
       )
-
-  -- the greatest delay of a link in use gets no greater, no path gets longer, and none had more than 255 systems
-  record KeepsPaths : Type 0 where
-    pub delay : (sync_paths n (made ++ now)).delay ≤ (sync_paths n made).delay
-    pub paths : (sync_paths n (made ++ now)).systems ≤ (sync_paths n made).systems
-    pub few : (sync_paths n made).systems ≤ 255
-
-  keeps_so : keeps_paths v.paths_before v.paths ≡ true → KeepsPaths
-  keeps_so keeps =
-      let few_test : Bool = nat_le v.paths_before.systems 255 in
-      let delay_test : Bool = nat_le v.paths.delay v.paths_before.delay in
-      let paths_test : Bool = nat_le v.paths.systems v.paths_before.systems in
-      let (two, paths) = and_parts (few_test && delay_test) paths_test keeps in
-      let (few, delay) = and_parts few_test delay_test two in
-      record {
-        delay = at_most v.paths.delay v.paths_before.delay delay;
-        paths = at_most v.paths.systems v.paths_before.systems paths;
-        few = at_most v.paths_before.systems 255 few;
-      }
-
-  -- a loss of this kind comes, by which no system is moved but such as are cut off
-  record TakesOne (kind : List Told → Bool) : Type 0 where
-    pub one : kind v.told ≡ true
-    pub unmoved : moves_joined n made (made ++ now) ≡ false
-    pub keeps : KeepsPaths
-
-  takes_so : (kind : List Told → Bool) → ((es : List Told) → kind es ≡ true → takes_one es ≡ true)
-      → (keeps_paths v.paths_before v.paths && kind v.told && not v.moves.moved) ≡ true → TakesOne kind
-  takes_so kind takes is =
-      let (followed, none) = and_parts (keeps_paths v.paths_before v.paths && kind v.told) (not v.moves.moved) is in
-      let (keeps, one) = and_parts (keeps_paths v.paths_before v.paths) (kind v.told) followed in
-      record {
-        one = one;
-        unmoved = counts_joined (takes_one v.told) n made (made ++ now) (takes v.told one)
-            (not-true v.moves.moved none);
-        keeps = keeps_so keeps;
-      }
-
-  -- a system fails by the first event
-  fails_so : (is_failing_followed v.paths_before v.paths v.told && not v.moves.moved) ≡ true → TakesOne fails_first
-  fails_so = takes_so fails_first failing_takes
-
-  failing_heard : AreWell n (made ++ now)
-      → (is_failing_followed v.paths_before v.paths v.told && not v.moves.moved) ≡ true → FailsHeardFirst n made now
-  failing_heard well fails =
-      let x = fails_so fails in
-      fails_heard_first n network made now well x.unmoved x.keeps.delay x.keeps.paths x.keeps.few x.one
-
-  -- which is a far end
-  failing_end : AreWell n (made ++ now)
-      → (is_failing_followed v.paths_before v.paths v.told && not v.moves.moved) ≡ true → v.moves.far ≡ true
-      → FailsEndFirst n made now
-  failing_end well fails far =
-      let x = fails_so fails in
-      fails_end_first n network made now well x.unmoved x.keeps.delay x.keeps.paths x.keeps.few x.one far
-
-  -- a link goes down by the one event
-  goes_down : (is_lowering_followed v.paths_before v.paths v.told && not v.moves.moved) ≡ true → TakesOne lowers_one
-  goes_down = takes_so lowers_one lowering_takes
-
-  lowers_so : AreWell n (made ++ now) → (is_lowering_followed v.paths_before v.paths v.told && not v.moves.moved) ≡ true
-      → LowersOneLink n made now
-  lowers_so well lowers =
-      let x = goes_down lowers in
-      lowers_one_link n network made now well x.unmoved x.keeps.delay x.keeps.paths x.keeps.few x.one
-
-  -- and it cuts off a far end
-  cuts_so : AreWell n (made ++ now) → (is_lowering_followed v.paths_before v.paths v.told && not v.moves.moved) ≡ true
-      → v.moves.cut ≡ true → CutsOneEnd n made now
-  cuts_so well lowers cut =
-      let x = goes_down lowers in
-      cuts_one_end n network made now well x.unmoved cut x.keeps.delay x.keeps.paths x.keeps.few x.one
-
-  -- what was in flight is gone by then
-  flight_so : FlightIsGone n made (gone_by n v.paths_before v.used_before)
-  flight_so = by v.used_before refl
-    where
-      by : (used : Bool) → v.used_before ≡ used → FlightIsGone n made (gone_by n v.paths_before used)
-      by true is = inl (used_up n network made is, refl)
-      by false is = inr refl
-
-  -- so it is after a link goes down
-  flight_on : OneEvent GoesDown made now → FlightIsGone n (made ++ now) (gone_by n v.paths v.used_before)
-  flight_on down = by v.used_before refl
-    where
-      by : (used : Bool) → v.used_before ≡ used → FlightIsGone n (made ++ now) (gone_by n v.paths used)
-      by true is = inl (used_on n made now down (used_up n network made is), refl)
-      by false is = inr refl
-
-  flight_lowered : LowersOneLink n made now → FlightIsGone n (made ++ now) (gone_by n v.paths v.used_before)
-  flight_lowered lowers =
-      flight_on (one_as (LowersLink n) GoesDown made now (λ event l. (l.clock, l.port, l.act)) lowers)
-
-  -- what stands goes on, as a link goes down by the one event and no system is moved
-  pub lowered : AreWell n (made ++ now) → row_at v ≡ Lowered
-      → HasComeToRest b at × LowersOneLink n made now × FlightIsGone n (made ++ now) (gone_by n v.paths v.used_before)
-  lowered well row =
-      let (from, lowers) = why Lowered row in
-      let one = lowers_so well lowers in
-      ((from_rest from).rested, one, flight_lowered one)
-
-  -- or it cuts off its far end
-  pub record CutsEnd : Type 0 where
-    pub rested : HasComeToRest b at
-    pub cuts : CutsOneEnd n made now
-    pub lowers : LowersOneLink n made now
-    pub flight : FlightIsGone n (made ++ now) (gone_by n v.paths v.used_before)
-
-  pub cut_off : AreWell n (made ++ now) → row_at v ≡ CutOff → CutsEnd
-  cut_off well row =
-      let (from, lowers, cut) = why CutOff row in
-      let one = lowers_so well lowers in
-      record {
-        rested = (from_rest from).rested;
-        cuts = cuts_so well lowers cut;
-        lowers = one;
-        flight = flight_lowered one;
-      }
-
-  -- or one system turns
-  pub turned : AreWell n (made ++ now) → row_at v ≡ OneTurned
-      → HasComeToRest b at × TurnsOneLink n made now
-  turned well row =
-      let (from, turns) = why OneTurned row in
-      let (followed, one) = and_parts (is_lowering_followed v.paths_before v.paths v.told) v.moves.turned turns in
-      let (keeps, lowers) = and_parts (keeps_paths v.paths_before v.paths) (lowers_one v.told) followed in
-      let x = keeps_so keeps in
-      ((from_rest from).rested, turns_one_link n network made now well one x.delay x.paths x.few lowers)
-
-  -- what was in flight as the time before was sound has arrived
-  abbrev pub HasCome : HasComeToRest b at → Type 0
-  HasCome rest =
-      (arrived : ℕ) × HasArrivedBy n made (suc (b.at + rest.settling.sound)) arrived × (arrived ≤ at)
-
-  -- an event of this kind comes then
-  pub record ComesLate (Is : List Timed → Timed → Type 0) (rest : HasComeToRest b at) : Type 0 where
-    pub lowers : OneEvent Is made now
-    pub come : HasCome rest
-
-  -- by which a tree is cut off
-  pub record CutsLate (rest : HasComeToRest b at) : Type 0 where
-    pub comes : ComesLate (LowersTree n) rest
-    pub flight : FlightIsGone n (made ++ now) (gone_by n v.paths v.used_before)
-
-  -- events of this kind come then, and paths get no longer
-  late_by : (kind : List Told → Bool) (test : Bool) → (keeps_paths v.paths_before v.paths && kind v.told
-      && (has_come_after n made (Some b) at && test)) ≡ true
-      → KeepsPaths × (kind v.told ≡ true) × (test ≡ true) × ((rest : HasComeToRest b at) → HasCome rest)
-  late_by kind test is =
-      let come : Bool = has_come_after n made (Some b) at in
-      let (followed, both) = and_parts (keeps_paths v.paths_before v.paths && kind v.told) (come && test) is in
-      let (keeps, one) = and_parts (keeps_paths v.paths_before v.paths) (kind v.told) followed in
-      let (come_is, so) = and_parts come test both in
-      (keeps_so keeps, one, so, λ rest. has_come_so n made b at rest.settling rest.is come_is)
-
-  pub tree_cut : AreWell n (made ++ now) → row_at v ≡ TreeCutOff → (rest : HasComeToRest b at) × CutsLate rest
-  tree_cut well row =
-      let (from, falls) = why TreeCutOff row in
-      let (x, lowers, tree, come) = late_by lowers_one (cuts_tree_after n made (made ++ now)) falls in
-      let rest = (from_rest from).rested in
-      let one = lowers_tree n network made now well x.delay x.paths x.few lowers tree in (
-        rest,
-        record {
-          comes = record { lowers = one; come = come rest };
-          flight = flight_on (one_as (LowersTree n) GoesDown made now (λ event l. (l.clock, l.port, l.act)) one);
-        },
-      )
-
-  -- or a tree turns
-  pub tree_turned : AreWell n (made ++ now) → row_at v ≡ TreeTurned
-      → (rest : HasComeToRest b at) × ComesLate (TurnsTreeLink n) rest
-  tree_turned well row =
-      let (from, turns) = why TreeTurned row in
-      let (x, lowers, tree, come) = late_by lowers_one (turns_tree_after n made (made ++ now)) turns in
-      let rest = (from_rest from).rested in (
-        rest,
-        record {
-          lowers = turns_tree_by n network made now well x.delay x.paths x.few lowers tree;
-          come = come rest;
-        },
-      )
-
-  -- or a system fails and cuts trees off
-  pub record FailsLate : Type 0 where
-    pub rest : HasComeToRest b at
-    pub come : HasCome rest
-    pub fails : FailsTreesFirst n made now
-
-  pub failure_cuts : AreWell n (made ++ now) → row_at v ≡ FailureCutsTrees → FailsLate
-  failure_cuts well row =
-      let (from, trees) = why FailureCutsTrees row in
-      let (x, one, cut, come) = late_by fails_first (cuts_trees_after n made (made ++ now)) trees in
-      let rest = (from_rest from).rested in
-      record {
-        rest = rest;
-        come = come rest;
-        fails = fails_trees_first n network made now well cut x.delay x.paths x.few one;
-      }
-
-  -- or a far end fails
-  pub failed : AreWell n (made ++ now) → row_at v ≡ FailedEnd
-      → HasComeToRest b at × FailsEndFirst n made now × FlightIsGone n made (gone_by n v.paths_before v.used_before)
-  failed well row =
-      let (from, fails, far) = why FailedEnd row in
-      ((from_rest from).rested, failing_end well fails far, flight_so)
-
-  -- or a system that others heard
-  pub heard : AreWell n (made ++ now) → (row_at v ≡ FailedHeard) ⊎ (row_at v ≡ FailureCutsOff)
-      → HasComeToRest b at × FailsHeardFirst n made now
-  heard well which =
-      let (from, fails) = by which in
-      ((from_rest from).rested, failing_heard well fails)
-    where
-      by : (row_at v ≡ FailedHeard) ⊎ (row_at v ≡ FailureCutsOff) → ReasonOf tests FailedHeard
-      by (inl row) = why FailedHeard row
-      by (inr row) = why FailureCutsOff row
-
-  -- no lost link is left silent
-  pub none_left : v.silent ≡ false → NoneSilent n made (made ++ now)
-  none_left = none_silent n made (made ++ now)
-
-  -- Or there are losses, and nothing is brought. Then roles stand with the choice; or, where a lost link is silent, no
-  -- sooner than the port at its live end isn't capable any more.
-  abbrev pub LosesSome : Type 0
-  LosesSome =
-      HasComeToRest b at × LosesEvents n made now
-      × ((choice : ℕ) → RolesAfterLoss n made now choice (quiet_by n (loss_at v) choice))
-
-  loses_some : is_from_rest v.longest at v.paths_before v.paths v.told (Some b) ≡ true
-      → list_all brings_nothing v.told ≡ true → list_any is_loss v.told ≡ true → LosesSome
-  loses_some from only loss =
-      ((from_rest from).rested, all_losses n network made now only loss, by v.silent refl)
-    where
-      by : (silent : Bool) → v.silent ≡ silent → (choice : ℕ)
-          → RolesAfterLoss n made now choice (if silent then max choice (silence_span (pace_of n)) else choice)
-      by true is choice = inr refl
-      by false is choice = inl (none_left is, refl)
-
-  -- so it is where a system fails and cuts trees off
-  pub losses : HasLossSpan (row_at v) → LosesSome
-  losses (inl row) = let (from, loss, only) = why AnyLosses row in loses_some from only loss
-  losses (inr row) =
-      let (from, trees) = why FailureCutsTrees row in
-      let (followed, fall) = and_parts (is_failing_followed v.paths_before v.paths v.told) v.moves.trees_fall trees in
-      let (keeps, fails) = and_parts (keeps_paths v.paths_before v.paths) (fails_first v.told) followed in
-      let (only, loss) = failing_loses v.told fails in
-      loses_some from only loss

@@ -7,7 +7,7 @@ use Rattle.std.proofs.lemmas.Bool.Decides.{nat_tests}
 use Rattle.gptp_scenario.specs.Network.{NetworkState}
 use Rattle.gptp_scenario.specs.declared.change.Timed.{Timed}
 use Rattle.gptp_how_soon.specs.Chosen.{moves_counted, moves_joined, moves_some}
-use Rattle.gptp_how_soon.specs.Kinds.{fails_first, is_failing, is_lowering, leaves_links, lowers_one, lowers_unused, takes_one}
+use Rattle.gptp_how_soon.specs.Kinds.{fails_first, is_down_too, is_failing, is_lowering, leaves_links, lowers_one, repeats, takes_one}
 use Rattle.gptp_how_soon.specs.Rest.{rested, rested_by}
 use Rattle.gptp_how_soon.specs.declared.bounds.Settling.{Settling}
 use Rattle.gptp_how_soon.specs.declared.bounds.SettlingTime.{SettlingTime}
@@ -61,13 +61,11 @@ takes_no_link clock what Other is = (refl, refl)
 
 pub leaves_all : (es : List Told) → list_all leaves_links es ≡ true → takes_one es ≡ false
 leaves_all [] all = refl
-leaves_all (e ∷ []) all =
-    let first = (and_parts (leaves_links e) (list_all leaves_links []) all).0 in
+leaves_all (e ∷ es) all =
+    let first = (and_parts (leaves_links e) (list_all leaves_links es) all).0 in
     let (lowers, fails) = takes_no_link e.clock e.what e.kind first in
-    or_from (is_lowering e) (is_failing e && true) lowers (ap (λ test. test && true) fails)
-leaves_all (e ∷ f ∷ es) all =
-    let first = (and_parts (leaves_links e) (list_all leaves_links (f ∷ es)) all).0 in
-    ap (λ test. test && list_all lowers_unused (f ∷ es)) (takes_no_link e.clock e.what e.kind first).1
+    or_from (is_lowering e && list_all repeats es) (is_failing e && list_all is_down_too es)
+    (ap (λ test. test && list_all repeats es) lowers) (ap (λ test. test && list_all is_down_too es) fails)
 
 -- ---- rest
 

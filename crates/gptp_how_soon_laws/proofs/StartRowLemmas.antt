@@ -33,7 +33,7 @@ use Rattle.gptp_how_soon.specs.declared.kinds.Told.{Told}
 use Rattle.gptp_how_soon.specs.declared.kinds.What.{What}
 use Rattle.gptp_how_soon.specs.declared.kinds.What.TheVariants as whats
 use Rattle.gptp_settling_time.specs.HowSoon.{AreReadyAtStart, AreStartEvents, BoundsStart}
-use Rattle.gptp_settling_time.specs.InTurn.{NoneUsed, TellsNothing, UsedVaryLittle}
+use Rattle.gptp_settling_time.specs.EventKinds.{NoneUsed, TellsNothing, UsedVaryLittle}
 use Rattle.gptp_topology.proofs.RestLemmas.{used_cable}
 use Rattle.gptp_how_soon_laws.proofs.ReadyLemmas.{none_any, not_none}
 use Rattle.gptp_how_soon_laws.proofs.KindLemmas.{told}

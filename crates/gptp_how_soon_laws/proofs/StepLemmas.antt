@@ -15,7 +15,8 @@ use Rattle.gptp_invariants.specs.WorldStanding.{snapshot_of}
 use Rattle.gptp_invariants.proofs.ChoiceCalmKeptLemmas.{acts_keep, KeepsNetwork, same_snapshot}
 use Rattle.gptp_theorem.specs.PlayedLaws.{IsPlayable}
 use Rattle.gptp_settling_time.specs.HowSoon.{IsChoiceAloneBound, IsChoiceBound, NoneBetween}
-use Rattle.gptp_settling_time.specs.InTurn.{ChoosesAfter, ComesByEvents, Past, SettlesAfter}
+use Rattle.gptp_settling_time.specs.Pasts.{Past}
+use Rattle.gptp_settling_time.specs.InTurn.{ChoosesAfter, ComesByEvents, SettlesAfter}
 use Rattle.gptp_settling_time.proofs.DocumentLemmas.{run_to}
 use Rattle.gptp_settling_time.proofs.BoundSettlesLemmas.{bound_chooses, bound_settles}
 use Rattle.gptp_settling_time.proofs.AfterLemmas.{after_keeps}

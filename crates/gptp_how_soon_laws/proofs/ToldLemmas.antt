@@ -30,7 +30,7 @@ use Rattle.gptp_how_soon_laws.proofs.NamedLemmas.{LinkNamed, SystemNamed, end_fi
 use Rattle.gptp_links.specs.declared.bounds.Bounds.{Bounds}
 use Rattle.gptp_topology.specs.Course.{cable_is_used}
 use Rattle.gptp_settling_time.specs.HowSoon.{TurnsUnused}
-use Rattle.gptp_settling_time.specs.InTurn.{IsWithin, WidensLink}
+use Rattle.gptp_settling_time.specs.EventKinds.{IsWithin, WidensLink}
 use Rattle.gptp_settling_time.specs.Losses.{LowersUnused}
 use Rattle.gptp_how_soon_laws.proofs.KindLemmas.{IsDown, IsFailure, IsPriority1, IsRecovery, IsSet, IsUp, IsWiderBy, down_found, failure_found, gain_found, idle_found, loss_found, priority1_found, recovery_found, set_found, unused_found, up_found, wider_found}
 

@@ -12,12 +12,11 @@ use Rattle.gptp_scenario.specs.declared.network.LinkSpec.{LinkSpec}
 use Rattle.gptp_scenario.proofs.AfterLemmas.{after_keeps}
 use Rattle.gptp_model.specs.World.{port_id}
 use Rattle.gptp_how_soon.specs.Chosen.{ends_of}
-use Rattle.gptp_how_soon.specs.Kinds.{is_lowering, lowers_one}
-use Rattle.gptp_how_soon.specs.Times.{told_at, told_of}
+use Rattle.gptp_how_soon.specs.Kinds.{is_lowering}
+use Rattle.gptp_how_soon.specs.Times.{told_at}
 use Rattle.gptp_how_soon.specs.Tree.{cuts_tree_after}
 use Rattle.gptp_how_soon.specs.TurnedTree.{turns_tree_after}
 use Rattle.gptp_how_soon.proofs.ChosenLemmas.{IsAt, at_port, one_clock}
-use Rattle.gptp_settling_time.specs.HowSoon.{OneEvent}
 use Rattle.gptp_settling_time.specs.TreeLosses.{CutsTreeFrom, LowersTree, TurnsTreeFrom, TurnsTreeLink}
 use Rattle.gptp_how_soon_laws.proofs.ToldLemmas.{loss_lowers}
 use Rattle.gptp_how_soon_laws.proofs.LoweredLemmas.{TakesDown, is_lost_there, lives_still, takes_down}
@@ -96,7 +95,7 @@ module _ (n : NetworkState) (network : IsNetwork n) (made : List Timed) (event :
   module _ (well : AreWell n later) (delay : (sync_paths n later).delay ≤ (sync_paths n made).delay)
       (paths : (sync_paths n later).systems ≤ (sync_paths n made).systems)
       (few : (sync_paths n made).systems ≤ 255) (is : is_lowering (told_at n made event.act) ≡ true) where
-    lowers_one_tree : cuts_tree_after n made later ≡ true → LowersTree n made event
+    pub lowers_one_tree : cuts_tree_after n made later ≡ true → LowersTree n made event
     lowers_one_tree tree =
         let d = takes_down n network made event is in
         let t = cuts n network made later tree in
@@ -114,7 +113,7 @@ module _ (n : NetworkState) (network : IsNetwork n) (made : List Timed) (event :
           few = few;
         }
 
-    turns_tree_link : turns_tree_after n made later ≡ true → TurnsTreeLink n made event
+    pub turns_tree_link : turns_tree_after n made later ≡ true → TurnsTreeLink n made event
     turns_tree_link tree =
         let d = takes_down n network made event is in
         let t = turns n network made later tree in
@@ -131,26 +130,3 @@ module _ (n : NetworkState) (network : IsNetwork n) (made : List Timed) (event :
           paths = paths;
           few = few;
         }
-
--- ---- the events of a time
-
-module _ (n : NetworkState) (network : IsNetwork n) (made : List Timed) where
-  pub lowers_tree : (now : List Timed) → AreWell n (made ++ now)
-      → (sync_paths n (made ++ now)).delay ≤ (sync_paths n made).delay
-      → (sync_paths n (made ++ now)).systems ≤ (sync_paths n made).systems → (sync_paths n made).systems ≤ 255
-      → lowers_one (told_of n made now) ≡ true → cuts_tree_after n made (made ++ now) ≡ true
-      → OneEvent (LowersTree n) made now
-  lowers_tree [] well delay paths few is tree = absurd cc
-  lowers_tree (event ∷ []) well delay paths few is tree =
-      lowers_one_tree n network made event well delay paths few is tree
-  lowers_tree (event ∷ other ∷ events) well delay paths few is tree = absurd cc
-
-  pub turns_tree_by : (now : List Timed) → AreWell n (made ++ now)
-      → (sync_paths n (made ++ now)).delay ≤ (sync_paths n made).delay
-      → (sync_paths n (made ++ now)).systems ≤ (sync_paths n made).systems → (sync_paths n made).systems ≤ 255
-      → lowers_one (told_of n made now) ≡ true → turns_tree_after n made (made ++ now) ≡ true
-      → OneEvent (TurnsTreeLink n) made now
-  turns_tree_by [] well delay paths few is tree = absurd cc
-  turns_tree_by (event ∷ []) well delay paths few is tree =
-      turns_tree_link n network made event well delay paths few is tree
-  turns_tree_by (event ∷ other ∷ events) well delay paths few is tree = absurd cc

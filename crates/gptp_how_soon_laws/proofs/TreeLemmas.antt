@@ -1,7 +1,6 @@
 -- Where the tests of a tree that falls off hold, it does from one snapshot to the other.
-use Rattle.std.proofs.Common.{◌≡◌, ◌⊎◌, inl, inr, ℕ, Bool, true, false, List, [], ◌∷◌, length, slice_get, refl, sym, ap, ◌∙◌}
-use Rattle.std.specs.Prelude.{◌&&◌, not, if◌then◌else◌}
-use Rattle.std.specs.List.{list_all, range_with_len}
+use Rattle.std.proofs.Common.{◌≡◌, ◌⊎◌, inl, inr, ℕ, Bool, true, false, List, [], ◌∷◌, refl, sym, ap, ◌∙◌}
+use Rattle.std.specs.Prelude.{not}
 use Rattle.std.proofs.lemmas.Bool.{and_parts}
 use Rattle.gptp_lists.specs.Members.{In}
 use Rattle.gptp_graph.specs.Best.{IsBest}
@@ -11,18 +10,16 @@ use Rattle.gptp_scenario.specs.Network.{IsNetwork, NetworkState}
 use Rattle.gptp_scenario.specs.declared.change.Timed.{Timed}
 use Rattle.gptp_topology.specs.After.{systems_after}
 use Rattle.gptp_topology.specs.declared.nodes.System as ours
-use Rattle.gptp_how_soon.specs.Chosen.{chosen_after, is_moved_at, lost_ends, used_ends}
-use Rattle.gptp_how_soon.specs.Tree.{cuts_below, cuts_tree, cuts_tree_after, has_better_root, has_same_root, is_below, is_below_or_apart}
+use Rattle.gptp_how_soon.specs.Chosen.{chosen_after, lost_ends, used_ends}
+use Rattle.gptp_how_soon.specs.Tree.{cuts_below, cuts_tree, cuts_tree_after, falls_below}
 use Rattle.gptp_how_soon.specs.declared.chosen.Chosen.{Chosen}
 use Rattle.gptp_how_soon.specs.declared.chosen.Ends.{Ends}
 use Rattle.gptp_how_soon.proofs.ChosenLemmas.{IsAt}
-use Rattle.gptp_settling_time.specs.Losses.{IsUnmoved}
 use Rattle.gptp_settling_time.specs.TreeLosses.{IsCutTree}
-use Rattle.gptp_how_soon_laws.proofs.FailedLemmas.{each_is}
-use Rattle.gptp_how_soon_laws.proofs.UnmovedLemmas.{asked_of, unmoved_at}
-use Rattle.gptp_how_soon_laws.proofs.LivesOnLemmas.{LivesOn, on_at, on_of}
+use Rattle.gptp_how_soon_laws.proofs.FallsBelowLemmas.{FallsBelow, below_so, in_tree, is_moved_there, is_top, moved_below, others}
+use Rattle.gptp_how_soon_laws.proofs.LivesOnLemmas.{on_at}
 use Rattle.gptp_how_soon_laws.proofs.OneLostLemmas.{OneLost, OneLostBy, at_other, at_top, known_ends, lost_between, one_lost}
-use Rattle.gptp_how_soon_laws.proofs.TreeBelowLemmas.{IsTop, below_same, best, best_so, cut_off, inside_so, next, tree}
+use Rattle.gptp_how_soon_laws.proofs.TreeBelowLemmas.{IsTop, best, cut_off, inside_so, next, tree}
 
 module _ (n : NetworkState) (network : IsNetwork n) (made events : List Timed) where
   abbrev before : List Chosen
@@ -37,32 +34,23 @@ module _ (n : NetworkState) (network : IsNetwork n) (made events : List Timed) w
   abbrev links : List Ends
   links = used_ends n events
 
-  abbrev is_moved_there : ℕ → Bool
-  is_moved_there = is_moved_at systems before now
+  abbrev moved_at : ℕ → Bool
+  moved_at = is_moved_there n network made events
 
   -- a link is lost from the top of a tree
   pub record Cuts : Type 0 where
     pub one : OneLost n network made events
-    pub moved : is_moved_there one.top ≡ true
-    pub stays : not (is_moved_there one.other) ≡ true
-    pub worse : has_better_root (slice_get before one.top) (slice_get now one.top) ≡ true
-    pub all : list_all (is_below_or_apart systems links before now one.top) (range_with_len 0 (length systems)) ≡ true
+    pub falls : FallsBelow n network made events one.top
+    pub stays : not (moved_at one.other) ≡ true
 
   pub cuts : cuts_tree_after n made events ≡ true → Cuts
   cuts is = by (lost_ends n made events) refl is
     where
       of_one : OneLostBy n network made events (cuts_below systems links before now) → Cuts
       of_one x =
-          let top : ℕ = x.one.top in
-          let moved_test : Bool = is_moved_there top in
-          let stays_test : Bool = not (is_moved_there x.one.other) in
-          let worse_test : Bool = has_better_root (slice_get before top) (slice_get now top) in
-          let all_test : Bool =
-          list_all (is_below_or_apart systems links before now top) (range_with_len 0 (length systems)) in
-          let (three, all) = and_parts (moved_test && stays_test && worse_test) all_test x.so in
-          let (two, worse) = and_parts (moved_test && stays_test) worse_test three in
-          let (moved, stays) = and_parts moved_test stays_test two in
-          record { one = x.one; moved = moved; stays = stays; worse = worse; all = all }
+          let falls_test : Bool = falls_below systems links before now x.one.top in
+          let (falls, stays) = and_parts falls_test (not (moved_at x.one.other)) x.so in
+          record { one = x.one; falls = below_so n network made events x.one.top falls; stays = stays }
 
       by : (es : List Ends) → lost_ends n made events ≡ es → cuts_tree systems es links before now ≡ true → Cuts
       by [] same is = absurd cc
@@ -77,34 +65,17 @@ module _ (n : NetworkState) (network : IsNetwork n) (made events : List Timed) w
     abbrev top : ℕ
     top = t.one.top
 
-    abbrev in_tree : ℕ → Bool
-    in_tree i = has_same_root (slice_get now top) (slice_get now i)
-
-    -- by whether the system at a place is moved
-    told_by : (i v : ℕ) → IsAt n i v → (moved : Bool) → is_moved_there i ≡ moved
-        → (if moved then is_below links before now top i else not (in_tree i)) ≡ true
-    told_by i v at moved is =
-        ap (λ b. if b then is_below links before now top i else not (in_tree i)) (sym is)
-        ∙ each_is (is_below_or_apart systems links before now top) (range_with_len 0 (length systems)) i t.all
-        (asked_of n events i at.system at.there)
-
-    moved_below : (i v : ℕ) → IsAt n i v → in_tree i ≡ true
-        → (is_moved_there i ≡ true) × (is_below links before now top i ≡ true)
-    moved_below i v at inside = by (is_moved_there i) refl
-      where
-        by : (moved : Bool) → is_moved_there i ≡ moved
-            → (is_moved_there i ≡ true) × (is_below links before now top i ≡ true)
-        by true is = (is, told_by i v at true is)
-        by false is = let no : false ≡ true = ap not (sym inside) ∙ told_by i v at false is in absurd cc
+    abbrev inside_of : ℕ → Bool
+    inside_of = in_tree n network made events top t.falls
 
     -- a system of the tree at a link that is lost is the top
-    only_top : (i v : ℕ) → IsAt n i v → in_tree i ≡ true → (e : Ends) → In e (lost_ends n made events)
+    only_top : (i v : ℕ) → IsAt n i v → inside_of i ≡ true → (e : Ends) → In e (lost_ends n made events)
         → (e.a ≡ i) ⊎ (e.b ≡ i) → i ≡ top
     only_top i v at inside e listed end = elim places [
       | inl is ↦ is
       | inr other ↦
-          let moved : is_moved_there t.one.other ≡ true =
-          ap is_moved_there (sym other) ∙ (moved_below i v at inside).0 in
+          let moved : moved_at t.one.other ≡ true =
+          ap moved_at (sym other) ∙ (moved_below n network made events top t.falls i v at inside).0 in
           let no : false ≡ true = ap not (sym moved) ∙ t.stays in
           absurd cc
     ]
@@ -115,57 +86,45 @@ module _ (n : NetworkState) (network : IsNetwork n) (made events : List Timed) w
           | inr (b, a) ↦ elim end [ inl is ↦ inr (sym is ∙ a) | inr is ↦ inl (sym is ∙ b) ]
         ]
 
-    is_top : IsTop n network made events g h stands stands' well well' lived top t.one.top_clock
-    is_top = record {
-      at = at_top n network made events t.one g stands well;
-      known = lives t.one.top_clock (known_ends n network made events t.one g stands well).0;
-      worse = t.worse;
-      below = λ i v at known inside. (moved_below i v at inside).1;
-      lost = λ i v at known inside e listed end. only_top i v at inside e listed end;
-    }
+    at : IsAt n top t.one.top_clock
+    at = at_top n network made events t.one g stands well
+
+    known : In t.one.top_clock (clocks h)
+    known = lives t.one.top_clock (known_ends n network made events t.one g stands well).0
+
+    abbrev tops : IsTop n network made events g h stands stands' well well' lived top t.one.top_clock
+    tops =
+        is_top n network made events top t.falls g h stands stands' well well' lived t.one.top_clock at known only_top
 
     abbrev last : System
-    last = next n network made events g h stands stands' well well' lived top t.one.top_clock is_top
-
-    -- ---- the tree
-
-    others : (v : ℕ) → In v (clocks h) → (IsBest h v last → ⊥) → IsUnmoved g h v
-    others v known out =
-        let (i, s) = on_of n network made events g h stands stands' well well' lived v known in
-        by i s (is_moved_there i) refl
-      where
-        by : (i : ℕ) (s : LivesOn n network made events g h stands stands' well well' lived i v) (moved : Bool)
-            → is_moved_there i ≡ moved → IsUnmoved g h v
-        by i s true moved =
-            absurd (out (best_so n network made events g h stands stands' well well' lived top t.one.top_clock is_top
-            i v s
-            (below_same n network made events g h stands stands' well well' lived top i (told_by i v s.at true moved))))
-        by i s false moved =
-            unmoved_at n network made events g h stands stands' well well' v (lived v known) known i s.at moved
+    last = next n network made events g h stands stands' well well' lived top t.one.top_clock tops
 
     outside : IsBest h t.one.other_clock last → ⊥
     outside in_other =
         let s = on_at n network made events g h stands stands' well well' lived t.one.other t.one.other_clock
         (at_other n network made events t.one g stands well) in_other.reached.1.begins in
         let inside =
-        inside_so n network made events g h stands stands' well well' lived top t.one.top_clock is_top t.one.other
+        inside_so n network made events g h stands stands' well well' lived top t.one.top_clock tops t.one.other
         t.one.other_clock s in_other in
-        let no : false ≡ true = ap not (sym (moved_below t.one.other t.one.other_clock s.at inside).0) ∙ t.stays in
+        let moved = (moved_below n network made events top t.falls t.one.other t.one.other_clock s.at inside).0 in
+        let no : false ≡ true = ap not (sym moved) ∙ t.stays in
         absurd cc
 
+    -- the tree
     pub cut_so : (best : System) × (next : System) × (base : ℕ) × (depth : ℕ → ℕ)
         × IsCutTree g h t.one.top_clock t.one.other_clock best next base depth
     cut_so =
-        let c = cut_off n network made events g h stands stands' well well' lived top t.one.top_clock is_top in
-        let x = tree n network made events g h stands stands' well well' lived top t.one.top_clock is_top in (
-          best n network made events g h stands stands' well well' lived top t.one.top_clock is_top,
+        let c = cut_off n network made events g h stands stands' well well' lived top t.one.top_clock tops in
+        let x = tree n network made events g h stands stands' well well' lived top t.one.top_clock tops in (
+          best n network made events g h stands stands' well well' lived top t.one.top_clock tops,
           x.next,
           x.base,
           x.depth,
           record {
             in_top = c.in_top;
             outside = outside;
-            others = others;
+            others = others n network made events top t.falls g h stands stands' well well' lived t.one.top_clock at
+                known only_top;
             worse = c.worse;
             was_best = c.was_best;
             was = c.was;

@@ -34,14 +34,13 @@ use Rattle.gptp_topology.specs.After.{system_then, systems_after}
 use Rattle.gptp_topology.specs.declared.nodes.System as ours
 use Rattle.gptp_how_soon.specs.Chosen.{chosen_after, differs, ends_at, ends_of, is_moved, is_moved_at, is_used_then, lost_ends, used_ends}
 use Rattle.gptp_how_soon.specs.Far.{is_far_end}
-use Rattle.gptp_how_soon.specs.Kinds.{is_lowering, lowers_one}
-use Rattle.gptp_how_soon.specs.Times.{told_at, told_of}
+use Rattle.gptp_how_soon.specs.Kinds.{is_lowering}
+use Rattle.gptp_how_soon.specs.Times.{told_at}
 use Rattle.gptp_how_soon.specs.Turned.{are_different, are_far_ends, goes_farther, goes_one_farther, has_fewer_steps, is_of_one, is_once, leads_nearer, moved_places, neighbour_places, other_end, turns_at, turns_one_after}
 use Rattle.gptp_how_soon.specs.declared.chosen.Chosen.{Chosen}
 use Rattle.gptp_how_soon.specs.declared.chosen.Ends.{Ends}
 use Rattle.gptp_how_soon.proofs.ChosenLemmas.{IsAt, IsSettledChoice, at_clock, at_port, chosen_there, one_clock, settled_choice, used_then}
 use Rattle.gptp_how_soon.proofs.RoundsLemmas.{Has}
-use Rattle.gptp_settling_time.specs.HowSoon.{TurnsOneLink}
 use Rattle.gptp_settling_time.specs.Losses.{IsFarEnd, IsTurned, IsUnmoved, TurnsLink, TurnsSystem}
 use Rattle.gptp_how_soon_laws.proofs.FailedLemmas.{each_is, far_at}
 use Rattle.gptp_how_soon_laws.proofs.ToldLemmas.{loss_lowers}
@@ -536,7 +535,7 @@ module _ (n : NetworkState) (network : IsNetwork n) (made : List Timed) (event :
       (delay : (sync_paths n later).delay ≤ (sync_paths n made).delay)
       (paths : (sync_paths n later).systems ≤ (sync_paths n made).systems)
       (few : (sync_paths n made).systems ≤ 255) (is : is_lowering (told_at n made event.act) ≡ true) where
-    turns_link : TurnsLink n made event
+    pub turns_link : TurnsLink n made event
     turns_link =
         let d = takes_down n network made event is in
         let t = turns n network made later turned_one in
@@ -552,16 +551,3 @@ module _ (n : NetworkState) (network : IsNetwork n) (made : List Timed) (event :
           paths = paths;
           few = few;
         }
-
--- the events of a time
-pub turns_one_link : (n : NetworkState) (network : IsNetwork n) (made now : List Timed) → AreWell n (made ++ now)
-    → turns_one_after n made (made ++ now) ≡ true
-    → (sync_paths n (made ++ now)).delay ≤ (sync_paths n made).delay
-    → (sync_paths n (made ++ now)).systems ≤ (sync_paths n made).systems
-    → (sync_paths n made).systems ≤ 255
-    → lowers_one (told_of n made now) ≡ true
-    → TurnsOneLink n made now
-turns_one_link n network made [] well turned_one delay paths few is = absurd cc
-turns_one_link n network made (event ∷ []) well turned_one delay paths few is =
-    turns_link n network made event well turned_one delay paths few is
-turns_one_link n network made (event ∷ other ∷ events) well turned_one delay paths few is = absurd cc

@@ -1,44 +1,34 @@
 -- Where the tests of a tree that turns hold, it does from one snapshot to the other.
-use Rattle.std.proofs.Common.{◌≡◌, ◌<◌, ◌⊎◌, inl, inr, ◌-◌, ◌+◌, ℕ, suc, Bool, true, false, List, [], Option, Some, None, length, slice_get, refl, sym, ap, subst, ◌∙◌, arith, filter}
-use Rattle.std.specs.Prelude.{◌&&◌, nat_le, not, if◌then◌else◌, ◌==◌, nat_lt}
-use Rattle.std.specs.List.{count_by, range_with_len}
-use Rattle.std.proofs.lemmas.Bool.{and_parts, and_from, eqb-true, or_cases, or_left, or_right, not-true}
+use Rattle.std.proofs.Common.{◌≡◌, ◌<◌, ◌⊎◌, inl, inr, ℕ, Bool, true, false, List, Some, length, refl, sym, ap, subst, ◌∙◌, arith}
+use Rattle.std.specs.Prelude.{not}
+use Rattle.std.specs.List.{range_with_len}
+use Rattle.std.proofs.lemmas.Bool.{not-true, or_cases}
 use Rattle.gptp_lists.specs.Members.{In}
-use Rattle.gptp_lists.proofs.SystemSpecLemmas.{In-map, from_map}
-use Rattle.gptp_graph.specs.Best.{IsBest}
+use Rattle.gptp_bmca_machine.specs.FailureTrees.{Turning}
 use Rattle.gptp_graph.specs.Distance.{IsDistance}
-use Rattle.gptp_graph.specs.Snapshot.{Adjacent, IsWellFormed, Joins, PortIdentity, Snapshot, System, clocks, port_of}
+use Rattle.gptp_graph.specs.Snapshot.{Adjacent, IsWellFormed, Snapshot, System, clocks, port_of}
+use Rattle.gptp_graph.proofs.DistanceLemmas.{IsDistance-unique}
 use Rattle.gptp_graph.proofs.LinkLemmas.{Adjacent-clock, Adjacent-sym}
-use Rattle.gptp_network.specs.Snapshot.{StandsAfter, link_of}
+use Rattle.gptp_network.specs.Snapshot.{StandsAfter}
 use Rattle.gptp_scenario.specs.Network.{IsNetwork, NetworkState}
 use Rattle.gptp_scenario.specs.declared.change.Timed.{Timed}
-use Rattle.gptp_scenario.specs.declared.network.LinkSpec.{LinkSpec}
 use Rattle.gptp_topology.specs.After.{systems_after}
 use Rattle.gptp_topology.specs.declared.nodes.System as ours
-use Rattle.gptp_how_soon.specs.Chosen.{chosen_after, ends_of, is_moved_at, place_of, used_ends, is_used_then}
+use Rattle.gptp_how_soon.specs.Chosen.{chosen_after, ends_of, is_moved_at}
+use Rattle.gptp_how_soon.specs.Turned.{has_fewer_steps}
+use Rattle.gptp_how_soon.specs.TurnedTree.{is_turned_at, stays_or_is_turned}
 use Rattle.gptp_how_soon.specs.declared.chosen.Chosen.{Chosen}
 use Rattle.gptp_how_soon.specs.declared.chosen.Ends.{Ends}
-use Rattle.gptp_how_soon.proofs.ChosenLemmas.{IsAt, at_clock, one_clock, place_is, chosen_there, settled_choice, link_stands}
-use Rattle.gptp_how_soon_laws.proofs.FailedLemmas.{each_is}
-use Rattle.gptp_how_soon_laws.proofs.TreeTestLemmas.{apart_so, fewer_back, nearer_at_first, nearer_at_second, no_more_so, one_same, same_so}
-use Rattle.gptp_how_soon_laws.proofs.UnmovedLemmas.{asked_of, unmoved_at}
-use Rattle.gptp_how_soon_laws.proofs.WorseningLemmas.{same_system}
-use Rattle.gptp_how_soon_laws.proofs.LivesOnLemmas.{LivesOn, on_at, on_of}
-use Rattle.gptp_how_soon_laws.proofs.LostLinkLemmas.{IsJoinedBy, ends_are, joined_by, same_port, stands_or_lost, used_links}
-use Rattle.gptp_how_soon_laws.proofs.OneLostLemmas.{at_other, at_top, known_ends, lost_between, AreEnds, ends_at_places}
-use Rattle.gptp_graph.proofs.DistanceLemmas.{IsDistance-unique}
-use Rattle.gptp_network.proofs.PassLemmas.{kept}
-use Rattle.gptp_network.proofs.SnapshotLemmas.{from_filter}
-use Rattle.gptp_how_soon.specs.Tree.{has_no_more_steps, has_same_root, is_one_apart}
-use Rattle.gptp_how_soon.specs.Turned.{goes_farther, has_fewer_steps, leads_nearer}
-use Rattle.gptp_how_soon.specs.TurnedTree.{leads_nearer_within, leads_one_on_within, leads_out, stays_or_turns, turns_below}
+use Rattle.gptp_how_soon.proofs.ChosenLemmas.{IsAt, at_clock, chosen_there, one_clock, settled_choice}
 use Rattle.gptp_settling_time.specs.Losses.{IsUnmoved}
 use Rattle.gptp_settling_time.specs.TreeLosses.{IsTurnedTree}
-use Rattle.gptp_how_soon_laws.proofs.TurnedTreeTestLemmas.{Turns, least_so, less_so, one_there}
-
-abbrev steps_of : Option Chosen → ℕ
-steps_of None = 0
-steps_of (Some c) = c.steps
+use Rattle.gptp_how_soon_laws.proofs.FailedLemmas.{each_is}
+use Rattle.gptp_how_soon_laws.proofs.UnmovedLemmas.{asked_of, unmoved_at}
+use Rattle.gptp_how_soon_laws.proofs.LivesOnLemmas.{LivesOn, on_at, on_of}
+use Rattle.gptp_how_soon_laws.proofs.LostLinkLemmas.{ends_are, stands_or_lost}
+use Rattle.gptp_how_soon_laws.proofs.OneLostLemmas.{at_other, at_top, known_ends, lost_between}
+use Rattle.gptp_how_soon_laws.proofs.TurnedTreeTestLemmas.{Turns, less_so, turned_moves}
+use Rattle.gptp_how_soon_laws.proofs.TurnsBelowLemmas as below
 
 module _ (n : NetworkState) (network : IsNetwork n) (made events : List Timed) where
   abbrev before : List Chosen
@@ -50,11 +40,11 @@ module _ (n : NetworkState) (network : IsNetwork n) (made events : List Timed) w
   abbrev systems : List ours.System
   systems = systems_after n events
 
-  abbrev links : List Ends
-  links = used_ends n events
-
   abbrev moved : ℕ → Bool
   moved = is_moved_at systems before now
+
+  abbrev turned : ℕ → Bool
+  turned = is_turned_at systems before now
 
   -- ---- between two snapshots
 
@@ -86,9 +76,6 @@ module _ (n : NetworkState) (network : IsNetwork n) (made events : List Timed) w
     on : (v : ℕ) → In v (clocks h) → (i : ℕ) × On i v
     on = on_of n network made events g h stands stands' well well' lived
 
-    on_there : (i v : ℕ) → IsAt n i v → In v (clocks h) → On i v
-    on_there = on_at n network made events g h stands stands' well well' lived
-
     abbrev top_is : On top top_clock
     top_is =
         on_at n network made events g h stands stands' well well' lived top top_clock
@@ -101,124 +88,20 @@ module _ (n : NetworkState) (network : IsNetwork n) (made events : List Timed) w
     abbrev base : ℕ
     base = top_is.was.steps
 
-    -- ---- who is of the tree
+    -- ---- the tree
 
-    abbrev inside : ℕ → Bool
-    inside v = moved (place_of (systems_after n []) v)
+    abbrev turning : Turning
+    turning =
+        below.turning n network made events top top_clock t.tree g h stands stands' well well' lived top_is
 
     abbrev tree : List ℕ
-    tree = filter inside (clocks h)
+    tree = turning.tree
 
-    place_so : (i v : ℕ) → IsAt n i v → inside v ≡ moved i
-    place_so i v at = ap moved (place_is n network made g stands well [] i v at)
+    abbrev has : below.HasTurned n turned g h best turning
+    has = below.has_turned n network made events top top_clock t.tree g h stands stands' well well' lived top_is
 
-    member : (i v : ℕ) → On i v → moved i ≡ true → In v tree
-    member i v s is = kept inside v (clocks h) s.known (place_so i v s.at ∙ is)
-
-    known_of : (v : ℕ) → In v tree → In v (clocks h)
-    known_of v listed = (from_filter inside v (clocks h) listed).0
-
-    moved_of : (i v : ℕ) → IsAt n i v → In v tree → moved i ≡ true
-    moved_of i v at listed = sym (place_so i v at) ∙ (from_filter inside v (clocks h) listed).1
-
-    record Below (i : ℕ) : Type 0 where
-      root : has_same_root (slice_get before top) (slice_get before i) ≡ true
-      steps : has_no_more_steps (slice_get before top) (slice_get before i) ≡ true
-      farther : goes_farther (slice_get before i) (slice_get now i) ≡ true
-      single : nat_le (count_by (leads_nearer_within moved before i) links) 1 ≡ true
-
-    below : (i v : ℕ) → IsAt n i v → moved i ≡ true → Below i
-    below i v at is =
-        elim (or_cases (not (moved i)) (turns_below moved links before now top i)
-        (each_is (stays_or_turns moved links before now top) (range_with_len 0 (length systems)) i t.each
-        (asked_of n events i at.system at.there))) [
-          | inl apart ↦ let no : false ≡ true = ap not (sym is) ∙ apart in absurd cc
-          | inr so ↦
-              let root_test : Bool = has_same_root (slice_get before top) (slice_get before i) in
-              let steps_test : Bool = has_no_more_steps (slice_get before top) (slice_get before i) in
-              let farther_test : Bool = goes_farther (slice_get before i) (slice_get now i) in
-              let single_test : Bool = nat_le (count_by (leads_nearer_within moved before i) links) 1 in
-              let (three, single) = and_parts (root_test && steps_test && farther_test) single_test so in
-              let (two, farther) = and_parts (root_test && steps_test) farther_test three in
-              let (root, steps) = and_parts root_test steps_test two in
-              record { root = root; steps = steps; farther = farther; single = single }
-        ]
-
-    -- ---- what such a system chose, and chooses
-
-    -- it had the best of the top
-    had : (i v : ℕ) (s : On i v) → moved i ≡ true → s.chose.best ≡ best
-    had i v s is =
-        let root =
-        same_so before top i top_is.was s.was top_is.was_there s.was_there (below i v s.at is).root in
-        same_system n network made made g g stands stands s.chose.best best s.chose.is_best.live
-        top_is.chose.is_best.live (sym s.chose.root ∙ sym root ∙ top_is.chose.root)
-
-    goes : (i v : ℕ) (s : On i v) → moved i ≡ true → (s.was.root ≡ s.is.root) × (s.was.steps < s.is.steps)
-    goes i v s is =
-        let b = s.was in
-        let c = s.is in
-        let told : goes_farther (Some b) (Some c) ≡ true =
-        (λ k. goes_farther (sym s.was_there k) (sym s.is_there k)) ∙ (below i v s.at is).farther in
-        let (root, steps) = and_parts (b.root == c.root) (nat_lt b.steps c.steps) told in
-        (eqb-true b.root c.root root, less_so b.steps c.steps steps)
-
-    -- and has it still
-    has_still : (i v : ℕ) (s : On i v) → moved i ≡ true → s.chose.best ≡ s.chooses.best
-    has_still i v s is =
-        same_system n network made events g h stands stands' s.chose.best s.chooses.best s.chose.is_best.live
-        s.chooses.is_best.live (sym s.chose.root ∙ (goes i v s is).0 ∙ s.chooses.root)
-
-    abbrev depth_at : ℕ → ℕ
-    depth_at i = if moved i then steps_of (slice_get before i) - base else 0
-
-    depth : ℕ → ℕ
-    depth v = depth_at (place_of (systems_after n []) v)
-
-    depth_there : (i v : ℕ) → IsAt n i v → depth v ≡ depth_at i
-    unfolding depth
-    depth_there i v at = ap depth_at (place_is n network made g stands well [] i v at)
-
-    depth_is : (i v : ℕ) (s : On i v) → moved i ≡ true → base + depth v ≡ s.was.steps
-    depth_is i v s is =
-        let least =
-        no_more_so before top i top_is.was s.was top_is.was_there s.was_there (below i v s.at is).steps in
-        let here : depth v ≡ s.was.steps - base =
-        depth_there i v s.at ∙ ap (λ b. if b then steps_of (slice_get before i) - base else 0) is
-        ∙ ap (λ o. steps_of o - base) s.was_there in
-        omega (arith, least, here)
-
-    -- ---- facts of the tree
-
-    in_tree : (v : ℕ) → In v tree → (i : ℕ) × (s : On i v) × (moved i ≡ true)
-    in_tree v listed = let (i, s) = on v (known_of v listed) in (i, s, moved_of i v s.at listed)
-
-    was_best : (v : ℕ) → In v tree → IsBest g v best
-    was_best v listed =
-        let (i, s, is) = in_tree v listed in subst (IsBest g v) (had i v s is) s.chose.is_best
-
-    is_best : (v : ℕ) → In v tree → IsBest h v best
-    is_best v listed =
-        let (i, s, is) = in_tree v listed in
-        subst (IsBest h v) (sym (has_still i v s is) ∙ had i v s is) s.chooses.is_best
-
-    was_far : (v : ℕ) → In v tree → IsDistance g v (base + depth v)
-    was_far v listed =
-        let (i, s, is) = in_tree v listed in subst (IsDistance g v) (sym (depth_is i v s is)) s.chose.far
-
-    farther : (v far : ℕ) → In v tree → IsDistance h v far → base + depth v < far
-    farther v far listed far_is =
-        let (i, s, is) = in_tree v listed in
-        let now_is = IsDistance-unique h v far s.is.steps well' far_is s.chooses.far in
-        let was_is = depth_is i v s is in
-        let more = (goes i v s is).1 in
-        omega (arith, now_is, was_is, more)
-
-    first : depth top_clock ≡ 0
-    first =
-        let is = depth_is top top_clock top_is t.turns in
-        let same : base ≡ top_is.was.steps = refl in
-        omega (arith, is, same)
+    in_tree : (v : ℕ) → In v tree → (i : ℕ) × (s : On i v) × (turned i ≡ true)
+    in_tree v listed = let (i, s) = on v (has.lives v listed) in (i, s, has.turned_of i v s.at listed)
 
     nearer : (far : ℕ) → IsDistance g other_clock far → far < base
     nearer far far_is =
@@ -231,16 +114,20 @@ module _ (n : NetworkState) (network : IsNetwork n) (made events : List Timed) w
         let less = less_so e.steps top_is.was.steps told in
         omega (arith, same, less)
 
-    in_top : In top_clock tree
-    in_top = member top top_clock top_is t.turns
-
+    -- who isn't of it isn't moved
     others : (v : ℕ) → In v (clocks h) → (In v tree → ⊥) → IsUnmoved g h v
-    others v known out = let (i, s) = on v known in by i s (moved i) refl
+    others v known out = let (i, s) = on v known in by i s (turned i) refl
       where
-        by : (i : ℕ) (s : On i v) (test : Bool) → moved i ≡ test → IsUnmoved g h v
-        by i s true is = absurd (out (member i v s is))
+        by : (i : ℕ) (s : On i v) (test : Bool) → turned i ≡ test → IsUnmoved g h v
+        by i s true is = absurd (out (has.member i v s.at s.known is))
         by i s false is =
-            unmoved_at n network made events g h stands stands' well well' v (lived v known) known i s.at is
+            unmoved_at n network made events g h stands stands' well well' v (lived v known) known i s.at
+            (elim (or_cases (not (moved i)) (turned i)
+            (each_is (stays_or_is_turned systems before now) (range_with_len 0 (length systems)) i t.all
+            (asked_of n events i s.at.system s.at.there))) [
+              | inl apart ↦ not-true (moved i) apart
+              | inr turns ↦ let no : true ≡ false = sym turns ∙ is in absurd cc
+            ])
 
     -- ---- links of before
 
@@ -296,7 +183,9 @@ module _ (n : NetworkState) (network : IsNetwork n) (made events : List Timed) w
               one_clock n network made g stands well other u other_clock (subst (λ k. IsAt n k u) b at_u) other_at,
             )
             | inr (a, b) ↦
-                let no : false ≡ true = ap not (sym (ap moved (sym a) ∙ is)) ∙ t.stays in absurd cc
+                let moves = turned_moves n network made events i is in
+                let no : false ≡ true = ap not (sym (ap moved (sym a) ∙ moves)) ∙ t.stays in
+                absurd cc
           ]
         ]
 
@@ -308,322 +197,38 @@ module _ (n : NetworkState) (network : IsNetwork n) (made events : List Timed) w
         elim (adjacent_still v u i j at at' adjacent) [
           | inl still ↦ still
           | inr which ↦ elim which [
-            | inl (a, b) ↦ absurd (out (subst (λ c. In c tree) (sym (at_its_top i v at a)) in_top))
-            | inr (a, b) ↦ absurd (out' (subst (λ c. In c tree) (sym (at_its_top j u at' b)) in_top))
+            | inl (a, b) ↦ absurd (out (subst (λ c. In c tree) (sym (at_its_top i v at a)) has.in_top))
+            | inr (a, b) ↦ absurd (out' (subst (λ c. In c tree) (sym (at_its_top j u at' b)) has.in_top))
           ]
         ]
-
-    -- ---- links within the tree
-
-    abbrev Joined : ℕ → ℕ → PortIdentity → PortIdentity → Type 0
-    Joined = IsJoinedBy n network made g stands well events h stands' well'
-
-    joined : (i j : ℕ) (p q : PortIdentity) → IsAt n i p.clock → IsAt n j q.clock → Joins h p q → Joined i j p q
-    joined = joined_by n network made g stands well events h stands' well'
-
-    used : (i j : ℕ) (p q : PortIdentity) (x : Joined i j p q) → In (ends_of n x.wire) links
-    used i j p q x = In-map (ends_of n) x.wire (used_links n events) x.among
-
-    -- the systems at these places are one step apart
-    one_apart : (a b : ℕ) (e : Ends) → In e links → e ≡ record { a = a; b = b } → moved a ≡ true → moved b ≡ true
-        → is_one_apart (slice_get before a) (slice_get before b) ≡ true
-    one_apart a b e listed same is is' =
-        let told : leads_one_on_within moved before (record { a = a; b = b }) ≡ true =
-        subst (λ d. leads_one_on_within moved before d ≡ true) same
-        (each_is (leads_one_on_within moved before) links e t.on listed) in
-        elim (or_cases (not (moved a && moved b)) (is_one_apart (slice_get before a) (slice_get before b)) told) [
-          | inl apart ↦
-              let both = and_from (moved a) (moved b) is is' in
-              let no : false ≡ true = ap not (sym both) ∙ apart in
-              absurd cc
-          | inr one ↦ one
-        ]
-
-    steps : (v u : ℕ) → In v tree → In u tree → Adjacent h v u
-        → (depth u ≡ suc (depth v)) ⊎ (depth v ≡ suc (depth u))
-    steps v u listed listed' (p, q, joins) =
-        let (i, s, is) = in_tree v listed in
-        let (j, r, is') = in_tree u listed' in
-        let x = joined i j (port_of v p) (port_of u q) s.at r.at joins in
-        let v_is = depth_is i v s is in
-        let u_is = depth_is j u r is' in
-        let apart : (s.was.steps ≡ suc r.was.steps) ⊎ (r.was.steps ≡ suc s.was.steps) = elim x.by [
-          | inl (ends, link) ↦
-              apart_so before i j s.was r.was s.was_there r.was_there
-              (one_apart i j (ends_of n x.wire) (used i j (port_of v p) (port_of u q) x) ends is is')
-          | inr (ends, link) ↦
-              elim (apart_so before j i r.was s.was r.was_there s.was_there
-              (one_apart j i (ends_of n x.wire) (used i j (port_of v p) (port_of u q) x) ends is' is)) [
-                | inl more ↦ inr more
-                | inr more ↦ inl more
-              ]
-        ] in
-        elim apart [
-          | inl more ↦ inr (omega (arith, v_is, u_is, more))
-          | inr more ↦ inl (omega (arith, v_is, u_is, more))
-        ]
-
-    -- one of the links of a system that lead less deep
-    record Leads (i v port : ℕ) (c : PortIdentity) : Type 0 where
-      wire : LinkSpec
-      among : In wire (used_links n events)
-      nearer_within : leads_nearer_within moved before i (ends_of n wire) ≡ true
-      link : (link_of (wire.a, wire.b) ≡ record { a = port_of v port; b = c })
-          ⊎ (link_of (wire.a, wire.b) ≡ record { a = c; b = port_of v port })
-
-    leads : (i v port : ℕ) (c : PortIdentity) (s : On i v) → moved i ≡ true → In c.clock tree
-        → Joins h (port_of v port) c → depth v ≡ suc (depth c.clock) → Leads i v port c
-    leads i v port c s is listed joins less =
-        let (j, r, is') = in_tree c.clock listed in
-        let x = joined i j (port_of v port) c s.at r.at joins in
-        let v_is = depth_is i v s is in
-        let c_is = depth_is j c.clock r is' in
-        let fewer =
-        fewer_back before j i r.was s.was r.was_there s.was_there (omega (arith, v_is, c_is, less)) in
-        record {
-          wire = x.wire;
-          among = x.among;
-          nearer_within = elim x.by [
-            | inl (ends, link) ↦
-                ap (leads_nearer_within moved before i) ends
-                ∙ and_from (moved i && moved j) (leads_nearer before i (record { a = i; b = j }))
-                (and_from (moved i) (moved j) is is') (nearer_at_first before i j fewer)
-            | inr (ends, link) ↦
-                ap (leads_nearer_within moved before i) ends
-                ∙ and_from (moved j && moved i) (leads_nearer before i (record { a = j; b = i }))
-                (and_from (moved j) (moved i) is' is) (nearer_at_second before i j fewer)
-          ];
-          link = elim x.by [ inl (ends, link) ↦ inl link | inr (ends, link) ↦ inr link ];
-        }
-
-    no_loop : (v : ℕ) (c : PortIdentity) → depth v ≡ suc (depth c.clock) → c.clock ≡ v → ⊥
-    no_loop v c less same = let k : depth c.clock ≡ depth v = ap depth same in absurd (omega (arith, less, k))
-
-    single : (v p q : ℕ) (a b : PortIdentity) → In v tree → In a.clock tree → In b.clock tree
-        → Joins h (port_of v p) a → Joins h (port_of v q) b → depth v ≡ suc (depth a.clock)
-        → depth v ≡ suc (depth b.clock) → p ≡ q
-    single v p q a b listed listed_a listed_b first_joins second_joins near near' =
-        let (i, s, is) = in_tree v listed in
-        let x = leads i v p a s is listed_a first_joins near in
-        let y = leads i v q b s is listed_b second_joins near' in
-        let one : x.wire ≡ y.wire =
-        one_same (leads_nearer_within moved before i) (ends_of n) (used_links n events) x.wire y.wire
-        (least_so (count_by (leads_nearer_within moved before i) links) 1 (below i v s.at is).single) x.among y.among
-        x.nearer_within y.nearer_within in
-        same_port v p q a b (no_loop v a near) (no_loop v b near') x.link y.link
-        (ap (λ (w : LinkSpec). link_of (w.a, w.b)) one)
-
-    -- ---- the way out
-
-    record WayOut : Type 0 where
-      wire : LinkSpec
-      among : In wire (used_links n events)
-      out_by : leads_out moved (ends_of n wire) ≡ true
-      last : ℕ
-      out : ℕ
-      last_clock : ℕ
-      out_clock : ℕ
-      ends : AreEnds n network made events wire last out last_clock out_clock
-      turns_last : moved last ≡ true
-      stays_out : not (moved out) ≡ true
-
-    way : WayOut
-    way =
-        let one = eqb-true (count_by (leads_out moved) links) 1 t.way in
-        let (e, listed, is) = one_there (leads_out moved) links one in
-        let (w, among, of) = from_map (ends_of n) e (used_links n events) listed in
-        let here : leads_out moved (ends_of n w) ≡ true = ap (leads_out moved) of ∙ is in
-        let a : ℕ = (ends_of n w).a in
-        let b : ℕ = (ends_of n w).b in
-        elim (or_cases (moved a && not (moved b)) (moved b && not (moved a)) here) [
-          | inl both ↦
-              let (first_is, second_is) = and_parts (moved a) (not (moved b)) both in
-              record {
-                wire = w;
-                among = among;
-                out_by = here;
-                last = a;
-                out = b;
-                last_clock = w.a.clock;
-                out_clock = w.b.clock;
-                ends = inl (refl, refl, refl, refl);
-                turns_last = first_is;
-                stays_out = second_is;
-              }
-          | inr both ↦
-              let (first_is, second_is) = and_parts (moved b) (not (moved a)) both in
-              record {
-                wire = w;
-                among = among;
-                out_by = here;
-                last = b;
-                out = a;
-                last_clock = w.b.clock;
-                out_clock = w.a.clock;
-                ends = inr (refl, refl, refl, refl);
-                turns_last = first_is;
-                stays_out = second_is;
-              }
-        ]
-
-    wire_known : In way.wire n.links
-    wire_known = (from_filter (is_used_then n events) way.wire n.links way.among).0
-
-    ends_there : IsAt n way.last way.last_clock × IsAt n way.out way.out_clock
-    ends_there =
-        ends_at_places n network made events t.one g stands well way.wire way.last way.out way.last_clock way.out_clock
-        wire_known way.ends
-
-    leads_to_out : Adjacent h way.last_clock way.out_clock
-    leads_to_out =
-        let stood = link_stands n network events h stands' well' way.wire wire_known
-        (from_filter (is_used_then n events) way.wire n.links way.among).1 in
-        elim way.ends [
-          | inl (a, b, x, y) ↦
-              subst (λ u. Adjacent h way.last_clock u) b
-              (subst (λ v. Adjacent h v way.wire.b.clock) a (way.wire.a.port, way.wire.b.port, inl stood))
-          | inr (a, b, x, y) ↦
-              subst (λ u. Adjacent h way.last_clock u) b
-              (subst (λ v. Adjacent h v way.wire.a.clock) a (way.wire.b.port, way.wire.a.port, inr stood))
-        ]
-
-    in_last : In way.last_clock tree
-    in_last =
-        member way.last way.last_clock
-        (on_there way.last way.last_clock ends_there.0
-        (Adjacent-clock h way.out_clock way.last_clock well'
-        (Adjacent-sym h way.last_clock way.out_clock leads_to_out))) way.turns_last
-
-    outside : In way.out_clock tree → ⊥
-    outside listed =
-        let is = moved_of way.out way.out_clock ends_there.1 listed in
-        let no : false ≡ true = ap not (sym is) ∙ way.stays_out in
-        absurd cc
-
-    -- a link has its ends
-    abbrev Pair : LinkSpec → Type 0
-    Pair v =
-        (((ends_of n v).a ≡ way.last) × ((ends_of n v).b ≡ way.out))
-        ⊎ (((ends_of n v).b ≡ way.last) × ((ends_of n v).a ≡ way.out))
-
-    -- a link that joins a system of the tree to one that isn't in it is that one
-    record IsWay (i j : ℕ) (w : LinkSpec) : Type 0 where
-      same : w ≡ way.wire
-      first_is : i ≡ way.last
-      second_is : j ≡ way.out
-
-    is_way : (i j : ℕ) (w : LinkSpec) → In w (used_links n events)
-        → (ends_of n w ≡ record { a = i; b = j }) ⊎ (ends_of n w ≡ record { a = j; b = i })
-        → moved i ≡ true → moved j ≡ false → IsWay i j w
-    is_way i j w among which is none =
-        let here : leads_out moved (ends_of n w) ≡ true = elim which [
-          | inl ends ↦
-              ap (leads_out moved) ends
-              ∙ or_left (moved i && not (moved j)) (moved j && not (moved i))
-              (and_from (moved i) (not (moved j)) is (ap not none))
-          | inr ends ↦
-              ap (leads_out moved) ends
-              ∙ or_right (moved j && not (moved i)) (moved i && not (moved j))
-              (and_from (moved i) (not (moved j)) is (ap not none))
-        ] in
-        let count = eqb-true (count_by (leads_out moved) links) 1 t.way in
-        let same : w ≡ way.wire =
-        one_same (leads_out moved) (ends_of n) (used_links n events) w way.wire (omega (arith, count)) among way.among
-        here way.out_by in
-        let (first_is, second_is) = by which (pair same) in
-        record { same = same; first_is = first_is; second_is = second_is }
-      where
-        apart : (k : ℕ) {A : Type 0} → moved k ≡ true → moved k ≡ false → A
-        apart k is_so none_so = let both : true ≡ false = sym is_so ∙ none_so in absurd cc
-
-        stays_so : moved way.out ≡ false
-        stays_so = not-true (moved way.out) way.stays_out
-
-        pair : w ≡ way.wire → Pair w
-        pair same = subst Pair (sym same) (elim way.ends [
-          | inl (a, b, x, y) ↦ inl (x, y)
-          | inr (a, b, x, y) ↦ inr (x, y)
-        ])
-
-        by : (ends_of n w ≡ record { a = i; b = j }) ⊎ (ends_of n w ≡ record { a = j; b = i }) → Pair w
-            → (i ≡ way.last) × (j ≡ way.out)
-        by (inl ends) (inl (x, y)) =
-            (sym (ap (λ (e : Ends). e.a) ends) ∙ x, sym (ap (λ (e : Ends). e.b) ends) ∙ y)
-        by (inl ends) (inr (x, y)) =
-            apart way.last way.turns_last (ap moved (sym x ∙ ap (λ (e : Ends). e.b) ends) ∙ none)
-        by (inr ends) (inl (x, y)) =
-            apart way.last way.turns_last (ap moved (sym x ∙ ap (λ (e : Ends). e.a) ends) ∙ none)
-        by (inr ends) (inr (x, y)) =
-            (sym (ap (λ (e : Ends). e.b) ends) ∙ x, sym (ap (λ (e : Ends). e.a) ends) ∙ y)
-
-    ends_by : (i j : ℕ) (p q : PortIdentity) (x : Joined i j p q)
-        → (ends_of n x.wire ≡ record { a = i; b = j }) ⊎ (ends_of n x.wire ≡ record { a = j; b = i })
-    ends_by i j p q x = elim x.by [ inl (ends, link) ↦ inl ends | inr (ends, link) ↦ inr ends ]
-
-    leaves : (v u : ℕ) → In v tree → Adjacent h v u → In u tree ⊎ ((v ≡ way.last_clock) × (u ≡ way.out_clock))
-    leaves v u listed (p, q, joins) =
-        let (i, s, is) = in_tree v listed in
-        let (j, r) = on u (Adjacent-clock h v u well' (p, q, joins)) in
-        by i s is j r (moved j) refl
-      where
-        by : (i : ℕ) (s : On i v) → moved i ≡ true → (j : ℕ) (r : On j u) (test : Bool) → moved j ≡ test
-            → In u tree ⊎ ((v ≡ way.last_clock) × (u ≡ way.out_clock))
-        by i s is j r true is' = inl (member j u r is')
-        by i s is j r false none =
-            let x = joined i j (port_of v p) (port_of u q) s.at r.at joins in
-            let y = is_way i j x.wire x.among (ends_by i j (port_of v p) (port_of u q) x) is none in
-            inr (
-              one_clock n network made g stands well way.last v way.last_clock
-                  (subst (λ k. IsAt n k v) y.first_is s.at) ends_there.0,
-              one_clock n network made g stands well way.out u way.out_clock
-                  (subst (λ k. IsAt n k u) y.second_is r.at) ends_there.1,
-            )
-
-    one_way : (p q k m : ℕ) → Joins h (port_of way.last_clock p) (port_of way.out_clock k)
-        → Joins h (port_of way.last_clock q) (port_of way.out_clock m) → p ≡ q
-    one_way p q k m first_joins second_joins =
-        let x = joined way.last way.out (port_of way.last_clock p) (port_of way.out_clock k) ends_there.0 ends_there.1
-        first_joins in
-        let y = joined way.last way.out (port_of way.last_clock q) (port_of way.out_clock m) ends_there.0 ends_there.1
-        second_joins in
-        let none : moved way.out ≡ false = not-true (moved way.out) way.stays_out in
-        let a = is_way way.last way.out x.wire x.among
-        (ends_by way.last way.out (port_of way.last_clock p) (port_of way.out_clock k) x) way.turns_last none in
-        let b = is_way way.last way.out y.wire y.among
-        (ends_by way.last way.out (port_of way.last_clock q) (port_of way.out_clock m) y) way.turns_last none in
-        let apart : way.out_clock ≡ way.last_clock → ⊥ = λ same. outside (subst (λ c. In c tree) (sym same) in_last) in
-        same_port way.last_clock p q (port_of way.out_clock k) (port_of way.out_clock m) apart apart
-        (elim x.by [ inl (ends, link) ↦ inl link | inr (ends, link) ↦ inr link ])
-        (elim y.by [ inl (ends, link) ↦ inl link | inr (ends, link) ↦ inr link ])
-        (ap (λ (w : LinkSpec). link_of (w.a, w.b)) (a.same ∙ sym b.same))
 
     pub turned_so : (tree : List ℕ) × (last : ℕ) × (out : ℕ) × (best : System) × (base : ℕ) × (depth : ℕ → ℕ)
         × IsTurnedTree g h tree top_clock other_clock last out best base depth
     turned_so = (
       tree,
-      way.last_clock,
-      way.out_clock,
+      turning.last,
+      turning.out,
       best,
       base,
-      depth,
+      turning.depth,
       record {
-        in_top = in_top;
-        lives = known_of;
+        in_top = has.in_top;
+        lives = has.lives;
         others = others;
-        was_best = was_best;
-        is_best = is_best;
-        was = was_far;
-        farther = farther;
-        first = first;
+        was_best = has.was_best;
+        is_best = has.is_best;
+        was = has.was;
+        farther = has.farther;
+        first = has.first;
         nearer = nearer;
         lost = lost;
         kept = kept_beside;
-        steps = steps;
-        single = single;
-        leaves = leaves;
-        in_last = in_last;
-        outside = outside;
-        joined = leads_to_out;
-        one_way = one_way;
+        steps = has.steps;
+        single = has.single;
+        leaves = has.leaves;
+        in_last = has.in_last;
+        outside = has.outside;
+        joined = has.joined;
+        one_way = has.one_way;
       },
     )

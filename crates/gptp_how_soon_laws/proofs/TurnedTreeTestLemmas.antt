@@ -14,8 +14,8 @@ use Rattle.gptp_how_soon.specs.declared.chosen.Chosen.{Chosen}
 use Rattle.gptp_how_soon.specs.declared.chosen.Ends.{Ends}
 use Rattle.gptp_how_soon_laws.proofs.OneLostLemmas.{OneLost, OneLostBy, one_lost}
 use Rattle.std.proofs.lemmas.List.Sums.{sum_by-cons}
-use Rattle.gptp_how_soon.specs.Turned.{has_fewer_steps}
-use Rattle.gptp_how_soon.specs.TurnedTree.{leads_one_on_within, leads_out, stays_or_turns, turns_from, turns_tree, turns_tree_after}
+use Rattle.gptp_how_soon.specs.Turned.{goes_farther, has_fewer_steps}
+use Rattle.gptp_how_soon.specs.TurnedTree.{is_turned_at, leads_one_on_within, leads_out, stays_or_is_turned, stays_or_turns, tree_turns_at, turns_from, turns_tree, turns_tree_after}
 
 -- one of a list passes, where one is counted
 pub one_there : (p : Ends → Bool) (es : List Ends) → count_by p es ≡ 1 → (e : Ends) × In e es × (p e ≡ true)
@@ -53,15 +53,38 @@ module _ (n : NetworkState) (network : IsNetwork n) (made events : List Timed) w
   abbrev pub moved : ℕ → Bool
   moved = is_moved_at systems before now
 
-  -- a link is lost from the top of a tree that turns
+  abbrev pub turned : ℕ → Bool
+  turned = is_turned_at systems before now
+
+  -- who turns is moved
+  pub turned_moves : (i : ℕ) → turned i ≡ true → moved i ≡ true
+  turned_moves i is = (and_parts (moved i) (goes_farther (slice_get before i) (slice_get now i)) is).0
+
+  -- a tree turns below this top
+  pub record TurnsAt (top : ℕ) : Type 0 where
+    pub turns : turned top ≡ true
+    pub each : list_all (stays_or_turns turned links before top) (range_with_len 0 (length systems)) ≡ true
+    pub on : list_all (leads_one_on_within turned before) links ≡ true
+    pub way : (count_by (leads_out turned) links == 1) ≡ true
+
+  pub turns_at : (top : ℕ) → tree_turns_at systems links before now top ≡ true → TurnsAt top
+  turns_at top is =
+      let each_test : Bool =
+      list_all (stays_or_turns turned links before top) (range_with_len 0 (length systems)) in
+      let on_test : Bool = list_all (leads_one_on_within turned before) links in
+      let way_test : Bool = count_by (leads_out turned) links == 1 in
+      let (three, way) = and_parts (turned top && each_test && on_test) way_test is in
+      let (two, on) = and_parts (turned top && each_test) on_test three in
+      let (turns, each) = and_parts (turned top) each_test two in
+      record { turns = turns; each = each; on = on; way = way }
+
+  -- a link is lost from the top of such a tree, and no other system is moved
   pub record Turns : Type 0 where
     pub one : OneLost n network made events
-    pub turns : moved one.top ≡ true
     pub stays : not (moved one.other) ≡ true
     pub nearer : has_fewer_steps (slice_get before one.other) (slice_get before one.top) ≡ true
-    pub each : list_all (stays_or_turns moved links before now one.top) (range_with_len 0 (length systems)) ≡ true
-    pub on : list_all (leads_one_on_within moved before) links ≡ true
-    pub way : (count_by (leads_out moved) links == 1) ≡ true
+    pub all : list_all (stays_or_is_turned systems before now) (range_with_len 0 (length systems)) ≡ true
+    pub tree : TurnsAt one.top
 
   pub turns : turns_tree_after n made events ≡ true → Turns
   turns is = by (lost_ends n made events) refl is
@@ -69,27 +92,19 @@ module _ (n : NetworkState) (network : IsNetwork n) (made events : List Timed) w
       of_one : OneLostBy n network made events (turns_from systems links before now) → Turns
       of_one x =
           let top : ℕ = x.one.top in
-          let turns_test : Bool = moved top in
           let stays_test : Bool = not (moved x.one.other) in
           let nearer_test : Bool = has_fewer_steps (slice_get before x.one.other) (slice_get before top) in
-          let each_test : Bool =
-          list_all (stays_or_turns moved links before now top) (range_with_len 0 (length systems)) in
-          let on_test : Bool = list_all (leads_one_on_within moved before) links in
-          let way_test : Bool = count_by (leads_out moved) links == 1 in
-          let (five, way) =
-          and_parts (turns_test && stays_test && nearer_test && each_test && on_test) way_test x.so in
-          let (four, on) = and_parts (turns_test && stays_test && nearer_test && each_test) on_test five in
-          let (three, each) = and_parts (turns_test && stays_test && nearer_test) each_test four in
-          let (two, nearer) = and_parts (turns_test && stays_test) nearer_test three in
-          let (turns_so, stays) = and_parts turns_test stays_test two in
+          let all_test : Bool = list_all (stays_or_is_turned systems before now) (range_with_len 0 (length systems)) in
+          let tree_test : Bool = tree_turns_at systems links before now top in
+          let (three, tree) = and_parts (stays_test && nearer_test && all_test) tree_test x.so in
+          let (two, all) = and_parts (stays_test && nearer_test) all_test three in
+          let (stays, nearer) = and_parts stays_test nearer_test two in
           record {
             one = x.one;
-            turns = turns_so;
             stays = stays;
             nearer = nearer;
-            each = each;
-            on = on;
-            way = way;
+            all = all;
+            tree = turns_at top tree;
           }
 
       by : (es : List Ends) → lost_ends n made events ≡ es → turns_tree systems es links before now ≡ true → Turns

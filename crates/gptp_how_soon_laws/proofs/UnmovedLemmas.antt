@@ -148,6 +148,10 @@ module _ (n : NetworkState) (network : IsNetwork n) (first all : List Timed) (g0
       → is_moved_at (systems_after n all) (chosen_after n first) (chosen_after n all) i ≡ false → IsUnmoved g0 gk v
   unmoved_at i at none = unmoved_so (chooses_at i at none)
 
+  -- so it is of all where none is moved
+  pub unmoved_all : moves_some n first all ≡ false → IsUnmoved g0 gk v
+  unmoved_all unmoved = unmoved_so (chooses_so unmoved)
+
   pub is_unmoved : moves_some n first all ≡ false → IsUnmoved g0 gk v
   is_unmoved unmoved = unmoved_so (chooses_so unmoved)
 

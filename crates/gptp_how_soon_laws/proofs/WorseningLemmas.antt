@@ -167,9 +167,9 @@ module _ (n : NetworkState) (network : IsNetwork n) (made : List Timed) (event :
       let (loss, priority) = and_parts (is_loss (told_at n made act)) (is_priority1 (told_at n made act)) is in
       let no : true ≡ false = sym priority ∙ other in cc
 
-  is_worsening : (act : Act) → event.act ≡ act
+  pub worsening_so : (act : Act) → event.act ≡ act
       → (is_loss (told_at n made act) && is_priority1 (told_at n made act)) ≡ true → IsWorsening
-  is_worsening (acts.Change (changes.Priority1 number value)) same is =
+  worsening_so (acts.Change (changes.Priority1 number value)) same is =
       let act = acts.Change (changes.Priority1 number value) in
       record {
         number = number;
@@ -178,19 +178,19 @@ module _ (n : NetworkState) (network : IsNetwork n) (made : List Timed) (event :
         worsens = loss_worsens n network made number value
             (and_parts (is_loss (told_at n made act)) (is_priority1 (told_at n made act)) is).0;
       }
-  is_worsening (acts.Deliver link direction) same is = absurd (not_priority (acts.Deliver link direction) refl is)
-  is_worsening (acts.Expire clock timer) same is = absurd (not_priority (acts.Expire clock timer) refl is)
-  is_worsening (acts.Change (changes.LinkDown clock port)) same is =
+  worsening_so (acts.Deliver link direction) same is = absurd (not_priority (acts.Deliver link direction) refl is)
+  worsening_so (acts.Expire clock timer) same is = absurd (not_priority (acts.Expire clock timer) refl is)
+  worsening_so (acts.Change (changes.LinkDown clock port)) same is =
       absurd (not_priority (acts.Change (changes.LinkDown clock port)) refl is)
-  is_worsening (acts.Change (changes.LinkUp clock port)) same is =
+  worsening_so (acts.Change (changes.LinkUp clock port)) same is =
       absurd (not_priority (acts.Change (changes.LinkUp clock port)) refl is)
-  is_worsening (acts.Change (changes.LinkSet clock port least greatest loss)) same is =
+  worsening_so (acts.Change (changes.LinkSet clock port least greatest loss)) same is =
       absurd (not_priority (acts.Change (changes.LinkSet clock port least greatest loss)) refl is)
-  is_worsening (acts.Change (changes.Fail clock)) same is =
+  worsening_so (acts.Change (changes.Fail clock)) same is =
       absurd (not_priority (acts.Change (changes.Fail clock)) refl is)
-  is_worsening (acts.Change (changes.Recover clock)) same is =
+  worsening_so (acts.Change (changes.Recover clock)) same is =
       absurd (not_priority (acts.Change (changes.Recover clock)) refl is)
-  is_worsening (acts.Change (changes.Inject clock port octets)) same is =
+  worsening_so (acts.Change (changes.Inject clock port octets)) same is =
       absurd (not_priority (acts.Change (changes.Inject clock port octets)) refl is)
 
   -- such an event
@@ -205,7 +205,7 @@ module _ (n : NetworkState) (network : IsNetwork n) (made : List Timed) (event :
           | inl idle ↦ inl (idle_changes n network made event.act idle)
           | inr unused ↦ inr (inl (unused_turns n network made event.act unused))
         ]
-        | inr loss ↦ inr (inr (is_worsening event.act refl loss))
+        | inr loss ↦ inr (inr (worsening_so event.act refl loss))
       ]
 
   pub worsen_one : IsKind → OnlyWorsen n made more

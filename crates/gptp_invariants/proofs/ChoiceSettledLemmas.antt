@@ -152,7 +152,7 @@ module _ (p : SettlingParams) (m start : ℕ) (times : SettlingTimes) (w : World
     settles_so place station here live near =
         let (has, follow, roles) = network_settles says_announce n (view w) place (station_view station)
         net state invariant (there place station here live) live near late in
-        let follows = follow (omega (arith, late)) in
+        let follows = (follow (omega (arith, late))).0 in
         let rest = (state.stations place (station_view station) (there place station here live) live).at_rest in
         record {
           root = follows.root;
@@ -236,4 +236,10 @@ settles p w is quiet capable holds =
 pub choice_stands : (w : WorldState) → Settled w → ChoiceStands w
 choice_stands w settled place station here live near =
     let is = settled place station here live near in
-    record { root = is.root; steps = is.steps; slave = is.slave; parent = is.parent }
+    record {
+      root = is.root;
+      steps = is.steps;
+      slave = is.slave;
+      parent = is.parent;
+      roles = λ n of linked. is.roles n of;
+    }

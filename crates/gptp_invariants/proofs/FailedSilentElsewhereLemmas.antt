@@ -52,8 +52,7 @@ changed_silent p start w silent at s = elim (silent at (changed_stood at w s)) [
 
 -- ---- another link comes up
 
-module _ (p : SettlingParams) (start : ℕ) (at : LinkPlace) (place : ℕ) (channel : Channel) (w : WorldState)
-    (draws : List Draw)
+module _ (p : SettlingParams) (at : LinkPlace) (place : ℕ) (channel : Channel) (w : WorldState) (draws : List Draw)
     (w' : WorldState) (wired : IsWired w)
     (here : slice_get w.net.channels place ≡ Some channel) (other : at.link ≢ place) where
   abbrev raised : Channel
@@ -73,15 +72,14 @@ module _ (p : SettlingParams) (start : ℕ) (at : LinkPlace) (place : ℕ) (chan
       other (wired.apart at.link place at.direction way was.old channel was.here here
       (sym (begins_same w.net.channels at.link at.direction l.channel was) ∙ same))
 
-  module _ (k : TellsEnds PortUp channel brought draws w') (silent : AreSilentBy p start w)
-      (s : StandsUnanswered at w') where
+  module _ (k : TellsEnds PortUp channel brought draws w') (s : StandsUnanswered at w') where
     before : StandsUnanswered at brought
     before =
         ends_told ⊥ (λ v. StandsUnanswered at v → StandsUnanswered at brought) PortUp (stood_up at brought) channel
         brought draws w' (λ none. absurd none) k (λ stands. stands) s
 
-    was : StandsUnanswered at w
-    was = record {
+    pub stood_elsewhere : StandsUnanswered at w
+    stood_elsewhere = record {
       channel = before.channel;
       here = sym (get-set_other w.net.channels place at.link raised other) ∙ before.here;
       up = before.up;
@@ -94,8 +92,8 @@ module _ (p : SettlingParams) (start : ℕ) (at : LinkPlace) (place : ℕ) (chan
       answering = before.answering;
     }
 
-    pub up_silences : IsSilentBy p start at w'
-    up_silences = elim (silent at was) [
+    pub up_silences : (start : ℕ) → IsSilentBy p start at w → IsSilentBy p start at w'
+    up_silences start silent = elim silent [
       | inl off ↦ inl (off_through off)
       | inr (sent, last, soon) ↦ inr (sent, last_through sent last, soon)
     ]

@@ -17,7 +17,7 @@ use Rattle.gptp_model.specs.World.{Channel, WorldState, port_id, receiver, sende
 use Rattle.gptp_invariants.specs.ChoiceCalm.{delay_in}
 use Rattle.gptp_invariants.specs.DelayElsewhere.{IsOtherLink}
 use Rattle.gptp_invariants.specs.FailedUnanswered.{StandsUnanswered}
-use Rattle.gptp_invariants.proofs.FailedSilentElsewhereLemmas.{changed_silent, up_silences}
+use Rattle.gptp_invariants.proofs.FailedSilentElsewhereLemmas.{changed_silent, stood_elsewhere, up_silences}
 use Rattle.gptp_invariants.specs.DelayFirstAt.{IsFirstAt, StandsDown}
 use Rattle.gptp_invariants.specs.ChoiceSettlesAsMachine.{IsWorld}
 use Rattle.gptp_invariants.specs.DelayLinkView.{LinkPlace, link_setting}
@@ -106,10 +106,10 @@ module _ (p : SettlingParams) (start number port : ℕ) (w : WorldState) (draws 
 
     down_silent : AreSilentBy p start w'
     down_silent at s =
-        up_silences p start at k.place k.channel w draws w' is.sound.wired k.is.here
-        (λ same. apart at s k.place k.channel k.is (sym same))
-        (subst (λ b. ComesUpIf b k.place k.channel now draws w') down k.so)
-        silent s
+        let other : at.link ≢ k.place = λ same. apart at s k.place k.channel k.is (sym same) in
+        let told = subst (λ b. ComesUpIf b k.place k.channel now draws w') down k.so in
+        up_silences p at k.place k.channel w draws w' is.sound.wired k.is.here other told s start
+        (silent at (stood_elsewhere p at k.place k.channel w draws w' is.sound.wired k.is.here other told s))
 
     before : (at : LinkPlace) → LinkStandsAt at w' → LinkStandsAt at brought
     before =

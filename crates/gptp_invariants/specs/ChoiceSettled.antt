@@ -6,7 +6,7 @@ use Rattle.gptp_graph.specs.Parent.{ParentLink}
 use Rattle.gptp_graph.specs.SettledChoice.{IsBestIdentity, IsParentIfAny}
 use Rattle.gptp_graph.specs.SettledRole.{IsSettledRole}
 use Rattle.gptp_graph.specs.SettledRole as settled
-use Rattle.gptp_graph.specs.Snapshot.{Snapshot, port_of}
+use Rattle.gptp_graph.specs.Snapshot.{IsLinked, Snapshot, port_of}
 use Rattle.gptp_vector.specs.declared.port.PortId.{PortId}
 use Rattle.gptp_roles.specs.declared.role.Role.{Role}
 use Rattle.gptp_roles.specs.declared.role.Role.TheVariants.{Disabled, Master, Slave, Passive}
@@ -46,13 +46,15 @@ Settled w = (place : ℕ) (station : Station) → slice_get w.stations place ≡
     → IsNear (snapshot_of w) (clock station.system)
     → IsSettledSystem (snapshot_of w) station.system
 
--- Where roles may change still, since ports beside a system that fails stay capable for a time, that is so but for its
--- roles.
+-- Where roles may change still, since ports beside a system that fails stay capable for a time, that is so but for the
+-- roles of its ports without a link.
 pub record HasSettledChoice (g : Snapshot) (s : SystemState) : Type 0 where
   pub root : IsBestIdentity g (clock s) s.root
   pub steps : IsDistance g (clock s) s.steps
   pub slave : IsSlaveOf g (clock s) s.slave
   pub parent : IsParentIfAny g (clock s) (option_map followed_link (parent s))
+  pub roles : (n : ℕ) → HasPortNumber s n → IsLinked g (port_of (clock s) n)
+      → IsSettledRole g (port_of (clock s) n) (graph_role (role_at s n))
 
 -- so it is of each near live system of a world
 abbrev pub ChoiceStands : WorldState → Type 0

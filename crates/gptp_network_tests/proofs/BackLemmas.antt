@@ -19,7 +19,7 @@ use Rattle.gptp_invariants.specs.WorldEncodableLaws.{SetsAnOctet}
 use Rattle.gptp_theorem.specs.PlayedLaws.{IsPlayable}
 use Rattle.gptp_settling_time.specs.Gains.{IsDownAfter, JoinsLive, exchanged_from}
 use Rattle.gptp_settling_time.specs.HowSoon.{IsChoiceBound, IsChoiceBoundAfter}
-use Rattle.gptp_settling_time.specs.InTurn.{BringsUp, VariesLittleAfter}
+use Rattle.gptp_settling_time.specs.EventKinds.{BringsUp, VariesLittleAfter}
 use Rattle.gptp_network_tests.specs.Pair.{end_station, first_member, pair_network, pair_pace, pair_paths, params, second_member}
 use Rattle.gptp_network_tests.specs.Soon.{back_document}
 use Rattle.gptp_network_tests.proofs.PairLemmas.{pace_is}

@@ -18,7 +18,9 @@ use Rattle.gptp_scenario.specs.declared.sync_wait.SyncPaths.{SyncPaths}
 use Rattle.gptp_network.specs.Snapshot.{events_by}
 use Rattle.gptp_theorem.specs.PlayedLaws.{IsPlayable}
 use Rattle.gptp_settling_time.specs.Gains.{IsNoWorse, exchanged_from}
-use Rattle.gptp_settling_time.specs.InTurn.{ActsFindSettledInTurn, BettersClock, Heard, LeadOn, SettlesAfter, SettlesByEvents}
+use Rattle.gptp_settling_time.specs.Pasts.{Heard}
+use Rattle.gptp_settling_time.specs.EventKinds.{BettersClock}
+use Rattle.gptp_settling_time.specs.InTurn.{ActsFindSettledInTurn, LeadOn, SettlesAfter, SettlesByEvents}
 use Rattle.gptp_settling_time.specs.Starts.{LinksVaryLittle}
 use Rattle.gptp_settling_time.proofs.ClaimedToLemmas.{used_vary}
 use Rattle.gptp_network_tests.specs.Pair.{end_station, first_member, pair_network, pair_pace, pair_paths, params, second_member}

@@ -398,7 +398,7 @@ lost =
       record { links = links_rest; lapses = inl refl },
       refl,
       comes_after (Changing (LinkDown first.clock 2)),
-      (cut ∷ [], [], refl, tt, lowers),
+      (cut ∷ [], [], refl, tt, inl lowers),
       (ways, refl),
     ))
   where

@@ -16,7 +16,7 @@ use Rattle.gptp_scenario.specs.declared.sync_wait.SyncPaths.{SyncPaths}
 use Rattle.gptp_model.specs.World.{port_id}
 use Rattle.gptp_theorem.specs.PlayedLaws.{IsPlayable}
 use Rattle.gptp_settling_time.specs.HowSoon.{IsChoiceBound, two_exchanges}
-use Rattle.gptp_settling_time.specs.InTurn.{UsedVaryLittle}
+use Rattle.gptp_settling_time.specs.EventKinds.{UsedVaryLittle}
 use Rattle.gptp_network_tests.specs.Pair.{pair_network, pair_pace, pair_paths, params}
 use Rattle.gptp_network_tests.specs.Soon.{early_document}
 use Rattle.gptp_network_tests.proofs.PairLemmas.{pace_is}

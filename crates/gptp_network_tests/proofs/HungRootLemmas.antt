@@ -33,7 +33,7 @@ use Rattle.gptp_network.specs.Snapshot.{StandsAfter}
 use Rattle.gptp_network.proofs.LawLemmas.{one_snapshot}
 use Rattle.gptp_theorem.specs.PlayedLaws.{IsPlayable}
 use Rattle.gptp_settling_time.specs.HowSoon.{IsChoiceAloneBound, IsChoiceBound, IsLossBoundAfter}
-use Rattle.gptp_settling_time.specs.TreeLosses.{CutsTreesFrom, FailsTrees, IsTreeCutOff, IsUnmovedOrInTree}
+use Rattle.gptp_settling_time.specs.TreeLosses.{FailsTrees, IsTreeCutOff, IsUnmovedOrInTree, MovesTreesFrom}
 use Rattle.gptp_settling_time.proofs.SilentSpanLemmas.{fail_within}
 use Rattle.gptp_network_tests.specs.Ring.{hung_document, ring_network, ring_paths}
 use Rattle.gptp_network_tests.proofs.CutLineLemmas.{at_second, before, both_of, comes_after, depth, later, later_playable, lives_first, lost_top, none_comes, steps, under}
@@ -161,14 +161,14 @@ is_cut_off = record {
   single = λ v p q a b one two less less_too. at_second v p a one less ∙ sym (at_second v q b two less_too);
 }
 
-cuts : CutsTreesFrom ring_network before (later fails)
-cuts g h stands stands_then =
+moves : MovesTreesFrom ring_network before (later fails)
+moves g h stands stands_then =
     let first_is : chain ≡ g = one_snapshot hung_document 30000000000 chain g chain_stands stands in
     let last_is : left ≡ h = one_snapshot hung_document 60000000000 left h left_stands stands_then in (
       first,
       subst (λ x. (v : ℕ) → In v (clocks h) → IsUnmovedOrInTree x h first v) first_is
           (subst (λ x. (v : ℕ) → In v (clocks x) → IsUnmovedOrInTree chain x first v) last_is
-          (λ v known. inr (tree, is_cut_off, all_under v known))),
+          (λ v known. inr (inl (tree, is_cut_off, all_under v known)))),
     )
 
 fails_trees : FailsTrees ring_network before (later fails)
@@ -176,7 +176,7 @@ fails_trees = record {
   clock = first.clock;
   act = refl;
   live = lives_first;
-  cuts = cuts;
+  moves = moves;
   delay = subst (λ (x : SyncPaths). x.delay ≤ (sync_paths ring_network before).delay) (sym paths_hung)
       (subst (λ (x : SyncPaths). 410 ≤ x.delay) (sym paths_left) (omega arith));
   paths = subst (λ (x : SyncPaths). x.systems ≤ (sync_paths ring_network before).systems) (sym paths_hung)

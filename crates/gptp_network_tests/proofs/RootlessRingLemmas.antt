@@ -48,7 +48,7 @@ lost = inl (
     1000003050,
     (refl, ring_begun),
     omega arith,
-    inl (inl (event ∷ [], [], refl, tt, inr (inr (inr (inr (inl (live, tt), turns, inr silent)))))),
+    inl (inl (event ∷ [], [], refl, tt, inr (inr (inr (inr (inl (inl (live, tt), turns, inr silent))))))),
   ),
 )
   where

@@ -31,7 +31,9 @@ use Rattle.gptp_theorem.specs.PlayedLaws.{IsPlayable}
 use Rattle.gptp_theorem.proofs.CalmLemmas.{pace_stands, quiet_stands}
 use Rattle.gptp_theorem.proofs.SyncPathLemmas.{paths_stand}
 use Rattle.gptp_settling_time.specs.Exactly.{SettlesBy}
-use Rattle.gptp_settling_time.specs.InTurn.{Aging, AnyPast, BeginsBy, ChoosesAfter, Cleared, Fallen, Gained, Heard, IsTakenAs, Left, Lost, Past, RestsFrom, SettlesAfter, Split, Starting, Turned, TurnedTree}
+use Rattle.gptp_settling_time.specs.Pasts.{Aging, AnyPast, Cleared, Fallen, Gained, Heard, Left, Fewer, Lost, Past, Split, Starting, Turned, TurnedTree}
+use Rattle.gptp_settling_time.specs.Rests.{IsTakenAs, RestsFrom}
+use Rattle.gptp_settling_time.specs.InTurn.{BeginsBy, ChoosesAfter, SettlesAfter}
 use Rattle.gptp_settling_time.proofs.AgingToLemmas.{IsAgingTo, aging_to_act, aging_to_chooses, aging_to_claimed, aging_to_later, aging_to_settled}
 use Rattle.gptp_settling_time.proofs.BegunLemmas.{begun_keeps}
 use Rattle.gptp_settling_time.proofs.ClaimedToLemmas.{IsClaimedTo, claimed_act, claimed_later, claimed_settled}
@@ -40,8 +42,9 @@ use Rattle.gptp_settling_time.proofs.KeptToLemmas.{IsNewsTo, KeepsTo, keeps_act,
 use Rattle.gptp_settling_time.proofs.LeftToLemmas.{IsLeftTo, left_to_act, left_to_chooses, left_to_later, left_to_settled}
 use Rattle.gptp_settling_time.proofs.FallenToLemmas.{IsFallenTo, fallen_to_act, fallen_to_claimed, fallen_to_later, fallen_to_settled}
 use Rattle.gptp_settling_time.proofs.LostToLemmas.{IsLostTo, lost_to_act, lost_to_chooses, lost_to_claimed, lost_to_later, lost_to_settled}
+use Rattle.gptp_settling_time.proofs.TakenToLemmas.{IsTakenTo, taken_to_act, taken_to_chooses, taken_to_later, taken_to_settled}
 use Rattle.gptp_settling_time.proofs.TurnedTreeToLemmas.{IsTurnedTreeTo, turned_tree_to_act, turned_tree_to_claimed, turned_tree_to_later, turned_tree_to_settled}
-use Rattle.gptp_settling_time.proofs.SplitToLemmas.{IsSplitTo, split_to_act, split_to_chooses, split_to_later, split_to_settled}
+use Rattle.gptp_settling_time.proofs.SplitToLemmas.{IsSplitTo, split_to_act, split_to_chooses, split_to_claimed, split_to_later, split_to_settled}
 use Rattle.gptp_settling_time.proofs.TurnedToLemmas.{IsTurnedTo, turned_to_act, turned_to_claimed, turned_to_later, turned_to_settled}
 use Rattle.gptp_settling_time.proofs.StartEventLemmas.{IsStartingTo, begun_soon_claimed, begun_soon_news, starting_act, starting_begins, starting_later}
 use Rattle.gptp_settling_time.proofs.TimedNewsLemmas.{CanSettle, has_settled}
@@ -61,6 +64,7 @@ IsAfter d events (Cleared ago since silent right old) w = IsClearedTo d ago even
 IsAfter d events (Aging ago aged silent) w = IsAgingTo d ago events aged silent w
 IsAfter d events (Split ago gone silent) w = IsSplitTo d ago events gone silent w
 IsAfter d events (Lost ago since most silent) w = IsLostTo d ago events since most silent w
+IsAfter d events (Fewer ago since most silent) w = IsTakenTo d ago events since most silent w
 
 module _ (d : DocumentState) (events : List Timed) where
   pub after_keeps : (past : Past) (w : WorldState) → IsAfter d events past w → KeepsTo d events w
@@ -76,6 +80,7 @@ module _ (d : DocumentState) (events : List Timed) where
   after_keeps (Aging ago aged silent) w so = so.keeps
   after_keeps (Split ago gone silent) w so = so.keeps
   after_keeps (Lost ago since most silent) w so = so.keeps
+  after_keeps (Fewer ago since most silent) w so = so.lost.keeps
 
   pub after_later : (past : Past) (w : WorldState) (time : ℕ) → w.time ≤ time → NothingBefore time w.net.pending
       → IsAfter d events past w → IsAfter d events past (at time w)
@@ -96,6 +101,8 @@ module _ (d : DocumentState) (events : List Timed) where
       split_to_later d ago events gone silent w time later first so
   after_later (Lost ago since most silent) w time later first so =
       lost_to_later d ago events since most silent w time later first so
+  after_later (Fewer ago since most silent) w time later first so =
+      taken_to_later d ago events since most silent w time later first so
 
   pub after_act : {F : Type 0} (answers : Bounds → ℕ → F → Option ℕ → F → Type 0) (past : Past) (t : ActTrace)
       (fate drawn : F) (w : WorldState) → IsNextAct w t.told.timed
@@ -123,6 +130,8 @@ module _ (d : DocumentState) (events : List Timed) where
       split_to_act d ago events gone silent answers t fate drawn w next was so
   after_act answers (Lost ago since most silent) t fate drawn w next was so =
       lost_to_act d ago events since most silent answers t fate drawn w next was so
+  after_act answers (Fewer ago since most silent) t fate drawn w next was so =
+      taken_to_act d ago events since most silent answers t fate drawn w next was so
 
 -- ---- rest
 
@@ -143,9 +152,11 @@ module _ (d : DocumentState) (playable : IsPlayable d) (events : List Timed) (w 
       cleared_to_claimed d ago events since silent right old w start so playable rest
   rests_from (Aging ago aged silent) start rest so =
       aging_to_claimed d ago events aged silent w start so playable rest
-  rests_from (Split ago gone silent) start none so = absurd none
+  rests_from (Split ago gone silent) start rest so =
+      split_to_claimed d ago events gone silent w start so playable rest
   rests_from (Lost ago since most silent) start rest so =
       lost_to_claimed d ago events since most silent w start so playable rest
+  rests_from (Fewer ago since most silent) start none so = absurd none
 
   pub taken_as : (past seen : Past) → IsTakenAs d.network events past w.time seen → IsAfter d events past w
       → IsAfter d events seen w
@@ -178,6 +189,7 @@ begins_after answers d playable fate until first w ts k (Cleared ago since silen
 begins_after answers d playable fate until first w ts k (Aging ago aged silent) none = absurd none
 begins_after answers d playable fate until first w ts k (Split ago gone silent) none = absurd none
 begins_after answers d playable fate until first w ts k (Lost ago since most silent) none = absurd none
+begins_after answers d playable fate until first w ts k (Fewer ago since most silent) none = absurd none
 
 -- ---- it settles
 
@@ -292,6 +304,8 @@ module _ (d : DocumentState) (playable : IsPlayable d) (all : List Timed) (calm 
       (inl (omega (arith, late, on)))
   after_settles (Lost ago since most silent) so (off, passed, inr used) =
       lost_to_settled d ago all since most silent w so playable (omega (arith, passed, on)) (inr used)
+  after_settles (Fewer ago since most silent) so (off, leaves, none) =
+      taken_to_settled d ago all since most silent w so playable leaves none
 
   pub after_chooses : (past : Past) → IsAfter d all past w → ChoosesAfter d.network all past settled → ChoiceStands w
   after_chooses AnyPast so settles = choice_stands w (after_settles AnyPast so settles).0
@@ -317,3 +331,5 @@ module _ (d : DocumentState) (playable : IsPlayable d) (all : List Timed) (calm 
       (omega (arith, passed, on)))
   after_chooses (Lost ago since most silent) so (off, passed) =
       lost_to_chooses d ago all since most silent w so playable (omega (arith, passed, on))
+  after_chooses (Fewer ago since most silent) so (off, leaves, none) =
+      taken_to_chooses d ago all since most silent w so playable leaves none

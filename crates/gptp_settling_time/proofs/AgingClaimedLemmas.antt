@@ -21,6 +21,7 @@ use Rattle.gptp_bmca_machine.specs.Network.{IsSettlingNetwork, Network, network_
 use Rattle.gptp_bmca_machine.specs.SoundLaws.{AllAreNear}
 use Rattle.gptp_bmca_machine.specs.Station.{Disabled, HoldsAt, Received, Station as SeenStation}
 use Rattle.gptp_bmca_machine.proofs.SettledLemmas.{systems_bounded}
+use Rattle.gptp_bmca_machine.proofs.RestLemmas.{left_of}
 use Rattle.gptp_invariants.specs.ChoiceCalm.{HaveQuietLinks, delay_in}
 use Rattle.gptp_invariants.specs.ChoiceSeenLaws.{IsNoChange}
 use Rattle.gptp_invariants.specs.ChoiceSettled.{ChoiceStands, Settled}
@@ -256,7 +257,7 @@ module _ (p : SettlingParams) (g : Snapshot) (aged silent : ℕ) (w : WorldState
   none = elim gone [
     | inl late ↦
         near_ends_hold_none says_announce g n_aging well'
-        (record { graph = is.well; systems = is.left.systems; links = is.left.links }) (view w) after
+        (left_of g n_aging is.well is.left.systems is.left.links) (view w) after
         seen.fits.stations seen.still is.stay (near_now g n_aging well' is.near)
         (aged_gone says_announce g (network_setting n_aging) (stay_of p) aged (view w)
         (aging_facts p silent w is.standing is.asked quiet) seen.ages late)

@@ -35,6 +35,7 @@ use Rattle.gptp_settling_time.proofs.FitsLemmas.{IsLeftUnmoved}
 use Rattle.gptp_settling_time.proofs.LeftClaimedLemmas.{HaveAskedLong}
 use Rattle.gptp_settling_time.proofs.NearEndLemmas.{NearEndsStay}
 use Rattle.gptp_settling_time.proofs.UnusedDownLemmas.{alike_then, asked', delay_now, either, emptied, late_then, snapshot_now, standing', time}
+use Rattle.gptp_bmca_machine.proofs.RestLemmas.{left_of}
 
 module _ (p : SettlingParams) (before : Snapshot) (aged silent owner port : ℕ) (w : WorldState) (draws : List Draw)
     (done : Done) (w' : WorldState) (is' : IsWorld p w') (measured' : LinkIsMeasured w')
@@ -97,7 +98,7 @@ module _ (p : SettlingParams) (before : Snapshot) (aged silent owner port : ℕ)
     left' = subst (IsLeftUnmoved before) (sym same_graph) aging.left
 
     less : IsWhatIsLeft before n'
-    less = record { graph = aging.well; systems = left'.systems; links = left'.links }
+    less = left_of before n' aging.well left'.systems left'.links
 
     after : IsAfterLoss n (view w)
     after = aging_after p silent w aging.standing aging.asked quiet off aging.late

@@ -20,6 +20,7 @@ use Rattle.gptp_bmca_machine.proofs.LossLemmas.{fits_kept}
 use Rattle.gptp_bmca_machine.proofs.PlaceLemmas.{same_there}
 use Rattle.gptp_bmca_machine.proofs.RestingLemmas.{links_stay}
 use Rattle.gptp_bmca_machine.proofs.StillLemmas.{LeadsOn, StillChoose, StillSettles, chooses_still, ends, is_station, levels_below, still, still_stays}
+use Rattle.gptp_bmca_machine.proofs.RestLemmas.{left_of}
 use Rattle.gptp_settling_time.proofs.AgingLemmas.{StaysAsNamed, UnlinkedAge}
 use Rattle.gptp_settling_time.proofs.FitsLemmas.{IsLeftUnmoved, UnlinkedHoldNothing, best_before, distance_before, joined_stays, received_still}
 use Rattle.gptp_settling_time.proofs.NamesItselfLemmas.{AllNameItself, itself_kept}
@@ -34,7 +35,7 @@ pub record IsAgingSeen (says : Spelling) (g : Snapshot) (n : Network) (stay : �
   pub itself : AllNameItself says n g w
 
 abbrev what_is_left : (g : Snapshot) (n : Network) → IsWellFormed g → IsLeftUnmoved g n.graph → IsWhatIsLeft g n
-what_is_left g n well left = record { graph = well; systems = left.systems; links = left.links }
+what_is_left g n well left = left_of g n well left.systems left.links
 
 -- every step keeps that
 pub aging_kept : (says : Spelling) (g : Snapshot) (n : Network) (stay : ℤ → ℕ) (aged : ℕ) (w w' : MachineState)

@@ -22,7 +22,7 @@ use Rattle.gptp_theorem.proofs.CalmLemmas.{quiet_stands}
 use Rattle.gptp_theorem.proofs.CalmKeptLemmas.{no_change}
 use Rattle.gptp_settling_time.specs.Losses.{NoneSilent}
 use Rattle.gptp_settling_time.proofs.AgingClaimedLemmas.{IsAgingAlways, aging_acts, aging_chooses, aging_later, aging_now, aging_settles}
-use Rattle.gptp_settling_time.specs.InTurn.{HasAged}
+use Rattle.gptp_settling_time.specs.Rests.{HasAged}
 use Rattle.gptp_settling_time.proofs.AgesByWorldLemmas.{WorldAgesBy, by_acts, by_later}
 use Rattle.gptp_settling_time.proofs.AgedLemmas.{AgedIsSound, aged_claimed, aged_sound_acts, aged_sound_later}
 use Rattle.gptp_settling_time.proofs.ClaimedToLemmas.{IsClaimedTo}

@@ -6,7 +6,7 @@ use Rattle.gptp_scenario.specs.Calm.{IsCalm, IsUsed, NothingLapses, last_change}
 use Rattle.gptp_scenario.specs.Change.{link_after}
 use Rattle.gptp_scenario.specs.Network.{IsEnd, IsNetwork, NetworkState, pace_of}
 use Rattle.gptp_scenario.specs.SettlingAtOnce.{settling_span_at_once}
-use Rattle.gptp_scenario.specs.SettlingTime.{loss_span, settling_span_with, way_span}
+use Rattle.gptp_scenario.specs.SettlingTime.{loss_span, settling_span_with, silence_span, way_span}
 use Rattle.gptp_scenario.specs.SyncWait.{sync_paths}
 use Rattle.gptp_scenario.specs.declared.change.Timed.{Timed}
 use Rattle.gptp_scenario.specs.declared.network.LinkSpec.{LinkSpec}
@@ -16,12 +16,18 @@ use Rattle.gptp_theorem.proofs.EventLemmas.{last_behind}
 use Rattle.gptp_settling_time.specs.Exactly.{SettlesBy}
 use Rattle.gptp_settling_time.specs.Gains.{Repeats, RepeatsNow}
 use Rattle.gptp_settling_time.specs.HowSoon.{AfterIdleEvents, BeforeRepeats, BesideIdle, EachEvent, IsDownToo}
-use Rattle.gptp_settling_time.specs.InTurn.{Aging, AnyPast, ChoosesAfter, Cleared, EventLeads, Fallen, FlightIsGone, Gained, HasToldAnew, Heard, LeadOn, Left, Lost, Past, RestsFrom, SettlesAfter, Split, Starting, Turned, TurnedTree}
-use Rattle.gptp_settling_time.specs.Losses.{LowersUnused, NoneSilent, UpIsUsed}
+use Rattle.gptp_settling_time.specs.Pasts.{Aging, AnyPast, Cleared, Fallen, Gained, Heard, Left, Fewer, Lost, Past, Split, Starting, Turned, TurnedTree}
+use Rattle.gptp_settling_time.specs.EventKinds.{FlightIsGone}
+use Rattle.gptp_settling_time.specs.Leads.{EventLeads}
+use Rattle.gptp_settling_time.specs.Arrivals.{arrived_by}
+use Rattle.gptp_settling_time.specs.Rests.{FlightIsGoneSince, HasToldAnew, RestsFrom}
+use Rattle.gptp_settling_time.specs.InTurn.{ChoosesAfter, LeadOn, SettlesAfter}
+use Rattle.gptp_settling_time.specs.Losses.{LowersUnused, MovesNoneInAll, NoneSilent, UpIsUsed}
 use Rattle.gptp_settling_time.proofs.CalmStillLemmas.{alike_calm, idle_calm}
-use Rattle.gptp_settling_time.proofs.LeadOnLemmas.{HasRested, HasSettled, idle_leads, idle_settled, leads_on, settled_later, since, widens_leads}
+use Rattle.gptp_settling_time.proofs.LeadOnLemmas.{idle_leads, idle_settled, since, widens_leads}
+use Rattle.gptp_settling_time.proofs.SettledPastLemmas.{HasRested, HasSettled, leads_on, settled_later}
 use Rattle.gptp_settling_time.proofs.LossRestLemmas.{last_at}
-use Rattle.gptp_settling_time.proofs.SamePathsLemmas.{StandSame, idle_same, paths_same, same_alike, same_back, same_itself, same_lives, same_on}
+use Rattle.gptp_settling_time.proofs.SamePathsLemmas.{StandSame, idle_same, paths_same, same_alike, same_back, same_itself, same_lives, same_on, stands_before}
 
 -- ---- no such event is there
 
@@ -77,6 +83,13 @@ module _ (n : NetworkState) (off : NothingLapses n.params) (events more : List T
   still_dark ago silent settled (inl late) = inl late
   still_dark ago silent settled (inr none) = inr (still_none ago none)
 
+  still_leaves : (ago : List Timed) → MovesNoneInAll n ago events → MovesNoneInAll n ago more
+  still_leaves ago leaves = record {
+    moves = λ g g' v stands stands'. leaves.moves g g' v stands (stands_before n events more same g' stands');
+    delay = subst (λ (x : SyncPaths). x.delay ≤ (sync_paths n ago).delay) (sym paths) leaves.delay;
+    paths = subst (λ (x : SyncPaths). x.systems ≤ (sync_paths n ago).systems) (sym paths) leaves.paths;
+  }
+
   still_gone : (gone : ℕ) → FlightIsGone n events gone → FlightIsGone n more gone
   still_gone gone (inl (used, is)) = inl (still_used used, is ∙ ap (λ (x : SyncPaths). x.delay) (sym paths))
   still_gone gone (inr is) = inr is
@@ -113,6 +126,8 @@ module _ (n : NetworkState) (off : NothingLapses n.params) (events more : List T
     subst (λ x. suc (lost_at + loss_span (pace_of n) x most) ≤ settled) (sym paths) late,
     still_dark ago silent settled dark,
   )
+  settles_same (Fewer ago lost_at most silent) settled (off, leaves, none) =
+      (off, still_leaves ago leaves, still_none ago none)
 
   pub chooses_same : (past : Past) (settled : ℕ) → ChoosesAfter n events past settled → ChoosesAfter n more past settled
   chooses_same AnyPast settled is = settles_same AnyPast settled is
@@ -130,12 +145,27 @@ module _ (n : NetworkState) (off : NothingLapses n.params) (events more : List T
       (off, subst (λ x. gone + 2 * way_span x ≤ settled) (sym paths) late)
   chooses_same (Lost ago lost_at most silent) settled (off, late) =
       (off, subst (λ x. suc (lost_at + loss_span (pace_of n) x most) ≤ settled) (sym paths) late)
+  chooses_same (Fewer ago lost_at most silent) settled is = settles_same (Fewer ago lost_at most silent) settled is
 
   -- ---- rest
 
   still_over : (start time : ℕ) → start + pred (sync_paths n events).systems * (sync_paths n events).delay ≤ time
       → start + pred (sync_paths n more).systems * (sync_paths n more).delay ≤ time
   still_over start time = subst (λ (x : SyncPaths). start + pred x.systems * x.delay ≤ time) (sym paths)
+
+  still_since : (ago : List Timed) (flight : ℕ) → FlightIsGoneSince n ago events flight
+      → FlightIsGoneSince n ago more flight
+  still_since ago flight (inl is_gone) = inl (still_gone flight is_gone)
+  still_since ago flight (inr (slower, (most, within, limit), is)) = inr (
+    λ place v there up.
+        let one = same.links v (In-slice_get v n.links place there) in
+        let short = slower place v there (subst (λ (u : LinkSpec). u.up ≡ true) one up) in
+        let longest = ap (λ (u : LinkSpec). u.bounds.max) one in
+        let delay = ap (λ (x : SyncPaths). x.delay) paths in
+        omega (arith, short, longest, delay),
+    (most, within, subst (λ t. arrived_by most ago ≤ t + flight) (sym last) limit),
+    is ∙ ap (λ (x : SyncPaths). x.delay) (sym paths),
+  )
 
   -- so much later traces are told anew
   still_anew : (turned start time : ℕ) → HasToldAnew n events turned start time → HasToldAnew n more turned start time
@@ -188,13 +218,33 @@ module _ (n : NetworkState) (off : NothingLapses n.params) (events more : List T
     unlinked = is.unlinked;
     over = still_over start time is.over;
   }
-  rests_same (Split ago gone silent) time start none = absurd none
+  rests_same (Split ago gone silent) time start is = record {
+    calm = still_calm is.calm;
+    off = is.off;
+    since = is.since ∙ ap (λ t. suc (t + silence_span (pace_of n))) (sym last);
+    told = elim is.told [
+      | inl told ↦
+          inl (subst (λ (x : SyncPaths). gone + 2 * way_span x + pred (pred x.systems) * (largest_interval (pace_of n)
+          + x.delay) + largest_interval (pace_of n) ≤ time) (sym paths) told)
+      | inr (cuts, flight, is_gone, stand, arrived) ↦ inr (
+        λ g g' stands stands'. cuts g g' stands (stands_before n events more same g' stands'),
+        flight,
+        still_since ago flight is_gone,
+        subst (λ x. gone + 2 * way_span x ≤ time) (sym paths) stand,
+        subst (λ x. gone + way_span x + flight ≤ time) (sym paths) arrived,
+      )
+    ];
+    later = subst (λ x. gone + way_span x ≤ start) (sym paths) is.later;
+    unlinked = still_dark ago silent time is.unlinked;
+    over = still_over start time is.over;
+  }
   rests_same (Lost ago lost_at most silent) time start is = record {
     off = is.off;
     later = subst (λ x. lost_at + loss_span (pace_of n) x most < start + way_span x) (sym paths) is.later;
     unlinked = still_dark ago silent time is.unlinked;
     over = still_over start time is.over;
   }
+  rests_same (Fewer ago lost_at most silent) time start none = absurd none
 
   settled_same : (past : Past) (time : ℕ) → HasSettled n events past time → HasSettled n more past time
   settled_same AnyPast time is = record {
@@ -214,6 +264,7 @@ module _ (n : NetworkState) (off : NothingLapses n.params) (events more : List T
   settled_same (Aging ago aged silent) time none = absurd none
   settled_same (Split ago gone silent) time none = absurd none
   settled_same (Lost ago lost_at most silent) time none = absurd none
+  settled_same (Fewer ago lost_at most silent) time none = absurd none
 
   pub rested_same : (past : Past) (time : ℕ) → HasRested n events past time → HasRested n more past time
   rested_same past time (seen, inl one, is) = (seen, inl one, settled_same seen time is)
@@ -229,14 +280,16 @@ repeat_leads n made event now AnyPast begun = tt
 repeat_leads n made event now Starting begun = absurd (begun refl)
 repeat_leads n made event now (Gained start) begun = inr (inl (inl now.0.0, refl))
 repeat_leads n made event now (Heard start) begun = inr (inr (inl now.0.0, refl))
-repeat_leads n made event now (Left ago silent) begun = (inr now, refl, refl)
+repeat_leads n made event now (Left ago silent) begun = (inr (now.0.0, now.1), refl, refl)
 repeat_leads n made event now (Turned silent time) begun = (now, refl, refl)
 repeat_leads n made event now (Fallen silent time) begun = inr (now, refl)
 repeat_leads n made event now (TurnedTree silent time) begun = inr (now, refl)
-repeat_leads n made event now (Cleared ago first silent right old) begun = (inr now, refl, (refl, refl, refl, refl))
+repeat_leads n made event now (Cleared ago first silent right old) begun =
+    (inr (now.0.0, now.1), refl, (refl, refl, refl, refl))
 repeat_leads n made event now (Aging ago aged silent) begun = (inr now, refl, refl, inl refl)
 repeat_leads n made event now (Split ago gone silent) begun = (inr now, refl, refl, inl refl)
 repeat_leads n made event now (Lost ago lost_at most silent) begun = (inr now, refl, refl, refl, refl)
+repeat_leads n made event now (Fewer ago lost_at most silent) begun = (inr now, refl, refl, refl, refl)
 
 module _ (n : NetworkState) (network : IsNetwork n) (off : NothingLapses n.params) (time : ℕ) where
   abbrev AllNow : List Timed → Type 0
@@ -253,11 +306,11 @@ module _ (n : NetworkState) (network : IsNetwork n) (off : NothingLapses n.param
     repeats_lead (made ++ event ∷ []) others past begun (last_behind made event ∙ here) at each,
   )
 
-  repeats_same : (made others : List Timed) → EachEvent (Repeats n) made others → StandSame n made (made ++ others)
+  pub repeats_same : (made others : List Timed) → EachEvent (Repeats n) made others → StandSame n made (made ++ others)
   repeats_same made [] each = subst (StandSame n made) (sym (append-nil made)) (same_itself n made)
   repeats_same made (event ∷ others) (one, each) =
       subst (StandSame n made) (append_assoc made (event ∷ []) others)
-      (same_on n made (made ++ event ∷ []) ((made ++ event ∷ []) ++ others) (idle_same n network made event one.0)
+      (same_on n made (made ++ event ∷ []) ((made ++ event ∷ []) ++ others) (idle_same n network made event one)
       (repeats_same (made ++ event ∷ []) others each))
 
   last_on : (made others : List Timed) → last_change made ≡ time → AllNow others → last_change (made ++ others) ≡ time

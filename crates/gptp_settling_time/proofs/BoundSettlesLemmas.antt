@@ -9,9 +9,10 @@ use Rattle.gptp_network.specs.Document.{DocumentState}
 use Rattle.gptp_network.specs.Events.{AreInOrder}
 use Rattle.gptp_network.specs.Snapshot.{events_by}
 use Rattle.gptp_settling_time.specs.HowSoon.{IsChoiceAloneBound, IsChoiceBound, IsChoiceBoundAfter}
-use Rattle.gptp_settling_time.specs.InTurn.{AnyPast, BeginsBy, ChoosesAfter, ChoosesByEvents, ComesByEvents, LeadOn, Past, SettlesAfter, SettlesByEvents}
+use Rattle.gptp_settling_time.specs.Pasts.{AnyPast, Past}
+use Rattle.gptp_settling_time.specs.InTurn.{BeginsBy, ChoosesAfter, ChoosesByEvents, ComesByEvents, LeadOn, SettlesAfter, SettlesByEvents}
 use Rattle.gptp_settling_time.proofs.MomentLemmas.{last_by}
-use Rattle.gptp_settling_time.proofs.LeadOnLemmas.{HasRested, any_leads, rested_so, settled_later, taken_later}
+use Rattle.gptp_settling_time.proofs.SettledPastLemmas.{HasRested, any_leads, rested_so, settled_later, taken_later}
 use Rattle.gptp_settling_time.proofs.LossLeadLemmas.{settles_chooses}
 use Rattle.gptp_settling_time.proofs.FollowedLemmas.{IsFollowedTo, followed}
 use Rattle.gptp_settling_time.proofs.LossFollowedLemmas.{lost_after}

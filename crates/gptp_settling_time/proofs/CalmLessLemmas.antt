@@ -6,12 +6,26 @@ use Rattle.gptp_scenario.specs.Calm.{IsCalm, IsLive, IsQuiet, IsUsed, NothingLap
 use Rattle.gptp_scenario.specs.Change.{is_at, link_acted, link_after, standing, system_acted, system_after, with_live, with_up}
 use Rattle.gptp_scenario.specs.Network.{NetworkState}
 use Rattle.gptp_scenario.specs.declared.change.Act.TheVariants.{Change as Changing}
-use Rattle.gptp_scenario.specs.declared.change.Change.TheVariants.{Fail}
+use Rattle.gptp_scenario.specs.declared.change.Change.TheVariants.{Fail, LinkDown}
 use Rattle.gptp_scenario.specs.declared.change.Timed.{Timed}
 use Rattle.gptp_scenario.specs.declared.network.LinkSpec.{LinkSpec}
 use Rattle.gptp_scenario.specs.declared.network.SystemSpec.{SystemSpec}
 use Rattle.gptp_theorem.proofs.EventLemmas.{link_behind, system_behind}
 use Rattle.gptp_settling_time.specs.Losses.{FailsFarEnd, LowersUnused}
+
+-- systems live where a link goes down
+pub still_lives : (n : NetworkState) (made : List Timed) (event : Timed) (clock port : ℕ)
+    → event.act ≡ Changing (LinkDown clock port) → (number : ℕ) → IsLive n.systems made number
+    → IsLive n.systems (made ++ event ∷ []) number
+still_lives n made event clock port act number x = record {
+  place = x.place;
+  system = x.system;
+  there = x.there;
+  clock = x.clock;
+  live = ap (λ s. s.live)
+      (system_behind made event (clock_of x.system.identity) (standing x.system)
+      ∙ ap (λ act. system_acted act (clock_of x.system.identity) (system_after made x.system)) act) ∙ x.live;
+}
 
 module _ (n : NetworkState) (made : List Timed) (event : Timed) (off : NothingLapses n.params) (calm : IsCalm n made)
   where
@@ -62,19 +76,22 @@ module _ (n : NetworkState) (made : List Timed) (event : Timed) (off : NothingLa
     pub fails_calm : FailsFarEnd n made event → IsCalm n later
     fails_calm fails = failure_calm fails.clock fails.act
 
-    pub lowers_calm : LowersUnused n made event → IsCalm n later
-    lowers_calm lowers =
+    pub down_calm : (clock port : ℕ) → event.act ≡ Changing (LinkDown clock port) → IsCalm n later
+    down_calm clock port act =
         less_calm (λ m live.
         sym (ap (λ s. s.live)
         (system_behind made event (clock_of m.identity) (standing m)
-        ∙ ap (λ act. system_acted act (clock_of m.identity) (system_after made m)) lowers.act)) ∙ live)
+        ∙ ap (λ act. system_acted act (clock_of m.identity) (system_after made m)) act)) ∙ live)
         (λ v up.
-        let same = link_behind made event v ∙ ap (λ act. link_acted act (link_after made v)) lowers.act in
+        let same = link_behind made event v ∙ ap (λ act. link_acted act (link_after made v)) act in
         same
-        ∙ down (is_at lowers.clock lowers.port (link_after made v)) (link_after made v)
+        ∙ down (is_at clock port (link_after made v)) (link_after made v)
         (sym (ap (λ (w : LinkSpec). w.up) same) ∙ up))
       where
         down : (test : Bool) (w : LinkSpec) → (cond test (with_up false w) w).up ≡ true
             → cond test (with_up false w) w ≡ w
         down true w none = absurd cc
         down false w up = refl
+
+    pub lowers_calm : LowersUnused n made event → IsCalm n later
+    lowers_calm lowers = down_calm lowers.clock lowers.port lowers.act

@@ -34,7 +34,7 @@ use Rattle.gptp_theorem.proofs.SnapshotLemmas.{snapshots_stand}
 use Rattle.gptp_theorem.proofs.SyncPathLemmas.{paths_stand}
 use Rattle.gptp_theorem.proofs.CalmKeptLemmas.{no_change}
 use Rattle.gptp_settling_time.specs.Documents.{IsSettledAs}
-use Rattle.gptp_settling_time.specs.InTurn.{UsedVaryLittle}
+use Rattle.gptp_settling_time.specs.EventKinds.{UsedVaryLittle}
 use Rattle.gptp_settling_time.specs.Starts.{DelaysVaryLittle, LinksVaryLittle}
 use Rattle.gptp_settling_time.proofs.GainLemmas.{used_as}
 use Rattle.gptp_settling_time.proofs.KeptToLemmas.{KeepsTo, keeps_act, keeps_later}

@@ -31,7 +31,8 @@ use Rattle.gptp_settling_time.proofs.AlwaysClaimedLemmas.{IsStanding}
 use Rattle.gptp_settling_time.proofs.FailedUpLemmas.{delay_set, used_set}
 use Rattle.gptp_settling_time.proofs.FitsLemmas.{IsLeftUnmoved, UnlinkedHoldNothing}
 use Rattle.gptp_settling_time.proofs.LeftClaimedLemmas.{HaveAskedBy, HaveAskedLong, IsLeftAlways, left_network, left_seen}
-use Rattle.gptp_settling_time.proofs.LoweredLemmas.{StandsReduced, StayOrAreAlone, less, other, told, wires}
+use Rattle.gptp_settling_time.proofs.LoweredLemmas.{StayOrAreAlone, less, other, told, wires}
+use Rattle.gptp_settling_time.proofs.PortDownLemmas.{StandsReduced}
 use Rattle.gptp_settling_time.proofs.ReducedLemmas.{IsReduced}
 use Rattle.gptp_settling_time.proofs.SettledSeenLemmas.{IsSettledSeen}
 use Rattle.gptp_settling_time.proofs.TakenDownLemmas.{silent_down, stood_down, told_keeps}

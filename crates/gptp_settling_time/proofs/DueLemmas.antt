@@ -1,5 +1,5 @@
 -- When what is in flight is due: by an announce interval, or by the greatest delay of a link in use.
-use Rattle.std.proofs.Common.{◌≡◌, ◌⊎◌, ◌<◌, ◌≤◌, ◌+◌, ℕ, pred, true, Some, slice_get, sym, ap, subst, ◌∙◌, inl, inr, arith}
+use Rattle.std.proofs.Common.{◌≡◌, ◌⊎◌, ◌<◌, ◌≤◌, ◌+◌, ℕ, max, pred, true, Some, slice_get, sym, ap, subst, ◌∙◌, inl, inr, arith}
 use Rattle.gptp_lists.specs.Members.{In}
 use Rattle.gptp_graph.specs.Snapshot.{Joins}
 use Rattle.gptp_setup.specs.SettlingParams.{SettlingParams, largest_interval}
@@ -12,13 +12,15 @@ use Rattle.gptp_invariants.specs.ChoiceSettlesAsMachine.{IsWorld}
 use Rattle.gptp_invariants.specs.ChoiceView.{says_announce, view}
 use Rattle.gptp_invariants.specs.WorldStanding.{channel_is_used, live_stations, snapshot_of}
 use Rattle.gptp_invariants.proofs.ChoiceCalmFactLemmas.{frame_from}
+use Rattle.gptp_invariants.proofs.DelayLimitLemmas.{in_queue}
 use Rattle.gptp_invariants.proofs.WorldDueLemmas.{frames_on_links}
 use Rattle.gptp_invariants.proofs.WorldWayLemmas.{used_joins}
 use Rattle.gptp_settling_time.proofs.SettledSeenLemmas.{IsSettledSeen}
 use Rattle.gptp_settling_time.proofs.ReducedLemmas.{IsReduced}
+use Rattle.gptp_settling_time.proofs.SinceSetLemmas.{AreLimitedBy, arrive_limit}
 use Rattle.gptp_lists.proofs.MappedLemmas.{alike}
 use Rattle.gptp_model.proofs.BareLemmas.{bare}
-use Rattle.gptp_invariants.proofs.ChoiceCalmKeptLemmas.{KeepsNetwork}
+use Rattle.gptp_invariants.proofs.ChoiceCalmKeptLemmas.{KeepsNetwork, delay_kept}
 
 -- each Announce in flight is due by this time
 abbrev pub AreDueBy : ℕ → WorldState → Type 0
@@ -69,6 +71,31 @@ due_by_delay p w is seen used j l f a there member said = by (seen.calm.facts.fr
         let grows = since_grows seen.n 0 (pred seen.n.reach) (omega arith) in
         let late = seen.late in
         absurd (omega (arith, old, left, begun, grows, late))
+
+-- no link that is up takes longer than one in use
+abbrev pub NoneUpIsSlowerIn : WorldState → Type 0
+NoneUpIsSlowerIn w = (link : ℕ) (channel : Channel) → slice_get w.net.channels link ≡ Some channel → channel.up ≡ true
+    → channel.bounds.max ≤ delay_in w
+
+-- then all that is in flight is due within the greatest delay, once that is gone which was in flight as a link was set
+pub due_limited : (gone old : ℕ) (w : WorldState) → IsSound w → NoneUpIsSlowerIn w → AreLimitedBy gone w → gone ≤ old
+    → w.time + delay_in w ≤ old → AreDueBy old w
+due_limited gone old w sound slower limited arrived later j l f a there member said =
+    let at = frame_from w j l f there member in
+    let up = frames_on_links w sound at.link at.direction at.channel at.frame at.here at.among in
+    let short : at.channel.bounds.max ≤ delay_in w = slower at.link at.channel at.here up in
+    let soon : at.frame.due ≤ max (w.time + at.channel.bounds.max) gone =
+    in_queue (arrive_limit gone w.time) w.time at.direction at.channel (limited at.link at.channel at.here) at.frame
+    at.among in
+    subst (λ (x : AnnounceFrame). x.due ≤ old) (sym at.is) (omega (arith, soon, short, arrived, later))
+
+pub slower_kept : (w w' : WorldState) → KeepsNetwork w w' → NoneUpIsSlowerIn w → NoneUpIsSlowerIn w'
+slower_kept w w' k slower link channel here up =
+    let (old, there, same) = alike bare bare w.net.channels w'.net.channels (sym k.links) link channel here in
+    let short = slower link old there (ap (λ (c : Channel). c.up) same ∙ up) in
+    let one : old.bounds.max ≡ channel.bounds.max = ap (λ (c : Channel). c.bounds.max) same in
+    let delay = delay_kept w w' k in
+    omega (arith, short, one, delay)
 
 -- it stays so as long as the network stays
 pub use_kept : (w w' : WorldState) → KeepsNetwork w w' → UpIsInUse w → UpIsInUse w'

@@ -1,5 +1,5 @@
--- A link of a network at rest goes down: the system at one end answers, the one at the other may lose a port, and all
--- else stands as it did. So what is held fits as it did, and links from unmoved systems stay.
+-- A link of a network at rest goes down, or an identity gets worse: a system answers, another may lose a port, and
+-- all else stands as it did. So what is held fits as it did, and links from unmoved systems stay.
 use Rattle.std.proofs.Common.{◌≡◌, ◌≢◌, ◌⊎◌, ◌<◌, ◌≤◌, ◌++◌, ℕ, zero, suc, true, false, List, [], ◌∷◌, Some, slice_get, refl, sym, ap, subst, ◌∙◌, inl, inr, arith, append-nil}
 use native.Mathlib.Decide.{dec_lt, ℕ_discrete}
 use Rattle.gptp_lists.specs.Members.{In}
@@ -23,19 +23,22 @@ use Rattle.gptp_bmca_machine.specs.Reacts.{IsMasterAt, IsOwn, PortStep, StationR
 use Rattle.gptp_bmca_machine.specs.RestLaws.{SameWiring}
 use Rattle.gptp_bmca_machine.specs.SoundEverywhere.{IsSoundEverywhere}
 use Rattle.gptp_bmca_machine.specs.Station.{Disabled, HoldsAt, MachineState, Port, Received, Reception, Station}
-use Rattle.gptp_bmca_machine.specs.Touch.{Disable}
+use Rattle.gptp_bmca_machine.specs.Touch.{StationTouch}
 use Rattle.gptp_bmca_machine.proofs.HearingLemmas.{final_kept, mid_on}
 use Rattle.gptp_bmca_machine.proofs.LossLemmas.{flight_fits}
 use Rattle.gptp_bmca_machine.proofs.PlaceLemmas.{same_there}
 use Rattle.gptp_bmca_machine.proofs.ReactsLemmas.{JustHeard, held_from}
 use Rattle.gptp_bmca_machine.proofs.RestingLemmas.{links_stay, stays_so}
 use Rattle.gptp_bmca_machine.proofs.StillLemmas.{LeadsOn, StillSettles, capable_at, chooses_still, hears_settled, is_station, live_before, still, still_stays}
+use Rattle.gptp_bmca_machine.proofs.FallLeaveLemmas.{OnlyDisables}
 use Rattle.gptp_settling_time.proofs.FitsLemmas.{everything_fits}
 use Rattle.gptp_settling_time.proofs.ReducedLemmas.{IsReducedStation}
 
--- A system answers as its port at a link is disabled. Ports of one other are as they were or disabled, and all others
--- stand as they did. Each lane takes up what the system sends, or is down and empty.
-pub record EndAnswers (says : Spelling) (n : Network) (x lost other : ℕ) (w w' : MachineState) : Type 0 where
+-- A system answers as its port at a link is disabled, or as its identity gets worse. Ports of one other are as they
+-- were or disabled, and all others stand as they did. Each lane takes up what the system sends, or is down and empty.
+pub record EndAnswers (says : Spelling) (n : Network) (x : ℕ) (touch : StationTouch) (other : ℕ) (w w' : MachineState)
+    : Type 0 where
+  pub only : OnlyDisables touch
   pub s : Station
   pub s' : Station
   pub sends : List Send
@@ -44,7 +47,7 @@ pub record EndAnswers (says : Spelling) (n : Network) (x lost other : ℕ) (w w'
   pub named : s.clock ≡ x
   pub here : slice_get w.stations (n.place x) ≡ Some s
   pub there : slice_get w'.stations (n.place x) ≡ Some s'
-  pub reacts : StationReacts says s (Disable (suc lost)) w.time s' sends
+  pub reacts : StationReacts says s touch w.time s' sends
   pub others : (i : ℕ) (m : Station) → slice_get w'.stations i ≡ Some m → m.live ≡ true → i ≢ n.place x
       → (old : Station) × (slice_get w.stations i ≡ Some old) × IsReducedStation old m
   pub stood : (i : ℕ) (m : Station) → slice_get w'.stations i ≡ Some m → i ≢ n.place x → i ≢ other
@@ -56,8 +59,8 @@ pub record EndAnswers (says : Spelling) (n : Network) (x lost other : ℕ) (w w'
 module _ (says : Spelling) (n0 n : Network) (x : ℕ) (well : IsWellFormed n.graph) (left : IsWhatIsLeft n0.graph n)
     (moved_x : Unmoved n0.graph n x → ⊥) (net0 : IsSettlingNetwork n0) (w : MachineState) (calm0 : Calm n0 w)
     (invariant0 : Invariant says n0 w) (late0 : settled_from n0 ≤ w.time)
-    (sound0 : IsSoundEverywhere says n0.graph w) (same : SameWiring n0 n) (w' : MachineState) (lost other : ℕ)
-    (a : EndAnswers says n x lost other w w') (kept' : IsAfterLoss n w') where
+    (sound0 : IsSoundEverywhere says n0.graph w) (same : SameWiring n0 n) (w' : MachineState)
+    (touch : StationTouch) (other : ℕ) (a : EndAnswers says n x touch other w w') (kept' : IsAfterLoss n w') where
   abbrev g : Snapshot
   g = n0.graph
 
@@ -87,12 +90,12 @@ module _ (says : Spelling) (n0 n : Network) (x : ℕ) (well : IsWellFormed n.gra
     | yes one ↦
         let is : m ≡ a.s' =
         same_there w'.stations (n.place x) m a.s' (subst (λ k. slice_get w'.stations k ≡ Some m) one at) a.there in
-        by is (held_from says a.s a.s' (Disable (suc lost)) w.time a.sends a.reacts place r
+        by is (held_from says a.s a.s' touch w.time a.sends a.reacts place r
         (subst (λ z. HoldsAt z place r) is holds))
     | no apart ↦ others (a.others i m at live apart) holds
   ]
     where
-      by : m ≡ a.s' → HoldsAt a.s place r ⊎ JustHeard a.s.clock (suc place) w.time (Disable (suc lost)) r
+      by : m ≡ a.s' → HoldsAt a.s place r ⊎ JustHeard a.s.clock (suc place) w.time touch r
           → HeldBefore m.clock place r
       by is (inl before) = record {
         i = n.place x;
@@ -102,7 +105,7 @@ module _ (says : Spelling) (n0 n : Network) (x : ℕ) (well : IsWellFormed n.gra
         clock = sym (ap (λ (z : Station). z.clock) is ∙ a.reacts.clock);
         holds = before;
       }
-      by is (inr just) = absurd (let both = just.touched in cc)
+      by is (inr just) = absurd (a.only.deaf (suc place) just.said just.touched)
 
       others : ((old : Station) × (slice_get w.stations i ≡ Some old) × IsReducedStation old m) → HoldsAt m place r
           → HeldBefore m.clock place r
@@ -312,25 +315,25 @@ module _ (says : Spelling) (n0 n : Network) (x : ℕ) (well : IsWellFormed n.gra
             by (a.reacts.ports q pu (subst (λ (z : Station). slice_get z.ports q ≡ Some pu) is there))
           where
             by : ((old : Port) × (slice_get a.s.ports q ≡ Some old)
-                × PortStep says a.s.clock (suc q) w.time (Disable (suc lost)) a.s'.root a.s'.steps old pu a.sends)
+                × PortStep says a.s.clock (suc q) w.time touch a.s'.root a.s'.steps old pu a.sends)
                 → Heard pu
             by (old, port, answer) = record {
               s = a.s;
               at = subst (λ c. slice_get w.stations (n.place c) ≡ Some a.s) (sym same) a.here;
               port = old;
               there = port;
-              held = λ r final is. elim answer'.before [
-                | inl (lost_here, off) ↦ absurd (mid_on link says w.time (Disable (suc lost)) a.s'.root a.s'.steps old
+              held = λ r final is. elim (a.only.spares u (suc q) w.time old.held answer'.mid answer'.before) [
+                | inl off ↦ absurd (mid_on link says w.time touch a.s'.root a.s'.steps old
                     pu
                     a.sends answer' (hears' s pu at there) on off)
-                | inr (other, kept) ↦ final_kept link says w.time (Disable (suc lost)) a.s'.root a.s'.steps old pu
+                | inr kept ↦ final_kept link says w.time touch a.s'.root a.s'.steps old pu
                     a.sends answer' (hears' s pu at there) r final (kept ∙ is)
               ];
             }
               where
-                answer' : PortStep says u (suc q) w.time (Disable (suc lost)) a.s'.root a.s'.steps old pu a.sends
+                answer' : PortStep says u (suc q) w.time touch a.s'.root a.s'.steps old pu a.sends
                 answer' =
-                    subst (λ c. PortStep says c (suc q) w.time (Disable (suc lost)) a.s'.root a.s'.steps old pu a.sends)
+                    subst (λ c. PortStep says c (suc q) w.time touch a.s'.root a.s'.steps old pu a.sends)
                     (a.named ∙ sym same) answer
 
     level : LinkSettles says link w'

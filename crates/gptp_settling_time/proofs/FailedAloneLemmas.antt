@@ -350,15 +350,17 @@ module _ (p : SettlingParams) (number : ℕ) (w : WorldState) (draws : List Draw
             (subst (λ (c : Channel). IsFailedAmong at.answering (receiver at.direction c).clock w'.stations)
             (same_there w.net.channels at.link s.channel x.link.channel here_before x.link.here) s.answering)
 
-    silent_then : (next silent : ℕ) → next ≤ w.time → AreReadyBy p next w → HaveQuietLinks p.params w
-        → AreSilentBy p next w → w.time + silence_span p < silent → AreSilentBy p silent w'
-    silent_then next silent past ready quiet before long at s = elim (same_place at.answering k.place) [
+    -- ports beside it aren't capable once too many requests are lost; others beside failed systems stay as they are
+    pub silent_then : (next earlier silent : ℕ) → next ≤ w.time → earlier ≤ silent → AreReadyBy p next w
+        → HaveQuietLinks p.params w → AreSilentBy p earlier w → w.time + silence_span p < silent
+        → AreSilentBy p silent w'
+    silent_then next earlier silent past sooner ready quiet before long at s = elim (same_place at.answering k.place) [
       | inl own ↦
           let (first, by) = ready_first p next w is past at (ready at (stood_good at s own quiet)) in
           let asked_by = by.0.facts.asked in
           inr ((pair at w by.0.link).asker.asked, last_still at s own quiet first by.0, omega (arith, asked_by, long))
       | inr other ↦
-          silent_still at s other next silent (omega (arith, past, long)) (before at (stood_beside at s other))
+          silent_still at s other earlier silent sooner (before at (stood_beside at s other))
     ]
 
     -- what is left is all but the system and its links
@@ -398,6 +400,7 @@ module _ (p : SettlingParams) (number : ℕ) (w : WorldState) (draws : List Draw
     pub loses_it : (n : Network) → n.graph ≡ g' → LosesSystem g n number
     loses_it n graph = record {
       dead = λ known. not_left (subst (λ h. In number (clocks h)) graph known);
+      systems = λ s member. systems_before s (subst (λ (h : Snapshot). In s h.systems) graph member);
       others = λ v known. elim (lives_still v known) [
         | inl is_it ↦ inr is_it
         | inr still ↦ inl (subst (λ h. In v (clocks h)) (sym graph) still)
@@ -452,17 +455,27 @@ module _ (p : SettlingParams) (number : ℕ) (w : WorldState) (draws : List Draw
             ap (λ xs. clock_place xs v) stations_now
             ∙ places_kept w.stations k.place k.station dead k.is.here refl v
 
+    -- a network of the world then has the wiring of one of before
+    pub wired_on : (n : Network) → n ≡ wired_as n (start_network p 0 0 w') → SameWiring (start_network p 0 0 w) n
+    wired_on n wired = record {
+      place = λ v.
+          ap (λ (x : Network). x.place v) wired ∙ ap (λ xs. clock_place xs v) stations_now
+          ∙ places_kept w.stations k.place k.station dead k.is.here refl v;
+      lane = λ q. ap (λ (x : Network). x.lane q) wired ∙ ap (λ cs. lane_of cs q) channels_now;
+      log = λ q. ap (λ (x : Network). x.log_of q) wired ∙ log_kept q;
+      interval = λ q. ap (λ (x : Network). x.interval_of q) wired ∙ ap interval_of (log_kept q);
+    }
+
     module _ (seen : IsSettledSeen p w) where
       pub wires : (n : Network) → n ≡ wired_as n (start_network p 0 0 w') → SameWiring seen.n n
-      wires n wired = record {
-        place = λ v.
-            ap (λ (x : Network). x.place v) wired ∙ ap (λ xs. clock_place xs v) stations_now
-            ∙ places_kept w.stations k.place k.station dead k.is.here refl v ∙ seen.same.place v;
-        lane = λ q. ap (λ (x : Network). x.lane q) wired ∙ ap (λ cs. lane_of cs q) channels_now ∙ seen.same.lane q;
-        log = λ q. ap (λ (x : Network). x.log_of q) wired ∙ log_kept q ∙ seen.same.log q;
-        interval = λ q.
-            ap (λ (x : Network). x.interval_of q) wired ∙ ap interval_of (log_kept q) ∙ seen.same.interval q;
-      }
+      wires n wired =
+          let same = wired_on n wired in
+          record {
+            place = λ v. same.place v ∙ seen.same.place v;
+            lane = λ q. same.lane q ∙ seen.same.lane q;
+            log = λ q. same.log q ∙ seen.same.log q;
+            interval = λ q. same.interval q ∙ seen.same.interval q;
+          }
 
     module _ (next silent : ℕ) (pace : KeepPace p) (measured : LinkIsMeasured w) (measured' : LinkIsMeasured w')
         (past : next ≤ w.time) (ready : AreReadyBy p next w) (quiet : HaveQuietLinks p.params w)
@@ -475,7 +488,7 @@ module _ (p : SettlingParams) (number : ℕ) (w : WorldState) (draws : List Draw
         pace = pace;
         world = is';
         measured = measured';
-        silent = silent_then next silent past ready quiet silent_before long;
+        silent = silent_then next next silent past (omega (arith, past, long)) ready quiet silent_before long;
       }
 
       -- ports at links that are left are ready as they were

@@ -26,6 +26,7 @@ use Rattle.gptp_bmca_machine.specs.Network.{Network}
 use Rattle.gptp_bmca_machine.specs.RestLaws.{SameWiring}
 use Rattle.gptp_bmca_machine.specs.SoundLaws.{AllAreNear}
 use Rattle.gptp_bmca_machine.proofs.StillLemmas.{StillSettles}
+use Rattle.gptp_bmca_machine.proofs.RestLemmas.{left_of}
 use Rattle.gptp_invariants.specs.ChoiceCalm.{HaveQuietLinks, delay_in, greatest_channel_delay}
 use Rattle.gptp_invariants.specs.ChoiceSettlesAsMachine.{IsWorld}
 use Rattle.gptp_invariants.specs.ChoiceView.{port_identity_number, says_announce, view}
@@ -223,7 +224,7 @@ module _ (p : SettlingParams) (number : ℕ) (w : WorldState) (draws : List Draw
         left = left;
         near = near_then;
         stay = near_ends_stay g n' number well'
-            (record { graph = well; systems = left.systems; links = left.links })
+            (left_of g n' well left.systems left.links)
             (alone.loses_it p number w draws done w' is is' acts lives n' refl);
         way = way;
         late = late;
@@ -232,7 +233,7 @@ module _ (p : SettlingParams) (number : ℕ) (w : WorldState) (draws : List Draw
           fits = fits';
           still = still_emptied says_announce g seen.n n' well' same
               (λ a b joins. subst (λ h. Joins h a b) (sym seen.graph) (left.links a b joins)) back
-              (record { graph = well; systems = left.systems; links = left.links }) (view w) (view w') emptied come
+              (left_of g n' well left.systems left.links) (view w) (view w') emptied come
               (aging_after p silent w' standing asked quiet' off late) fits' tells;
           itself = itself_begins says_announce n' g (view w')
               (sound_reduced says_announce g (view w) (view w')

@@ -19,15 +19,12 @@ use Rattle.gptp_setup.specs.SettlingParams.{SettlingParams, largest_interval}
 use Rattle.gptp_system.specs.Input.{PortUp}
 use Rattle.gptp_system.specs.State.{clock, number}
 use Rattle.gptp_model.specs.Acts.{Acts, AtLink}
-use Rattle.gptp_model.specs.Ahead.{IsPortAmong}
 use Rattle.gptp_model.specs.Changing.{CallsIfLive, ComesUpIf, IsChannel, TellsEnds, brought_up}
 use Rattle.gptp_model.specs.declared.done.Done.{Done}
 use Rattle.gptp_model.specs.declared.station.Station.{Station}
 use Rattle.gptp_model.specs.World.{Channel, WorldState, port_id, receiver, sender, world_queue}
 use Rattle.gptp_model.proofs.BareLemmas.{bare}
-use Rattle.gptp_model.proofs.ActsByLemmas.{ends_told, join_among}
-use Rattle.gptp_model.proofs.EndLemmas.{each_end_told}
-use Rattle.gptp_model.proofs.StayLemmas.{JoinTheSame, begins_same, join_on, sender_same, set_join, stays_clocks}
+use Rattle.gptp_model.proofs.StayLemmas.{sender_same}
 use Rattle.gptp_bmca_machine.specs.Frame.{Lane}
 use Rattle.gptp_bmca_machine.specs.Network.{Network}
 use Rattle.gptp_bmca_machine.specs.Station.{Station as SeenStation}
@@ -36,7 +33,7 @@ use Rattle.gptp_invariants.specs.ChoiceSettlesAsMachine.{IsWorld}
 use Rattle.gptp_invariants.specs.ChoiceView.{lane_view, port_identity_number, station_view, view}
 use Rattle.gptp_invariants.specs.DelayLinkView.{IsEndOf, LinkPlace, other_direction}
 use Rattle.gptp_invariants.specs.DelayMeasured.{LinkStandsAt}
-use Rattle.gptp_invariants.specs.FailedUnanswered.{FailedNeighboursAreSilent, IsLastAnswered, IsOff, IsSilent, IsUnansweredAt, IsUnmeasured, StandsUnanswered}
+use Rattle.gptp_invariants.specs.FailedUnanswered.{FailedNeighboursAreSilent, IsOff, IsSilent, IsUnmeasured, StandsUnanswered}
 use Rattle.gptp_invariants.specs.WorldNews.{AreSilentBy}
 use Rattle.gptp_invariants.specs.WorldSettlingInvariant.{KeepsAll}
 use Rattle.gptp_invariants.specs.WorldSound.{IsSoundWorld}
@@ -47,11 +44,8 @@ use Rattle.gptp_invariants.proofs.ChoiceSettlesAsMachineLemmas.{kept_back}
 use Rattle.gptp_invariants.proofs.DelayClaimedCapableLemmas.{clock_has, used_if}
 use Rattle.gptp_invariants.proofs.DelayFirstUpLemmas.{queue_up, sender_up}
 use Rattle.gptp_invariants.proofs.DelayLinkLemmas.{sender_opposite}
-use Rattle.gptp_invariants.proofs.FailedLastAnsweredLemmas.{last_beside}
-use Rattle.gptp_invariants.proofs.FailedOffLemmas.{off_called}
-use Rattle.gptp_invariants.proofs.FailedSilentElsewhereLemmas.{stood_up}
+use Rattle.gptp_invariants.proofs.FailedSilentElsewhereLemmas.{stood_elsewhere, up_silences}
 use Rattle.gptp_invariants.proofs.FailedUnansweredLaneLemmas.{calls_shrink}
-use Rattle.gptp_invariants.proofs.PortInputLemmas.{of_up}
 use Rattle.gptp_invariants.proofs.WorldSoundCallLemmas.{tells_keep}
 use Rattle.gptp_invariants.proofs.WorldSoundLemmas.{sound_gains}
 use Rattle.gptp_invariants.proofs.WorldWayLemmas.{one_way, way_of}
@@ -328,72 +322,11 @@ module _ (p : SettlingParams) (w : WorldState) (is : IsWorld p w) (place : ℕ) 
           }
 
     -- a port at another link stays silent
-    module _ (at : LinkPlace) (apart : at.link ≢ place) where
-      joins : JoinTheSame w.net.channels brought.net.channels
-      joins = set_join w.net.channels place channel new here refl refl
-
-      -- it isn't at an end of that link
-      no_end : (v : WorldState) → JoinTheSame w.net.channels v.net.channels → (l : IsUnansweredAt at v)
-          (way : Direction) → sender at.direction l.channel ≢ sender way channel
-      no_end v on l way same =
-          let was = on at.link l.channel l.here in
-          apart (is.sound.wired.apart at.link place at.direction way was.old channel was.here here
-          (sym (begins_same w.net.channels at.link at.direction l.channel was) ∙ same))
-
-      stay_apart : StandsUnanswered at w' → StaysSilent p at w w'
-      stay_apart s =
-          let before =
-          ends_told ⊥ (λ v. StandsUnanswered at v → StandsUnanswered at brought) PortUp (stood_up at brought) channel
-          brought draws w' (λ none. absurd none) k (λ stands. stands) s in
-          record {
-            stood = record {
-              channel = before.channel;
-              here = sym (get-set_other w.net.channels place at.link new apart) ∙ before.here;
-              up = before.up;
-              asking = record {
-                station = before.asking.station;
-                here = before.asking.here;
-                live = before.asking.live;
-                named = before.asking.named;
-              };
-              answering = before.answering;
-            };
-            silent = λ start so. elim so [
-              | inl off ↦ inl (off_through off)
-              | inr (sent, last, soon) ↦ inr (sent, last_through sent last, soon)
-            ];
-          }
-        where
-          ports : (direction : Direction) → IsPortAmong (sender direction channel) brought.stations
-          ports = join_among w place channel is.sound.wired.ports here
-
-          link_begun : (l : IsUnansweredAt at w) → IsUnansweredAt at brought
-          link_begun l = record {
-            channel = l.channel;
-            here = get-set_other w.net.channels place at.link new apart ∙ l.here;
-            up = l.up;
-            asking = l.asking;
-            answering = l.answering;
-          }
-
-          off_through : IsOff at w → IsOff at w'
-          off_through one =
-              each_end_told PortUp channel brought (IsOff at)
-              (λ direction q v ds answer v' c stays named number off.
-              off_called at q (PortUp (sender direction channel).port) v ds answer v' c
-              (stays_clocks brought v stays is.sound.wired.clocks) off (λ same. tt) (λ same. tt))
-              is.sound.wired.setups ports draws w' k
-              (record { link = link_begun one.link; mute = one.mute; off = one.off })
-
-          last_through : (sent : ℕ) → IsLastAnswered sent at w → IsLastAnswered sent at w'
-          last_through sent one =
-              each_end_told PortUp channel brought (IsLastAnswered sent at)
-              (λ direction q v ds answer v' c stays named number last.
-              last_beside of_up sent at q (sender direction channel) v ds answer v' c named
-              (stays_clocks brought v stays is.sound.wired.clocks) last
-              (no_end v (join_on w.net.channels brought.net.channels v.net.channels joins stays.links) last.link
-              direction)) is.sound.wired.setups ports draws w' k
-              (record { link = link_begun one.link; replies = one.replies; inv = one.inv })
+    stay_apart : (at : LinkPlace) → at.link ≢ place → StandsUnanswered at w' → StaysSilent p at w w'
+    stay_apart at apart s = record {
+      stood = stood_elsewhere p at place channel w draws w' is.sound.wired here apart k s;
+      silent = up_silences p at place channel w draws w' is.sound.wired here apart k s;
+    }
 
     -- one at this link is off
     pub goes_up : FailedNeighboursAreSilent p w' → (at : LinkPlace) → StandsUnanswered at w' → GoesSilent p at w w'

@@ -1,5 +1,5 @@
 -- A link of a network at rest goes down, which cuts a tree off: its top answers, and the tree begins to fall back.
-use Rattle.std.proofs.Common.{◌≡◌, ◌≢◌, ◌⊎◌, ◌<◌, ◌≤◌, ◌+◌, ℕ, suc, true, false, Some, slice_get, refl, sym, ap, subst, ◌∙◌, inl, inr, arith}
+use Rattle.std.proofs.Common.{◌≡◌, ◌≢◌, ◌⊎◌, ◌<◌, ◌≤◌, ◌+◌, ℕ, suc, true, false, Some, slice_get, sym, ap, subst, ◌∙◌, inl, inr, arith}
 use Rattle.gptp_lists.specs.Members.{In}
 use Rattle.gptp_graph.specs.Best.{IsBest}
 use Rattle.gptp_graph.specs.Snapshot.{Joins, PortIdentity, Snapshot, System, clocks, port_of}
@@ -17,7 +17,7 @@ use Rattle.gptp_bmca_machine.specs.RestLaws.{SameWiring}
 use Rattle.gptp_bmca_machine.specs.SoundEverywhere.{IsSoundEverywhere}
 use Rattle.gptp_bmca_machine.specs.SoundLaws.{UnlinkedAreOff}
 use Rattle.gptp_bmca_machine.specs.Station.{MachineState, Station}
-use Rattle.gptp_bmca_machine.specs.Touch.{Disable, Hear}
+use Rattle.gptp_bmca_machine.specs.Touch.{StationTouch}
 use Rattle.gptp_bmca_machine.proofs.FallBeginLemmas.{falling_begins, settles_begin}
 use Rattle.gptp_bmca_machine.proofs.CutTreeLemmas.{IsCutOff, LeadsNowhere, cut_whole, moves_tree}
 use Rattle.gptp_bmca_machine.proofs.FallEndLemmas.{FallsOff}
@@ -76,10 +76,11 @@ module _ (says : Spelling) (n0 n : Network) (net0 : IsSettlingNetwork n0) (w : M
       )
 
 -- The end of a link answers as one that is moved does: who is beside it stands as before.
-module _ (says : Spelling) (n : Network) (Beside : ℕ → Type 0) (top lost other : ℕ) (w w' : MachineState)
-    (a : EndAnswers says n top lost other w w') (kept' : IsAfterLoss n w') (lives : In top (clocks n.graph))
-    (outside : (c : ℕ) (m : Station) → In c (clocks n.graph) → Beside c → slice_get w'.stations (n.place c) ≡ Some m
-    → n.place c ≢ other) where
+module _ (says : Spelling) (n : Network) (Beside : ℕ → Type 0) (top : ℕ) (touch : StationTouch) (other : ℕ)
+    (w w' : MachineState)
+    (a : EndAnswers says n top touch other w w') (kept' : IsAfterLoss n w') (lives : In top (clocks n.graph))
+    (outside : (c : ℕ) (m : Station) → In c (clocks n.graph) → Beside c → c ≢ top
+    → slice_get w'.stations (n.place c) ≡ Some m → n.place c ≢ other) where
   pub lanes_then : (p q : PortIdentity) (l' : Lane) → Joins n.graph p q → slice_get w'.lanes (n.lane p) ≡ Some l'
       → (l : Lane) × (slice_get w.lanes (n.lane p) ≡ Some l) × LaneStep a.s.clock a.sends l l'
   lanes_then p q l' joins at = elim (a.lanes (n.lane p) l' at) [
@@ -99,13 +100,9 @@ module _ (says : Spelling) (n : Network) (Beside : ℕ → Type 0) (top lost oth
       (subst (λ i. slice_get w'.stations i ≡ Some m) same_place at) a.there in
       apart (sym clock ∙ ap (λ (z : Station). z.clock) one ∙ clock_top)
 
-  -- it hears nothing
-  pub not_heard : (i : ℕ) (c : Announce) → Disable (suc lost) ≡ Hear (suc i) c → ⊥
-  not_heard i c touched = absurd cc
-
   abbrev pub answers : TreeAnswers says n Beside top w w'
   answers = record {
-    touch = Disable (suc lost);
+    touch = touch;
     s = a.s;
     s' = a.s';
     sends = a.sends;
@@ -114,9 +111,9 @@ module _ (says : Spelling) (n : Network) (Beside : ℕ → Type 0) (top lost oth
     there = a.there;
     reacts = a.reacts;
     others = λ c m known beside apart at.
-        a.stood (n.place c) m at (place_apart c m known apart at) (outside c m known beside at);
+        a.stood (n.place c) m at (place_apart c m known apart at) (outside c m known beside apart at);
     lanes = λ p q l' joins apart at. lanes_then p q l' joins at;
-    heard = λ i c touched. absurd (not_heard i c touched);
+    heard = λ i c touched. absurd (a.only.deaf (suc i) c touched);
   }
 
 module _ (says : Spelling) (n0 n : Network) (top : ℕ) (best next : System) (base : ℕ) (depth : ℕ → ℕ)
@@ -124,9 +121,10 @@ module _ (says : Spelling) (n0 n : Network) (top : ℕ) (best next : System) (ba
     (moved_top : Unmoved n0.graph n top → ⊥) (net0 : IsSettlingNetwork n0) (w : MachineState) (calm0 : Calm n0 w)
     (invariant0 : Invariant says n0 w) (late0 : settled_from n0 ≤ w.time)
     (sound0 : IsSoundEverywhere says n0.graph w) (named0 : FlightNames says n0.graph w) (same : SameWiring n0 n)
-    (w' : MachineState) (lost other : ℕ) (a : EndAnswers says n top lost other w w')
-    (outside : (c : ℕ) (m : Station) → IsBest n.graph c next → slice_get w'.stations (n.place c) ≡ Some m
-    → n.place c ≢ other) (kept' : IsAfterLoss n w') (dark' : UnlinkedAreOff n.graph w') where
+    (w' : MachineState) (touch : StationTouch) (other : ℕ) (a : EndAnswers says n top touch other w w')
+    (outside : (c : ℕ) (m : Station) → IsBest n.graph c next → c ≢ top
+    → slice_get w'.stations (n.place c) ≡ Some m → n.place c ≢ other) (kept' : IsAfterLoss n w')
+    (dark' : UnlinkedAreOff n.graph w') where
   abbrev g : Snapshot
   g = n0.graph
 
@@ -141,35 +139,35 @@ module _ (says : Spelling) (n0 n : Network) (top : ℕ) (best next : System) (ba
       (link_whole says n0 n net0 w calm0 sound0 named0 same v p u q l f c best
       (t.left.links (port_of v (suc p)) (port_of u (suc q)) joins) at among said (t.was_best v in_v)).0
 
-  beside_out : (c : ℕ) (m : Station) → In c (clocks n.graph) → Around (IsCutOff n next) LeadsNowhere c
+  beside_out : (c : ℕ) (m : Station) → In c (clocks n.graph) → Around (IsCutOff n next) LeadsNowhere c → c ≢ top
       → slice_get w'.stations (n.place c) ≡ Some m
       → n.place c ≢ other
-  beside_out c m known (inl in_c) at = outside c m in_c at
-  beside_out c m known (inr (v, none)) at = absurd none
+  beside_out c m known (inl in_c) apart at = outside c m in_c apart at
+  beside_out c m known (inr (v, none)) apart at = absurd none
 
   abbrev answer : TreeAnswers says n (Around (IsCutOff n next) LeadsNowhere) top w w'
-  answer = answers says n (Around (IsCutOff n next) LeadsNowhere) top lost other w w' a kept' in_top.reached.1.begins
+  answer = answers says n (Around (IsCutOff n next) LeadsNowhere) top touch other w w' a kept' in_top.reached.1.begins
       beside_out
 
   lanes_so : (p q : PortIdentity) (l' : Lane) → Joins n.graph p q → slice_get w'.lanes (n.lane p) ≡ Some l'
       → (l : Lane) × (slice_get w.lanes (n.lane p) ≡ Some l) × LaneStep a.s.clock a.sends l l'
-  lanes_so = lanes_then says n (Around (IsCutOff n next) LeadsNowhere) top lost other w w' a kept'
+  lanes_so = lanes_then says n (Around (IsCutOff n next) LeadsNowhere) top touch other w w' a kept'
       in_top.reached.1.begins beside_out
 
   after : IsAftermath says g n w'
   after = record {
     kept = kept';
-    fits = fits' says n0 n top t.well t.left moved_top net0 w calm0 invariant0 late0 sound0 same w' lost other a kept';
+    fits = fits' says n0 n top t.well t.left moved_top net0 w calm0 invariant0 late0 sound0 same w' touch other a kept';
     dark = off_hold_old g n w' dark';
   }
 
   pub tree_falls : FallsOff says g n top best next base depth t w.time w'
   tree_falls = record {
     after = after;
-    still = levels' says n0 n top t.well t.left moved_top net0 w calm0 invariant0 late0 sound0 same w' lost other a
+    still = levels' says n0 n top t.well t.left moved_top net0 w calm0 invariant0 late0 sound0 same w' touch other a
         kept';
     falling = falling_begins says n0 n (IsCutOff n next) LeadsNowhere top best next base depth
-        (moves_tree g n top best next base depth t) net0 w calm0 invariant0 late0 came0 same w' in_top answer lost refl
+        (moves_tree g n top best next base depth t) net0 w calm0 invariant0 late0 came0 same w' in_top answer a.only
         lanes_so after dark' (λ v p u q none joins. absurd none);
   }
 
@@ -177,5 +175,5 @@ module _ (says : Spelling) (n0 n : Network) (top : ℕ) (best next : System) (ba
       → OffSettles says g n top best next base depth t w.time before w'
   tree_settles before room =
       settles_begin says n0 n (IsCutOff n next) LeadsNowhere top best next base depth
-      (moves_tree g n top best next base depth t) net0 w calm0 invariant0 late0 came0 same w' in_top answer lost refl
+      (moves_tree g n top best next base depth t) net0 w calm0 invariant0 late0 came0 same w' in_top answer a.only
       lanes_so after dark' (λ v p u q none joins. absurd none) before room

@@ -1,4 +1,5 @@
--- A link goes down that cuts a tree off, in a world of a document whose choice had stood: the tree falls back.
+-- A link goes down that cuts a tree off, in a world of a document whose choice had stood: the tree falls back. So it
+-- does where its best gets worse.
 use Rattle.std.proofs.Common.{List, [], arith, inl, inr, subst, ℕ, ◌++◌, ◌+◌, ◌∷◌, ◌≡◌, ◌≤◌, ◌⊎◌, slice_get, Some}
 use Rattle.gptp_graph.specs.Best.{IsBest}
 use Rattle.gptp_graph.specs.PathBound.{path_bound}
@@ -26,8 +27,8 @@ use Rattle.gptp_theorem.specs.PlayedLaws.{IsPlayable}
 use Rattle.gptp_theorem.specs.Reached.{channel_wire}
 use Rattle.gptp_theorem.proofs.AlikeLemmas.{best as alike_best, clock_among, distance as alike_distance, turned}
 use Rattle.gptp_settling_time.specs.Arrivals.{HasArrivedBy}
-use Rattle.gptp_settling_time.specs.InTurn.{FallsCalm}
-use Rattle.gptp_settling_time.specs.TreeLosses.{IsCutTree, LowersTree}
+use Rattle.gptp_settling_time.specs.EventKinds.{FallsCalm}
+use Rattle.gptp_settling_time.specs.TreeLosses.{FallsTree, IsCutTree, LowersTree}
 use Rattle.gptp_settling_time.proofs.FallActLemmas.{act_fallen}
 use Rattle.gptp_settling_time.proofs.FallAlwaysLemmas.{IsFallenAlways}
 use Rattle.gptp_settling_time.proofs.FallDownLemmas.{FlightNames}
@@ -39,6 +40,7 @@ use Rattle.gptp_settling_time.proofs.NamedLemmas.{IsNamedFrom}
 use Rattle.gptp_settling_time.proofs.SettledSeenLemmas.{IsSettledSeen}
 use Rattle.gptp_settling_time.proofs.WorldMovesLemmas.{adjacent_alike, alike_so, joins_alike, near_so, unmoved_alike}
 use Rattle.gptp_settling_time.proofs.TreeMadeLemmas.{at_link, few_then, late_then, live_ends, names_now, seen_then}
+use Rattle.gptp_settling_time.proofs.WorsenedMadeLemmas.{worsened_to}
 
 -- a tree is cut off between two snapshots that is so between others of the same systems and links
 cut_alike : (g h g' h' : Snapshot) → AreAlike g h → AreAlike g' h' → (top other : ℕ) (best next : System) (base : ℕ)
@@ -74,6 +76,12 @@ cut_alike g h g' h' before now top other best next base depth t = record {
     to_h : (v : ℕ) → IsBest g' v next → IsBest h' v next
     to_h v is = alike_best g' h' now v next is
 
+-- no path had more than 255 systems
+pub falls_few : (n : NetworkState) (before : List Timed) (event : Timed) → FallsTree n before event
+    → (sync_paths n before).systems ≤ 255
+falls_few n before event (inl lowers) = lowers.few
+falls_few n before event (inr worsens) = worsens.few
+
 module _ (d : DocumentState) (playable : IsPlayable d) (made : List Timed) (event : Timed) (then : WorldState)
     (draws : List Draw) (done : Done) (w' : WorldState) (acts : Acts event.act then draws done w')
     (at_time : then.time ≡ event.at) (time : w'.time ≡ event.at) (keeps : KeepsTo d made then)
@@ -90,75 +98,80 @@ module _ (d : DocumentState) (playable : IsPlayable d) (made : List Timed) (even
   abbrev more : List Timed
   more = made ++ event ∷ []
 
-  abbrev x : LowersTree n made event
-  x = falls.lowers
+  module _ (x : LowersTree n made event) where
+    -- the tree is so in the worlds
+    cuts_so : (best : System) × (next : System) × (base : ℕ) × (depth : ℕ → ℕ)
+        × IsCutTree (snapshot_of then) (snapshot_of w') x.top x.other best next base depth
+    cuts_so =
+        let (g, stands) = stands_after n made playable.network in
+        let (g', stands') = stands_after n more playable.network in
+        let (best, next, base, depth, is) = x.cuts g g' stands stands' in (
+          best,
+          next,
+          base,
+          depth,
+          cut_alike (snapshot_of then) g (snapshot_of w') g' (alike_so d playable made then keeps g stands)
+              (alike_so d playable more w' after g' stands') x.top x.other best next base depth is,
+        )
 
-  -- the tree is so in the worlds
-  cuts_so : (best : System) × (next : System) × (base : ℕ) × (depth : ℕ → ℕ)
-      × IsCutTree (snapshot_of then) (snapshot_of w') x.top x.other best next base depth
-  cuts_so =
-      let (g, stands) = stands_after n made playable.network in
-      let (g', stands') = stands_after n more playable.network in
-      let (best, next, base, depth, is) = x.cuts g g' stands stands' in (
-        best,
-        next,
-        base,
-        depth,
-        cut_alike (snapshot_of then) g (snapshot_of w') g' (alike_so d playable made then keeps g stands)
-            (alike_so d playable more w' after g' stands') x.top x.other best next base depth is,
-      )
+    -- the act
+    came : Acts (Changing (LinkDown x.clock x.port)) then draws done w'
+    came = subst (λ act. Acts act then draws done w') x.act acts
 
-  -- the act
-  came : Acts (Changing (LinkDown x.clock x.port)) then draws done w'
-  came = subst (λ act. Acts act then draws done w') x.act acts
+    fallen_down : IsFallenTo d more start event.at w'
+    fallen_down =
+        let over = rest.over in
+        let (best, next, base, depth, is) = cuts_so in
+        record {
+          keeps = after;
+          before = snapshot_of then;
+          since = subst (λ t. IsFallenAlways p (snapshot_of then) start t w') at_time
+              (act_fallen p start x.clock x.port then draws done w' keeps.claim.pace keeps.claim.world after.claim.world
+              keeps.claim.measured after.claim.measured came
+              (up_so n made then keeps.stands (port_id x.clock x.port)
+              (λ place u u_there u_end. (x.used place u u_there u_end).up) came.1.place came.1.channel came.1.is)
+              (omega (arith, over, at_time)) rest.ready rest.silent seen (near_so d playable made then keeps x.few)
+              (live_ends d playable made event then draws done w' at_time time keeps after start rest stood
+              arrived named arrives quiet falls.calm falls.off came.1.channel
+              (link x.clock x.port came (IsUsed n.systems made) x.used))
+              x.top x.other best next base depth is (few x.paths x.few)
+              (link x.clock x.port came (λ (u : LinkSpec). ((u.a.clock ≡ x.top) × (u.b.clock ≡ x.other))
+              ⊎ ((u.b.clock ≡ x.top) × (u.a.clock ≡ x.other))) x.ends) late rest.sound names);
+        }
+      where
+        seen : IsSettledSeen p then
+        seen =
+            seen_then d playable made event then draws done w' at_time time keeps after start rest stood
+            arrived named arrives quiet falls.calm falls.off
+
+        names : FlightNames says_announce (snapshot_of then) (view then)
+        names =
+            names_now d playable made event then draws done w' at_time time keeps after start rest stood
+            arrived named arrives quiet falls.calm falls.off
+
+        late : delay_in w' ≤ w'.time
+        late =
+            late_then d playable made event then draws done w' at_time time keeps after start rest stood
+            arrived named arrives quiet falls.calm falls.off x.delay
+
+        few : (sync_paths n more).systems ≤ (sync_paths n made).systems → (sync_paths n made).systems ≤ 255
+            → path_bound (snapshot_of w') ≤ 255
+        few =
+            few_then d playable made event then draws done w' at_time time keeps after start rest stood
+            arrived named arrives quiet falls.calm falls.off
+
+        link : (owner port : ℕ) (acted : Acts (Changing (LinkDown owner port)) then draws done w')
+            (So : LinkSpec → Type 0)
+            → ((place : ℕ) (v : LinkSpec) → slice_get n.links place ≡ Some v
+            → IsEnd (port_id owner port) (link_after made v) → So (link_after made v))
+            → So (channel_wire acted.1.channel)
+        link =
+            at_link d playable made event then draws done w' at_time time keeps after start rest stood
+            arrived named arrives quiet falls.calm falls.off
 
   pub fallen_to : IsFallenTo d more start event.at w'
-  fallen_to =
-      let over = rest.over in
-      let (best, next, base, depth, is) = cuts_so in
-      record {
-        keeps = after;
-        before = snapshot_of then;
-        since = subst (λ t. IsFallenAlways p (snapshot_of then) start t w') at_time
-            (act_fallen p start x.clock x.port then draws done w' keeps.claim.pace keeps.claim.world after.claim.world
-            keeps.claim.measured after.claim.measured came
-            (up_so n made then keeps.stands (port_id x.clock x.port)
-            (λ place u u_there u_end. (x.used place u u_there u_end).up) came.1.place came.1.channel came.1.is)
-            (omega (arith, over, at_time)) rest.ready rest.silent seen (near_so d playable made then keeps x.few)
-            (live_ends d playable made event then draws done w' at_time time keeps after start rest stood
-            arrived named arrives quiet falls.calm falls.off came.1.channel
-            (link x.clock x.port came (IsUsed n.systems made) x.used))
-            x.top x.other best next base depth is (few x.paths x.few)
-            (link x.clock x.port came (λ (u : LinkSpec). ((u.a.clock ≡ x.top) × (u.b.clock ≡ x.other))
-            ⊎ ((u.b.clock ≡ x.top) × (u.a.clock ≡ x.other))) x.ends) late rest.sound names);
-      }
-    where
-      seen : IsSettledSeen p then
-      seen =
-          seen_then d playable made event then draws done w' at_time time keeps after start rest stood
-          arrived named arrives quiet falls.calm falls.off
-
-      names : FlightNames says_announce (snapshot_of then) (view then)
-      names =
-          names_now d playable made event then draws done w' at_time time keeps after start rest stood
-          arrived named arrives quiet falls.calm falls.off
-
-      late : delay_in w' ≤ w'.time
-      late =
-          late_then d playable made event then draws done w' at_time time keeps after start rest stood
-          arrived named arrives quiet falls.calm falls.off x.delay
-
-      few : (sync_paths n more).systems ≤ (sync_paths n made).systems → (sync_paths n made).systems ≤ 255
-          → path_bound (snapshot_of w') ≤ 255
-      few =
-          few_then d playable made event then draws done w' at_time time keeps after start rest stood
-          arrived named arrives quiet falls.calm falls.off
-
-      link : (owner port : ℕ) (acted : Acts (Changing (LinkDown owner port)) then draws done w')
-          (So : LinkSpec → Type 0)
-          → ((place : ℕ) (v : LinkSpec) → slice_get n.links place ≡ Some v
-          → IsEnd (port_id owner port) (link_after made v) → So (link_after made v))
-          → So (channel_wire acted.1.channel)
-      link =
-          at_link d playable made event then draws done w' at_time time keeps after start rest stood
-          arrived named arrives quiet falls.calm falls.off
+  fallen_to = elim falls.falls [
+    | inl lowers ↦ fallen_down lowers
+    | inr worsens ↦ worsened_to d playable made event then draws done w' acts at_time time keeps after start rest stood
+        arrived named arrives quiet falls.calm falls.off worsens
+  ]

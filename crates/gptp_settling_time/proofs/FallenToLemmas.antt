@@ -27,7 +27,7 @@ use Rattle.gptp_settling_time.proofs.FallenClaimedLemmas.{fallen_claimed}
 use Rattle.gptp_settling_time.proofs.GoesToLemmas.{goes_to, paths_to}
 use Rattle.gptp_settling_time.proofs.KeptToLemmas.{KeepsTo, keeps_act, keeps_later}
 use Rattle.gptp_settling_time.proofs.FallAlwaysLemmas.{IsFallenAlways, fallen_acts, fallen_later, fallen_settles}
-use Rattle.gptp_settling_time.specs.InTurn.{HasFallenBack}
+use Rattle.gptp_settling_time.specs.Rests.{HasFallenBack}
 
 -- A world of a document after these events, by the last of which a tree was cut off at a time; ports without a link
 -- aren't capable from a time on.

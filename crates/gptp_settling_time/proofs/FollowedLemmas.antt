@@ -12,19 +12,27 @@ use Rattle.gptp_scenario.specs.declared.change.Timed.{Timed}
 use Rattle.gptp_network.specs.Events.{AreInOrder}
 use Rattle.gptp_network.specs.Snapshot.{events_by}
 use Rattle.gptp_settling_time.specs.Gains.{Repeats}
-use Rattle.gptp_settling_time.specs.HowSoon.{AreGainEvents, AreHeardEvents, AreReadyAtStart, AreStartEvents, BeforeRepeats, BesideIdle, BoundsEvents, BoundsStart, EachEvent, events_at, HasArrivedNext, IsRestBoundAfter, NoneBetween, OneEvent, RestsAfterLoss}
-use Rattle.gptp_settling_time.specs.InTurn.{AnyPast, AreCapableSoon, BeginsBy, EventLeads, Fallen, FallsCalm, FlightIsGone, Gained, Heard, LeadOn, LeadsByTree, Past, RestsFrom, Starting, StartsWith, TellsNothing, TurnedTree, TurnsTreeCalm, UsedVaryLittle, turned_echo_span}
-use Rattle.gptp_settling_time.specs.TreeLosses.{LowersTree, TurnsTreeLink}
+use Rattle.gptp_settling_time.specs.HowSoon.{AreGainEvents, AreHeardEvents, AreReadyAtStart, AreStartEvents, BeforeRepeats, BesideIdle, BoundsEvents, BoundsStart, EachEvent, events_at, FailsTreesFirst, HasArrivedNext, IsRestBoundAfter, NoneBetween, OneEvent, RestsAfterLoss, RestsSplit}
+use Rattle.gptp_settling_time.specs.Pasts.{AnyPast, Fallen, Gained, Heard, Past, Starting, TurnedTree}
+use Rattle.gptp_settling_time.specs.EventKinds.{AreCapableSoon, FallsCalm, FlightIsGone, StartsWith, TellsNothing, TurnsTreeCalm, UsedVaryLittle}
+use Rattle.gptp_settling_time.specs.Leads.{EventLeads, LeadsByTree}
+use Rattle.gptp_settling_time.specs.Rests.{RestsFrom, turned_echo_span}
+use Rattle.gptp_settling_time.specs.InTurn.{BeginsBy, LeadOn}
+use Rattle.gptp_settling_time.specs.TreeLosses.{FallsTree, TurnsTreeLink}
 use Rattle.gptp_theorem.proofs.EventLemmas.{last_behind}
-use Rattle.gptp_settling_time.proofs.BesideIdleLemmas.{LeadsTo, beside_idle, repeats_lead, rested_same}
-use Rattle.gptp_settling_time.proofs.SamePathsLemmas.{StandSame}
+use Rattle.gptp_settling_time.proofs.BesideIdleLemmas.{LeadsTo, beside_idle, repeats_lead, repeats_same, repeats_to, rested_same, split_now}
+use Rattle.gptp_settling_time.proofs.CalmStillLemmas.{alike_calm}
+use Rattle.gptp_settling_time.proofs.SamePathsLemmas.{StandSame, same_alike, same_back}
 use Rattle.gptp_settling_time.proofs.CutLemmas.{IsBy, all_by}
 use Rattle.gptp_settling_time.proofs.MomentLemmas.{all_at, last_by, parted}
-use Rattle.gptp_settling_time.proofs.LeadOnLemmas.{HasRested, HasSettled, IsLed, after_idle, any_leads, gains_led, heard_led, idle_led, lead_as, leads_on, led_as, settled_later, taken_later, wider_led}
+use Rattle.gptp_settling_time.proofs.LeadOnLemmas.{IsLed, after_idle, gains_led, heard_led, idle_led, lead_as, led_as, wider_led}
+use Rattle.gptp_settling_time.proofs.SettledPastLemmas.{HasRested, HasSettled, any_leads, leads_on, settled_later, taken_later}
 use Rattle.gptp_settling_time.proofs.LosesLeadLemmas.{any_rests}
 use Rattle.gptp_settling_time.proofs.LossLeadLemmas.{tree_leads}
-use Rattle.gptp_settling_time.proofs.LossRestLemmas.{cleared_led}
+use Rattle.gptp_settling_time.proofs.LossRestLemmas.{cleared_led, last_at}
+use Rattle.gptp_settling_time.proofs.TakenLeadLemmas.{taken_rests}
 use Rattle.gptp_settling_time.proofs.NamedLemmas.{arrives_later}
+use Rattle.gptp_settling_time.proofs.SplitFollowedLemmas.{split_rests}
 
 -- ---- rest after a loss
 
@@ -41,7 +49,8 @@ none_rests n made rest (inl (inr (inl (none, by)))) = none
 none_rests n made rest (inl (inr (inr (inl (none, by))))) = none
 none_rests n made rest (inl (inr (inr (inr (inl (none, by)))))) = none
 none_rests n made rest (inl (inr (inr (inr (inr (none, by)))))) = none
-none_rests n made rest (inr (choice, (none, is_choice, by))) = none
+none_rests n made rest (inr (inl (choice, (none, is_choice, by)))) = none
+none_rests n made rest (inr (inr (none, leaves, few, used, long))) = none
 
 -- it leads on to where the network has come to rest
 rest_leads : (n : NetworkState) → IsNetwork n → NothingLapses n.params → (time rest : ℕ) (made now : List Timed)
@@ -51,7 +60,8 @@ rest_leads : (n : NetworkState) → IsNetwork n → NothingLapses n.params → (
 rest_leads n network off time rest made now past at settled calm calm_now loses =
     by (elim loses [
       | inl one ↦ cleared_led n network off time made now past rest at calm calm_now settled one
-      | inr any ↦ any_rests n time network off made now past at settled calm rest any
+      | inr (inl any) ↦ any_rests n time network off made now past at settled calm rest any
+      | inr (inr taken) ↦ taken_rests n time off made now past rest at settled calm calm_now taken
     ])
   where
     by : IsLed n made now past (suc (time + rest))
@@ -314,11 +324,11 @@ module _ (n : NetworkState) (network : IsNetwork n) (off : NothingLapses n.param
 
     -- it is cut off and falls back
     pub falls_on : (then : ℕ) → IsCalm n before_now → (before : IsFollowedTo n before_now last then)
-        → HasArrivedNext n all last then time → BeforeRepeats n (OneEvent (LowersTree n)) before_now at_now
+        → HasArrivedNext n all last then time → BeforeRepeats n (OneEvent (FallsTree n)) before_now at_now
         → (silent : ℕ) × LeadOn n [] before.first (events_by time all) (Fallen silent time)
     falls_on then calm before arrives (first, others, parts, each, lowers) =
-        moves_on (LowersTree n) (FallsCalm n before_now) then before arrives
-        (λ event moves. record { lowers = moves; calm = calm; off = off }) Fallen
+        moves_on (FallsTree n) (FallsCalm n before_now) then before arrives
+        (λ event moves. record { falls = moves; calm = calm; off = off }) Fallen
         (λ past event silent now leads. inl leads) (λ silent now same. cc) first others parts each lowers
 
     -- or it turns to its one way out
@@ -333,7 +343,7 @@ module _ (n : NetworkState) (network : IsNetwork n) (off : NothingLapses n.param
     -- it has come to rest once the tree has settled and what was in flight is gone
     fall_followed : (then rest gone : ℕ) → IsCalm n before_now → IsCalm n (events_by time all)
         → IsFollowedTo n before_now last then → HasArrivedNext n all last then time
-        → BeforeRepeats n (OneEvent (LowersTree n)) before_now at_now → FlightIsGone n (events_by time all) gone
+        → BeforeRepeats n (OneEvent (FallsTree n)) before_now at_now → FlightIsGone n (events_by time all) gone
         → rest ≡ max (2 * way_span (sync_paths n (events_by time all))) gone
         → IsFollowedTo n (events_by time all) time rest
     fall_followed then rest gone calm_then calm before arrives lowers flight is =
@@ -402,13 +412,55 @@ module _ (n : NetworkState) (network : IsNetwork n) (off : NothingLapses n.param
           );
         }
 
+    -- or once trees that were cut off have settled and traces are told anew
+    split_followed : (then rest : ℕ) → IsCalm n before_now → IsCalm n (events_by time all)
+        → IsFollowedTo n before_now last then → HasArrivedNext n all last then time
+        → BeforeRepeats n (λ made now. FailsTreesFirst n made now × RestsSplit n rest made now) before_now at_now
+        → IsFollowedTo n (events_by time all) time rest
+    split_followed then rest calm_then calm before arrives ([], others, same, each, (none, bounds)) = absurd none
+    split_followed then rest calm_then calm before (arrived, arrives, soon)
+        (event ∷ now, others, same, each, (fails, bounds)) =
+        let (seen, taken, has) = before.settles in
+        let over : last_change before_now ≤ last = last_by last all in
+        let later = arrives_later n before_now (suc (last + then)) arrived arrives in
+        let (at, at_others) = split_now time (event ∷ now) others
+        (subst (AllByRecursion (λ (t : Timed). t.at ≡ time)) same (all_at time all)) in
+        let here : event.at ≡ time = at.0 in
+        let whole : events_by time all ≡ before_now ++ event ∷ (now ++ others) =
+        parted all last time order less between ∙ ap (λ es. before_now ++ es) same in
+        let stands = repeats_same n network off time (before_now ++ event ∷ now) others each in
+        let calm_now : IsCalm n (before_now ++ event ∷ now) =
+        alike_calm n ((before_now ++ event ∷ now) ++ others) (before_now ++ event ∷ now) off
+        (same_alike n ((before_now ++ event ∷ now) ++ others) (before_now ++ event ∷ now)
+        (same_back n (before_now ++ event ∷ now) ((before_now ++ event ∷ now) ++ others) stands))
+        (subst (IsCalm n) (whole ∙ sym (append_assoc before_now (event ∷ now) others)) calm) in
+        let x = repeats_to n network off time (λ events past. HasRested n events past (suc (time + rest)))
+        (λ events past. rest_begun n events past (suc (time + rest)))
+        (λ events more past same last_same. rested_same n off events more same last_same past (suc (time + rest)))
+        before_now (event ∷ now) others seen (last_at before_now event now time at) at_others each
+        (split_rests n network off time rest before_now (event ∷ now) seen (suc (last + then)) arrived at has
+        (omega (arith, over)) arrives soon calm_then calm_now fails bounds) in
+        record {
+          first = before.first;
+          begins = before.begins;
+          last = x.last;
+          lead = subst (λ es. LeadOn n [] before.first es x.last) (sym whole)
+              (leads_on n [] before.first before.last x.last before_now (event ∷ (now ++ others)) before.lead
+              (lead_as n before_now event (now ++ others) before.last seen x.last
+              (taken_later n before_now before.last seen (suc (last + then)) event.at
+              (omega (arith, later, soon, here)) taken) x.lead));
+          settles = subst (λ es. HasRested n es x.last (suc (time + rest))) (sym whole) x.so;
+        }
+
   pub bound_calm : (earlier : List ℕ) (time rest : ℕ) → IsRestBoundAfter n all earlier time rest
       → IsCalm n (events_by time all)
   bound_calm [] time rest (start, (calm, is)) = calm
   bound_calm (last ∷ earlier) time rest (inl (later, between, (calm, is))) = calm
   bound_calm (last ∷ earlier) time rest (inr (inl (later, between, calm, nothing, before))) = calm
   bound_calm (last ∷ earlier) time rest (inr (inr (inl (later, between, calm, nothing, before, falls, asks)))) = calm
-  bound_calm (last ∷ earlier) time rest (inr (inr (inr (later, between, calm, nothing, before, turns, asks)))) = calm
+  bound_calm (last ∷ earlier) time rest (inr (inr (inr (inl (later, between, calm, nothing, before, turns, asks))))) =
+      calm
+  bound_calm (last ∷ earlier) time rest (inr (inr (inr (inr (later, between, calm, nothing, before, fails))))) = calm
 
   pub followed : (earlier : List ℕ) (time rest : ℕ) → IsRestBoundAfter n all earlier time rest
       → IsFollowedTo n (events_by time all) time rest
@@ -432,6 +484,10 @@ module _ (n : NetworkState) (network : IsNetwork n) (off : NothingLapses n.param
       fall_followed last time later between then rest gone (bound_calm earlier last then bound) calm
       (followed earlier last then bound) soon lowers flight is
   followed (last ∷ earlier) time rest
-      (inr (inr (inr (later, between, calm, nothing, (then, bound, soon), turns, is)))) =
+      (inr (inr (inr (inl (later, between, calm, nothing, (then, bound, soon), turns, is))))) =
       turn_followed last time later between then rest (bound_calm earlier last then bound) calm
       (followed earlier last then bound) soon turns is
+  followed (last ∷ earlier) time rest
+      (inr (inr (inr (inr (later, between, calm, nothing, (then, bound, soon), fails))))) =
+      split_followed last time later between then rest (bound_calm earlier last then bound) calm
+      (followed earlier last then bound) soon fails

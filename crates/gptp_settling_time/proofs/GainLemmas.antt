@@ -28,7 +28,7 @@ use Rattle.gptp_invariants.proofs.WorldSystemLemmas.{clock_lives, live_from}
 use Rattle.gptp_theorem.specs.Reached.{Shape, StandsAsPlanned, shape, shape_after, channel_wire}
 use Rattle.gptp_theorem.proofs.CalmLemmas.{IsMemberAt}
 use Rattle.gptp_settling_time.specs.Gains.{AllLiveAfter, EndHasFailed, IsDownAfter, IsGainAfter, IsIdleAfter, IsNoWorse, IsUpAfter, KeepsIdentity}
-use Rattle.gptp_settling_time.specs.InTurn.{VariesLittleAfter, IsWithin}
+use Rattle.gptp_settling_time.specs.EventKinds.{VariesLittleAfter, IsWithin}
 use Rattle.gptp_settling_time.specs.Idle.{IsIdle, IsUpAt, KeepsPriority, Lives}
 use Rattle.gptp_invariants.proofs.DelayClaimedCapableLemmas.{clock_has}
 
@@ -128,25 +128,25 @@ module _ (n : NetworkState) (events : List Timed) (w : WorldState) (so : StandsA
           live = lives_as place station of ∙ on;
         }
 
+    pub lived_as : (number : ℕ) → stations_have_clock (live_stations w.stations) number ≡ true
+        → IsLive n.systems events number
+    lived_as number has =
+        let (s, member, named) = clock_lives w.stations number has in
+        let at = live_from w.stations s member in
+        live_named number at.place at.station (record {
+          here = at.here;
+          named = ap (λ (x : System). x.clock) (sym at.is) ∙ named;
+        }) at.live
+
     -- a link in use in the world is so in the network
     pub used_as : (channel : Channel) → channel_is_used (live_stations w.stations) channel ≡ true
         → IsUsed n.systems events (channel_wire channel)
     used_as channel used =
         record {
           up = used_up (live_stations w.stations) channel used;
-          a = by channel.a.clock (sender_lives (live_stations w.stations) FromA channel used);
-          b = by channel.b.clock (sender_lives (live_stations w.stations) FromB channel used);
+          a = lived_as channel.a.clock (sender_lives (live_stations w.stations) FromA channel used);
+          b = lived_as channel.b.clock (sender_lives (live_stations w.stations) FromB channel used);
         }
-      where
-        by : (number : ℕ) → stations_have_clock (live_stations w.stations) number ≡ true
-            → IsLive n.systems events number
-        by number has =
-            let (s, member, named) = clock_lives w.stations number has in
-            let at = live_from w.stations s member in
-            live_named number at.place at.station (record {
-              here = at.here;
-              named = ap (λ (x : System). x.clock) (sym at.is) ∙ named;
-            }) at.live
 
     -- so has a system failed
     pub failed_so : (number : ℕ) → (IsLive n.systems events number → ⊥) → (place : ℕ) (station : Station)
@@ -214,7 +214,7 @@ module _ (n : NetworkState) (events : List Timed) (w : WorldState) (so : StandsA
         ]
 
     -- a system that lives in the network is one of the world's
-    found_so : (number : ℕ) → IsLive n.systems events number
+    pub found_so : (number : ℕ) → IsLive n.systems events number
         → stations_have_clock (live_stations w.stations) number ≡ true
     found_so number lives =
         let (other, here, same) = alike shape (shape_after n events) w.stations n.systems so.systems

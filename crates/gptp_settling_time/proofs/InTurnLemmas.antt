@@ -17,7 +17,9 @@ use Rattle.gptp_theorem.specs.PlayedLaws.{IsMade, IsPlayable}
 use Rattle.gptp_theorem.proofs.HeadlineLemmas.{is_settled}
 use Rattle.gptp_theorem.proofs.SettlingInvariantLemmas.{IsFitEvent, events_fit, events_made, least_of}
 use Rattle.gptp_theorem.proofs.SnapshotLemmas.{snapshots_stand}
-use Rattle.gptp_settling_time.specs.InTurn.{ActsFindChoiceInTurn, ActsFindSettledInTurn, ChoosesAfter, ComesByEvents, IsTakenAs, LeadOn, Past, SettlesAfter}
+use Rattle.gptp_settling_time.specs.Pasts.{Past}
+use Rattle.gptp_settling_time.specs.Rests.{IsTakenAs}
+use Rattle.gptp_settling_time.specs.InTurn.{ActsFindChoiceInTurn, ActsFindSettledInTurn, ChoosesAfter, ComesByEvents, LeadOn, SettlesAfter}
 use Rattle.gptp_settling_time.proofs.BegunLemmas.{begun_last}
 use Rattle.gptp_settling_time.proofs.DocumentLemmas.{run_to}
 use Rattle.gptp_settling_time.proofs.LaterLemmas.{AreSteps, steps_more}

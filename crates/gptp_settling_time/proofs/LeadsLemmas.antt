@@ -1,8 +1,7 @@
 -- An event leads a world of a document from what its network came from to the next.
-use Rattle.std.proofs.Common.{List, Option, [], arith, inl, inr, refl, ℕ, ◌++◌, ◌+◌, ◌∷◌, ◌≡◌}
+use Rattle.std.proofs.Common.{List, Option, [], arith, inl, inr, refl, ℕ, ◌++◌, ◌∷◌, ◌≡◌}
 use Rattle.gptp_links.specs.declared.bounds.Bounds.{Bounds}
 use Rattle.gptp_setup.specs.SettlingParams.{SettlingParams}
-use Rattle.gptp_scenario.specs.Calm.{last_change}
 use Rattle.gptp_scenario.specs.Network.{NetworkState, pace_of}
 use Rattle.gptp_scenario.specs.declared.change.Timed.{Timed}
 use Rattle.gptp_model.specs.Acts.{at}
@@ -12,7 +11,8 @@ use Rattle.gptp_model.specs.World.{WorldState}
 use Rattle.gptp_network.specs.Document.{DocumentState}
 use Rattle.gptp_theorem.specs.PlayedLaws.{IsMade, IsPlayable}
 use Rattle.gptp_theorem.proofs.SettlingInvariantLemmas.{IsFitEvent, least_of}
-use Rattle.gptp_settling_time.specs.InTurn.{Aging, AnyPast, Cleared, EventLeads, Fallen, Gained, Heard, Left, Lost, Past, Split, Starting, Turned, TurnedTree}
+use Rattle.gptp_settling_time.specs.Pasts.{Aging, AnyPast, Cleared, Fallen, Gained, Heard, Left, Fewer, Lost, Past, Split, Starting, Turned, TurnedTree}
+use Rattle.gptp_settling_time.specs.Leads.{EventLeads}
 use Rattle.gptp_settling_time.proofs.BegunLemmas.{rested_sound}
 use Rattle.gptp_settling_time.proofs.NamedAfterLemmas.{NamesAfter}
 use Rattle.gptp_settling_time.proofs.KeptToLemmas.{KeepsTo, keeps_later}
@@ -21,7 +21,7 @@ use Rattle.gptp_settling_time.proofs.NewsSoonLemmas.{IsNewsFrom}
 use Rattle.gptp_settling_time.proofs.StartEventLemmas.{IsStartingTo, starting_made, starts_news}
 use Rattle.gptp_settling_time.proofs.AfterLemmas.{IsAfter, after_later}
 use Rattle.gptp_settling_time.proofs.LeadsToHeardLemmas.{leads_to_heard, left_news, starting_now}
-use Rattle.gptp_settling_time.proofs.LeadsToLossLemmas.{leads_to_aging, leads_to_cleared, leads_to_left, leads_to_lost, leads_to_turned}
+use Rattle.gptp_settling_time.proofs.LeadsToLossLemmas.{leads_to_aging, leads_to_cleared, leads_to_fewer, leads_to_left, leads_to_lost, leads_to_turned}
 use Rattle.gptp_settling_time.proofs.LeadsToTreesLemmas.{leads_to_fallen, leads_to_split, leads_to_turned_tree}
 
 module _ {F : Type 0} (answers : Bounds → ℕ → F → Option ℕ → F → Type 0) (d : DocumentState)
@@ -72,6 +72,7 @@ module _ {F : Type 0} (answers : Bounds → ℕ → F → Option ℕ → F → T
     leads_to_gain (Aging ago aged silent) next (inl (nothing, none)) so = absurd none
     leads_to_gain (Split ago gone silent) next (inl (nothing, none)) so = absurd none
     leads_to_gain (Lost ago since most silent) next (inl (nothing, none)) so = absurd none
+    leads_to_gain (Fewer ago since most silent) next (inl (nothing, none)) so = absurd none
     leads_to_gain Starting next (inl (nothing, none)) so = absurd none
     leads_to_gain AnyPast next (inr (inl (nothing, stays))) so = absurd stays
     leads_to_gain Starting next (inr (inl (nothing, stays))) so = absurd stays
@@ -83,6 +84,7 @@ module _ {F : Type 0} (answers : Bounds → ℕ → F → Option ℕ → F → T
     leads_to_gain (Aging ago aged silent) next (inr (inl (nothing, stays))) so = absurd stays
     leads_to_gain (Split ago gone silent) next (inr (inl (nothing, stays))) so = absurd stays
     leads_to_gain (Lost ago since most silent) next (inr (inl (nothing, stays))) so = absurd stays
+    leads_to_gain (Fewer ago since most silent) next (inr (inl (nothing, stays))) so = absurd stays
     leads_to_gain (Gained start) next (inr (inl (nothing, same))) so =
         left_news answers d playable made event fate fate_after w w' done is fit k keeps start next nothing same so.news
     leads_to_gain (Heard start) next (inr (inl (nothing, same))) so =
@@ -102,6 +104,7 @@ module _ {F : Type 0} (answers : Bounds → ℕ → F → Option ℕ → F → T
     leads_to_gain (Aging ago aged silent) next (inr (inr none)) so = absurd none
     leads_to_gain (Split ago gone silent) next (inr (inr none)) so = absurd none
     leads_to_gain (Lost ago since most silent) next (inr (inr none)) so = absurd none
+    leads_to_gain (Fewer ago since most silent) next (inr (inr none)) so = absurd none
 
     leads_to_start : (past : Past) → EventLeads n made past event Starting → IsAfter d made past w
         → IsStartingTo d more w'
@@ -119,6 +122,7 @@ module _ {F : Type 0} (answers : Bounds → ℕ → F → Option ℕ → F → T
     leads_to_start (Aging ago aged silent) none so = absurd none
     leads_to_start (Split ago gone silent) none so = absurd none
     leads_to_start (Lost ago since most silent) none so = absurd none
+    leads_to_start (Fewer ago since most silent) none so = absurd none
 
     later : (past : Past) → IsAfter d made past w → IsAfter d made past then
     later past so = after_later d made past w event.at k.ready.timely.now k.ready.timely.first so
@@ -143,8 +147,8 @@ module _ {F : Type 0} (answers : Bounds → ℕ → F → Option ℕ → F → T
         leads_to_turned_tree d playable made event then k.draws done w' k.acts refl time_now last_now keeps_then after
         past silent now leads named (later past so)
     leads_to past (Cleared ago since silent right old) leads named so =
-        leads_to_cleared d playable made event then k.draws done w' k.acts refl time_now last_now keeps_then after past
-        ago since silent right old leads (later past so)
+        leads_to_cleared d playable made event then k.draws done w' k.acts refl time_now last_now keeps_then after is
+        fit.octet past ago since silent right old leads (later past so)
     leads_to past (Aging ago aged silent) leads named so =
         leads_to_aging d playable made event then k.draws done w' k.acts refl time_now last_now keeps_then after past
         ago aged silent leads (later past so)
@@ -153,4 +157,7 @@ module _ {F : Type 0} (answers : Bounds → ℕ → F → Option ℕ → F → T
         ago gone silent leads named (later past so)
     leads_to past (Lost ago since most silent) leads named so =
         leads_to_lost d playable made event then k.draws done w' k.acts refl time_now last_now keeps_then after is
+        fit.octet past ago since most silent leads (later past so)
+    leads_to past (Fewer ago since most silent) leads named so =
+        leads_to_fewer d playable made event then k.draws done w' k.acts refl time_now last_now keeps_then after is
         fit.octet past ago since most silent leads (later past so)

@@ -31,7 +31,9 @@ use Rattle.gptp_theorem.proofs.CalmLemmas.{quiet_stands}
 use Rattle.gptp_theorem.proofs.SettlingInvariantLemmas.{IsFitEvent, least_of}
 use Rattle.gptp_theorem.proofs.SyncPathLemmas.{paths_stand}
 use Rattle.gptp_settling_time.specs.Gains.{ChangesNothing, LeavesCapable, TakesNothing}
-use Rattle.gptp_settling_time.specs.InTurn.{AddsHeard, Aging, AnyPast, BettersClock, BringsUp, Cleared, EventLeads, Fallen, Gained, Heard, LeavesSettled, Left, Lost, MakesNothing, Past, RecoversAlone, Split, Starting, Turned, TurnedTree, TurnsInVain, WidensFrom}
+use Rattle.gptp_settling_time.specs.Pasts.{Aging, AnyPast, Cleared, Fallen, Gained, Heard, Left, Fewer, Lost, Past, Split, Starting, Turned, TurnedTree}
+use Rattle.gptp_settling_time.specs.EventKinds.{AddsHeard, BettersClock, BringsUp, LeavesSettled, MakesNothing, RecoversAlone, TurnsInVain, WidensFrom}
+use Rattle.gptp_settling_time.specs.Leads.{EventLeads}
 use Rattle.gptp_settling_time.proofs.AlwaysClaimedLemmas.{IsClaimedAlways, since_later}
 use Rattle.gptp_settling_time.proofs.BegunLemmas.{rested_sound}
 use Rattle.gptp_settling_time.proofs.ClaimedToLemmas.{IsClaimedTo}
@@ -389,3 +391,4 @@ module _ {F : Type 0} (answers : Bounds → ℕ → F → Option ℕ → F → T
     leads_to_heard (Aging ago aged silent) next none so = absurd none
     leads_to_heard (Split ago gone silent) next none so = absurd none
     leads_to_heard (Lost ago since most silent) next none so = absurd none
+    leads_to_heard (Fewer ago since most silent) next none so = absurd none

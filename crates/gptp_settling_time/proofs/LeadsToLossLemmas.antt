@@ -9,7 +9,7 @@ use Rattle.gptp_scenario.specs.SettlingTime.{capability_span}
 use Rattle.gptp_scenario.specs.declared.change.Act.TheVariants.{Change as Changing}
 use Rattle.gptp_scenario.specs.declared.change.Change.TheVariants.{LinkDown}
 use Rattle.gptp_scenario.specs.declared.change.Timed.{Timed}
-use Rattle.gptp_model.specs.Acts.{Acts, at}
+use Rattle.gptp_model.specs.Acts.{Acts}
 use Rattle.gptp_model.specs.declared.done.Done.{Done}
 use Rattle.gptp_model.specs.World.{WorldState, port_id}
 use Rattle.gptp_network.specs.Document.{DocumentState}
@@ -19,7 +19,9 @@ use Rattle.gptp_invariants.specs.ChoiceView.{says_announce, view}
 use Rattle.gptp_invariants.specs.WorldStanding.{snapshot_of}
 use Rattle.gptp_theorem.specs.PlayedLaws.{IsMade, IsPlayable}
 use Rattle.gptp_theorem.proofs.CalmLemmas.{quiet_stands}
-use Rattle.gptp_settling_time.specs.InTurn.{AgesSooner, Aging, AnyPast, AreUsedSince, Cleared, ClearsBy, EventLeads, FailsNow, Fallen, Gained, Heard, IsDownNow, LeavesStanding, Left, LosesNow, Lost, LowersUnusedCalm, Past, Split, Starting, Turned, TurnedTree, TurnsNow}
+use Rattle.gptp_settling_time.specs.Pasts.{Aging, AnyPast, Cleared, Fallen, Fewer, Gained, Heard, Left, Lost, Past, Split, Starting, Turned, TurnedTree}
+use Rattle.gptp_settling_time.specs.EventKinds.{ClearsBy, FailsNow, IsDownNow, LeavesStanding, LowersUnusedCalm}
+use Rattle.gptp_settling_time.specs.Leads.{AgesSooner, AreUsedSince, EventLeads, LosesNow, TakesMore, TakesNow, TurnsNow}
 use Rattle.gptp_settling_time.proofs.AgingDownLemmas.{down_ages}
 use Rattle.gptp_settling_time.proofs.AgesByLemmas.{by_map}
 use Rattle.gptp_settling_time.proofs.AgesByWorldLemmas.{WorldAgesBy, aging_by}
@@ -45,8 +47,12 @@ use Rattle.gptp_settling_time.proofs.ClearedLemmas.{IsCleared}
 use Rattle.gptp_settling_time.proofs.ClearedToLemmas.{IsClearedTo}
 use Rattle.gptp_settling_time.proofs.ClearsLemmas.{cleared_reduced}
 use Rattle.gptp_settling_time.proofs.LeftClaimedLemmas.{IsLeftAlways}
-use Rattle.gptp_settling_time.proofs.RepeatedLemmas.{aging_repeated, cleared_repeated, left_repeated, lost_repeated, turned_repeated}
+use Rattle.gptp_settling_time.proofs.IdleBesideLemmas.{cleared_beside, left_beside}
+use Rattle.gptp_settling_time.proofs.RepeatedLemmas.{aging_repeated, lost_repeated, taken_repeated, turned_repeated}
 use Rattle.gptp_settling_time.proofs.RestedSoLemmas.{rested_any, rested_gained, rested_heard}
+use Rattle.gptp_settling_time.proofs.TakenClearedLemmas.{taken_anew}
+use Rattle.gptp_settling_time.proofs.TakenMadeLemmas.{taken_first, taken_more}
+use Rattle.gptp_settling_time.proofs.TakenToLemmas.{IsTakenTo}
 use Rattle.gptp_settling_time.proofs.WereSilentLemmas.{WereSilent, were_down}
 
 module _ (d : DocumentState) (playable : IsPlayable d) (made : List Timed) (event : Timed) (then : WorldState)
@@ -145,8 +151,7 @@ module _ (d : DocumentState) (playable : IsPlayable d) (made : List Timed) (even
           since = fallen_left so.before silent lowers so.since;
           were = fallen_were old lowers so.were;
         }
-        | inr repeats ↦ left_repeated d playable made event then draws done w' acts at_time keeps after repeats old
-            silent so
+        | inr idle ↦ left_beside d playable made event then draws done w' acts keeps after idle old silent so
       ]))
   leads_to_left (Turned silent now) ago next none so = absurd none
   leads_to_left (Fallen silent now) ago next none so = absurd none
@@ -155,6 +160,7 @@ module _ (d : DocumentState) (playable : IsPlayable d) (made : List Timed) (even
   leads_to_left (Aging old aged silent) ago next none so = absurd none
   leads_to_left (Split old gone silent) ago next none so = absurd none
   leads_to_left (Lost old since most silent) ago next none so = absurd none
+  leads_to_left (Fewer old since most silent) ago next none so = absurd none
 
   pub leads_to_turned : (past : Past) (silent now : ℕ) → EventLeads n made past event (Turned silent now)
       → IsAfter d made past then → IsTurnedTo d more silent now w'
@@ -177,6 +183,7 @@ module _ (d : DocumentState) (playable : IsPlayable d) (made : List Timed) (even
   leads_to_turned (Aging ago aged start) silent now none so = absurd none
   leads_to_turned (Split ago gone start) silent now none so = absurd none
   leads_to_turned (Lost ago since most start) silent now none so = absurd none
+  leads_to_turned (Fewer ago since most start) silent now none so = absurd none
 
   clears : (ago : List Timed) (start since silent right old : ℕ) → HasRestedSo p start event.at then → ago ≡ made
       → ClearsBy n made event start since silent right old → IsClearedTo d ago more since silent right old w'
@@ -249,48 +256,6 @@ module _ (d : DocumentState) (playable : IsPlayable d) (made : List Timed) (even
         were = so.were;
       }
 
-  pub leads_to_cleared : (past : Past) (ago : List Timed) (since silent right old : ℕ)
-      → EventLeads n made past event (Cleared ago since silent right old)
-      → IsAfter d made past then → IsClearedTo d ago more since silent right old w'
-  leads_to_cleared AnyPast ago since silent right old (settled, same, by) so =
-      clears ago (last_change made + capability_span p) since silent right old
-      (rested_any d playable made event then at_time keeps settled) same by
-  leads_to_cleared Starting ago since silent right old none so = absurd none
-  leads_to_cleared (Gained start) ago since silent right old (settled, same, by) so =
-      clears ago start since silent right old
-      (rested_gained d playable made event then at_time keeps start settled so.news) same by
-  leads_to_cleared (Heard start) ago since silent right old (settled, same, by) so =
-      clears ago start since silent right old
-      (rested_heard d playable made event then at_time keeps start settled so.since) same by
-  leads_to_cleared (Left was start) ago since silent right old none so = absurd none
-  leads_to_cleared (Turned start now) ago since silent right old none so = absurd none
-  leads_to_cleared (Fallen start now) ago since silent right old none so = absurd none
-  leads_to_cleared (TurnedTree start now) ago since silent right old none so = absurd none
-  leads_to_cleared (Cleared was start dark clean gone) ago since silent right old
-      (falls, same_ago, (begun, by, is, same)) so =
-      subst (λ es. IsClearedTo d es more since silent right old w') (sym same_ago)
-      (subst (λ t. IsClearedTo d was more t silent right old w') (sym begun)
-      (subst (λ t. IsClearedTo d was more start t right old w') (sym by)
-      (subst (λ t. IsClearedTo d was more start dark t old w') (sym is)
-      (subst (λ t. IsClearedTo d was more start dark clean t w') (sym same)
-      (elim falls [
-        | inl (lowers, past) ↦ record {
-          keeps = after;
-          before = so.before;
-          is = fallen_cleared so.before dark lowers so.is.left start clean gone past so.is;
-          were = fallen_were was lowers so.were;
-        }
-        | inr repeats ↦ cleared_repeated d playable made event then draws done w' acts at_time keeps after repeats was
-            start dark clean gone so
-      ])))))
-  leads_to_cleared (Aging was aged dark) ago since silent right old (falls, same_ago, same, anew) so =
-      subst (λ es. IsClearedTo d es more since silent right old w') (sym same_ago)
-      (subst (λ t. IsClearedTo d was more since t right old w') (sym same)
-      (told_anew d playable was more event.at aged dark since right old w' after time last
-      (ages_still was aged dark falls so) anew))
-  leads_to_cleared (Split was gone dark) ago since silent right old none so = absurd none
-  leads_to_cleared (Lost was begun most start) ago since silent right old none so = absurd none
-
   ages : (ago : List Timed) (start aged silent : ℕ) → HasRestedSo p start event.at then → ago ≡ made
       → FailsNow n made event aged silent → IsAgingTo d ago more aged silent w'
   ages ago start aged silent rest same now =
@@ -323,6 +288,7 @@ module _ (d : DocumentState) (playable : IsPlayable d) (made : List Timed) (even
       ]))
   leads_to_aging (Split old gone start) ago aged silent none so = absurd none
   leads_to_aging (Lost old since most start) ago aged silent none so = absurd none
+  leads_to_aging (Fewer old since most start) ago aged silent none so = absurd none
 
   -- ---- anything is taken away
 
@@ -366,3 +332,100 @@ module _ (d : DocumentState) (playable : IsPlayable d) (made : List Timed) (even
           | inr repeats ↦ lost_repeated d playable made event then draws done w' acts at_time keeps after repeats old
               since most silent lost
         ])
+    leads_to_lost (Fewer old begun delay start) ago since most silent none so = absurd none
+
+    taken_now : (ago : List Timed) (start since most silent : ℕ) → HasRestedSo p start event.at then
+        → TakesNow n made event ago since most silent → IsTakenTo d ago more since most silent w'
+    taken_now ago start since most silent rest (same, now, any, later) =
+        subst (λ es. IsTakenTo d es more since most silent w') (sym same)
+        (taken_first d playable made event then draws done w' is acts octet at_time time last keeps after start since
+        most silent rest now any later)
+
+    taken_on : (ago : List Timed) (since most silent : ℕ) → TakesMore n made event since silent
+        → IsTakenTo d ago made since most silent then → IsTakenTo d ago more since most silent w'
+    taken_on ago since most silent (inl (now, one)) so =
+        taken_more d playable made event then draws done w' is acts octet at_time time last keeps after ago since most
+        silent now one so
+    taken_on ago since most silent (inr repeats) so =
+        taken_repeated d playable made event then draws done w' acts at_time keeps after repeats ago since most silent
+        so
+
+    pub leads_to_fewer : (past : Past) (ago : List Timed) (since most silent : ℕ)
+        → EventLeads n made past event (Fewer ago since most silent)
+        → IsAfter d made past then → IsTakenTo d ago more since most silent w'
+    leads_to_fewer AnyPast ago since most silent (settled, now) so =
+        taken_now ago (last_change made + capability_span p) since most silent
+        (rested_any d playable made event then at_time keeps settled) now
+    leads_to_fewer Starting ago since most silent none so = absurd none
+    leads_to_fewer (Gained start) ago since most silent (settled, now) so =
+        taken_now ago start since most silent
+        (rested_gained d playable made event then at_time keeps start settled so.news) now
+    leads_to_fewer (Heard start) ago since most silent (settled, now) so =
+        taken_now ago start since most silent
+        (rested_heard d playable made event then at_time keeps start settled so.since) now
+    leads_to_fewer (Left old start) ago since most silent none so = absurd none
+    leads_to_fewer (Turned start was) ago since most silent none so = absurd none
+    leads_to_fewer (Fallen start was) ago since most silent none so = absurd none
+    leads_to_fewer (TurnedTree start was) ago since most silent none so = absurd none
+    leads_to_fewer (Cleared was begun start right old) ago since most silent none so = absurd none
+    leads_to_fewer (Aging old aged start) ago since most silent none so = absurd none
+    leads_to_fewer (Split old gone start) ago since most silent none so = absurd none
+    leads_to_fewer (Lost old begun delay start) ago since most silent none so = absurd none
+    leads_to_fewer (Fewer old begun delay start) ago since most silent
+        (which, same_ago, same_since, same_most, same_silent) so =
+        let taken : IsTakenTo d old made since most silent then =
+        subst (λ t. IsTakenTo d old made t most silent then) (sym same_since)
+        (subst (λ m. IsTakenTo d old made begun m silent then) (sym same_most)
+        (subst (λ t. IsTakenTo d old made begun delay t then) (sym same_silent) so)) in
+        subst (λ es. IsTakenTo d es more since most silent w') (sym same_ago)
+        (taken_on old since most silent which taken)
+
+    -- ---- it is cleared
+
+    pub leads_to_cleared : (past : Past) (ago : List Timed) (since silent right old : ℕ)
+        → EventLeads n made past event (Cleared ago since silent right old)
+        → IsAfter d made past then → IsClearedTo d ago more since silent right old w'
+    leads_to_cleared AnyPast ago since silent right old (settled, same, by) so =
+        clears ago (last_change made + capability_span p) since silent right old
+        (rested_any d playable made event then at_time keeps settled) same by
+    leads_to_cleared Starting ago since silent right old none so = absurd none
+    leads_to_cleared (Gained start) ago since silent right old (settled, same, by) so =
+        clears ago start since silent right old
+        (rested_gained d playable made event then at_time keeps start settled so.news) same by
+    leads_to_cleared (Heard start) ago since silent right old (settled, same, by) so =
+        clears ago start since silent right old
+        (rested_heard d playable made event then at_time keeps start settled so.since) same by
+    leads_to_cleared (Left was start) ago since silent right old none so = absurd none
+    leads_to_cleared (Turned start now) ago since silent right old none so = absurd none
+    leads_to_cleared (Fallen start now) ago since silent right old none so = absurd none
+    leads_to_cleared (TurnedTree start now) ago since silent right old none so = absurd none
+    leads_to_cleared (Cleared was start dark clean gone) ago since silent right old
+        (falls, same_ago, (begun, by, is, same)) so =
+        subst (λ es. IsClearedTo d es more since silent right old w') (sym same_ago)
+        (subst (λ t. IsClearedTo d was more t silent right old w') (sym begun)
+        (subst (λ t. IsClearedTo d was more start t right old w') (sym by)
+        (subst (λ t. IsClearedTo d was more start dark t old w') (sym is)
+        (subst (λ t. IsClearedTo d was more start dark clean t w') (sym same)
+        (elim falls [
+          | inl (lowers, past) ↦ record {
+            keeps = after;
+            before = so.before;
+            is = fallen_cleared so.before dark lowers so.is.left start clean gone past so.is;
+            were = fallen_were was lowers so.were;
+          }
+          | inr idle ↦
+              cleared_beside d playable made event then draws done w' acts keeps after idle was start dark clean gone so
+        ])))))
+    leads_to_cleared (Aging was aged dark) ago since silent right old (falls, same_ago, same, anew) so =
+        subst (λ es. IsClearedTo d es more since silent right old w') (sym same_ago)
+        (subst (λ t. IsClearedTo d was more since t right old w') (sym same)
+        (told_anew d playable was more event.at aged dark since right old w' after time last
+        (ages_still was aged dark falls so) anew))
+    leads_to_cleared (Split was gone dark) ago since silent right old none so = absurd none
+    leads_to_cleared (Lost was begun most start) ago since silent right old none so = absurd none
+    leads_to_cleared (Fewer was begun most dark) ago since silent right old
+        (which, same_ago, same, leaves, few, anew) so =
+        subst (λ es. IsClearedTo d es more since silent right old w') (sym same_ago)
+        (subst (λ t. IsClearedTo d was more since t right old w') (sym same)
+        (taken_anew d was more begun most dark w' (taken_on was begun most dark which so) playable leaves few anew.0
+        event.at since right old time last anew))

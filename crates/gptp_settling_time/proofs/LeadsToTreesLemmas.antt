@@ -7,19 +7,22 @@ use Rattle.gptp_scenario.specs.Network.{NetworkState, pace_of}
 use Rattle.gptp_scenario.specs.SettlingTime.{capability_span}
 use Rattle.gptp_scenario.specs.SyncWait.{sync_paths}
 use Rattle.gptp_scenario.specs.declared.change.Timed.{Timed}
-use Rattle.gptp_model.specs.Acts.{Acts, at}
+use Rattle.gptp_model.specs.Acts.{Acts}
 use Rattle.gptp_model.specs.declared.done.Done.{Done}
 use Rattle.gptp_model.specs.World.{WorldState}
 use Rattle.gptp_network.specs.Document.{DocumentState}
 use Rattle.gptp_theorem.specs.PlayedLaws.{IsPlayable}
 use Rattle.gptp_settling_time.specs.Arrivals.{HasArrivedBy}
-use Rattle.gptp_settling_time.specs.InTurn.{Aging, AnyPast, Cleared, EventLeads, Fallen, FallsCalm, Gained, Heard, IsDownNow, LeadsByTree, Left, Lost, Past, Split, SplitsNow, Starting, TreeNow, Turned, TurnedTree, TurnsTreeCalm}
-use Rattle.gptp_settling_time.proofs.FallMadeLemmas.{fallen_to}
+use Rattle.gptp_settling_time.specs.Pasts.{Aging, AnyPast, Cleared, Fallen, Gained, Heard, Left, Fewer, Lost, Past, Split, Starting, Turned, TurnedTree}
+use Rattle.gptp_settling_time.specs.EventKinds.{FallsCalm, IsDownNow, TurnsTreeCalm}
+use Rattle.gptp_settling_time.specs.Leads.{EventLeads, LeadsByTree, SplitsNow, TreeNow}
+use Rattle.gptp_settling_time.proofs.FallMadeLemmas.{fallen_to, falls_few}
 use Rattle.gptp_settling_time.proofs.FallenToLemmas.{IsFallenTo}
 use Rattle.gptp_settling_time.proofs.TurnedTreeMadeLemmas.{turned_tree_to}
 use Rattle.gptp_settling_time.proofs.TurnedTreeToLemmas.{IsTurnedTreeTo}
 use Rattle.gptp_settling_time.proofs.NamedAfterLemmas.{NamesAfter}
 use Rattle.gptp_settling_time.proofs.NamedLemmas.{IsNamedFrom, arrives_later}
+use Rattle.gptp_settling_time.proofs.OnwardLemmas.{IsOnwardFrom}
 use Rattle.gptp_settling_time.proofs.KeptToLemmas.{KeepsTo}
 use Rattle.gptp_settling_time.proofs.SplitMadeLemmas.{split_on, split_sooner, split_to}
 use Rattle.gptp_settling_time.proofs.SplitToLemmas.{IsSplitTo}
@@ -64,18 +67,21 @@ module _ (d : DocumentState) (playable : IsPlayable d) (made : List Timed) (even
         tree_now (last_change made + capability_span p) stood silent now
         (λ arrived later quiet. rested_any d playable made event then at_time keeps
         (record { calm = settled.calm; passed = omega (arith, passed, later, quiet) }))
-        (λ later moves arrived. named stood arrived (calm moves) (few moves) (inl (off moves, passed)) later) tree
+        (λ later moves arrived arrives.
+        (named stood arrived (calm moves) (few moves) (inl (off moves, passed)) later arrives).0) tree
     leads_by_tree Starting silent now none named so = absurd none
     leads_by_tree (Gained start) silent now (stood, settled, tree) named so =
         tree_now start stood silent now
         (λ arrived later quiet. rested_gained d playable made event then at_time keeps start
         (omega (arith, settled, later, quiet)) so.news)
-        (λ later moves arrived. named stood arrived (calm moves) (few moves) (inl (off moves, settled)) later) tree
+        (λ later moves arrived arrives.
+        (named stood arrived (calm moves) (few moves) (inl (off moves, settled)) later arrives).0) tree
     leads_by_tree (Heard start) silent now (stood, settled, tree) named so =
         tree_now start stood silent now
         (λ arrived later quiet. rested_heard d playable made event then at_time keeps start
         (omega (arith, settled, later, quiet)) so.since)
-        (λ later moves arrived. named stood arrived (calm moves) (few moves) (off moves, settled) later) tree
+        (λ later moves arrived arrives.
+        (named stood arrived (calm moves) (few moves) (off moves, settled) later arrives).0) tree
     leads_by_tree (Left ago start) silent now none named so = absurd none
     leads_by_tree (Turned start was) silent now none named so = absurd none
     leads_by_tree (Fallen start was) silent now none named so = absurd none
@@ -84,12 +90,14 @@ module _ (d : DocumentState) (playable : IsPlayable d) (made : List Timed) (even
     leads_by_tree (Aging ago aged start) silent now none named so = absurd none
     leads_by_tree (Split ago gone start) silent now none named so = absurd none
     leads_by_tree (Lost ago since most start) silent now none named so = absurd none
+    leads_by_tree (Fewer ago since most start) silent now none named so = absurd none
 
   pub leads_to_fallen : (past : Past) (silent now : ℕ) → EventLeads n made past event (Fallen silent now)
       → NamesAfter d made past then → IsAfter d made past then → IsFallenTo d more silent now w'
   leads_to_fallen past silent now (inl leads) named so =
-      leads_by_tree (FallsCalm n made event) (λ x. x.calm) (λ x. x.off) (λ x. x.lowers.few)
-      (λ silent now. IsFallenTo d more silent now w') (λ start stood arrived rest named arrives quiet falls.
+      leads_by_tree (FallsCalm n made event) (λ x. x.calm) (λ x. x.off)
+      (λ x. falls_few d.network made event x.falls) (λ silent now. IsFallenTo d more silent now w')
+      (λ start stood arrived rest named arrives quiet falls.
       fallen_to d playable made event then draws done w' acts at_time time keeps after start rest stood arrived named
       arrives quiet falls) past silent now leads named so
   leads_to_fallen past silent now (inr (repeats, same)) named so =
@@ -110,19 +118,21 @@ module _ (d : DocumentState) (playable : IsPlayable d) (made : List Timed) (even
   -- trees are, as a system fails
   splits : (start stood : ℕ) (ago : List Timed) (gone silent : ℕ) → ago ≡ made
       → (now : SplitsNow n made event stood gone silent) → (stood ≤ event.at → HasRestedSo p start event.at then)
-      → ((late : ℕ) → HasArrivedBy n made stood late → IsNamedFrom late then) → IsSplitTo d ago more gone silent w'
+      → ((late : ℕ) → HasArrivedBy n made stood late → IsNamedFrom late then × IsOnwardFrom late then)
+      → IsSplitTo d ago more gone silent w'
   splits start stood ago gone silent same now rest named =
       let later = arrives_later n made stood now.arrived now.arrives in
       let quiet = now.quiet in
       subst (λ es. IsSplitTo d es more gone silent w') (sym same)
-      (split_to d playable made event then draws done w' acts at_time time keeps after start
-      (rest (omega (arith, later, quiet))) stood gone silent now (named now.arrived now.arrives))
+      (split_to d playable made event then draws done w' acts at_time time last keeps after start
+      (rest (omega (arith, later, quiet))) stood gone silent now (named now.arrived now.arrives).0
+      (named now.arrived now.arrives).1)
 
   -- they fall back where a link goes down of which an end has failed, or all stays as it stands
   splits_still : (ago : List Timed) (gone silent : ℕ) → IsDownNow n made event → IsSplitTo d ago made gone silent then
       → IsSplitTo d ago more gone silent w'
   splits_still ago gone silent (inl falls) so =
-      split_on d playable made event then draws done w' acts at_time time keeps after ago gone silent falls so
+      split_on d playable made event then draws done w' acts at_time time last keeps after ago gone silent falls so
   splits_still ago gone silent (inr repeats) so =
       split_repeated d playable made event then draws done w' acts at_time keeps after repeats ago gone silent so
 
@@ -157,7 +167,8 @@ module _ (d : DocumentState) (playable : IsPlayable d) (made : List Timed) (even
         | inl same ↦
             subst (λ time. IsSplitTo d old more time start w') (sym same) (splits_still old was start falls so)
         | inr (now, is_gone) ↦
-            split_sooner d playable made event then draws done w' acts at_time time keeps after old was start
+            split_sooner d playable made event then draws done w' acts at_time time last keeps after old was start
             (splits_still old was start falls so) gone now is_gone
       ]))
   leads_to_split (Lost old since most start) ago gone silent none named so = absurd none
+  leads_to_split (Fewer old since most start) ago gone silent none named so = absurd none

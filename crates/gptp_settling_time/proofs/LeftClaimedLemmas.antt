@@ -180,12 +180,13 @@ left_itself p silent w standing asked near late seen =
     }
 
 -- The world is calm whose ports without a link hold nothing from a time on.
-pub bare_calm : (p : SettlingParams) (bare silent : ℕ) (w : WorldState) → IsStanding p silent w → HaveAskedLong w
-    → HaveQuietLinks p.params w → (bare ≤ w.time → UnlinkedHoldNothing (snapshot_of w) (view w))
+pub heard_calm : (p : SettlingParams) (bare silent : ℕ) (w : WorldState) → IsStanding p silent w
+    → ((start : ℕ) → AreHeard p start w) → HaveQuietLinks p.params w
+    → (bare ≤ w.time → UnlinkedHoldNothing (snapshot_of w) (view w))
     → Calm (record (left_network p silent w) { bare = bare }) (view w)
-bare_calm p bare silent w standing asked quiet none =
+heard_calm p bare silent w standing heard quiet none =
     let c : Calm (start_network p (path_bound (snapshot_of w)) silent w) (view w) =
-    start_calm p silent w standing (asked_heard p silent w asked) quiet (path_bound (snapshot_of w)) in
+    start_calm p silent w standing (heard silent) quiet (path_bound (snapshot_of w)) in
     record {
       facts = c.facts;
       stations = λ i s there lives.
@@ -199,7 +200,7 @@ bare_calm p bare silent w standing asked quiet none =
                   interval = y.interval;
                   timer = y.timer;
                   capable = λ now linked.
-                      linked_on p 0 w standing.world (asked_heard p 0 w asked) quiet (omega arith) i s place q there at
+                      linked_on p 0 w standing.world (heard 0) quiet (omega arith) i s place q there at
                       linked;
                   bare = λ now unlinked r holds. none now i s place r there lives unlinked (q, at, holds);
                   unlinked = y.unlinked;
@@ -216,6 +217,12 @@ bare_calm p bare silent w standing asked quiet none =
       apart = c.apart;
       left = c.left;
     }
+
+pub bare_calm : (p : SettlingParams) (bare silent : ℕ) (w : WorldState) → IsStanding p silent w → HaveAskedLong w
+    → HaveQuietLinks p.params w → (bare ≤ w.time → UnlinkedHoldNothing (snapshot_of w) (view w))
+    → Calm (record (left_network p silent w) { bare = bare }) (view w)
+bare_calm p bare silent w standing asked =
+    heard_calm p bare silent w standing (λ start. asked_heard p start w asked)
 
 pub left_calm : (p : SettlingParams) (silent : ℕ) (w : WorldState) → IsStanding p silent w → HaveAskedLong w
     → HaveQuietLinks p.params w → UnlinkedHoldNothing (snapshot_of w) (view w)

@@ -13,10 +13,13 @@ use Rattle.gptp_scenario.specs.declared.change.Change.TheVariants.{LinkDown, Lin
 use Rattle.gptp_scenario.specs.declared.change.Timed.{Timed}
 use Rattle.gptp_scenario.specs.declared.sync_wait.SyncPaths.{SyncPaths}
 use Rattle.gptp_settling_time.specs.HowSoon.{BoundsAnyLoss, EachEvent, IsLossToo, LosesEvents, RestsAfterAnyLoss, RolesAfterLoss, delay_between}
-use Rattle.gptp_settling_time.specs.InTurn.{AreUsedSince, Heard, LeadOn, Lost, Past}
+use Rattle.gptp_settling_time.specs.Pasts.{Heard, Lost, Past}
+use Rattle.gptp_settling_time.specs.Leads.{AreUsedSince}
+use Rattle.gptp_settling_time.specs.InTurn.{LeadOn}
 use Rattle.gptp_settling_time.specs.Losses.{AreSilentAfter, LosesAny, NoneSilent}
 use Rattle.gptp_settling_time.proofs.CalmStillLemmas.{idle_calm}
-use Rattle.gptp_settling_time.proofs.LeadOnLemmas.{HasSettled, IsLed, idle_leads, idle_settled, makes_nothing, same_paths, since}
+use Rattle.gptp_settling_time.proofs.LeadOnLemmas.{IsLed, idle_leads, idle_settled, makes_nothing, same_paths, since}
+use Rattle.gptp_settling_time.proofs.SettledPastLemmas.{HasSettled}
 use Rattle.gptp_settling_time.proofs.LossLeadLemmas.{loses_leads}
 use Rattle.gptp_settling_time.proofs.UsedSinceLemmas.{idle_since}
 
@@ -32,7 +35,7 @@ module _ (n : NetworkState) (made : List Timed) (time : ℕ) where
   p = pace_of n
 
   -- once too many requests are lost, whatever it is
-  long_silent : (act : Act) → AreSilentAfter p time (suc (time + silence_span p)) act
+  pub long_silent : (act : Act) → AreSilentAfter p time (suc (time + silence_span p)) act
   long_silent (Changing (Fail number)) = omega arith
   long_silent (Changing (LinkDown number port)) = omega arith
   long_silent (Changing (LinkUp number port)) = omega arith

@@ -1,5 +1,5 @@
 -- A system fails: what it takes away from a world, whoever hears it.
-use Rattle.std.proofs.Common.{◌≡◌, ◌≢◌, ◌≤◌, ◌<◌, ◌+◌, ℕ, true, List, slice_get, refl, sym, ap, subst, ◌∙◌, inl, inr, arith}
+use Rattle.std.proofs.Common.{◌≡◌, ◌≤◌, ◌<◌, ◌+◌, ℕ, true, List, slice_get, refl, sym, ap, subst, ◌∙◌, inl, inr, arith}
 use Rattle.gptp_lists.specs.Members.{In}
 use Rattle.gptp_lists.proofs.PlaceLemmas.{same_place}
 use Rattle.gptp_graph.specs.Snapshot.{clocks}
@@ -16,17 +16,15 @@ use Rattle.gptp_model.specs.World.{WorldState}
 use Rattle.gptp_model.specs.declared.done.Done.{Done}
 use Rattle.gptp_invariants.specs.ChoiceCalm.{HaveQuietLinks}
 use Rattle.gptp_invariants.specs.ChoiceSettlesAsMachine.{IsWorld}
-use Rattle.gptp_invariants.specs.DelayLinkView.{pair}
 use Rattle.gptp_invariants.specs.DelayMeasured.{LinkIsMeasured}
-use Rattle.gptp_invariants.specs.WorldNews.{AreReadyBy, AreSilentBy, IsSilentBy}
+use Rattle.gptp_invariants.specs.WorldNews.{AreReadyBy, AreSilentBy}
 use Rattle.gptp_invariants.specs.WorldStanding.{live_stations, snapshot_of, stations_have_clock}
 use Rattle.gptp_invariants.proofs.WorldNewsLemmas.{ready_goes_through}
 use Rattle.gptp_invariants.proofs.WorldStandsLemmas.{sender_lives, used_up}
 use Rattle.gptp_invariants.proofs.WorldSystemLemmas.{clock_from, clock_there}
 use Rattle.gptp_invariants.proofs.ChoiceCalmFactLemmas.{used_is}
-use Rattle.gptp_settling_time.proofs.FailedAloneLemmas.{channels_now, elsewhere, here_before, last_still, link_used, silent_still, stood_beside, stood_good, stood_link, systems_before, time_now}
+use Rattle.gptp_settling_time.proofs.FailedAloneLemmas.{channels_now, elsewhere, here_before, link_used, silent_still, silent_then, stood_beside, stood_link, systems_before, time_now}
 use Rattle.gptp_settling_time.proofs.LosingLemmas.{TakesAway}
-use Rattle.gptp_settling_time.proofs.WidenedLemmas.{ready_first}
 use Rattle.gptp_settling_time.proofs.StaySilentLemmas.{GoesSilent}
 use Rattle.gptp_invariants.specs.DelayLinkView.{LinkPlace}
 use Rattle.gptp_invariants.specs.FailedUnanswered.{StandsUnanswered}
@@ -38,28 +36,9 @@ module _ (p : SettlingParams) (number : ℕ) (w : WorldState) (draws : List Draw
   k = acts.1
 
   module _ (lives : k.station.live ≡ true) where
-    -- ports beside it aren't capable once too many requests are lost; others beside failed systems stay as they are
     module _ (since silent : ℕ) (past : since ≤ w.time) (ready : AreReadyBy p since w)
         (quiet : HaveQuietLinks p.params w) (before : AreSilentBy p silent w)
         (long : w.time + silence_span p < silent) where
-      silent_now : AreSilentBy p silent w'
-      silent_now at s = elim (same_place at.answering k.place) [
-        | inl own ↦
-            let (first, by) = ready_first p since w is past at
-            (ready at (stood_good p number w draws done w' is is' acts lives at s own quiet)) in
-            let asked_by = by.0.facts.asked in
-            inr (
-              (pair at w by.0.link).asker.asked,
-              last_still p number w draws done w' is is' acts lives at s own quiet first by.0,
-              omega (arith, asked_by, long),
-            )
-        | inr other ↦ still other (before at (stood_beside p number w draws done w' is is' acts lives at s other))
-      ]
-        where
-          still : (at.answering ≢ k.place) → IsSilentBy p silent at w → IsSilentBy p silent at w'
-          still other is_so =
-              silent_still p number w draws done w' is is' acts lives at s other silent silent (omega arith) is_so
-
       -- else those beside it had a link in use
       goes_now : (at : LinkPlace) → StandsUnanswered at w' → GoesSilent p at w w'
       goes_now at s = elim (same_place at.answering k.place) [
@@ -95,7 +74,9 @@ module _ (p : SettlingParams) (number : ℕ) (w : WorldState) (draws : List Draw
             time = time_now p number w draws done w' is is' acts lives;
             world = is';
             measured = measured';
-            quiet = silent_now;
+            quiet =
+                silent_then p number w draws done w' is is' acts lives since silent silent past (omega arith) ready
+                quiet before long;
             goes = goes_now;
             ready = λ at stands.
                 ready_goes_through p since at (Changing (Fail number)) w w' draws done is.sound measured

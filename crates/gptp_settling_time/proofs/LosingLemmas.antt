@@ -86,6 +86,16 @@ pub record TakesAway (p : SettlingParams) (since silent : ℕ) (w w' : WorldStat
   pub flight : (link : ℕ) (direction : Direction) (new : Channel) → slice_get w'.net.channels link ≡ Some new
       → (In (sender direction new).clock (clocks (snapshot_of w')) → ⊥) → HadFlight w link direction new
 
+-- so no greatest delay gets greater
+pub takes_shorter : (p : SettlingParams) (since silent : ℕ) (w w' : WorldState) → TakesAway p since silent w w'
+    → delay_in w' ≤ delay_in w
+takes_shorter p since silent w w' by =
+    delay_most (live_stations w'.stations) w'.net.channels (delay_in w) (λ link channel here used.
+    let was = by.used link channel here used in
+    let less = delay_of_used (live_stations w.stations) w.net.channels link was.old was.here was.used in
+    let same = ap (λ (b : Bounds). b.max) was.bounds in
+    omega (arith, less, same))
+
 -- ---- between the events
 
 -- What is so of a world at that time, between two of the events.
@@ -144,13 +154,7 @@ module _ (p : SettlingParams) (since most silent : ℕ) (w w' : WorldState) (is 
       record { lossless = rw⁻¹ bounds x.lossless; good = rw⁻¹ bounds x.good }
 
   short' : delay_in w' ≤ most
-  short' =
-      delay_most (live_stations w'.stations) w'.net.channels most (λ link channel here used.
-      let was = by.used link channel here used in
-      let short = is.short in
-      let less = delay_of_used (live_stations w.stations) w.net.channels link was.old was.here was.used in
-      let same = ap (λ (b : Bounds). b.max) was.bounds in
-      omega (arith, short, less, same))
+  short' = let short = is.short in let less = takes_shorter p since silent w w' by in omega (arith, short, less)
 
   now' : w'.time ≡ since
   now' = by.time ∙ is.now

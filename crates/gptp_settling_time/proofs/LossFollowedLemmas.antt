@@ -13,20 +13,23 @@ use Rattle.gptp_network.specs.Events.{AreInOrder}
 use Rattle.gptp_network.specs.Snapshot.{events_by}
 use Rattle.gptp_settling_time.specs.Arrivals.{HasArrivedBy}
 use Rattle.gptp_settling_time.specs.HowSoon.{BeforeRepeats, HasArrivedNext, IsDownToo, BoundsAging, BoundsAnyLoss, BoundsLoss, BoundsSplit, EachEvent, FailsTreesFirst, IsLossBoundAfter, NoneBetween, OneEvent, events_at}
-use Rattle.gptp_settling_time.specs.InTurn.{Aging, BeginsBy, ChoosesAfter, Fallen, LeadOn, Left, Lost, Past, SettlesAfter, Split, Starting, Turned, TurnedTree}
+use Rattle.gptp_settling_time.specs.Pasts.{Aging, Fallen, Fewer, Left, Lost, Past, Split, Starting, Turned, TurnedTree}
+use Rattle.gptp_settling_time.specs.InTurn.{BeginsBy, ChoosesAfter, LeadOn, SettlesAfter}
 use Rattle.gptp_settling_time.specs.Losses.{AgesWithin, FailsHeard, LowersLink, NoneSilent, TurnsLink}
-use Rattle.gptp_settling_time.specs.TreeLosses.{LowersTree, TurnsTreeLink}
+use Rattle.gptp_settling_time.specs.TreeLosses.{FallsTree, TurnsTreeLink}
 use Rattle.gptp_settling_time.proofs.BesideIdleLemmas.{LeadsTo, chooses_same, repeats_to, settles_same, split_now}
 use Rattle.gptp_theorem.proofs.EventLemmas.{last_behind}
 use Rattle.gptp_settling_time.proofs.CalmLessLemmas.{fails_calm}
 use Rattle.gptp_settling_time.proofs.NamedLemmas.{arrives_later}
 use Rattle.gptp_settling_time.proofs.FollowedLemmas.{IsFollowedTo, besided, bound_calm, falls_on, followed, turns_on}
-use Rattle.gptp_settling_time.proofs.LeadOnLemmas.{HasSettled, lead_as, leads_on, taken_later}
+use Rattle.gptp_settling_time.proofs.LeadOnLemmas.{lead_as}
+use Rattle.gptp_settling_time.proofs.SettledPastLemmas.{HasSettled, leads_on, taken_later}
 use Rattle.gptp_settling_time.proofs.LosesLeadLemmas.{LosesBy, loses_by}
 use Rattle.gptp_settling_time.proofs.LossLeadLemmas.{IsLeftBy, dead_lead, heard_lead, loss_leads, splits_lead, turn_leads}
 use Rattle.gptp_settling_time.proofs.LossRestLemmas.{last_at}
 use Rattle.gptp_settling_time.proofs.MomentLemmas.{all_at, last_by, parted}
 use Rattle.gptp_settling_time.proofs.SamePathsLemmas.{StandSame}
+use Rattle.gptp_settling_time.proofs.TakenLeadLemmas.{silent_from, taken_lead}
 use Rattle.gptp_settling_time.proofs.SilentSpanLemmas.{none_silent}
 
 -- ---- what a loss leads to
@@ -53,7 +56,8 @@ none_lost n made choice roles (inl (lowers, is_roles, is_choice)) = lowers
 none_lost n made choice roles (inr (inl (fails, is_choice, after))) = fails
 none_lost n made choice roles (inr (inr (inl (turns, is_choice, same)))) = turns
 none_lost n made choice roles (inr (inr (inr (inl (fails, bounds))))) = fails
-none_lost n made choice roles (inr (inr (inr (inr (any, is_choice, after))))) = any
+none_lost n made choice roles (inr (inr (inr (inr (inl (any, is_choice, after)))))) = any
+none_lost n made choice roles (inr (inr (inr (inr (inr (takes, leaves, none, is_choice, is_roles)))))) = takes
 
 module _ (n : NetworkState) (network : IsNetwork n) (off : NothingLapses n.params) (time choice roles : ℕ) where
   abbrev IsLostTo : List Timed → List Timed → Past → Type 0
@@ -189,9 +193,14 @@ module _ (n : NetworkState) (network : IsNetwork n) (off : NothingLapses n.param
       by (inr (inr (inr (inl ((fails, others), (held, quiet, bounds, inr (is_later, roles_later))))))) =
           let more = le-max_right choice quiet in
           heard held quiet (omega (arith, is_later)) (omega (arith, roles_later, more)) fails others bounds
-      by (inr (inr (inr (inr any)))) = any_lost any
+      by (inr (inr (inr (inr (inl any))))) = any_lost any
+      by (inr (inr (inr (inr (inr (takes, leaves, none, is_choice, is_roles)))))) = record {
+        last = Fewer earlier time (sync_paths n earlier).delay (silent_from n time);
+        lead = taken_lead n time earlier (event ∷ now) seen at has calm_then off takes;
+        so = (λ settled late. (off, leaves, none), λ settled late. (off, leaves, none));
+      }
 
-  -- by one that cuts trees off, once what was sent before the choice stood has arrived
+  -- by one that moves trees, once what was sent before the choice stood has arrived
   split_leads : (made now : List Timed) (past : Past) (stood arrived : ℕ)
       → AllByRecursion (λ (t : Timed). t.at ≡ time) now → HasSettled n made past stood → last_change made < stood
       → HasArrivedBy n made stood arrived → arrived ≤ time → IsCalm n made → FailsTreesFirst n made now → BoundsSplit n
@@ -264,7 +273,7 @@ module _ (d : DocumentState) (network : IsNetwork d.network) (order : AreInOrder
         → NothingLapses d.network.params → IsCalm d.network (events_by last d.events)
         → IsCalm d.network (events_by time d.events) → IsFollowedTo d.network (events_by last d.events) last choice_then
         → HasArrivedNext d.network d.events last choice_then time
-        → BeforeRepeats d.network (OneEvent (LowersTree d.network)) (events_by last d.events)
+        → BeforeRepeats d.network (OneEvent (FallsTree d.network)) (events_by last d.events)
         (events_at time d.events)
         ⊎ BeforeRepeats d.network (OneEvent (TurnsTreeLink d.network)) (events_by last d.events)
         (events_at time d.events)

@@ -9,15 +9,18 @@ use Rattle.gptp_scenario.specs.SettlingTime.{aging_span, capability_span, silenc
 use Rattle.gptp_scenario.specs.SyncWait.{sync_paths}
 use Rattle.gptp_scenario.specs.declared.change.Timed.{Timed}
 use Rattle.gptp_settling_time.specs.Arrivals.{HasArrivedBy}
-use Rattle.gptp_settling_time.specs.HowSoon.{EachEvent, IsDownToo, TurnsUnused}
-use Rattle.gptp_settling_time.specs.InTurn.{AgesSooner, Aging, AnyPast, AreUsedSince, ChoosesAfter, Cleared, EventLeads, FailsCalm, FailsNow, Fallen, Gained, Heard, IsDownNow, IsGoneBy, LeadOn, LeadsByTree, Left, LosesNow, Lost, LowersCalm, Past, SettlesAfter, Split, SplitsNow, Starting, Turned, TurnedTree, TurnsCalm}
+use Rattle.gptp_settling_time.specs.HowSoon.{EachEvent, IsDownToo, IsIdleBeside, TurnsUnused}
+use Rattle.gptp_settling_time.specs.Pasts.{Aging, AnyPast, Cleared, Fallen, Fewer, Gained, Heard, Left, Lost, Past, Split, Starting, Turned, TurnedTree}
+use Rattle.gptp_settling_time.specs.EventKinds.{FailsCalm, FailsNow, IsDownNow, IsDownOrIdle, LowersCalm, TurnsCalm}
+use Rattle.gptp_settling_time.specs.Leads.{AgesSooner, AreUsedSince, EventLeads, IsGoneBy, LeadsByTree, LosesNow, SplitsNow}
+use Rattle.gptp_settling_time.specs.InTurn.{ChoosesAfter, LeadOn, SettlesAfter}
 use Rattle.gptp_settling_time.specs.Losses.{AgesWithin, FailsHeard}
 use Rattle.gptp_settling_time.specs.TreeLosses.{FailsTrees}
 use Rattle.gptp_settling_time.proofs.CalmLessLemmas.{failure_calm, lowers_calm}
 use Rattle.gptp_theorem.proofs.EventLemmas.{last_behind}
 use Rattle.gptp_settling_time.proofs.CalmStillLemmas.{idle_calm}
 use Rattle.gptp_settling_time.proofs.SamePathsLemmas.{idle_paths, turned_paths}
-use Rattle.gptp_settling_time.proofs.LeadOnLemmas.{HasSettled}
+use Rattle.gptp_settling_time.proofs.SettledPastLemmas.{HasSettled}
 use Rattle.gptp_settling_time.proofs.SilentSpanLemmas.{fail_within, failure_within}
 
 module _ (n : NetworkState) (made : List Timed) (event : Timed) (roles : ℕ) where
@@ -69,6 +72,7 @@ module _ (n : NetworkState) (made : List Timed) (event : Timed) (roles : ℕ) wh
   loss_leads (Aging ago aged silent) settled loses = absurd settled
   loss_leads (Split ago gone silent) settled loses = absurd settled
   loss_leads (Lost ago since most silent) settled loses = absurd settled
+  loss_leads (Fewer ago since most silent) settled loses = absurd settled
 
 -- after one by which a tree is so moved it is, where what was sent before the choice stood has arrived
 module _ (n : NetworkState) (made : List Timed) (event : Timed) (stood : ℕ) (later : last_change made < stood)
@@ -88,6 +92,7 @@ module _ (n : NetworkState) (made : List Timed) (event : Timed) (stood : ℕ) (l
   tree_leads (Aging ago aged silent) settled moves = absurd settled
   tree_leads (Split ago gone silent) settled moves = absurd settled
   tree_leads (Lost ago since most silent) settled moves = absurd settled
+  tree_leads (Fewer ago since most silent) settled moves = absurd settled
 
 -- after one by which trees are cut off, as a system fails, they do too
 module _ (n : NetworkState) (made : List Timed) (event : Timed) (stood : ℕ) where
@@ -105,6 +110,7 @@ module _ (n : NetworkState) (made : List Timed) (event : Timed) (stood : ℕ) wh
   split_leads (Aging ago aged start) gone silent settled now = absurd settled
   split_leads (Split ago was start) gone silent settled now = absurd settled
   split_leads (Lost ago since most start) gone silent settled now = absurd settled
+  split_leads (Fewer ago since most start) gone silent settled now = absurd settled
 
 -- after one by which a system turns it has turned
 module _ (n : NetworkState) (made : List Timed) (event : Timed) where
@@ -122,6 +128,7 @@ module _ (n : NetworkState) (made : List Timed) (event : Timed) where
   turn_leads (Aging ago aged silent) settled turns = absurd settled
   turn_leads (Split ago gone silent) settled turns = absurd settled
   turn_leads (Lost ago since most silent) settled turns = absurd settled
+  turn_leads (Fewer ago since most silent) settled turns = absurd settled
 
   -- after one of a system that others hear what they hold of it ages
   pub ages_leads : (past : Past) (aged silent : ℕ) → HasSettled n made past event.at → FailsNow n made event aged silent
@@ -138,6 +145,7 @@ module _ (n : NetworkState) (made : List Timed) (event : Timed) where
   ages_leads (Aging ago gone start) aged silent settled now = absurd settled
   ages_leads (Split ago gone start) aged silent settled now = absurd settled
   ages_leads (Lost ago since most start) aged silent settled now = absurd settled
+  ages_leads (Fewer ago since most start) aged silent settled now = absurd settled
 
   -- after any other it has lost
   pub loses_leads : (past : Past) (ago : List Timed) (since most silent : ℕ) → HasSettled n made past event.at
@@ -155,6 +163,7 @@ module _ (n : NetworkState) (made : List Timed) (event : Timed) where
   loses_leads (Aging old aged start) ago since most silent settled used now = absurd settled
   loses_leads (Split old gone start) ago since most silent settled used now = absurd settled
   loses_leads (Lost old begun delay start) ago since most silent settled used now = absurd settled
+  loses_leads (Fewer old begun delay start) ago since most silent settled used now = absurd settled
 
 -- what settles has its choice
 pub settles_chooses : (n : NetworkState) (events : List Timed) (past : Past) (settled : ℕ)
@@ -171,6 +180,7 @@ settles_chooses n events (Cleared ago begun silent right old) settled (off, late
 settles_chooses n events (Aging ago aged silent) settled (off, late) = (off, inr late)
 settles_chooses n events (Split ago gone silent) settled (off, passed, late) = (off, passed)
 settles_chooses n events (Lost ago since most silent) settled (off, passed, late) = (off, passed)
+settles_chooses n events (Fewer ago since most silent) settled so = so
 
 -- ---- behind a failure links go down of which an end has failed, or all stays as it stands
 
@@ -189,51 +199,67 @@ module _ (n : NetworkState) (network : IsNetwork n) (off : NothingLapses n.param
   down_calm made event (inl lowers) calm = lowers_calm n made event off calm lowers
   down_calm made event (inr repeats) calm = idle_calm n network off made event (inl repeats.0) calm
 
-  -- what is in use stays
-  down_paths : (made : List Timed) (event : Timed) → IsDownToo n made event
-      → sync_paths n (made ++ event ∷ []) ≡ sync_paths n made
-  down_paths made event (inl lowers) =
-      turned_paths n made event (subst (TurnsUnused n made) (sym lowers.act) lowers.failed)
-  down_paths made event (inr repeats) = idle_paths n network made event repeats.0
+  -- so it is beside such as change nothing
+  beside_now : (made : List Timed) (event : Timed) → IsCalm n made → last_change made ≡ time → event.at ≡ time
+      → IsIdleBeside n made event → IsDownOrIdle n made event
+  beside_now made event calm last here (inl lowers) = inl (record { lowers = lowers; calm = calm; off = off })
+  beside_now made event calm last here (inr idle) = inr (idle, here ∙ sym last)
 
-  pub dead_paths : (made now : List Timed) → EachEvent (IsDownToo n) made now
+  beside_calm : (made : List Timed) (event : Timed) → IsIdleBeside n made event → IsCalm n made
+      → IsCalm n (made ++ event ∷ [])
+  beside_calm made event (inl lowers) calm = lowers_calm n made event off calm lowers
+  beside_calm made event (inr idle) calm = idle_calm n network off made event (inl idle) calm
+
+  pub each_beside : (made now : List Timed) → EachEvent (IsDownToo n) made now → EachEvent (IsIdleBeside n) made now
+  each_beside made [] each = tt
+  each_beside made (event ∷ now) (inl lowers, others) = (inl lowers, each_beside (made ++ event ∷ []) now others)
+  each_beside made (event ∷ now) (inr repeats, others) = (inr repeats.0, each_beside (made ++ event ∷ []) now others)
+
+  -- what is in use stays
+  beside_paths : (made : List Timed) (event : Timed) → IsIdleBeside n made event
+      → sync_paths n (made ++ event ∷ []) ≡ sync_paths n made
+  beside_paths made event (inl lowers) =
+      turned_paths n made event (subst (TurnsUnused n made) (sym lowers.act) lowers.failed)
+  beside_paths made event (inr idle) = idle_paths n network made event idle
+
+  pub dead_paths : (made now : List Timed) → EachEvent (IsIdleBeside n) made now
       → sync_paths n (made ++ now) ≡ sync_paths n made
   dead_paths made [] each = ap (sync_paths n) (append-nil made)
-  dead_paths made (event ∷ now) (down, others) =
+  dead_paths made (event ∷ now) (beside, others) =
       ap (sync_paths n) (sym (append_assoc made (event ∷ []) now)) ∙ dead_paths (made ++ event ∷ []) now others
-      ∙ down_paths made event down
+      ∙ beside_paths made event beside
 
   -- a network that is left stays so
   pub dead_lead : (ago made now : List Timed) (silent : ℕ) → IsCalm n made → last_change made ≡ time → AllNow now
-      → EachEvent (IsDownToo n) made now → LeadOn n made (Left ago silent) now (Left ago silent)
+      → EachEvent (IsIdleBeside n) made now → LeadOn n made (Left ago silent) now (Left ago silent)
   dead_lead ago made [] silent calm last at each = refl
-  dead_lead ago made (event ∷ now) silent calm last (here, at) (down, others) = (
+  dead_lead ago made (event ∷ now) silent calm last (here, at) (beside, others) = (
     Left ago silent,
     inl refl,
     Left ago silent,
-    (down_now made event calm last here down, refl, refl),
-    dead_lead ago (made ++ event ∷ []) now silent (down_calm made event down calm) (last_behind made event ∙ here) at
-        others,
+    (beside_now made event calm last here beside, refl, refl),
+    dead_lead ago (made ++ event ∷ []) now silent (beside_calm made event beside calm)
+        (last_behind made event ∙ here) at others,
   )
 
   -- so does one that is cleared
   pub dead_clear : (ago made now : List Timed) (begun silent old : ℕ) → IsCalm n made → last_change made ≡ time
-      → AllNow now → EachEvent (IsDownToo n) made now
+      → AllNow now → EachEvent (IsIdleBeside n) made now
       → LeadOn n made (Cleared ago begun silent 0 old) now (Cleared ago begun silent 0 old)
   dead_clear ago made [] begun silent old calm last at each = refl
-  dead_clear ago made (event ∷ now) begun silent old calm last (here, at) (down, others) = (
+  dead_clear ago made (event ∷ now) begun silent old calm last (here, at) (beside, others) = (
     Cleared ago begun silent 0 old,
     inl refl,
     Cleared ago begun silent 0 old,
     (
-      elim (down_now made event calm last here down) [
+      elim (beside_now made event calm last here beside) [
         | inl lowers ↦ inl (lowers, omega arith)
-        | inr repeats ↦ inr repeats
+        | inr idle ↦ inr idle
       ],
       refl,
       (refl, refl, refl, refl),
     ),
-    dead_clear ago (made ++ event ∷ []) now begun silent old (down_calm made event down calm)
+    dead_clear ago (made ++ event ∷ []) now begun silent old (beside_calm made event beside calm)
         (last_behind made event ∙ here) at others,
   )
 

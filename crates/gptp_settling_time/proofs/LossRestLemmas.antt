@@ -2,213 +2,29 @@
 use Rattle.std.proofs.Common.{List, [], ap, append_assoc, arith, inl, inr, max, min, pred, refl, subst, suc, sym, zero, ℕ, ◌*◌, ◌++◌, ◌+◌, ◌∙◌, ◌∷◌, ◌≡◌, ◌≤◌, ◌⊎◌}
 use Rattle.std.specs.List.{AllByRecursion}
 use Rattle.std.proofs.Math.Nat.{le-max_left, le-max_right, mul-le-mul_left}
-use Rattle.gptp_setup.specs.SettlingParams.{largest_interval, longest_span}
+use Rattle.gptp_setup.specs.SettlingParams.{largest_interval}
 use native.Mathlib.Decide.{dec_le}
 use Rattle.gptp_scenario.specs.Calm.{IsCalm, NothingLapses, last_change}
 use Rattle.gptp_scenario.specs.Network.{IsNetwork, NetworkState, pace_of}
-use Rattle.gptp_scenario.specs.SettlingTime.{aging_span, capability_span, echo_span, silence_span, way_span}
+use Rattle.gptp_scenario.specs.SettlingTime.{aging_span, echo_span, silence_span, way_span}
 use Rattle.gptp_scenario.specs.SyncWait.{sync_paths}
 use Rattle.gptp_scenario.specs.declared.change.Timed.{Timed}
 use Rattle.gptp_scenario.specs.declared.sync_wait.SyncPaths.{SyncPaths}
 use Rattle.gptp_theorem.proofs.EventLemmas.{last_behind}
-use Rattle.gptp_settling_time.specs.HowSoon.{CutsOneEnd, EachEvent, FailsEndFirst, FailsHeardFirst, IsDownToo, LowersOneLink, RestsAfterOneLoss, RestsOnceTold, TurnsOneLink}
-use Rattle.gptp_settling_time.specs.InTurn.{Aging, AnyPast, Cleared, CutsCalm, EventLeads, FailsCalm, FailsNow, Fallen, FlightIsGone, Gained, Heard, LeadOn, Left, Lost, LowersCalm, Past, Split, Starting, Turned, TurnedTree, nearer_echo_span, turned_echo_span}
+use Rattle.gptp_settling_time.specs.HowSoon.{CutsOneEnd, EachEvent, FailsEndFirst, FailsHeardFirst, IsDownToo, IsIdleBeside, LowersOneLink, RestsAfterOneLoss, RestsOnceTold, TurnsOneLink}
+use Rattle.gptp_settling_time.specs.Pasts.{Aging, Cleared, Heard, Past, Turned}
+use Rattle.gptp_settling_time.specs.EventKinds.{FailsNow, FlightIsGone, FlightIsGoneFrom, nearer_echo_span}
+use Rattle.gptp_settling_time.specs.Leads.{EventLeads}
+use Rattle.gptp_settling_time.specs.Rests.{turned_echo_span}
+use Rattle.gptp_settling_time.specs.InTurn.{LeadOn}
 use Rattle.gptp_settling_time.specs.Losses.{AgesWithin, CutsFarEnd, FailsFarEnd, FailsHeard, LowersLink, NoneSilent, TurnsLink, UpIsUsed}
 use Rattle.gptp_settling_time.proofs.CalmLessLemmas.{failure_calm, fails_calm}
 use Rattle.gptp_settling_time.proofs.LeftToLemmas.{less_way}
-use Rattle.gptp_settling_time.proofs.LeadOnLemmas.{HasSettled, IsLed}
+use Rattle.gptp_settling_time.proofs.LeadOnLemmas.{IsLed}
+use Rattle.gptp_settling_time.proofs.SettledPastLemmas.{HasSettled}
 use Rattle.gptp_settling_time.proofs.SilentSpanLemmas.{failure_within, up_none_silent}
-use Rattle.gptp_settling_time.proofs.LossLeadLemmas.{ages_leads, dead_clear, dead_paths, down_calm, down_now, heard_lead, turn_leads}
-
--- after the loss of a far end it is cleared
-module _ (n : NetworkState) (made : List Timed) (event : Timed) (gone : ℕ) where
-  record IsClearedBy (past : Past) (by : ℕ) : Type 0 where
-    since : ℕ
-    silent : ℕ
-    leads : EventLeads n made past event (Cleared made since silent 0 (event.at + gone))
-    early : since + way_span (sync_paths n made) ≤ event.at
-    over : silent ≤ by
-
-  -- by a link that cuts it off, as ports without a link were off
-  cut_leads : FlightIsGone n (made ++ event ∷ []) gone → (past : Past) → HasSettled n made past event.at
-      → CutsCalm n made event → IsClearedBy past event.at
-  cut_leads flight AnyPast settled cuts =
-      let passed = settled.passed in
-      let over = le-max_left (capability_span (pace_of n)) (2 * largest_interval (pace_of n)
-      + (sync_paths n made).systems * (longest_span (pace_of n) + (sync_paths n made).delay)) in
-      record {
-        since = last_change made + capability_span (pace_of n);
-        silent = last_change made + capability_span (pace_of n);
-        leads = (settled, refl, inl (refl, inl (refl, inl (cuts, refl, (gone, flight, refl)))));
-        early = omega (arith, passed, over);
-        over = omega (arith, passed, over);
-      }
-  cut_leads flight Starting settled cuts = absurd settled
-  cut_leads flight (Gained start) settled cuts = record {
-    since = start;
-    silent = start;
-    leads = (settled, refl, inl (refl, inl (refl, inl (cuts, refl, (gone, flight, refl)))));
-    early = omega (arith, settled);
-    over = omega (arith, settled);
-  }
-  cut_leads flight (Heard start) settled cuts = record {
-    since = start;
-    silent = start;
-    leads = (settled, refl, inl (refl, inl (refl, inl (cuts, refl, (gone, flight, refl)))));
-    early = omega (arith, settled);
-    over = omega (arith, settled);
-  }
-  cut_leads flight (Left ago silent) settled cuts = absurd settled
-  cut_leads flight (Turned silent now) settled cuts = absurd settled
-  cut_leads flight (Fallen silent now) settled cuts = absurd settled
-  cut_leads flight (TurnedTree silent now) settled cuts = absurd settled
-  cut_leads flight (Cleared ago begun silent right last) settled cuts = absurd settled
-  cut_leads flight (Aging ago aged silent) settled cuts = absurd settled
-  cut_leads flight (Split ago aged silent) settled cuts = absurd settled
-  cut_leads flight (Lost ago since most silent) settled cuts = absurd settled
-
-  -- or as it fails, once the ports beside it have been unanswered for long enough
-  fail_leads : FlightIsGone n made gone → (past : Past) → HasSettled n made past event.at → FailsCalm n made event
-      → IsClearedBy past (suc (event.at + silence_span (pace_of n)))
-  fail_leads flight AnyPast settled fails =
-      let passed = settled.passed in
-      let over = le-max_left (capability_span (pace_of n)) (2 * largest_interval (pace_of n)
-      + (sync_paths n made).systems * (longest_span (pace_of n) + (sync_paths n made).delay)) in
-      record {
-        since = last_change made + capability_span (pace_of n);
-        silent = suc (event.at + silence_span (pace_of n));
-        leads = (settled, refl, inl (refl, inl (refl, inr (fails, refl, (gone, flight, refl)))));
-        early = omega (arith, passed, over);
-        over = omega arith;
-      }
-  fail_leads flight Starting settled fails = absurd settled
-  fail_leads flight (Gained start) settled fails = record {
-    since = start;
-    silent = suc (event.at + silence_span (pace_of n));
-    leads = (settled, refl, inl (refl, inl (refl, inr (fails, refl, (gone, flight, refl)))));
-    early = omega (arith, settled);
-    over = omega arith;
-  }
-  fail_leads flight (Heard start) settled fails = record {
-    since = start;
-    silent = suc (event.at + silence_span (pace_of n));
-    leads = (settled, refl, inl (refl, inl (refl, inr (fails, refl, (gone, flight, refl)))));
-    early = omega (arith, settled);
-    over = omega arith;
-  }
-  fail_leads flight (Left ago silent) settled fails = absurd settled
-  fail_leads flight (Turned silent now) settled fails = absurd settled
-  fail_leads flight (Fallen silent now) settled fails = absurd settled
-  fail_leads flight (TurnedTree silent now) settled fails = absurd settled
-  fail_leads flight (Cleared ago begun silent right last) settled fails = absurd settled
-  fail_leads flight (Aging ago aged silent) settled fails = absurd settled
-  fail_leads flight (Split ago aged silent) settled fails = absurd settled
-  fail_leads flight (Lost ago since most silent) settled fails = absurd settled
-
--- after another such link goes down it is, once right traces are told
-module _ (n : NetworkState) (made : List Timed) (event : Timed) (gone : ℕ)
-    (flight : FlightIsGone n (made ++ event ∷ []) gone) where
-  abbrev echo : ℕ
-  echo = nearer_echo_span n (made ++ event ∷ [])
-
-  record IsRightedBy (past : Past) : Type 0 where
-    since : ℕ
-    leads : EventLeads n made past event (Cleared made since since (event.at + 1 + echo) (event.at + echo + gone))
-    early : since + way_span (sync_paths n made) ≤ event.at
-
-  right_leads : (past : Past) → HasSettled n made past event.at → LowersCalm n made event → IsRightedBy past
-  right_leads AnyPast settled lowers =
-      let passed = settled.passed in
-      let over = le-max_left (capability_span (pace_of n)) (2 * largest_interval (pace_of n)
-      + (sync_paths n made).systems * (longest_span (pace_of n) + (sync_paths n made).delay)) in
-      record {
-        since = last_change made + capability_span (pace_of n);
-        leads = (settled, refl, inl (refl, inr (lowers, refl, refl, (gone, flight, refl))));
-        early = omega (arith, passed, over);
-      }
-  right_leads Starting settled lowers = absurd settled
-  right_leads (Gained start) settled lowers = record {
-    since = start;
-    leads = (settled, refl, inl (refl, inr (lowers, refl, refl, (gone, flight, refl))));
-    early = omega (arith, settled);
-  }
-  right_leads (Heard start) settled lowers = record {
-    since = start;
-    leads = (settled, refl, inl (refl, inr (lowers, refl, refl, (gone, flight, refl))));
-    early = omega (arith, settled);
-  }
-  right_leads (Left ago silent) settled lowers = absurd settled
-  right_leads (Turned silent now) settled lowers = absurd settled
-  right_leads (Fallen silent now) settled lowers = absurd settled
-  right_leads (TurnedTree silent now) settled lowers = absurd settled
-  right_leads (Cleared ago begun silent right last) settled lowers = absurd settled
-  right_leads (Aging ago aged silent) settled lowers = absurd settled
-  right_leads (Split ago aged silent) settled lowers = absurd settled
-  right_leads (Lost ago since most silent) settled lowers = absurd settled
-
--- as a system fails that others hear it is, where each link that is up then is in use
-module _ (n : NetworkState) (made : List Timed) (event : Timed) (aged silent : ℕ)
-    (now : FailsNow n made event aged silent) (used : UpIsUsed n (made ++ event ∷ [])) where
-  abbrev EchoesPower : Past → Type 0
-  EchoesPower past = EventLeads n made past event
-      (Cleared made event.at silent (event.at + 1 + nearer_echo_span n (made ++ event ∷ []))
-      (event.at + nearer_echo_span n (made ++ event ∷ []) + (sync_paths n (made ++ event ∷ [])).delay))
-
-  power_leads : (past : Past) → HasSettled n made past event.at → EchoesPower past
-  power_leads AnyPast settled = (settled, refl, inr (aged, now, (used, refl, refl, refl)))
-  power_leads Starting settled = absurd settled
-  power_leads (Gained start) settled = (settled, refl, inr (aged, now, (used, refl, refl, refl)))
-  power_leads (Heard start) settled = (settled, refl, inr (aged, now, (used, refl, refl, refl)))
-  power_leads (Left ago start) settled = absurd settled
-  power_leads (Turned start was) settled = absurd settled
-  power_leads (Fallen start was) settled = absurd settled
-  power_leads (TurnedTree start was) settled = absurd settled
-  power_leads (Cleared ago begun start right last) settled = absurd settled
-  power_leads (Aging ago gone start) settled = absurd settled
-  power_leads (Split ago gone start) settled = absurd settled
-  power_leads (Lost ago since most start) settled = absurd settled
-
--- Else it goes on to age until the last link goes down of which an end has failed, at this time.
-power_lead : (n : NetworkState) → IsNetwork n → (ago made now : List Timed) (other : Timed) (time aged silent : ℕ)
-    → NothingLapses n.params
-    → IsCalm n made → last_change made ≡ time → AllByRecursion (λ (t : Timed). t.at ≡ time) (other ∷ now)
-    → EachEvent (IsDownToo n) made (other ∷ now) → UpIsUsed n (made ++ other ∷ now)
-    → LeadOn n made (Aging ago aged silent) (other ∷ now)
-    (Cleared ago time silent (time + 1 + nearer_echo_span n (made ++ other ∷ now))
-    (time + nearer_echo_span n (made ++ other ∷ now) + (sync_paths n (made ++ other ∷ now)).delay))
-power_lead n network ago made [] other time aged silent off calm last_then (at, none) (down, others) used =
-    let last = Cleared ago time silent (time + 1 + nearer_echo_span n (made ++ other ∷ []))
-    (time + nearer_echo_span n (made ++ other ∷ []) + (sync_paths n (made ++ other ∷ [])).delay) in (
-      Aging ago aged silent,
-      inl refl,
-      last,
-      (
-        down_now n network off time made other calm last_then at down,
-        refl,
-        refl,
-        (
-          used,
-          sym at,
-          ap (λ t. t + 1 + nearer_echo_span n (made ++ other ∷ [])) (sym at),
-          ap (λ t. t + nearer_echo_span n (made ++ other ∷ []) + (sync_paths n (made ++ other ∷ [])).delay) (sym at),
-        ),
-      ),
-      refl,
-    )
-power_lead n network ago made (event ∷ now) other time aged silent off calm last_then (at, later) (down, others) used =
-    let all : (made ++ other ∷ []) ++ event ∷ now ≡ made ++ other ∷ event ∷ now =
-    append_assoc made (other ∷ []) (event ∷ now) in (
-      Aging ago aged silent,
-      inl refl,
-      Aging ago aged silent,
-      (down_now n network off time made other calm last_then at down, refl, refl, inl refl),
-      subst (λ es. LeadOn n (made ++ other ∷ []) (Aging ago aged silent) (event ∷ now)
-          (Cleared ago time silent (time + 1 + nearer_echo_span n es)
-          (time + nearer_echo_span n es + (sync_paths n es).delay))) all
-          (power_lead n network ago (made ++ other ∷ []) now event time aged silent off
-          (down_calm n network off time made other down calm) (last_behind made other ∙ at) later others
-          (subst (UpIsUsed n) (sym all) used)),
-    )
+use Rattle.gptp_settling_time.proofs.LossLeadLemmas.{ages_leads, dead_clear, dead_paths, each_beside, heard_lead, turn_leads}
+use Rattle.gptp_settling_time.proofs.LeadsToClearedLemmas.{cut_leads, fail_leads, power_lead, power_leads, right_leads}
 
 -- the last of events of one time is of that time
 pub last_at : (made : List Timed) (event : Timed) (now : List Timed) (time : ℕ)
@@ -218,7 +34,8 @@ last_at made event (next ∷ now) time (here, at) =
     ap last_change (sym (append_assoc made (event ∷ []) (next ∷ now))) ∙ last_at (made ++ event ∷ []) next now time at
 
 -- What was in flight as all but the neighbours of the best tell what is right is gone once they do too.
-nearer_within : (systems hop gone : ℕ) → gone ≤ hop → pred (pred systems) * hop + gone ≤ max (pred systems * hop) gone
+pub nearer_within : (systems hop gone : ℕ) → gone ≤ hop
+    → pred (pred systems) * hop + gone ≤ max (pred systems * hop) gone
 nearer_within zero hop gone soon = let least = le-max_right (0 * hop) gone in omega (arith, least)
 nearer_within (suc zero) hop gone soon = let least = le-max_right (0 * hop) gone in omega (arith, least)
 nearer_within (suc (suc k)) hop gone soon =
@@ -270,7 +87,7 @@ module _ (n : NetworkState) (network : IsNetwork n) (off : NothingLapses n.param
     }
 
     -- the way that is left is no longer
-    module _ (others_lower : EachEvent (IsDownToo n) (made ++ event ∷ []) others)
+    module _ (others_lower : EachEvent (IsIdleBeside n) (made ++ event ∷ []) others)
         (delay : (sync_paths n (made ++ event ∷ [])).delay ≤ (sync_paths n made).delay)
         (fewer : (sync_paths n (made ++ event ∷ [])).systems ≤ (sync_paths n made).systems) where
       way_then : way_span (sync_paths n (made ++ now)) ≤ way_span (sync_paths n made)
@@ -283,15 +100,22 @@ module _ (n : NetworkState) (network : IsNetwork n) (off : NothingLapses n.param
           (less_way (sync_paths n made).systems (sync_paths n (made ++ event ∷ [])).systems (sync_paths n made).delay
           (sync_paths n (made ++ event ∷ [])).delay fewer delay)
 
-    cut_led : CutsFarEnd n made event → others ≡ [] → (gone : ℕ) → FlightIsGone n (made ++ now) gone
+    -- the event comes at the time of the last
+    last_now : last_change (made ++ now) ≡ event.at
+    last_now =
+        ap (λ es. last_change (made ++ es)) same ∙ last_at made event others time (here, others_now) ∙ sym here
+
+    cut_led : CutsFarEnd n made event → others ≡ [] → (gone : ℕ)
+        → FlightIsGoneFrom n (made ++ now) (last_change (made ++ now)) gone
         → rest ≡ max (2 * way_span (sync_paths n (made ++ now))) gone → IsLed n made now past (suc (time + rest))
     cut_led cuts alone gone flight is =
         let one : made ++ now ≡ made ++ event ∷ [] =
         ap (λ es. made ++ es) (same ∙ ap (λ es. event ∷ es) alone) in
-        let x = cut_leads n made event gone (subst (λ es. FlightIsGone n es gone) one flight) past settled_then
+        let x = cut_leads n made event gone (subst (λ es. FlightIsGoneFrom n es event.at gone) one
+        (subst (λ t. FlightIsGoneFrom n (made ++ now) t gone) last_now flight)) past settled_then
         (record { cuts = cuts; calm = calm_then; off = off }) in
         let l = cuts.lowers in
-        let less = way_then (subst (EachEvent (IsDownToo n) (made ++ event ∷ [])) (sym alone) tt) l.delay l.paths in
+        let less = way_then (subst (EachEvent (IsIdleBeside n) (made ++ event ∷ [])) (sym alone) tt) l.delay l.paths in
         let before = here in
         let early = x.early in
         let over = x.over in
@@ -326,7 +150,7 @@ module _ (n : NetworkState) (network : IsNetwork n) (off : NothingLapses n.param
         ap (λ es. made ++ es) (same ∙ ap (λ es. event ∷ es) alone) in
         let x = right_leads n made event gone (subst (λ es. FlightIsGone n es gone) one flight) past settled_then
         (record { lowers = lowers; calm = calm_then; off = off }) in
-        let less = way_then (subst (EachEvent (IsDownToo n) (made ++ event ∷ [])) (sym alone) tt) lowers.delay
+        let less = way_then (subst (EachEvent (IsIdleBeside n) (made ++ event ∷ [])) (sym alone) tt) lowers.delay
         lowers.paths in
         let last : Past = Cleared made x.since x.since (event.at + 1 + nearer_echo_span n (made ++ event ∷ []))
         (event.at + nearer_echo_span n (made ++ event ∷ []) + gone) in
@@ -341,12 +165,14 @@ module _ (n : NetworkState) (network : IsNetwork n) (off : NothingLapses n.param
         (omega (arith, before, is, within)) (inl (omega (arith, early, before)))
         (omega (arith, early, before, less))
 
-    fail_led : FailsFarEnd n made event → EachEvent (IsDownToo n) (made ++ event ∷ []) others
-        → (NoneSilent n made (made ++ now) × FlightIsGone n made rest)
-        ⊎ ((gone : ℕ) × FlightIsGone n made gone × (rest ≡ max (silence_span (pace_of n)) gone))
+    fail_led : FailsFarEnd n made event → EachEvent (IsIdleBeside n) (made ++ event ∷ []) others
+        → (NoneSilent n made (made ++ now) × FlightIsGoneFrom n made (last_change (made ++ now)) rest)
+        ⊎ ((gone : ℕ) × FlightIsGoneFrom n made (last_change (made ++ now)) gone
+        × (rest ≡ max (silence_span (pace_of n)) gone))
         → IsLed n made now past (suc (time + rest))
     fail_led fails lowers (inl (none, flight)) =
-        let x = fail_leads n made event rest flight past settled_then
+        let x = fail_leads n made event rest (subst (λ t. FlightIsGoneFrom n made t rest) last_now flight) past
+        settled_then
         (record { fails = fails; calm = calm_then; off = off }) in
         let less = way_then lowers fails.delay fails.paths in
         let before = here in
@@ -357,7 +183,8 @@ module _ (n : NetworkState) (network : IsNetwork n) (off : NothingLapses n.param
         (omega (arith, before)) (inr none)
         (omega (arith, early, before, less))
     fail_led fails lowers (inr (gone, flight, is)) =
-        let x = fail_leads n made event gone flight past settled_then
+        let x = fail_leads n made event gone (subst (λ t. FlightIsGoneFrom n made t gone) last_now flight) past
+        settled_then
         (record { fails = fails; calm = calm_then; off = off }) in
         let less = way_then lowers fails.delay fails.paths in
         let before = here in
@@ -427,7 +254,7 @@ module _ (n : NetworkState) (network : IsNetwork n) (off : NothingLapses n.param
         }
 
         less : way_span (sync_paths n (made ++ now)) ≤ way_span (sync_paths n made)
-        less = way_then lowers fails.delay fails.paths
+        less = way_then (each_beside n network off time (made ++ event ∷ []) others lowers) fails.delay fails.paths
 
         old : ℕ
         old = time + nearer_echo_span n (made ++ now) + (sync_paths n (made ++ now)).delay
@@ -573,11 +400,12 @@ module _ (n : NetworkState) (network : IsNetwork n) (off : NothingLapses n.param
 
   lost_led : (es : List Timed) → now ≡ es
       → (CutsOneEnd n made es
-      × ((gone : ℕ) × FlightIsGone n (made ++ now) gone
+      × ((gone : ℕ) × FlightIsGoneFrom n (made ++ now) (last_change (made ++ now)) gone
       × (rest ≡ max (2 * way_span (sync_paths n (made ++ now))) gone)))
       ⊎ ((FailsEndFirst n made es
-      × ((NoneSilent n made (made ++ now) × FlightIsGone n made rest)
-      ⊎ ((gone : ℕ) × FlightIsGone n made gone × (rest ≡ max (silence_span (pace_of n)) gone))))
+      × ((NoneSilent n made (made ++ now) × FlightIsGoneFrom n made (last_change (made ++ now)) rest)
+      ⊎ ((gone : ℕ) × FlightIsGoneFrom n made (last_change (made ++ now)) gone
+      × (rest ≡ max (silence_span (pace_of n)) gone))))
       ⊎ ((LowersOneLink n made es
       × ((gone : ℕ) × FlightIsGone n (made ++ now) gone
       × (rest ≡ max (echo_span (pace_of n) (sync_paths n (made ++ now))) gone)))

@@ -27,7 +27,8 @@ use Rattle.gptp_theorem.specs.Reached.{channel_wire}
 use Rattle.gptp_theorem.proofs.CalmLemmas.{quiet_stands}
 use Rattle.gptp_theorem.proofs.SyncPathLemmas.{paths_stand}
 use Rattle.gptp_settling_time.specs.Gains.{ChangesNothing, EndHasFailed}
-use Rattle.gptp_settling_time.specs.InTurn.{AreUsedSince, LosesMore, LosesNow, MakesNothing, TurnsInVain}
+use Rattle.gptp_settling_time.specs.EventKinds.{MakesNothing, TurnsInVain}
+use Rattle.gptp_settling_time.specs.Leads.{AreUsedSince, LosesMore, LosesNow}
 use Rattle.gptp_settling_time.specs.Losses.{AreSilentAfter, LosesAny}
 use Rattle.gptp_settling_time.proofs.GainLemmas.{idle_so, lives_so, unused_so, up_so, used_so}
 use Rattle.gptp_settling_time.proofs.KeptToLemmas.{KeepsTo}
@@ -98,7 +99,8 @@ module _ (d : DocumentState) (playable : IsPlayable d) (made : List Timed) (even
         k.1.so).1) since silent world_then after.claim.world after.claim.measured ready losing.standing.silent
 
     -- it takes something away
-    takes : LosesAny n made event.act → AreSilentAfter p event.at silent event.act → TakesAway p since silent then w'
+    pub takes : LosesAny n made event.act → AreSilentAfter p event.at silent event.act
+        → TakesAway p since silent then w'
     takes loses unanswered =
         by is.change refl (subst (LosesAny n made) is.act loses)
         (subst (AreSilentAfter p event.at silent) is.act unanswered)
@@ -144,7 +146,7 @@ module _ (d : DocumentState) (playable : IsPlayable d) (made : List Timed) (even
         k.1.so) since silent after.claim.measured after.claim.silent ready losing.standing.silent
 
     -- it makes nothing of what stands
-    spares : MakesNothing n made event since → TakesAway p since silent then w'
+    pub spares : MakesNothing n made event since → TakesAway p since silent then w'
     spares (inl nothing) =
         still_takes p then w' (made_still nothing) since silent world_then after.claim.world after.claim.measured ready
         losing.standing.silent
@@ -186,22 +188,28 @@ module _ (d : DocumentState) (playable : IsPlayable d) (made : List Timed) (even
             let one : x.spec ≡ v = same_there n.links place x.spec v x.there there in
             used place v there (subst (λ u. IsUsed n.systems made (link_after made u)) one x.used)
 
-  -- the first does, in a network that has settled
-  pub loses_first : (ago : List Timed) (start since most silent : ℕ) → HasRestedSo p start event.at then
-      → AreUsedSince n ago made → LosesNow n made event since most silent
-      → IsLostTo d ago (made ++ event ∷ []) since most silent w'
-  loses_first ago start since most silent rest used now =
+  -- in a network that has settled
+  pub losing_first : (start since most silent : ℕ) → HasRestedSo p start event.at then
+      → LosesNow n made event since most silent → IsLosing p since most silent then
+  losing_first start since most silent rest now =
       let over = rest.over in
       let here = now.now in
       let later = silent_since p event.at silent event.act now.unanswered in
       let less = now.delay in
       let delay : (sync_paths n made).delay ≡ delay_in then =
       ap (λ (x : SyncPaths). x.delay) (paths_stand n made then playable.network keeps.stands world_then.sound) in
-      let losing : IsLosing p since most silent then =
       sound_losing p start since most silent then keeps.claim.pace world_then keeps.claim.measured rest.sound rest.ready
       rest.silent (quiet_stands n made then playable.network keeps.stands world_then.sound now.calm).links now.off
       (omega (arith, at_time, here)) (omega (arith, over, here)) (omega (arith, later, here))
-      (omega (arith, less, delay)) in
+      (omega (arith, less, delay))
+
+  -- the first does
+  pub loses_first : (ago : List Timed) (start since most silent : ℕ) → HasRestedSo p start event.at then
+      → AreUsedSince n ago made → LosesNow n made event since most silent
+      → IsLostTo d ago (made ++ event ∷ []) since most silent w'
+  loses_first ago start since most silent rest used now =
+      let over = rest.over in
+      let losing : IsLosing p since most silent then = losing_first start since most silent rest now in
       lost_then since most silent losing ago used
       (were_silent n ago start then (omega (arith, over, at_time)) rest.silent)
       (takes since most silent losing now.loses now.unanswered)

@@ -17,7 +17,7 @@ use Rattle.gptp_invariants.specs.WorldStanding.{snapshot_of}
 use Rattle.gptp_invariants.proofs.WorldStandsLemmas.{stands_well}
 use Rattle.gptp_theorem.specs.PlayedLaws.{IsPlayable}
 use Rattle.gptp_theorem.proofs.SyncPathLemmas.{paths_stand}
-use Rattle.gptp_settling_time.specs.InTurn.{TellsAnew, nearer_echo_span}
+use Rattle.gptp_settling_time.specs.EventKinds.{TellsAnew, nearer_echo_span}
 use Rattle.gptp_settling_time.specs.Losses.{UpIsUsed}
 use Rattle.gptp_settling_time.proofs.AgingClaimedLemmas.{IsAgingAlways, aging_left, aging_now}
 use Rattle.gptp_settling_time.proofs.AgingToLemmas.{IsAgingTo}

@@ -23,7 +23,8 @@ use Rattle.gptp_invariants.proofs.WorldNewsLemmas.{silent_from_now}
 use Rattle.gptp_theorem.specs.PlayedLaws.{IsPlayable}
 use Rattle.gptp_theorem.proofs.SyncPathLemmas.{paths_stand}
 use Rattle.gptp_theorem.proofs.CalmKeptLemmas.{no_change}
-use Rattle.gptp_settling_time.specs.InTurn.{AreUsedSince, HasToldAll}
+use Rattle.gptp_settling_time.specs.Leads.{AreUsedSince}
+use Rattle.gptp_settling_time.specs.Rests.{HasToldAll}
 use Rattle.gptp_settling_time.specs.Losses.{NoneSilent}
 use Rattle.gptp_settling_time.proofs.ClaimedToLemmas.{IsClaimedTo}
 use Rattle.gptp_settling_time.proofs.KeptToLemmas.{KeepsTo, keeps_act, keeps_later}

@@ -49,7 +49,7 @@ use Rattle.gptp_theorem.proofs.SyncPathLemmas.{paths_stand}
 use Rattle.gptp_settling_time.specs.Arrivals.{arrived_by}
 use Rattle.gptp_settling_time.specs.Gains.{AreCapableAnyway, AreCapableNext, AreCapableStill, AreSparedBy, ChangesNothing, HasDelaysWithin, IsGainAfter, IsIdleAfter, IsSparedBy, JoinsLive, LeavesCapable, SparesFailed, TakesNothing, UsesNoLink}
 use Rattle.gptp_settling_time.specs.Idle.{Lives}
-use Rattle.gptp_settling_time.specs.InTurn.{AddsHeard}
+use Rattle.gptp_settling_time.specs.EventKinds.{AddsHeard}
 use Rattle.gptp_settling_time.proofs.GainLemmas.{all_live, better_lives, failed_so, gain_so, idle_so, lives_so, used_as}
 use Rattle.gptp_settling_time.proofs.IdleLemmas.{idle_still}
 use Rattle.gptp_settling_time.proofs.AskedElsewhereLemmas.{up_gone_still, up_in_time_still}

@@ -13,7 +13,12 @@ use Rattle.gptp_model.specs.Views.{IsNextAct}
 use Rattle.gptp_model.specs.World.{WorldState}
 use Rattle.gptp_world.specs.Transitions.{ActTrace}
 use Rattle.gptp_network.specs.Document.{DocumentState}
+use Rattle.gptp_bmca_machine.specs.Acts.{MachineSteps}
+use Rattle.gptp_bmca_machine.specs.SoundLaws.{AllAreNear}
 use Rattle.gptp_invariants.specs.ChoiceSeenLaws.{IsNoChange}
+use Rattle.gptp_invariants.specs.ChoiceSettled.{ChoiceStands}
+use Rattle.gptp_invariants.specs.ChoiceView.{says_announce, view}
+use Rattle.gptp_invariants.specs.WorldStanding.{snapshot_of}
 use Rattle.gptp_invariants.specs.ChoiceSettlesAsMachine.{IsWorld}
 use Rattle.gptp_invariants.proofs.ChoiceCalmKeptLemmas.{KeepsNetwork, acts_keep}
 use Rattle.gptp_invariants.proofs.ChoiceSeenActLemmas.{acts_seen}
@@ -21,23 +26,36 @@ use Rattle.gptp_invariants.proofs.WorldNewsCourseLemmas.{later_keeps}
 use Rattle.gptp_theorem.specs.PlayedLaws.{IsPlayable}
 use Rattle.gptp_theorem.proofs.CalmKeptLemmas.{no_change}
 use Rattle.gptp_settling_time.specs.Arrivals.{HasArrivedBy}
-use Rattle.gptp_settling_time.specs.InTurn.{Aging, AnyPast, ChoosesAfter, Cleared, Fallen, Gained, Heard, IsTakenAs, Left, Lost, Past, RestsFrom, Split, Starting, Turned, TurnedTree}
+use Rattle.gptp_settling_time.specs.Pasts.{Aging, AnyPast, Cleared, Fallen, Gained, Heard, Left, Fewer, Lost, Past, Split, Starting, Turned, TurnedTree}
+use Rattle.gptp_settling_time.specs.Rests.{IsTakenAs, RestsFrom}
+use Rattle.gptp_settling_time.specs.InTurn.{ChoosesAfter}
 use Rattle.gptp_settling_time.proofs.AfterLemmas.{IsAfter, after_act, after_chooses, after_keeps, after_later}
 use Rattle.gptp_settling_time.proofs.KeptToLemmas.{KeepsTo}
-use Rattle.gptp_settling_time.proofs.NamedLemmas.{IsNamedFrom, comes_since, named_before, named_step}
+use Rattle.gptp_settling_time.proofs.NamedLemmas.{ComesSince, IsNamedFrom, comes_since, named_before, named_step}
+use Rattle.gptp_settling_time.proofs.OnwardLemmas.{IsOnwardFrom, onward_before, onward_step}
 use Rattle.gptp_settling_time.proofs.WorldMovesLemmas.{near_so}
 
--- What is in flight names the best once what was sent before the choice stands has arrived, if that is later than the
--- last event.
+-- What is in flight names the best, and leads onward, once what was sent before the choice stands has arrived, if that
+-- is later than the last event.
 abbrev pub NamesAfter : DocumentState → List Timed → Past → WorldState → Type 0
 NamesAfter d events past w = (stood late : ℕ) → IsCalm d.network events → (sync_paths d.network events).systems ≤ 255
     → ChoosesAfter d.network events past stood → last_change events < stood → HasArrivedBy d.network events stood late
-    → IsNamedFrom late w
+    → IsNamedFrom late w × IsOnwardFrom late w
 
 -- a world that came from such a past, of which that is so
 pub record IsNamedAfter (d : DocumentState) (events : List Timed) (past : Past) (w : WorldState) : Type 0 where
   pub so : IsAfter d events past w
   pub named : NamesAfter d events past w
+
+-- every step keeps both
+told_step : (time late : ℕ) (w w' : WorldState) (p : SettlingParams) → IsWorld p w' → KeepsNetwork w w'
+    → AllAreNear (snapshot_of w') → ComesSince time late w' → (time ≤ w'.time → ChoiceStands w')
+    → MachineSteps says_announce (view w) (view w') → IsNamedFrom late w × IsOnwardFrom late w
+    → IsNamedFrom late w' × IsOnwardFrom late w'
+told_step time late w w' p is' keeps near since stands step (named, onward) = (
+  named_step time late w w' p is' keeps near since stands step named,
+  onward_step time late w w' p is' keeps near since stands step onward,
+)
 
 module _ (d : DocumentState) (playable : IsPlayable d) (events : List Timed) (past : Past) where
   abbrev p : SettlingParams
@@ -50,8 +68,9 @@ module _ (d : DocumentState) (playable : IsPlayable d) (events : List Timed) (pa
     named = λ stood late calm few chooses later arrives.
         let keeps = after_keeps d events past w so in
         let last = keeps.stands.last in
-        named_before stood late w (comes_since d playable events w keeps stood late arrives)
-        (omega (arith, later, last, now));
+        let early : w.time < stood = omega (arith, later, last, now) in
+        let since = comes_since d playable events w keeps stood late arrives in
+        (named_before stood late w since early, onward_before stood late w since early);
   }
 
   pub named_later : (w : WorldState) (time : ℕ) → w.time ≤ time → NothingBefore time w.net.pending
@@ -59,7 +78,7 @@ module _ (d : DocumentState) (playable : IsPlayable d) (events : List Timed) (pa
   named_later w time on first is = record {
     so = so';
     named = λ stood late calm few chooses later arrives.
-        named_step stood late w (at time w) p keeps'.claim.world (later_keeps time w)
+        told_step stood late w (at time w) p keeps'.claim.world (later_keeps time w)
         (near_so d playable events (at time w) keeps' few)
         (comes_since d playable events (at time w) keeps' stood late arrives)
         (λ after. after_chooses d playable events calm stood (at time w) after past so' chooses)
@@ -78,7 +97,7 @@ module _ (d : DocumentState) (playable : IsPlayable d) (events : List Timed) (pa
   named_act answers t fate drawn w next was is = record {
     so = so';
     named = λ stood late calm few chooses later arrives.
-        named_step stood late (at timed.at w) t.after p keeps'.claim.world keeps
+        told_step stood late (at timed.at w) t.after p keeps'.claim.world keeps
         (near_so d playable events t.after keeps' few)
         (comes_since d playable events t.after keeps' stood late arrives)
         (λ after. after_chooses d playable events calm stood t.after after past so' chooses)
@@ -131,9 +150,11 @@ chooses_as n events (Aging ago aged silent) time start stood rest (off, over) =
         | inr quiet ↦ inr (inl (omega (arith, quiet, later, over)))
       ],
     )
-chooses_as n events (Split ago gone silent) time start stood none (off, over) = absurd none
+chooses_as n events (Split ago gone silent) time start stood rest (off, over) =
+    let later = rest.later in (off, omega (arith, later, over))
 chooses_as n events (Lost ago since most silent) time start stood rest (off, over) =
     let later = rest.later in (off, omega (arith, later, over))
+chooses_as n events (Fewer ago since most silent) time start stood none (off, over) = absurd none
 
 -- it is so however the past is taken
 pub named_as : (d : DocumentState) (events : List Timed) (w : WorldState) (time : ℕ) (past seen : Past)

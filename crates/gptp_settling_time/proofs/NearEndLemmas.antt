@@ -76,11 +76,11 @@ module _ (g : Snapshot) (n : Network) (lost : ℕ) (well' : IsWellFormed n.graph
       let lives = lives_on v is_best.reached.1.begins apart in
       let own = best_at_zero g v best left.graph is_best here in
       let (s, member, named) = system_of n.graph v lives in
-      let one = same_clock g s best left.graph (left.systems s member) is_best.live (named ∙ sym own) in
+      let one = same_clock g s best left.graph (loses.systems s member) is_best.live (named ∙ sym own) in
       record {
         live = subst (λ b. In b n.graph.systems) one member;
         reached = subst (Reaches n.graph v) (sym own) (Reaches-self n.graph v lives);
-        least = λ t among (us, path). is_best.least t (left.systems t among) (us, path_before v t.clock us path);
+        least = λ t among (us, path). is_best.least t (loses.systems t among) (us, path_before v t.clock us path);
       }
 
   -- who is no farther than the lost system is unmoved

@@ -19,6 +19,7 @@ use Rattle.gptp_bmca_machine.specs.Network.{Network}
 use Rattle.gptp_bmca_machine.specs.RestLaws.{SameWiring}
 use Rattle.gptp_bmca_machine.specs.SoundLaws.{AllAreNear}
 use Rattle.gptp_bmca_machine.specs.Station.{Station as SeenStation}
+use Rattle.gptp_bmca_machine.specs.Touch.{Disable}
 use Rattle.gptp_invariants.specs.ChoiceSettlesAsMachine.{IsWorld}
 use Rattle.gptp_invariants.specs.ChoiceView.{lanes_view, says_announce, view}
 use Rattle.gptp_invariants.specs.WorldStanding.{snapshot_of}
@@ -28,7 +29,8 @@ use Rattle.gptp_invariants.proofs.WorldActEncodableLemmas.{answering_kept}
 use Rattle.gptp_invariants.proofs.WorldAnsweringLemmas.{IsAnswering, calls_answering, sound_answers}
 use Rattle.gptp_settling_time.proofs.LeftClaimedLemmas.{left_network}
 use Rattle.gptp_settling_time.proofs.LinkStoodLemmas.{ends_apart, second_still}
-use Rattle.gptp_settling_time.proofs.LoweredLemmas.{CanLose, can_lose, wires}
+use Rattle.gptp_settling_time.proofs.LoweredLemmas.{can_lose, wires}
+use Rattle.gptp_settling_time.proofs.PortDownLemmas.{CanLose}
 use Rattle.gptp_settling_time.proofs.ReducedLemmas.{NearerStay}
 use Rattle.gptp_settling_time.specs.Losses.{IsUnmoved}
 use Rattle.gptp_settling_time.proofs.SettledSeenLemmas.{IsSettledSeen}
@@ -101,7 +103,7 @@ module _ (p : SettlingParams) (w : WorldState) (is : IsWorld p w) (place : ℕ) 
       → place_x ≢ place_z → IsAnswering u → BeginApart (lanes_view u.net.channels)
       → ((station : Station) → slice_get u.stations place_x ≡ Some station
       → HasPortNumber station.system (suc port) × (clock station.system ≡ x))
-      → EndAnswers says_announce n x port place_z (view w) (view w')
+      → EndAnswers says_announce n x (Disable (suc port)) place_z (view w) (view w')
   away u u' place_x place_z port ds answer first c second other able begins of =
       turns_down p w place channel here w' is' u u' place_x place_z port ds answer first c second other able begins
       (of c.station c.here).0 n x (of c.station c.here).1 placed
@@ -121,7 +123,7 @@ module _ (p : SettlingParams) (w : WorldState) (is : IsWorld p w) (place : ℕ) 
           loses FromB k.place_b station (k.is_b.here ∙ ap (λ s. Some s) (sym one)) named live
           (λ same. other_b (sym named ∙ same))) k.at_b
 
-      pub turns_a : EndAnswers says_announce n x port k.place_b (view w) (view w')
+      pub turns_a : EndAnswers says_announce n x (Disable (suc port)) k.place_b (view w) (view w')
       turns_a =
           let (answer, c) = is_called k.place_a channel.a.port taken k.between k.first k.station_a k.is_a.here live_a
           k.at_a in
@@ -158,7 +160,7 @@ module _ (p : SettlingParams) (w : WorldState) (is : IsWorld p w) (place : ℕ) 
           (is.sound.wired.ports place k.place_a FromA channel c.station here c.here
           (ap (λ (s : Station). clock s.system) one ∙ k.is_a.named)) tt
 
-      pub turns_b : EndAnswers says_announce n x port k.place_a (view w) (view w')
+      pub turns_b : EndAnswers says_announce n x (Disable (suc port)) k.place_a (view w) (view w')
       turns_b =
           let (answer, c) = is_called k.place_b channel.b.port k.between w' k.second k.station_b still_b live_b k.at_b
           in

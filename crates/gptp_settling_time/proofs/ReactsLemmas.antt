@@ -1,5 +1,5 @@
 -- A system whose priority1 is set reacts, as the machine sees it, and the links stand as they did.
-use Rattle.std.proofs.Common.{◌≡◌, ◌≤◌, ◌<◌, ◌+◌, ◌*◌, ◌^◌, ◌%◌, ℕ, zero, suc, pos, Bool, true, false, List, [], ◌∷◌, map, Some, slice_get, slice_set, refl, sym, ap, subst, ◌∙◌, inl, inr, arith}
+use Rattle.std.proofs.Common.{◌≡◌, ◌⊎◌, ◌≤◌, ◌<◌, ◌+◌, ◌*◌, ◌^◌, ◌%◌, ℕ, zero, suc, pos, Bool, true, false, List, [], ◌∷◌, map, Some, slice_get, slice_set, refl, sym, ap, subst, ◌∙◌, inl, inr, arith}
 use Rattle.std.specs.Option.{option_map_or}
 use Rattle.std.specs.Prelude.{◌==◌, ◌||◌, if◌then◌else◌}
 use Rattle.std.proofs.lemmas.Option.{same_Some}
@@ -26,7 +26,8 @@ use Rattle.gptp_model.proofs.SteadyLemmas.{same_clock}
 use Rattle.gptp_bmca_machine.specs.Acts.{StationAnswers}
 use Rattle.gptp_bmca_machine.specs.SoundEverywhere.{IsSoundEverywhere}
 use Rattle.gptp_bmca_machine.specs.SoundLaws.{HasNews}
-use Rattle.gptp_bmca_machine.specs.Touch.{Other}
+use Rattle.gptp_bmca_machine.specs.Station.{MachineState, Station as SeenStation}
+use Rattle.gptp_bmca_machine.specs.Touch.{Other, StationTouch}
 use Rattle.gptp_invariants.specs.ChoiceCalm.{clock_place, log_at, log_of, setups_of}
 use Rattle.gptp_invariants.specs.ChoiceSettlesAsMachine.{IsWorld}
 use Rattle.gptp_invariants.specs.ChoiceView.{lanes_view, says_announce, station_view, touch_view, view}
@@ -91,9 +92,15 @@ logs_set (first ∷ stations) (suc place) old new here same (suc i) k = logs_set
 abbrev pub lives_as : Station → Bool × ℕ
 lives_as station = (station.live, clock station.system)
 
+-- the system with this clock answers to the touch
+pub record AnswersAs (owner : ℕ) (touch : StationTouch) (u u' : MachineState) : Type 0 where
+  pub call : StationAnswers says_announce touch u u'
+  pub named : call.s.clock ≡ owner
+
 pub record Reacts (w w' : WorldState) : Type 0 where
   pub call : StationAnswers says_announce Other (view w) (view w')
   pub time : w'.time ≡ w.time
+  pub change : w'.last_change ≡ w.time
   pub places : (number : ℕ) → clock_place w'.stations number ≡ clock_place w.stations number
   pub logs : (port : PortIdentity) → log_of w'.stations port ≡ log_of w.stations port
   pub lives : (number : ℕ) → stations_have_clock (live_stations w'.stations) number
@@ -228,11 +235,60 @@ module _ (p : SettlingParams) (w : WorldState) (is : IsWorld p w) (owner value :
         ∙ places_kept v.stations place c.station (in_state c.after c.station) c.here named number
         ∙ places_kept w.stations place station new here refl number
 
+    -- its clock
+    owner_is : clock c.station.system ≡ owner
+    owner_is = sym (ap (λ (x : Station). clock x.system) one) ∙ k.is.named
+
+    pub called_as : AnswersAs owner Other (view w) (view w')
+    called_as =
+        subst (λ seen_as. AnswersAs owner Other seen_as (view w')) seen_v
+        (subst (λ t. AnswersAs owner t (view v) (view w')) (ap touch_view seen.seen)
+        (record { call = seen.call; named = ap (λ (z : SeenStation). z.clock) seen.station_is ∙ owner_is }))
+
+    -- any other system stands as it did
+    pub stood_before : (s : System) → In s (live_stations w'.stations)
+        → In s (live_stations w.stations) ⊎ (s.clock ≡ owner)
+    stood_before s member = elim (same_place at.place place) [
+      | inl same ↦
+          let there_now : slice_get w'.stations place ≡ Some (in_state c.after c.station) =
+          ap (λ (x : WorldState). slice_get x.stations place) c.is
+          ∙ get-set_same v.stations place c.station (in_state c.after c.station) c.here in
+          let is_it : at.station ≡ in_state c.after c.station =
+          same_there w'.stations place at.station (in_state c.after c.station)
+          (ap (slice_get w'.stations) (sym same) ∙ at.here) there_now in
+          inr (ap (λ (x : System). x.clock) at.is ∙ ap (λ (x : Station). clock x.system) is_it ∙ named ∙ owner_is)
+      | inr other ↦ inl (subst (λ x. In x (live_stations w.stations)) (sym at.is)
+          (live_there w.stations at.place at.station
+          (sym (get-set_other w.stations place at.place new other)
+          ∙ sym (get-set_other v.stations place at.place (in_state c.after c.station) other)
+          ∙ sym (ap (λ (x : WorldState). slice_get x.stations at.place) c.is) ∙ at.here) at.live))
+    ]
+      where
+        at : IsLiveAt w'.stations s
+        at = live_from w'.stations s member
+
+    pub stands_after : (s : System) → In s (live_stations w.stations)
+        → In s (live_stations w'.stations) ⊎ (s.clock ≡ owner)
+    stands_after s member = elim (same_place at.place place) [
+      | inl same ↦
+          let is_it : at.station ≡ station =
+          same_there w.stations place at.station station (ap (slice_get w.stations) (sym same) ∙ at.here) here in
+          inr (ap (λ (x : System). x.clock) at.is ∙ ap (λ (x : Station). clock x.system) is_it ∙ k.is.named)
+      | inr other ↦ inl (subst (λ x. In x (live_stations w'.stations)) (sym at.is)
+          (live_there w'.stations at.place at.station
+          (ap (λ (x : WorldState). slice_get x.stations at.place) c.is
+          ∙ get-set_other v.stations place at.place (in_state c.after c.station) other
+          ∙ get-set_other w.stations place at.place new other ∙ at.here) at.live))
+    ]
+      where
+        at : IsLiveAt w.stations s
+        at = live_from w.stations s member
+
     called : Reacts w w'
     called = record {
-      call = subst (λ seen_as. StationAnswers says_announce Other seen_as (view w')) seen_v
-          (subst (λ t. StationAnswers says_announce t (view v) (view w')) (ap touch_view seen.seen) seen.call);
+      call = called_as.call;
       time = ap (λ (x : WorldState). x.time) c.is;
+      change = ap (λ (x : WorldState). x.last_change) c.is;
       places = place_kept;
       logs = λ port.
           ap (λ stations. log_of stations port) stations_are
@@ -284,6 +340,17 @@ module _ (p : SettlingParams) (w : WorldState) (is : IsWorld p w) (owner value :
 
   pub reacts : Reacts w w'
   reacts = called answered.0 answered.1
+
+  pub reacts_as : AnswersAs owner Other (view w) (view w')
+  reacts_as = called_as answered.0 answered.1
+
+  pub reacts_before : (s : System) → In s (live_stations w'.stations)
+      → In s (live_stations w.stations) ⊎ (s.clock ≡ owner)
+  reacts_before = stood_before answered.0 answered.1
+
+  pub reacts_after : (s : System) → In s (live_stations w.stations)
+      → In s (live_stations w'.stations) ⊎ (s.clock ≡ owner)
+  reacts_after = stands_after answered.0 answered.1
 
   pub reacts_news : IsGain (Priority1 owner value) w → HasNews (snapshot_of w) (snapshot_of w')
   reacts_news = called_news answered.0 answered.1

@@ -1,6 +1,6 @@
 -- An event repeats what stands, at the time of the event before: the world stays the very same, and with it all that is
 -- claimed of a loss.
-use Rattle.std.proofs.Common.{◌≡◌, ◌≤◌, ◌+◌, ℕ, suc, true, refl, List, [], ◌∷◌, ◌++◌, sym, ap, subst, ◌∙◌, inl, arith}
+use Rattle.std.proofs.Common.{◌≡◌, ◌≤◌, ◌+◌, ℕ, suc, true, refl, List, [], ◌∷◌, ◌++◌, sym, ap, subst, ◌∙◌, inl}
 use Rattle.gptp_lists.proofs.SystemSpecLemmas.{In-slice_get}
 use Rattle.gptp_graph.specs.Snapshot.{PortIdentity, Snapshot}
 use Rattle.gptp_links.specs.Fate.{Draw}
@@ -25,21 +25,19 @@ use Rattle.gptp_settling_time.proofs.AgesByLemmas.{by_map}
 use Rattle.gptp_settling_time.proofs.AgesByWorldLemmas.{WorldAgesBy}
 use Rattle.gptp_settling_time.proofs.AgingClaimedLemmas.{IsAgingAlways, stay_of}
 use Rattle.gptp_settling_time.proofs.AgingToLemmas.{IsAgingTo}
-use Rattle.gptp_settling_time.proofs.ClearedLemmas.{IsCleared}
-use Rattle.gptp_settling_time.proofs.ClearedToLemmas.{IsClearedTo}
 use Rattle.gptp_settling_time.proofs.FallAlwaysLemmas.{IsFallenAlways}
 use Rattle.gptp_settling_time.proofs.FallenToLemmas.{IsFallenTo}
 use Rattle.gptp_settling_time.proofs.GainLemmas.{idle_so}
 use Rattle.gptp_settling_time.proofs.IdleLemmas.{idle_same as same_but_change}
 use Rattle.gptp_settling_time.proofs.KeptToLemmas.{KeepsTo}
-use Rattle.gptp_settling_time.proofs.LeftClaimedLemmas.{IsLeftAlways}
-use Rattle.gptp_settling_time.proofs.LeftToLemmas.{IsLeftTo}
 use Rattle.gptp_settling_time.proofs.LostClaimedLemmas.{IsLostAlways}
 use Rattle.gptp_settling_time.proofs.LostToLemmas.{IsLostTo}
 use Rattle.gptp_settling_time.proofs.SamePathsLemmas.{StandSame, idle_same, same_back, same_lives}
 use Rattle.gptp_settling_time.proofs.SilentLinksLemmas.{AgesOver}
-use Rattle.gptp_settling_time.proofs.SplitAlwaysLemmas.{IsSplitAlways}
-use Rattle.gptp_settling_time.proofs.SplitToLemmas.{GoesOver, IsSplitTo, over_gone, split_by}
+use Rattle.gptp_settling_time.proofs.SplitRestLemmas.{IsSplitAnew}
+use Rattle.gptp_settling_time.proofs.SplitToLemmas.{GoesOver, IsSplitTo, SetLimits, anew_by, over_gone}
+use Rattle.gptp_settling_time.proofs.TakenClaimedLemmas.{IsTakenAlways}
+use Rattle.gptp_settling_time.proofs.TakenToLemmas.{IsTakenTo}
 use Rattle.gptp_settling_time.proofs.TurnedAlwaysLemmas.{IsTurnedAlways}
 use Rattle.gptp_settling_time.proofs.TurnedToLemmas.{IsTurnedTo}
 use Rattle.gptp_settling_time.proofs.TurnedTreeRestLemmas.{IsTurnedTreeAnew}
@@ -80,11 +78,11 @@ over_same n before ago events more same time port until
     )
 
 -- such an event is a change
-record IsChange (n : NetworkState) (made : List Timed) (event : Timed) : Type 0 where
-  change : Change
-  act : event.act ≡ Changing change
+pub record IsChange (n : NetworkState) (made : List Timed) (event : Timed) : Type 0 where
+  pub change : Change
+  pub act : event.act ≡ Changing change
 
-is_change : (n : NetworkState) (made : List Timed) (event : Timed) → ChangesNothing n made event.act
+pub is_change : (n : NetworkState) (made : List Timed) (event : Timed) → ChangesNothing n made event.act
     → IsChange n made event
 is_change n made event = by event.act refl
   where
@@ -123,17 +121,9 @@ module _ (d : DocumentState) (playable : IsPlayable d) (made : List Timed) (even
       ∙ (λ i. record then { last_change = moment i })
 
   alike : StandSame n made more
-  alike = idle_same n playable.network made event now.0.0
+  alike = idle_same n playable.network made event now.0
 
   -- ---- what is claimed of it
-
-  pub left_repeated : (ago : List Timed) (silent : ℕ) → IsLeftTo d ago made silent then → IsLeftTo d ago more silent w'
-  left_repeated ago silent so = record {
-    keeps = after;
-    before = so.before;
-    since = subst (IsLeftAlways p so.before silent) (sym same) so.since;
-    were = subst (WereSilent n ago) (sym same) so.were;
-  }
 
   pub turned_repeated : (silent time : ℕ) → IsTurnedTo d made silent time then → IsTurnedTo d more silent time w'
   turned_repeated silent time so = record {
@@ -157,15 +147,6 @@ module _ (d : DocumentState) (playable : IsPlayable d) (made : List Timed) (even
     since = subst (IsTurnedTreeAnew p so.before silent time) (sym same) so.since;
   }
 
-  pub cleared_repeated : (ago : List Timed) (since silent right old : ℕ)
-      → IsClearedTo d ago made since silent right old then → IsClearedTo d ago more since silent right old w'
-  cleared_repeated ago since silent right old so = record {
-    keeps = after;
-    before = so.before;
-    is = subst (IsCleared p so.before since silent right old) (sym same) so.is;
-    were = subst (WereSilent n ago) (sym same) so.were;
-  }
-
   pub lost_repeated : (ago : List Timed) (since most silent : ℕ) → IsLostTo d ago made since most silent then
       → IsLostTo d ago more since most silent w'
   lost_repeated ago since most silent so = record {
@@ -174,6 +155,17 @@ module _ (d : DocumentState) (playable : IsPlayable d) (made : List Timed) (even
     were = subst (WereSilent n ago) (sym same) so.were;
     less = λ place v there used.
         so.less place v there (idle_since n playable.network made event (inl now.0.0) place v there used);
+  }
+
+  pub taken_repeated : (ago : List Timed) (since most silent : ℕ) → IsTakenTo d ago made since most silent then
+      → IsTakenTo d ago more since most silent w'
+  taken_repeated ago since most silent so = record {
+    lost = lost_repeated ago since most silent so.lost;
+    before = so.before;
+    alike = so.alike;
+    way = so.way;
+    later = so.later;
+    is = subst (IsTakenAlways p so.before silent) (sym same) so.is;
   }
 
   pub aging_repeated : (ago : List Timed) (aged silent : ℕ) → IsAgingTo d ago made aged silent then
@@ -198,19 +190,19 @@ module _ (d : DocumentState) (playable : IsPlayable d) (made : List Timed) (even
   split_repeated ago gone silent so = record {
     keeps = after;
     before = so.before;
+    stood = so.stood;
     failed = so.failed;
-    since = subst (IsSplitAlways p so.before (GoesOver n so.before ago more so.failed gone silent) so.failed gone
-        silent)
-        (sym same)
-        (split_by p so.before (GoesOver n so.before ago made so.failed gone silent) so.failed gone silent then so.since
-        (GoesOver n so.before ago more so.failed gone silent) gone
+    since = subst (IsSplitAnew p so.before (GoesOver n so.before ago more so.failed gone silent) (SetLimits n ago)
+        so.failed gone silent) (sym same)
+        (anew_by p so.before (GoesOver n so.before ago made so.failed gone silent) (SetLimits n ago) so.failed gone
+        silent then so.since
+        (GoesOver n so.before ago more so.failed gone silent)
         (λ quiet.
         by_map says_announce (snapshot_of then) (stay_of p) (GoesOver n so.before ago made so.failed gone silent)
         (GoesOver n so.before ago more so.failed gone silent) (view then)
-        (λ port until unlinked (over, soon).
-        (over_same n so.before ago made more alike so.failed port until over, soon)) (so.since.by quiet))
-        (over_gone n so.before ago more so.failed gone silent) (inl (omega arith)));
+        (λ port until unlinked (over, linked, soon).
+        (over_same n so.before ago made more alike so.failed port until over, linked, soon)) (so.since.split.by quiet))
+        (λ port until is. is.1) (over_gone n so.before ago more so.failed gone silent));
     were = subst (WereSilent n ago) (sym same) so.were;
-    some = so.some;
     unanswered = so.unanswered;
   }

@@ -1,11 +1,14 @@
 -- An event that changes nothing leaves the paths of a network as they are, and so does one that turns a link with a
 -- failed end, and a priority1.
 use Rattle.std.proofs.Common.{◌≡◌, ◌⊎◌, inl, inr, ◌+◌, ℕ, Bool, true, false, cond, List, [], ◌∷◌, ◌++◌, Option, Some, None, slice_get, refl, sym, ap, ap₂, subst, ◌∙◌}
-use Rattle.std.specs.Prelude.{◌&&◌, ◌||◌, ◌==◌, if◌then◌else◌, max, min}
+use Rattle.std.specs.Prelude.{◌&&◌, ◌||◌, ◌==◌, if◌then◌else◌, filter, map, max, min}
 use Rattle.std.specs.List.{cons_option, count_by, filter_map, list_any}
 use Rattle.std.proofs.lemmas.Bool.{eqb-true, or_cases}
 use Rattle.gptp_graph.proofs.Sure.{and_true}
 use Rattle.gptp_network.proofs.PassLemmas.{count_more}
+use Rattle.gptp_network.specs.Snapshot.{StandsAfter, joins_two, link_of, system_of}
+use Rattle.gptp_graph.specs.Snapshot.{Snapshot}
+use Rattle.std.specs.List.Sorted.{IsPermutation}
 use Rattle.gptp_lists.specs.Members.{In}
 use Rattle.gptp_lists.proofs.MappedLemmas.{same_there}
 use Rattle.gptp_lists.proofs.SystemSpecLemmas.{In-slice_get, slice_get-In}
@@ -13,7 +16,7 @@ use Rattle.gptp_vector.specs.declared.port.PortId.{PortId}
 use Rattle.gptp_roles.specs.Selection.{clock_of}
 use Rattle.gptp_links.specs.declared.bounds.Bounds.{Bounds}
 use Rattle.gptp_scenario.specs.Calm.{IsLive}
-use Rattle.gptp_scenario.specs.Change.{is_at, link_acted, link_after, link_changed, standing, system_acted, system_after, system_changed, with_live, with_priority1, with_up}
+use Rattle.gptp_scenario.specs.Change.{is_at, joined_after, link_acted, link_after, link_changed, live_after, standing, system_acted, system_after, system_changed, with_live, with_priority1, with_up}
 use Rattle.gptp_scenario.specs.InUse.{any_differ, far_clock, greatest_delay, is_used, lives, lives_between, neighbour, path_systems}
 use Rattle.gptp_scenario.specs.Network.{IsEnd, IsNetwork, NetworkState, same_port}
 use Rattle.gptp_scenario.specs.SyncWait.{sync_paths}
@@ -26,7 +29,7 @@ use Rattle.gptp_scenario.specs.declared.network.LinkSpec.{LinkSpec}
 use Rattle.gptp_scenario.specs.declared.network.SystemSpec.{SystemSpec}
 use Rattle.gptp_model.specs.World.{port_id}
 use Rattle.gptp_theorem.proofs.EventLemmas.{link_behind, system_behind}
-use Rattle.gptp_settling_time.specs.Gains.{ChangesNothing, EndHasFailed, IsIdleAfter}
+use Rattle.gptp_settling_time.specs.Gains.{ChangesNothing, EndHasFailed, IsIdleAfter, Repeats}
 use Rattle.gptp_settling_time.specs.HowSoon.{TurnsUnused}
 
 -- ---- lists by tests that agree on their members
@@ -81,9 +84,9 @@ module _ (n : NetworkState) (events more : List Timed)
     bounds = bounds;
   }
 
--- after more events the same systems live, and all links are as they were
+-- after more events all systems and links are as they were
 pub record StandSame (n : NetworkState) (events more : List Timed) : Type 0 where
-  pub systems : (m : SystemSpec) → In m n.systems → (system_after more m).live ≡ (system_after events m).live
+  pub systems : (m : SystemSpec) → In m n.systems → system_after more m ≡ system_after events m
   pub links : (v : LinkSpec) → In v n.links → link_after more v ≡ link_after events v
 
 pub same_on : (n : NetworkState) (first second third : List Timed) → StandSame n first second
@@ -109,13 +112,28 @@ same_lives n events more same clock x = record {
   system = x.system;
   there = x.there;
   clock = x.clock;
-  live = same.systems x.system (In-slice_get x.system n.systems x.place x.there) ∙ x.live;
+  live = ap (λ s. s.live) (same.systems x.system (In-slice_get x.system n.systems x.place x.there)) ∙ x.live;
 }
 
 pub same_alike : (n : NetworkState) (events more : List Timed) → StandSame n events more → StandAlike n events more
 same_alike n events more same =
-    alike_by n events more same.systems (λ v member. ap (is_used n.systems events) (same.links v member))
+    alike_by n events more (λ m member. ap (λ s. s.live) (same.systems m member))
+    (λ v member. ap (is_used n.systems events) (same.links v member))
     (λ v member. ap (λ (w : LinkSpec). w.bounds) (same.links v member))
+
+-- so its snapshots are the same
+pub stands_before : (n : NetworkState) (events more : List Timed) → StandSame n events more → (g : Snapshot)
+    → StandsAfter n more g → StandsAfter n events g
+stands_before n events more same g stands = record {
+  systems = subst (λ xs. IsPermutation (map system_of xs) g.systems)
+      (map_same (live_after more) (live_after events) n.systems (λ m member.
+      ap (λ s. if s.live then Some (s.identity, m.ports) else None) (same.systems m member))) stands.systems;
+  rising = stands.rising;
+  links = stands.links
+      ∙ ap (λ xs. filter (joins_two g.systems) (map link_of xs))
+      (map_same (joined_after more) (joined_after events) n.links (λ v member.
+      ap (λ (w : LinkSpec). if w.up then Some (v.a, v.b) else None) (same.links v member)));
+}
 
 module _ (n : NetworkState) (events more : List Timed) (same : StandAlike n events more) where
   neighbour_same : (clock : ℕ) (v : LinkSpec) → In v n.links
@@ -199,27 +217,35 @@ module _ (n : NetworkState) (network : IsNetwork n) (made : List Timed) where
       by true is = sym (already (sym (eqb-true clock own is)))
       by false is = refl
 
+  -- what has failed does still
+  fails_so : (number : ℕ) → (IsLive n.systems made number → ⊥) → (m : SystemSpec) → In m n.systems
+      → clock_of m.identity ≡ number → (live : Bool) → (system_after made m).live ≡ live
+      → (system_after made m).live ≡ false
+  fails_so number gone m member clock true is =
+      let (place, there) = slice_get-In m n.systems member in
+      absurd (gone (record { place = place; system = m; there = there; clock = clock; live = is }))
+  fails_so number gone m member clock false is = is
+
+  -- and what lives does
+  recovers_so : (number : ℕ) → IsLive n.systems made number → (m : SystemSpec) → In m n.systems
+      → clock_of m.identity ≡ number → (system_after made m).live ≡ true
+  recovers_so number lives m member clock =
+      let (place, there) = slice_get-In m n.systems member in
+      let one = network.clocks lives.place place lives.system m lives.there there (lives.clock ∙ sym clock) in
+      let same = same_there n.systems place lives.system m
+      (subst (λ i. slice_get n.systems i ≡ Some lives.system) one lives.there) there in
+      subst (λ x. (system_after made x).live ≡ true) same lives.live
+
   system_idles : (change : Change) → IsIdleAfter n made change → (m : SystemSpec) → In m n.systems
       → (system_changed change (clock_of m.identity) (system_after made m)).live ≡ (system_after made m).live
   system_idles (LinkDown number port) idle m member = refl
   system_idles (LinkUp number port) idle m member = refl
   system_idles (LinkSet number port least greatest loss) idle m member = refl
   system_idles (Fail number) idle m member =
-      let (place, there) = slice_get-In m n.systems member in
-      live_so number (clock_of m.identity) false m (λ clock. failed place there clock (system_after made m).live refl)
-    where
-      failed : (place : ℕ) → slice_get n.systems place ≡ Some m → clock_of m.identity ≡ number → (live : Bool)
-          → (system_after made m).live ≡ live → (system_after made m).live ≡ false
-      failed place there clock true is =
-          absurd (idle (record { place = place; system = m; there = there; clock = clock; live = is }))
-      failed place there clock false is = is
+      live_so number (clock_of m.identity) false m
+      (λ clock. fails_so number idle m member clock (system_after made m).live refl)
   system_idles (Recover number) idle m member =
-      let (place, there) = slice_get-In m n.systems member in
-      live_so number (clock_of m.identity) true m (λ clock.
-      let one = network.clocks idle.place place idle.system m idle.there there (idle.clock ∙ sym clock) in
-      let same = same_there n.systems place idle.system m
-      (subst (λ i. slice_get n.systems i ≡ Some idle.system) one idle.there) there in
-      subst (λ x. (system_after made x).live ≡ true) same idle.live)
+      live_so number (clock_of m.identity) true m (recovers_so number idle m member)
   system_idles (Priority1 number value) idle m member =
       priority_lives made m value (number == clock_of m.identity)
   system_idles (Inject number port octets) idle m member = refl
@@ -238,14 +264,13 @@ module _ (n : NetworkState) (network : IsNetwork n) (made : List Timed) where
   link_idles (Priority1 number value) idle v member = refl
   link_idles (Inject number port octets) idle v member = refl
 
-  pub idle_same : (event : Timed) → ChangesNothing n made event.act → StandSame n made (made ++ event ∷ [])
-  idle_same event nothing =
+  pub idle_alike : (event : Timed) → ChangesNothing n made event.act → StandAlike n made (made ++ event ∷ [])
+  idle_alike event nothing =
       let (systems, links) = by event.act nothing in
-      record {
-        systems = λ m member.
-            ap (λ s. s.live) (system_behind made event (clock_of m.identity) (standing m)) ∙ systems m member;
-        links = λ v member. link_behind made event v ∙ links v member;
-      }
+      alike_by n made (made ++ event ∷ [])
+      (λ m member. ap (λ s. s.live) (system_behind made event (clock_of m.identity) (standing m)) ∙ systems m member)
+      (λ v member. ap (is_used n.systems made) (link_behind made event v ∙ links v member))
+      (λ v member. ap (λ (w : LinkSpec). w.bounds) (link_behind made event v ∙ links v member))
     where
       by : (act : Act) → ChangesNothing n made act
           → ((m : SystemSpec) → In m n.systems
@@ -255,8 +280,49 @@ module _ (n : NetworkState) (network : IsNetwork n) (made : List Timed) where
       by (Expire number timer) none = absurd none
       by (Changing change) idle = (system_idles change idle, link_idles change idle)
 
-  pub idle_alike : (event : Timed) → ChangesNothing n made event.act → StandAlike n made (made ++ event ∷ [])
-  idle_alike event nothing = same_alike n made (made ++ event ∷ []) (idle_same event nothing)
+  -- a system that lives, or has failed, as it should then stays as it is
+  stay_so : (clock own : ℕ) (live : Bool) (m : SystemSpec) → (own ≡ clock → (system_after made m).live ≡ live)
+      → (if clock == own then with_live live (system_after made m) else system_after made m) ≡ system_after made m
+  stay_so clock own live m already = by (clock == own) refl
+    where
+      by : (test : Bool) → (clock == own) ≡ test
+          → (if test then with_live live (system_after made m) else system_after made m) ≡ system_after made m
+      by true is = ap (λ on. with_live on (system_after made m)) (sym (already (sym (eqb-true clock own is))))
+      by false is = refl
+
+  -- where no priority1 is set each system does
+  system_repeats : (change : Change) → IsIdleAfter n made change
+      → ((number value : ℕ) → change ≡ Priority1 number value → ⊥) → (m : SystemSpec) → In m n.systems
+      → system_changed change (clock_of m.identity) (system_after made m) ≡ system_after made m
+  system_repeats (LinkDown number port) idle other m member = refl
+  system_repeats (LinkUp number port) idle other m member = refl
+  system_repeats (LinkSet number port least greatest loss) idle other m member = refl
+  system_repeats (Fail number) idle other m member =
+      stay_so number (clock_of m.identity) false m
+      (λ clock. fails_so number idle m member clock (system_after made m).live refl)
+  system_repeats (Recover number) idle other m member =
+      stay_so number (clock_of m.identity) true m (recovers_so number idle m member)
+  system_repeats (Priority1 number value) idle other m member = absurd (other number value refl)
+  system_repeats (Inject number port octets) idle other m member = refl
+
+  pub idle_same : (event : Timed) → Repeats n made event → StandSame n made (made ++ event ∷ [])
+  idle_same event (nothing, other) =
+      let (systems, links) = by event.act refl nothing in
+      record {
+        systems = λ m member. system_behind made event (clock_of m.identity) (standing m) ∙ systems m member;
+        links = λ v member. link_behind made event v ∙ links v member;
+      }
+    where
+      by : (act : Act) → event.act ≡ act → ChangesNothing n made act
+          → ((m : SystemSpec) → In m n.systems
+          → system_acted act (clock_of m.identity) (system_after made m) ≡ system_after made m)
+          × ((v : LinkSpec) → In v n.links → link_acted act (link_after made v) ≡ link_after made v)
+      by (Deliver link direction) is none = absurd none
+      by (Expire number timer) is none = absurd none
+      by (Changing change) is idle = (
+        system_repeats change idle (λ number value same. other number value (is ∙ ap Changing same)),
+        link_idles change idle,
+      )
 
   pub idle_paths : (event : Timed) → ChangesNothing n made event.act
       → sync_paths n (made ++ event ∷ []) ≡ sync_paths n made

@@ -130,7 +130,13 @@ capable_by s shown (suc i) is =
 
 -- a settled system has its settled choice
 pub settled_choice : (g : Snapshot) (s : SystemState) → IsSettledSystem g s → HasSettledChoice g s
-settled_choice g s is = record { root = is.root; steps = is.steps; slave = is.slave; parent = is.parent }
+settled_choice g s is = record {
+  root = is.root;
+  steps = is.steps;
+  slave = is.slave;
+  parent = is.parent;
+  roles = λ n of linked. is.roles n of;
+}
 
 same_choice : (g : Snapshot) → IsWellFormed g → (s s' : SystemState) → clock s' ≡ clock s → HasSettledChoice g s
     → HasSettledChoice g s' → ShowsSameChoice s s'

@@ -1,10 +1,11 @@
 -- A world whose systems are seen to have settled has settled; and its choice stands where they are seen to follow the
 -- best.
 use Rattle.std.proofs.Common.{◌≡◌, ◌≤◌, ℕ, zero, suc, true, Some, slice_get, subst, arith}
+use Rattle.std.specs.Bool.{⊤}
 use Rattle.gptp_lists.proofs.PlaceLemmas.{member_there}
 use Rattle.gptp_graph.specs.Distance.{IsNear}
-use Rattle.gptp_graph.specs.SettledRole.{IsSettledRole}
-use Rattle.gptp_graph.specs.Snapshot.{IsLinked, IsWellFormed, Snapshot, port_of}
+use Rattle.gptp_graph.specs.SettledRole.{IsSettledRole, Role}
+use Rattle.gptp_graph.specs.Snapshot.{IsLinked, IsWellFormed, PortIdentity, Snapshot, port_of}
 use Rattle.gptp_receipt.specs.declared.held.Held.{Held}
 use Rattle.gptp_setup.specs.SettlingParams.{SettlingParams}
 use Rattle.gptp_system.specs.declared.port.Port.{Port}
@@ -19,8 +20,8 @@ use Rattle.gptp_bmca_machine.specs.Clean.{CameOverLink}
 use Rattle.gptp_bmca_machine.specs.Levels.{Invariant}
 use Rattle.gptp_bmca_machine.specs.Network.{IsSettlingNetwork, Network, settled_from}
 use Rattle.gptp_bmca_machine.specs.Run.{NearHaveSettled}
-use Rattle.gptp_bmca_machine.specs.Settled.{HasSettledRoles}
-use Rattle.gptp_bmca_machine.specs.Station.{HoldsAt, Reception, Station as SeenStation}
+use Rattle.gptp_bmca_machine.specs.Settled.{PlaysRole}
+use Rattle.gptp_bmca_machine.specs.Station.{HoldsAt, Port as SeenPort, Reception, Station as SeenStation}
 use Rattle.gptp_bmca_machine.proofs.SettledLemmas.{network_settles}
 use Rattle.gptp_invariants.specs.ChoiceSettled.{ChoiceStands, HasSettledChoice, IsSettledSystem, Settled, graph_role}
 use Rattle.gptp_invariants.specs.ChoiceSettlesAsMachine.{IsWorld}
@@ -32,29 +33,33 @@ use Rattle.gptp_invariants.proofs.ChoiceSettledLemmas.{is_slave, plays_own}
 
 -- ---- roles
 
-module _ (g : Snapshot) (station : Station) (shown : AreShown station.system)
-    (seen : HasSettledRoles g (station_view station)) where
+module _ (g : Snapshot) (station : Station) (shown : AreShown station.system) (Is : PortIdentity → Type 0)
+    (seen : (i : ℕ) (q : SeenPort) → slice_get (station_view station).ports i ≡ Some q
+    → Is (port_of (clock station.system) (suc i))
+    → (r : Role) × PlaysRole station.system.slave (suc i) q.held r
+    × IsSettledRole g (port_of (clock station.system) (suc i)) r) where
   abbrev s : SystemState
   s = station.system
 
   -- the port at place i has the number i + 1
   role_settled : (i : ℕ) (h : Held) (q : Port) → slice_get s.held i ≡ Some h → slice_get s.ports i ≡ Some q
-      → IsSettledRole g (port_of (clock s) (suc i)) (graph_role (role_at s (suc i)))
-  role_settled i h q stands there =
+      → Is (port_of (clock s) (suc i)) → IsSettledRole g (port_of (clock s) (suc i)) (graph_role (role_at s (suc i)))
+  role_settled i h q stands there is =
       let (r, plays, settled) = seen i (port_view (span_at s) h q)
-      (port_there (span_at s) s.held s.ports i h q stands there) in
+      (port_there (span_at s) s.held s.ports i h q stands there) is in
       let same : graph_role (role_by (is_slave s.slave (suc i)) h) ≡ r =
       plays_own s.slave (suc i) (span_at s) h r plays in
       rw (stands, same) settled
 
-  roles_settled : (n : ℕ) → HasPortNumber s n → IsSettledRole g (port_of (clock s) n) (graph_role (role_at s n))
-  roles_settled zero is = let least = is.least in absurd (omega arith)
-  roles_settled (suc i) is =
-      let most = is.most in
+  roles_settled : (n : ℕ) → HasPortNumber s n → Is (port_of (clock s) n)
+      → IsSettledRole g (port_of (clock s) n) (graph_role (role_at s n))
+  roles_settled zero of is = let least = of.least in absurd (omega arith)
+  roles_settled (suc i) of is =
+      let most = of.most in
       let places = shown.places in
       let (h, stands) = member_there s.held i (omega arith) in
       let (q, there) = member_there s.ports i (omega arith) in
-      role_settled i h q stands there
+      role_settled i h q stands there is
 
 -- ---- the world
 
@@ -73,7 +78,7 @@ module _ (p : SettlingParams) (n : Network) (w : WorldState) (is : IsWorld p w) 
     choice : HasSettledChoice n.graph station.system
     choice =
         let (best, follow, roles) = has place (station_view station) there live near in
-        let follows = follow bare in
+        let (follows, linked) = follow bare in
         let rest = (state.stations place (station_view station) there live).at_rest in
         record {
           root = follows.root;
@@ -81,6 +86,8 @@ module _ (p : SettlingParams) (n : Network) (w : WorldState) (is : IsWorld p w) 
           slave = follows.slave;
           parent = parent_settled n.graph station well rest.vector rest.chosen
               (λ i r holds. came place (station_view station) i r there live near holds) follows.slave;
+          roles = roles_settled n.graph station (is.sound.on_time.stations place station here).steady.shown
+              (IsLinked n.graph) linked;
         }
 
     system : n.off ≤ w.time → IsSettledSystem n.graph station.system
@@ -91,7 +98,9 @@ module _ (p : SettlingParams) (n : Network) (w : WorldState) (is : IsWorld p w) 
           steps = choice.steps;
           slave = choice.slave;
           parent = choice.parent;
-          roles = roles_settled n.graph station (is.sound.on_time.stations place station here).steady.shown (roles off);
+          roles = λ port of.
+              roles_settled n.graph station (is.sound.on_time.stations place station here).steady.shown (λ own. ⊤)
+              (λ i q at_q own. roles off i q at_q) port of tt;
         }
 
   pub near_choose : ChoiceStands w

@@ -1,7 +1,8 @@
--- Where a failure has cut trees off a link goes down that is up, and of which an end has failed: they fall back as they
+-- Where a failure has moved trees a link goes down that is up, and of which an end has failed: they fall back as they
 -- did.
-use Rattle.std.proofs.Common.{◌≡◌, ◌<◌, ◌≤◌, ℕ, suc, true, false, List, Some, slice_get, refl, sym, ap, subst, ◌∙◌, inl, inr, arith}
+use Rattle.std.proofs.Common.{◌≡◌, ◌≤◌, ◌<◌, ℕ, suc, pred, true, false, List, Some, slice_get, refl, sym, ap, subst, ◌∙◌, inl, inr, arith}
 use Rattle.std.proofs.lemmas.Option.{same_Some}
+use Rattle.gptp_lists.specs.Members.{In}
 use Rattle.gptp_lists.proofs.PlaceLemmas.{get-set_other, get-set_same, same_place}
 use Rattle.gptp_graph.specs.PathBound.{path_bound}
 use Rattle.gptp_graph.specs.Snapshot.{Joins, PortIdentity, Snapshot, port_of}
@@ -16,14 +17,11 @@ use Rattle.gptp_model.specs.Acts.{Acts}
 use Rattle.gptp_model.specs.Changing.{IsChannel, lost, taken_down}
 use Rattle.gptp_model.specs.declared.done.Done.{Done}
 use Rattle.gptp_model.specs.World.{Channel, WorldState, port_id, sender}
-use Rattle.gptp_bmca_machine.specs.Calm.{Calm}
 use Rattle.gptp_bmca_machine.specs.Facts.{StationFacts}
 use Rattle.gptp_bmca_machine.specs.Frame.{Lane}
-use Rattle.gptp_bmca_machine.specs.Levels.{Invariant}
 use Rattle.gptp_bmca_machine.specs.LossLaws.{IsAfterLoss}
 use Rattle.gptp_bmca_machine.specs.Network.{Network, network_setting}
-use Rattle.gptp_bmca_machine.proofs.PlaceLemmas.{same_there}
-use Rattle.gptp_bmca_machine.proofs.FallEmptiedLemmas.{AreEmptied as MachineEmptied, fails_emptied, settles_emptied}
+use Rattle.gptp_bmca_machine.proofs.FailureEmptiedLemmas.{AreEmptied as MachineEmptied, fails_emptied, settles_emptied}
 use Rattle.gptp_invariants.specs.ChoiceCalm.{HaveQuietLinks, delay_in}
 use Rattle.gptp_invariants.specs.ChoiceSettlesAsMachine.{IsWorld}
 use Rattle.gptp_invariants.specs.ChoiceView.{lane_place, lane_view, says_announce, view}
@@ -31,25 +29,32 @@ use Rattle.gptp_invariants.specs.DelayMeasured.{LinkIsMeasured}
 use Rattle.gptp_invariants.specs.WorldStanding.{channel_is_used, live_stations, snapshot_of}
 use Rattle.gptp_invariants.proofs.ChoiceCalmKeptLemmas.{KeepsNetwork}
 use Rattle.gptp_invariants.proofs.ChoiceSeenLaneLemmas.{IsLaneAt, lane_from, lane_there}
+use Rattle.gptp_settling_time.specs.TreeLosses.{CutsAllBeyond}
 use Rattle.gptp_settling_time.proofs.AgesByLemmas.{UnlinkedAgeBy, by_kept, by_reduced}
 use Rattle.gptp_settling_time.proofs.AgesByWorldLemmas.{WorldAgesBy}
 use Rattle.gptp_settling_time.proofs.AgingClaimedLemmas.{aging_facts, aging_network, named_in, same_aging, stay_of}
 use Rattle.gptp_settling_time.proofs.AgingStillLemmas.{IsEmptied, emptied_reduced}
 use Rattle.gptp_settling_time.proofs.AlwaysClaimedLemmas.{IsStanding}
-use Rattle.gptp_settling_time.proofs.EmptiedLemmas.{AreEmptied, IsAlike, emptied_after, emptied_calm, lanes_emptied, older_facts}
+use Rattle.gptp_settling_time.proofs.EmptiedLemmas.{AreEmptied, IsAlike, emptied_after, lanes_emptied, older_facts}
 use Rattle.gptp_settling_time.proofs.FallAlwaysLemmas.{fallen_by, settles_by}
 use Rattle.gptp_settling_time.proofs.LeftClaimedLemmas.{HaveAskedLong}
 use Rattle.gptp_settling_time.proofs.LinkBetweenLemmas.{IsLinkBetween, SameSenders, between_down, between_kept, senders_kept}
 use Rattle.gptp_settling_time.proofs.LinkUpLemmas.{lane_set}
+use Rattle.gptp_settling_time.proofs.NamesItselfLemmas.{AllNameAlone, alone_kept}
 use Rattle.gptp_settling_time.proofs.OffForGoodLemmas.{GoOnOff, all_down}
-use Rattle.gptp_settling_time.proofs.SplitAlwaysLemmas.{IsSplitAlways, MayStart, may_before, over_gone, seen_then, split_after, split_network, split_then, timed_now}
-use Rattle.gptp_settling_time.proofs.SplitLemmas.{IsCut, IsSplit, SplitSettles, SplitState, SplitsBack, timed_split}
+use Rattle.gptp_settling_time.proofs.SinceSetLemmas.{AreLimitedBy, limited_unset}
+use Rattle.gptp_settling_time.proofs.SplitAlwaysLemmas.{IsDroppedBy, IsSplitAlways, MayStart, left_by, may_before, one_before, says_then, seen_then, split_after, split_network, split_then}
+use Rattle.gptp_settling_time.proofs.SplitLemmas.{IsCut, IsSplit, IsTurned, IsTwice, SplitSettles, SplitState, SplitsBack, cut_times, tops_times, turned_times}
+use Rattle.gptp_settling_time.proofs.SplitRestLemmas.{SplitNamesAlone}
+use Rattle.gptp_settling_time.proofs.SplitSoundLemmas.{AllSayStill}
+use Rattle.gptp_settling_time.proofs.ToldAnewLemmas.{FlightsAreSound}
 use Rattle.gptp_settling_time.proofs.UnusedDownLemmas.{asked', delay_taken, either, emptied, keeps, late_then, snapshot_taken, standing', tells, time}
 
-module _ (p : SettlingParams) (g : Snapshot) (By : PortIdentity → ℕ → Type 0) (failed gone silent owner port : ℕ)
+module _ (p : SettlingParams) (g : Snapshot) (By : PortIdentity → ℕ → Type 0) (Limits : ℕ → Type 0)
+    (failed gone silent owner port : ℕ)
     (w : WorldState) (draws : List Draw) (done : Done) (w' : WorldState) (is' : IsWorld p w')
     (measured' : LinkIsMeasured w') (acts : Acts (Changing (LinkDown owner port)) w draws done w')
-    (split : IsSplitAlways p g By failed gone silent w) (quiet : HaveQuietLinks p.params w)
+    (split : IsSplitAlways p g By Limits failed gone silent w) (quiet : HaveQuietLinks p.params w)
     (up : acts.1.channel.up ≡ true)
     (dead : (place : ℕ) (channel : Channel) → IsChannel (port_id owner port) place w.net channel
     → channel_is_used (live_stations w.stations) (record channel { up = true }) ≡ false) where
@@ -147,6 +152,10 @@ module _ (p : SettlingParams) (g : Snapshot) (By : PortIdentity → ℕ → Type
   links' : (a b : PortIdentity) → Joins g a b → IsLinkBetween w' a b
   links' a b joins = between_kept taken w' a b keeps' (between_down w link w.time channel here a b (split.links a b
       joins))
+
+  limited' : (limit : ℕ) → Limits limit → AreLimitedBy limit w'
+  limited' limit is_limit =
+      limited_unset limit (Changing (LinkDown owner port)) w draws done w' refl acts (split.limited limit is_limit)
 
   late' : delay_in w' ≤ w'.time
   late' = late_then p silent owner port w draws done w' is' measured' acts split.standing split.asked up dead split.late
@@ -261,7 +270,8 @@ module _ (p : SettlingParams) (g : Snapshot) (By : PortIdentity → ℕ → Type
     module _ (start : ℕ) (may : MayStart gone s.since start w') where
       may_then : MayStart gone s.since start w
       may_then =
-          may_before p g By failed gone silent w w' split standing_then asked_then goes sends same' links' by' late' on
+          may_before p g By Limits failed gone silent w w' split standing_then asked_then goes sends same' links' by'
+          limited' late' on
           start may
 
       was : SplitsBack p g s start (view w) × SplitSettles p g s start (view w)
@@ -269,77 +279,101 @@ module _ (p : SettlingParams) (g : Snapshot) (By : PortIdentity → ℕ → Type
 
       state_taken : SplitState p g s start (view taken)
       state_taken = record {
-        lanes = λ t cut q i joins.
-            let x = was.0.state.lanes t cut q i joins in
+        lanes = λ c q i joins.
+            let x = was.0.state.lanes c q i joins in
             let y = stands_then (n.lane (port_of s.lost (suc q))) x.lane x.there in
             record { lane = y.lane; there = y.there; from = y.from ∙ x.from; to = y.to ∙ x.to };
         named = named_in p w split.standing.world;
         later = split.begun;
       }
 
-      abbrev timed_n : Network
-      timed_n = timed_split p g s start
-
-      -- a lane of a link is as it was
-      stood : (a b : PortIdentity) → Joins n.graph a b → (l : Lane) → slice_get (view taken).lanes (n.lane a) ≡ Some l
-          → slice_get (view w).lanes (n.lane a) ≡ Some l
-      stood a b joins l at = elim (is_emptied.lanes (n.lane a) l at) [
-        | inl there ↦ there
-        | inr (none, down) ↦
-            let has = kept_taken.calm.lanes a b joins in
-            let one = same_there (view taken).lanes (n.lane a) has.lane l has.there at in
-            absurd (let both : true ≡ false = sym has.is_up ∙ ap (λ (x : Lane). x.is_up) one ∙ down in cc)
-      ]
-
-      invariant_taken : Invariant says_announce timed_n (view w) → Invariant says_announce timed_n (view taken)
-      invariant_taken invariant = record {
-        sound = invariant.sound;
-        levels = λ d b v q u m close leads from pv pu l stand ready.
-            invariant.levels d b v q u m close leads from pv pu l (record {
-              v = stand.v;
-              u = stand.u;
-              teller = stand.teller;
-              teller_port = stand.teller_port;
-              hearer = stand.hearer;
-              hearer_port = stand.hearer_port;
-              lane = stood (port_of v (suc q)) (port_of u (suc m)) leads.joins l stand.lane;
-            }) ready;
-      }
-
-      settles_taken : SplitSettles p g s start (view w) → SplitSettles p g s start (view taken)
-      settles_taken (inl (early, all)) =
-          inl (
-            early,
-            (λ t cut. settles_emptied says_announce g n s.best (IsCut p g s start) s.cuts start (view w)
-                (view taken) machine_emptied kept_taken t cut (settles_by n start) (all t cut)),
-          )
-      settles_taken (inr (over, invariant)) = inr (over, invariant_taken invariant)
-
       seen_taken : SplitsBack p g s start (view taken) × SplitSettles p g s start (view taken)
       seen_taken = (
-        fails_emptied says_announce g n s.best (IsCut p g s start) s.cuts start (view w) (view taken) machine_emptied
-            kept_taken s.lost s.loses (stay_of p) s.since s.delay s.shorter s.long state_taken was.0,
-        settles_taken was.1,
+        fails_emptied says_announce g n s.lost s.best (IsCut p g s start) (IsTurned p g s start) (IsTwice p g s start)
+            s.moves start (view w)
+            (view taken) machine_emptied kept_taken (stay_of p) s.since s.delay s.shorter s.long state_taken was.0,
+        settles_emptied says_announce g n s.lost s.best (IsCut p g s start) (IsTurned p g s start) (IsTwice p g s start)
+            s.moves start
+            (view w) (view taken) machine_emptied kept_taken was.0.back (fallen_by n start) (settles_by n start)
+            (cut_times p g s start) (turned_times p g s start) (tops_times p g s start) was.1,
       )
-
-      calm_taken : fallen_by n start < w.time → Calm timed_n (view taken)
-      calm_taken over =
-          emptied_calm timed_n timed_n (itself timed_n) (view w) (view taken).lanes lanes_then
-          (subst (λ (z : Network). Calm (record z { bare = 0; slack = suc (fallen_by z start) }) (view w)) split.same
-          (timed_now p g By failed gone silent w split quiet start was.0
-          (over_gone p g By failed gone silent w w' split standing_then asked_then goes sends same' links' by' late'
-          on start w may_then over)))
 
     seen' : HaveQuietLinks p.params w' → NothingLapses p.params → (start : ℕ) → MayStart gone s.since start w'
         → SplitsBack p g s start (view w') × SplitSettles p g s start (view w')
     seen' quiet' lapses start may =
         either p silent owner port w draws done w' is' measured' acts split.standing split.asked up dead
         (λ v. SplitsBack p g s start (view v) × SplitSettles p g s start (view v)) (seen_taken start may)
-        (λ step. seen_then p g By failed gone silent w w' split standing_then asked_then goes sends same' links' by'
-        late' on quiet quiet' off start may (view taken).lanes (seen_taken start may) (calm_taken start may) step)
+        (λ step. seen_then p g By Limits failed gone silent w w' split standing_then asked_then
+        goes sends same' links' by' limited'
+        late' on quiet quiet' off start may (view taken).lanes (seen_taken start may) step)
+
+    one : suc (pred gone) ≡ gone
+    one = one_before gone failed split.some
+
+    soon : gone ≤ suc (pred gone)
+    soon = let same = one in omega (arith, same)
+
+    -- what unmoved systems say stays sound
+    says' : CutsAllBeyond g n.graph → HaveQuietLinks p.params w' → NothingLapses p.params
+        → AllSayStill says_announce g n (view w')
+    says' cuts quiet' lapses =
+        either p silent owner port w draws done w' is' measured' acts split.standing split.asked up dead
+        (λ v. AllSayStill says_announce g n (view v)) says_taken
+        (λ step. says_then p g By Limits failed gone silent w w' split standing_then asked_then
+        goes sends same' links' by' limited'
+        late' on quiet quiet' off (pred gone) (inl soon) (view taken).lanes (seen_taken (pred gone) (inl soon)) step
+        cuts says_taken)
+      where
+        says_taken : AllSayStill says_announce g n (view taken)
+        says_taken = record {
+          lanes = λ j l f a at among said known. elim (is_emptied.lanes j l at) [
+            | inl stood ↦ (split.says cuts quiet off).lanes j l f a stood among said known
+            | inr (none, down) ↦ absurd (subst (In f) none among)
+          ];
+          stations = λ i s at live. (split.says cuts quiet off).stations i s (is_emptied.stations i s at live) live;
+        }
+
+    -- something has changed, or it is too early
+    flights' : CutsAllBeyond g n.graph → w'.last_change ≡ failed → (old : ℕ) → IsDroppedBy p
+        Limits (left_by p g s gone) old w'
+        → HaveQuietLinks p.params w' → NothingLapses p.params → left_by p g s gone < w'.time
+        → FlightsAreSound says_announce n.graph old (view w')
+    flights' cuts since old is_old quiet' lapses late =
+        let change = keeps'.change in
+        let same = now in
+        let before = one in
+        let some = split.some in
+        absurd (omega (arith, since, change, same, before, some, late))
 
     -- so it is claimed of the world since
-    pub down_splits : IsSplitAlways p g By failed gone silent w'
+    pub down_splits : IsSplitAlways p g By Limits failed gone silent w'
     down_splits =
-        split_then p g By failed gone silent w w' split standing_then asked_then goes sends same' links' by' late' on
-        seen'
+        split_then p g By Limits failed gone silent w w' split standing_then asked_then goes
+        sends same' links' by' limited' late' on
+        seen' says' flights'
+
+  -- what has no steps still names its sender alone
+  pub alone_down : SplitNamesAlone p silent w → SplitNamesAlone p silent w'
+  alone_down names quiet' lapses =
+      subst (λ z. AllNameAlone says_announce z (view w')) (sym same')
+      (either p silent owner port w draws done w' is' measured' acts split.standing split.asked up dead
+      (λ v. AllNameAlone says_announce n (view v)) names_taken
+      (λ step. alone_kept says_announce n (view taken) (view w') (kept_taken lapses).calm kept_after.calm step
+      names_taken))
+    where
+      kept_after : IsAfterLoss n (view w')
+      kept_after =
+          subst (λ z. IsAfterLoss z (view w')) same'
+          (split_after p silent w' standing_then asked_then quiet' lapses late')
+
+      names_then : AllNameAlone says_announce n (view w)
+      names_then = subst (λ z. AllNameAlone says_announce z (view w)) split.same (names quiet lapses)
+
+      names_taken : AllNameAlone says_announce n (view taken)
+      names_taken = record {
+        lanes = λ j l f a at among said known. elim (is_emptied.lanes j l at) [
+          | inl stood ↦ names_then.lanes j l f a stood among said known
+          | inr (none, down) ↦ absurd (subst (In f) none among)
+        ];
+        stations = λ i s at live. names_then.stations i s (is_emptied.stations i s at live) live;
+      }

@@ -1,29 +1,27 @@
--- A system failed and so cut trees off, as the machine knows it: each tree leaves the root of before once its top has
--- let go what the failed system told, and all settle once each distance has had its time.
-use Rattle.std.proofs.Common.{◌⊎◌, ◌<◌, ◌≤◌, ℕ, suc, inl, inr, arith}
-use native.Mathlib.Decide.{dec_le}
-use Rattle.gptp_graph.specs.Best.{IsBest}
-use Rattle.gptp_graph.specs.Snapshot.{Snapshot, System}
+-- A system failed and so moved trees, as the machine knows it: each tree leaves its old choice once its top has let go
+-- what the failed system told, and all settle once each distance has had its time.
+use Rattle.std.proofs.Common.{◌<◌, ◌≤◌, ◌+◌, ℕ, suc, arith}
+use Rattle.gptp_graph.specs.Snapshot.{Joins, Snapshot, System, port_of}
 use Rattle.gptp_setup.specs.SettlingParams.{SettlingParams}
 use Rattle.gptp_bmca_machine.specs.Acts.{MachineSteps}
-use Rattle.gptp_bmca_machine.specs.Calm.{Calm}
-use Rattle.gptp_bmca_machine.specs.CutTree.{CutsTrees, LosesSystem, Tree}
-use Rattle.gptp_bmca_machine.specs.EarlyPorts.{ClaimsWhenReady}
-use Rattle.gptp_bmca_machine.specs.Levels.{Invariant}
+use Rattle.gptp_bmca_machine.specs.CutTree.{Tree}
+use Rattle.gptp_bmca_machine.specs.FailureTrees.{FailureMoves, Turning}
 use Rattle.gptp_bmca_machine.specs.LossLaws.{IsAfterLoss}
-use Rattle.gptp_bmca_machine.specs.Network.{IsSettlingNetwork, Network, since}
+use Rattle.gptp_bmca_machine.specs.Network.{Network}
 use Rattle.gptp_bmca_machine.specs.SoundLaws.{AllAreNear}
+use Rattle.gptp_bmca_machine.specs.TwoTops.{TopsTree}
 use Rattle.gptp_bmca_machine.specs.Station.{MachineState}
 use Rattle.gptp_bmca_machine.proofs.CutTreeLemmas.{IsCutOff, LeadsNowhere, moves_off}
-use Rattle.gptp_bmca_machine.proofs.FailsBackLemmas.{FailsBack, IsFailedState, LostStayOff, StayLong, all_settle_on, fails_on}
-use Rattle.gptp_bmca_machine.proofs.FallLemmas.{UnlinkedHoldNone, falls_by}
-use Rattle.gptp_bmca_machine.proofs.FallLevelLemmas.{TreeSettles}
-use Rattle.gptp_bmca_machine.proofs.LevelLemmas.{invariant_kept, no_early_ports}
-use Rattle.gptp_bmca_machine.proofs.TreesFallLemmas.{trees_fallen, trees_received}
+use Rattle.gptp_bmca_machine.proofs.FailureEndLemmas.{FailureSettles, TopsTimes, settle_on}
+use Rattle.gptp_bmca_machine.proofs.FailureTreesLemmas.{FailsBack, IsFailedState, LostStayOff, drops, fails_on}
+use Rattle.gptp_bmca_machine.proofs.FallLemmas.{UnlinkedHoldNone}
+use Rattle.gptp_bmca_machine.proofs.MovedLevelLemmas.{Times as MovedTimes}
+use Rattle.gptp_bmca_machine.proofs.TurnLevelLemmas.{Times}
 use Rattle.gptp_invariants.specs.ChoiceView.{says_announce}
-use Rattle.gptp_settling_time.specs.TreeLosses.{IsTreeCutOff}
+use Rattle.gptp_settling_time.specs.TreeLosses.{IsTreeCutOff, IsTreeCutTwice, IsTreeTurned}
 use Rattle.gptp_settling_time.proofs.AgingClaimedLemmas.{stay_of}
 use Rattle.gptp_settling_time.proofs.FallAlwaysLemmas.{fallen_by, falls_within, settles_by, settles_later}
+use Rattle.gptp_settling_time.proofs.TurnedTreeLemmas.{turn_times}
 
 -- ---- the failure
 
@@ -33,49 +31,74 @@ pub record IsSplit (p : SettlingParams) (g : Snapshot) : Type 0 where
   pub n : Network
   pub lost : ℕ
   pub best : System
-  pub cuts : CutsTrees g n best (IsTreeCutOff g n.graph best)
-  pub loses : LosesSystem g n lost
+  pub moves : FailureMoves g n lost best (IsTreeCutOff g n.graph best) (IsTreeTurned g n.graph best)
+      (IsTreeCutTwice g n.graph best)
   pub near : AllAreNear g
   pub since : ℕ
   pub delay : ℕ
   pub shorter : n.most ≤ delay
-  pub long : StayLong says_announce g n lost best (IsTreeCutOff g n.graph best) cuts loses 0 (stay_of p) since delay
-      shorter
+  pub long : (x q i : ℕ) → Joins g (port_of lost (suc q)) (port_of x (suc i))
+      → n.interval_of (port_of lost (suc q)) + delay < stay_of p (n.log_of (port_of lost (suc q)))
 
 module _ (p : SettlingParams) (g : Snapshot) (s : IsSplit p g) (start : ℕ) where
   abbrev pub IsCut : Tree → Type 0
   IsCut = IsTreeCutOff g s.n.graph s.best
 
+  abbrev pub IsTurned : Turning → Type 0
+  IsTurned = IsTreeTurned g s.n.graph s.best
+
+  abbrev pub IsTwice : TopsTree → Type 0
+  IsTwice = IsTreeCutTwice g s.n.graph s.best
+
   -- as the machine knows it
   abbrev pub SplitsBack : MachineState → Type 0
   SplitsBack =
-      FailsBack says_announce g s.n s.lost s.best (IsTreeCutOff g s.n.graph s.best) s.cuts s.loses start (stay_of p)
-      s.since s.delay s.shorter s.long
+      FailsBack says_announce g s.n s.lost s.best IsCut IsTurned IsTwice s.moves start (stay_of p) s.since s.delay
+      s.shorter
+      s.long
 
   abbrev pub SplitState : MachineState → Type 0
   SplitState =
-      IsFailedState says_announce g s.n s.lost s.best (IsTreeCutOff g s.n.graph s.best) s.cuts s.loses start (stay_of p)
-      s.since s.delay s.shorter s.long
+      IsFailedState says_announce g s.n s.lost s.best IsCut IsTurned IsTwice s.moves start (stay_of p) s.since s.delay
+      s.shorter
+      s.long
 
   abbrev pub SplitStaysOff : MachineState → MachineState → Type 0
   SplitStaysOff =
-      LostStayOff says_announce g s.n s.lost s.best (IsTreeCutOff g s.n.graph s.best) s.cuts s.loses start (stay_of p)
-      s.since s.delay s.shorter s.long
+      LostStayOff says_announce g s.n s.lost s.best IsCut IsTurned IsTwice s.moves start (stay_of p) s.since s.delay
+      s.shorter
+      s.long
+
+  -- each system of a tree has left its old choice by then, and those at each distance have settled from a time on
+  pub cut_times : (t : Tree) → (is : IsCut t)
+      → MovedTimes says_announce g s.n (IsCutOff s.n t.next) LeadsNowhere t.top s.best t.next t.base t.depth
+      (moves_off g s.n t.top s.best t.next t.base t.depth (s.moves.cut t is)) s.moves.paths s.moves.few start
+      (fallen_by s.n start) (settles_by s.n start)
+  cut_times t is = record {
+    reached = λ v in_v. falls_within s.n start (t.depth v) ((s.moves.cut t is).deep v in_v);
+    room = λ e. settles_later s.n start e;
+    grows = λ e. omega arith;
+  }
+
+  pub turned_times : (t : Turning) → (is : IsTurned t)
+      → Times says_announce g s.n t.tree t.top s.lost t.last t.out s.best t.base t.depth (s.moves.turned t is) start
+      (fallen_by s.n start) (settles_by s.n start)
+  turned_times t is = turn_times g s.n t.tree t.top s.lost t.last t.out s.best t.base t.depth (s.moves.turned t is)
+      start
+
+  pub tops_times : TopsTimes s.n start (fallen_by s.n start) (settles_by s.n start)
+  tops_times = record {
+    begun = omega arith;
+    reached = λ d deep. falls_within s.n start (suc d) deep;
+    soon = λ e. settles_later s.n start e;
+    grows = λ e. omega arith;
+  }
 
   -- each link of a tree is at its stage as soon as the system that tells has settled
-  abbrev pub TreesSettle : MachineState → Type 0
-  TreesSettle w = (t : Tree) → (cut : IsCut t)
-      → TreeSettles says_announce g s.n (IsCutOff s.n t.next) LeadsNowhere t.top s.best t.next t.base t.depth
-      (moves_off g s.n t.top s.best t.next t.base t.depth (s.cuts.each t cut)) start (settles_by s.n start) w
-
-  abbrev pub timed_split : Network
-  timed_split = record s.n { bare = 0; slack = suc (fallen_by s.n start) }
-
-  -- what is kept until each system of the trees has left the root of before, and from then on
   abbrev pub SplitSettles : MachineState → Type 0
-  SplitSettles w =
-      ((w.time ≤ fallen_by s.n start) × TreesSettle w)
-      ⊎ ((fallen_by s.n start < w.time) × Invariant says_announce timed_split w)
+  SplitSettles =
+      FailureSettles says_announce g s.n s.lost s.best IsCut IsTurned IsTwice s.moves start (fallen_by s.n start)
+      (settles_by s.n start) cut_times turned_times tops_times
 
 -- ---- a step
 
@@ -83,52 +106,18 @@ module _ (p : SettlingParams) (g : Snapshot) (s : IsSplit p g) (start : ℕ) (x 
     (was : SplitsBack p g s start x) (kept' : IsAfterLoss s.n x') (state' : SplitState p g s start x')
     (stays_off : SplitStaysOff p g s start x x') (none' : UnlinkedHoldNone g s.n start x')
     (step : MachineSteps says_announce x x') where
-  abbrev n : Network
-  n = s.n
-
-  abbrev Cut : Tree → Type 0
-  Cut = IsCut p g s start
-
   pub splits_on : SplitsBack p g s start x'
   splits_on =
-      fails_on says_announce g n s.lost s.best Cut s.cuts s.loses start (stay_of p) s.since s.delay s.shorter s.long x
-      x' was kept' state' stays_off step none'
+      fails_on says_announce g s.n s.lost s.best (IsCut p g s start) (IsTurned p g s start) (IsTwice p g s start)
+      s.moves start (stay_of p)
+      s.since s.delay s.shorter s.long x x' was kept' state' stays_off step none'
 
-  reached : (t : Tree) → Cut t → (v : ℕ) → IsBest n.graph v t.next → falls_by n start (t.depth v) ≤ fallen_by n start
-  reached t cut v in_v = falls_within n start (t.depth v) ((s.cuts.each t cut).deep v in_v)
-
-  abbrev timed_n : Network
-  timed_n = timed_split p g s start
-
-  -- where the network with those times settles, and each state is calm in it once all have left the root of before
-  module _ (on : x.time ≤ x'.time) (in_time : (f : ℕ) → settles_by n start f ≤ since timed_n (suc f))
-      (net_n : IsSettlingNetwork timed_n) (claims_n : ClaimsWhenReady timed_n)
-      (calm_n : fallen_by n start < x.time → Calm timed_n x)
-      (calm_n' : fallen_by n start < x'.time → Calm timed_n x') where
-    pub split_settles_on : SplitSettles p g s start x → SplitSettles p g s start x'
-    split_settles_on (inr (over, invariant)) =
-        let over' : fallen_by n start < x'.time = omega (arith, over, on) in
-        inr (
-          over',
-          invariant_kept says_announce timed_n net_n x x' (calm_n over) (calm_n' over')
-              (λ i u d due at live near follows late lapse. was.back.after.kept.lapses i due u at lapse)
-              (no_early_ports says_announce timed_n x x' claims_n) step
-              (λ now. trees_received says_announce g n s.best Cut s.cuts start (fallen_by n start) x' splits_on.back
-              reached over') invariant,
-        )
-    split_settles_on (inl (early, settles)) = by (dec_le x'.time (fallen_by n start))
-      where
-        settles' : TreesSettle p g s start x'
-        settles' =
-            all_settle_on says_announce g n s.lost s.best Cut s.cuts s.loses start (stay_of p) s.since s.delay s.shorter
-            s.long x x' was kept' state' stays_off step (fallen_by n start) (settles_by n start)
-            (settles_later n start) early splits_on settles
-
-        by : Dec (x'.time ≤ fallen_by n start) → SplitSettles p g s start x'
-        by (yes early') = inl (early', settles')
-        by (no not) =
-            let over : fallen_by n start < x'.time = omega (arith, not) in
-            let y = trees_fallen says_announce g n s.best Cut s.cuts start (fallen_by n start) x' splits_on.back reached
-            over (settles_by n start) settles' (suc (fallen_by n start)) in_time
-            (λ f. let by_f = in_time f in omega (arith, by_f)) in
-            inr (over, record { sound = y.sound; levels = y.levels })
+  pub split_settles_on : SplitSettles p g s start x → SplitSettles p g s start x'
+  split_settles_on =
+      settle_on says_announce g s.n s.lost s.best (IsCut p g s start) (IsTurned p g s start) (IsTwice p g s start)
+      s.moves start (fallen_by s.n start) (settles_by s.n start) (cut_times p g s start) (turned_times p g s start)
+      (tops_times p g s start) x x' was.back
+      splits_on.back step
+      (drops says_announce g s.n s.lost s.best (IsCut p g s start) (IsTurned p g s start) (IsTwice p g s start) s.moves
+      start (stay_of p)
+      s.since s.delay s.shorter s.long x x' was kept' state' stays_off step)

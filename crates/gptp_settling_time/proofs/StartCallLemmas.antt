@@ -57,7 +57,7 @@ use Rattle.gptp_invariants.proofs.UnmeasuredLemmas.{unmeasured_off}
 use Rattle.gptp_invariants.specs.FailedUnanswered.{IsOff, IsUnansweredAt, IsUnmeasured}
 use Rattle.gptp_system.specs.declared.port.Port.{Port}
 use Rattle.std.specs.Option.{option_and_then}
-use Rattle.gptp_settling_time.specs.InTurn.{TellsNothing}
+use Rattle.gptp_settling_time.specs.EventKinds.{TellsNothing}
 use Rattle.gptp_settling_time.proofs.UntoldLemmas.{HasMeasuredNothing, IsUntold, MeasuresNothing, answering, call_untold, initial_untold, started_unmeasured}
 
 -- ---- nothing in flight is due

@@ -13,7 +13,7 @@ use Rattle.gptp_report.specs.Transitions.{Courses, Unfolds}
 use Rattle.gptp_theorem.specs.PlayedLaws.{IsPlayable}
 use Rattle.gptp_theorem.proofs.SyncPathLemmas.{paths_stand}
 use Rattle.gptp_settling_time.specs.Gains.{exchanged_from}
-use Rattle.gptp_settling_time.specs.InTurn.{UsedVaryLittle}
+use Rattle.gptp_settling_time.specs.EventKinds.{UsedVaryLittle}
 use Rattle.gptp_settling_time.specs.Starts.{DocumentsStartAtOnce, StartsBy}
 use Rattle.gptp_settling_time.proofs.BegunLemmas.{begun_keeps}
 use Rattle.gptp_settling_time.proofs.PassLemmas.{IsStep, passes_to}

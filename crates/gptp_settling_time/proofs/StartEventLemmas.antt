@@ -59,7 +59,7 @@ use Rattle.gptp_theorem.proofs.EventLemmas.{link_behind, system_behind}
 use Rattle.gptp_theorem.proofs.SettlingInvariantLemmas.{IsFitEvent, least_of}
 use Rattle.gptp_theorem.proofs.SyncPathLemmas.{paths_stand}
 use Rattle.gptp_theorem.proofs.CalmKeptLemmas.{no_change}
-use Rattle.gptp_settling_time.specs.InTurn.{AreCapableSoon, StartsWith, TellsNothing, UsedVaryLittle}
+use Rattle.gptp_settling_time.specs.EventKinds.{AreCapableSoon, StartsWith, TellsNothing, UsedVaryLittle}
 use Rattle.gptp_settling_time.proofs.AlwaysClaimedLemmas.{IsClaimedAlways}
 use Rattle.gptp_settling_time.proofs.BegunLemmas.{begun_keeps}
 use Rattle.gptp_settling_time.proofs.ClaimedToLemmas.{varies_little}

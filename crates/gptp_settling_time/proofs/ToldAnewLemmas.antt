@@ -4,10 +4,8 @@ use Rattle.std.proofs.Common.{◌≡◌, ◌⊎◌, ◌<◌, ◌≤◌, ◌+◌,
 use native.Mathlib.Decide.{dec_lt}
 use Rattle.gptp_lists.specs.Members.{In}
 use Rattle.gptp_lists.proofs.SystemSpecLemmas.{In-parts}
-use Rattle.gptp_graph.specs.Best.{IsBest}
-use Rattle.gptp_graph.specs.Distance.{IsDistance}
 use Rattle.gptp_graph.specs.PathBound.{path_bound}
-use Rattle.gptp_graph.specs.Snapshot.{Adjacent, Snapshot, System, port_of}
+use Rattle.gptp_graph.specs.Snapshot.{Snapshot, port_of}
 use Rattle.gptp_graph.proofs.DistanceLemmas.{IsDistance-unique}
 use Rattle.gptp_graph.proofs.ExistenceLemmas.{distance_exists}
 use Rattle.gptp_graph.proofs.PathBoundLemmas.{IsDistance-within}
@@ -32,20 +30,19 @@ use Rattle.gptp_bmca_machine.proofs.SoundLemmas.{received_fits}
 use Rattle.gptp_invariants.specs.ChoiceCalm.{HaveQuietLinks, delay_in}
 use Rattle.gptp_invariants.specs.ChoiceSettlesAsMachine.{IsWorld}
 use Rattle.gptp_invariants.specs.ChoiceView.{says_announce, view}
+use Rattle.gptp_invariants.specs.WorldNews.{AreSilentBy}
 use Rattle.gptp_invariants.specs.WorldSound.{IsSoundWorld}
 use Rattle.gptp_invariants.specs.WorldStanding.{snapshot_of}
 use Rattle.gptp_invariants.proofs.ChoiceCalmKeptLemmas.{KeepsNetwork, links_quiet, same_paths}
 use Rattle.gptp_invariants.proofs.ChoiceCalmLemmas.{linked_interval}
 use Rattle.gptp_invariants.proofs.ChoiceSettlesAsMachineLemmas.{kept_back}
-use Rattle.gptp_invariants.proofs.WorldNewsLemmas.{silent_from_now}
 use Rattle.gptp_settling_time.proofs.AlwaysClaimedLemmas.{IsClaimedAlways, IsStanding}
 use Rattle.gptp_settling_time.proofs.AtRestLemmas.{facts_of}
 use Rattle.gptp_settling_time.proofs.BecomesSoundLemmas.{nearer_echo, same_time, sound_claimed}
 use Rattle.gptp_settling_time.proofs.DueLemmas.{due_by_interval}
-use Rattle.gptp_settling_time.proofs.LeftClaimedLemmas.{HaveAskedBy, HaveAskedLong, left_net, left_network, same_left}
-use Rattle.gptp_settling_time.proofs.MovedAlwaysLemmas.{calm_now}
-use Rattle.gptp_settling_time.proofs.NamesItselfLemmas.{AllNameItself}
-use Rattle.gptp_settling_time.proofs.RightBeginLemmas.{right_enters, root_right}
+use Rattle.gptp_settling_time.proofs.FitsLemmas.{UnlinkedHoldNothing}
+use Rattle.gptp_settling_time.proofs.LeftClaimedLemmas.{HaveAskedBy, HaveAskedLong, left_calm, left_net, left_network, same_left}
+use Rattle.gptp_settling_time.proofs.RightBeginLemmas.{right_enters}
 use Rattle.gptp_settling_time.proofs.RightKeptLemmas.{right_kept}
 use Rattle.gptp_settling_time.proofs.RightLemmas.{all_held_right}
 use Rattle.gptp_settling_time.proofs.SettledSeenLemmas.{IsSettledSeen, settled_in}
@@ -58,14 +55,17 @@ abbrev pub FlightsAreSound : Spelling → Snapshot → ℕ → MachineState → 
 FlightsAreSound says g old w = (j : ℕ) (l : Lane) (f : AnnounceFrame) (a : Announce) → slice_get w.lanes j ≡ Some l
     → In f l.frames → says f.octets a → IsSoundSent g l.from a ⊎ (f.due ≤ old)
 
--- Once each system tells what is right every step keeps that.
-module _ (says : Spelling) (n : Network) (net : IsSettlingNetwork n) (near : AllAreNear n.graph) (base old : ℕ)
-    (w w' : MachineState) (x' : IsSettledState says n w')
+-- what each live system tells is sound
+abbrev pub AllTellSound : Snapshot → MachineState → Type 0
+AllTellSound g w = (s : Station) (i port : ℕ) (a : Announce) → slice_get w.stations i ≡ Some s → s.live ≡ true
+    → IsOwn s port a → IsSoundSent g (port_of s.clock port) a
+
+-- So it is once each system tells what is right.
+module _ (says : Spelling) (n : Network) (net : IsSettlingNetwork n) (near : AllAreNear n.graph) (base : ℕ)
+    (w' : MachineState) (x' : IsSettledState says n w')
     (levels' : (d : ℕ) → LevelTellsRight says n base w' d)
     (right : tells_right_from n base (pred n.reach) ≤ w'.time) where
-  -- what a system tells is sound
-  told_sound : (s : Station) (i port : ℕ) (a : Announce) → slice_get w'.stations i ≡ Some s → s.live ≡ true
-      → IsOwn s port a → IsSoundSent n.graph (port_of s.clock port) a
+  told_sound : AllTellSound n.graph w'
   told_sound s i port a at live own =
       let known = In-clocks n.graph (station_system s) (x'.calm.facts.stations i s at live).known in
       let (d, here) = distance_exists n.graph s.clock net.graph known in
@@ -81,35 +81,37 @@ module _ (says : Spelling) (n : Network) (net : IsSettlingNetwork n) (near : All
       below zero d h = absurd (omega (arith, h))
       below (suc m) d h = omega (arith, h)
 
+-- Then every step keeps that what is in flight is sound.
+module _ (says : Spelling) (g : Snapshot) (old : ℕ) (w w' : MachineState) (tell : AllTellSound g w') where
   called : (touch : StationTouch) (mid : MachineState) → StationAnswers says touch mid w'
-      → FlightsAreSound says n.graph old mid → FlightsAreSound says n.graph old w'
+      → FlightsAreSound says g old mid → FlightsAreSound says g old w'
   called touch mid call all j l' f a at among said = by (call.lanes j l' at)
     where
       by : ((l : Lane) × (slice_get mid.lanes j ≡ Some l) × LaneStep call.s.clock call.sends l l')
-          → IsSoundSent n.graph l'.from a ⊎ (f.due ≤ old)
+          → IsSoundSent g l'.from a ⊎ (f.due ≤ old)
       by (l, stood, step) = elim (In-parts f l.frames step.news (subst (In f) step.behind among)) [
         | inl before ↦
-            subst (λ k. IsSoundSent n.graph k a ⊎ (f.due ≤ old)) (sym step.from) (all j l f a stood before said)
+            subst (λ k. IsSoundSent g k a ⊎ (f.due ≤ old)) (sym step.from) (all j l f a stood before said)
         | inr new ↦
             let (y, sent, from, octets) = step.sent f new in
             let own = (call.reacts.tells y a sent (subst (λ (o : List ℕ). says o a) octets said)).0 in
             let leaves : port_of call.s'.clock y.port ≡ l'.from =
             (λ i. port_of (call.reacts.clock i) y.port) ∙ sym (step.from ∙ from) in
-            inl (subst (λ k. IsSoundSent n.graph k a) leaves
-            (told_sound call.s' call.place y.port a call.there (call.reacts.live ∙ call.live) own))
+            inl (subst (λ k. IsSoundSent g k a) leaves
+            (tell call.s' call.place y.port a call.there (call.reacts.live ∙ call.live) own))
       ]
 
   popped : (j : ℕ) (l : Lane) (f : AnnounceFrame) (fs : List AnnounceFrame) (mid : MachineState) → Pops j l f fs w mid
-      → FlightsAreSound says n.graph old w → FlightsAreSound says n.graph old mid
+      → FlightsAreSound says g old w → FlightsAreSound says g old mid
   popped j l f fs mid pops all i l' h a at among said = elim (pops.lanes i l' at) [
     | inl (same, is) ↦
-        subst (λ (y : Lane). IsSoundSent n.graph y.from a ⊎ (h.due ≤ old)) (sym is)
+        subst (λ (y : Lane). IsSoundSent g y.from a ⊎ (h.due ≤ old)) (sym is)
         (all j l h a pops.here
         (subst (In h) (sym pops.frames) (inr (subst (λ (y : Lane). In h y.frames) is among))) said)
     | inr (other, stood) ↦ all i l' h a stood among said
   ]
 
-  pub flights_kept : MachineSteps says w w' → FlightsAreSound says n.graph old w → FlightsAreSound says n.graph old w'
+  pub flights_kept : MachineSteps says w w' → FlightsAreSound says g old w → FlightsAreSound says g old w'
   flights_kept (inl wait) all =
       λ j l f a at. all j l f a (subst (λ (z : MachineState). slice_get z.lanes j ≡ Some l) wait.is at)
   flights_kept (inr (inl act)) all =
@@ -126,18 +128,14 @@ way_in w = pred (path_bound (snapshot_of w)) * delay_in w
 pub same_way : (w w' : WorldState) → KeepsNetwork w w' → way_in w' ≡ way_in w
 same_way w w' keeps = ap (λ (u : SyncPaths). pred u.systems * u.delay) (same_paths w w' keeps)
 
--- What is so of a world since a loss: links are at rest once a moment is over. The best of its systems was so in the
--- snapshot of before, and what names it in no steps names it alone.
-pub record SettlesOnce (p : SettlingParams) (g : Snapshot) (silent settled : ℕ) (w : WorldState) : Type 0 where
+-- What is so of a world since a loss: links are at rest once a moment is over, and what a best tells is right.
+pub record SettlesOnce (p : SettlingParams) (silent settled : ℕ) (w : WorldState) : Type 0 where
   pub standing : IsStanding p silent w
   pub asked : HaveAskedLong w
-  pub past : silent ≤ w.time
   pub near : AllAreNear (snapshot_of w)
   pub long : way_in w ≤ settled
-  pub was : (v u : ℕ) (best : System) → Adjacent (snapshot_of w) v u → IsBest (snapshot_of w) v best
-      → IsDistance (snapshot_of w) v 0 → IsBest g v best
-  pub itself : HaveQuietLinks p.params w → NothingLapses p.params
-      → AllNameItself says_announce (left_network p silent w) g (view w)
+  pub root : HaveQuietLinks p.params w → NothingLapses p.params → settled < w.time → (base : ℕ)
+      → LevelTellsRight says_announce (left_network p silent w) base (view w) 0
   pub state : HaveQuietLinks p.params w → NothingLapses p.params → settled < w.time
       → IsSettledState says_announce (left_network p silent w) (view w)
 
@@ -170,8 +168,8 @@ right_by p silent settled w late =
 
 -- ---- it goes on
 
-module _ (p : SettlingParams) (g : Snapshot) (silent settled : ℕ) (w w' : WorldState)
-    (once : SettlesOnce p g silent settled w) (once' : SettlesOnce p g silent settled w')
+module _ (p : SettlingParams) (silent settled : ℕ) (w w' : WorldState)
+    (once : SettlesOnce p silent settled w) (once' : SettlesOnce p silent settled w')
     (tells : TellsOnce p silent settled w) (keeps : KeepsNetwork w w')
     (step : MachineSteps says_announce (view w) (view w')) where
   abbrev n' : Network
@@ -214,10 +212,17 @@ module _ (p : SettlingParams) (g : Snapshot) (silent settled : ℕ) (w w' : Worl
           → (d : ℕ) → LevelTellsRight says_announce n' base (view w') d
       enters early wait =
           right_enters says_announce n' net once'.near base wait.time (view w) (view w')
-          (subst (λ z. Calm z (view w)) (sym same) (calm_now p silent w once.standing once.asked quiet once.past))
+          (subst (λ z. Calm z (view w)) (sym same) (left_calm p silent w once.standing once.asked quiet none))
           (omega (arith, early)) wait.is x'
           (λ port linked. linked_interval p w' world'.sound world'.known port linked)
-          (root_right says_announce g n' net once'.near (view w') x' once'.was (once'.itself quiet' off) base)
+          (once'.root quiet' off late' base)
+        where
+          -- the systems hold what they do then
+          none : UnlinkedHoldNothing (snapshot_of w) (view w)
+          none =
+              subst (λ h. UnlinkedHoldNothing h (view w)) (ap (λ (z : Network). z.graph) same)
+              (λ i s place r here.
+              x'.none i s place r (subst (λ (z : MachineState). slice_get z.stations i ≡ Some s) (sym wait.is) here))
 
       levels' : (d : ℕ) → LevelTellsRight says_announce n' base (view w') d
       levels' = elim (dec_lt settled w.time) [
@@ -236,8 +241,9 @@ module _ (p : SettlingParams) (g : Snapshot) (silent settled : ℕ) (w w' : Worl
         → FlightsAreSound says_announce (snapshot_of w') (told_by p settled w' + largest_interval p) (view w')
     flights' told' = elim (dec_lt (told_by p settled w) w.time) [
       | yes told ↦
-          flights_kept says_announce n' net once'.near base (told_by p settled w' + largest_interval p) (view w)
-          (view w') (x' late') (levels' late') (right_by p silent settled w' told') step
+          flights_kept says_announce (snapshot_of w') (told_by p settled w' + largest_interval p) (view w) (view w')
+          (told_sound says_announce n' net once'.near base (view w') (x' late') (levels' late')
+          (right_by p silent settled w' told')) step
           (subst (λ t. FlightsAreSound says_announce (snapshot_of w') (t + largest_interval p) (view w)) (sym same_told)
           (subst (λ (z : Network). FlightsAreSound says_announce z.graph (told_by p settled w + largest_interval p)
           (view w)) (sym same) (tells.flights quiet off told)))
@@ -264,51 +270,34 @@ module _ (p : SettlingParams) (g : Snapshot) (silent settled : ℕ) (w w' : Worl
 
 -- ---- rest
 
--- all have told traces anew by then, and what was in flight is gone too
+-- all have told traces anew by then, and what was in flight is gone too: where a path has several systems
 nearer_fits : (systems hop gone : ℕ) → 1 < systems → gone ≤ hop
     → pred (pred systems) * hop + gone ≤ pred systems * hop
 nearer_fits zero hop gone less soon = absurd (omega (arith, less))
 nearer_fits (suc zero) hop gone less soon = absurd (omega (arith, less))
 nearer_fits (suc (suc k)) hop gone less soon = omega (arith, soon)
 
-module _ (p : SettlingParams) (g : Snapshot) (silent start settled : ℕ) (w : WorldState)
-    (once : SettlesOnce p g silent settled w) (asked : HaveAskedBy start w) (tells : TellsOnce p silent settled w)
-    (several : 1 < path_bound (snapshot_of w)) (quiet : HaveQuietLinks p.params w) (off : NothingLapses p.params)
-    (over : settled + pred (path_bound (snapshot_of w)) * (largest_interval p + delay_in w) < w.time) where
+pub told_over : (p : SettlingParams) (settled : ℕ) (w : WorldState) → 1 < path_bound (snapshot_of w)
+    → settled + pred (path_bound (snapshot_of w)) * (largest_interval p + delay_in w) < w.time
+    → told_by p settled w + largest_interval p < w.time
+told_over p settled w several over =
+    let less = nearer_fits (path_bound (snapshot_of w)) (largest_interval p + delay_in w) (largest_interval p) several
+    (omega arith) in
+    omega (arith, over, less)
+
+-- Claims are made of all links always once links are at rest and all that is held and in flight is sound.
+module _ (p : SettlingParams) (silent start settled : ℕ) (w : WorldState)
+    (once : SettlesOnce p silent settled w) (asked : HaveAskedBy start w)
+    (quiet : HaveQuietLinks p.params w) (off : NothingLapses p.params) (late : settled < w.time)
+    (sound : IsSoundWorld w) where
   abbrev n : Network
   n = left_network p silent w
 
   net_w : IsSettlingNetwork n
   net_w = left_net p silent w once.standing.world
 
-  late : settled < w.time
-  late = omega (arith, over)
-
-  gone_by : told_by p settled w + largest_interval p < w.time
-  gone_by =
-      let less = nearer_fits (path_bound (snapshot_of w)) (largest_interval p + delay_in w) (largest_interval p) several
-      (omega arith) in
-      omega (arith, over, less)
-
-  told : told_by p settled w < w.time
-  told = let gone = gone_by in omega (arith, gone)
-
   x : IsSettledState says_announce n (view w)
   x = once.state quiet off late
-
-  -- all that is held and in flight is sound
-  sound : IsSoundWorld w
-  sound = record {
-    lanes = λ j l at f a among said. elim (tells.flights quiet off told j l f a at among said) [
-      | inl is ↦ is
-      | inr old ↦
-          let gone = gone_by in
-          let left = x.calm.left j l f at among in
-          absurd (omega (arith, old, left, gone))
-    ];
-    stations = all_held_right says_announce n net_w once.near (suc settled) (view w) x (tells.levels quiet off late)
-        (right_by p silent settled w told);
-  }
 
   invariant : Invariant says_announce n (view w)
   invariant = record {
@@ -321,10 +310,38 @@ module _ (p : SettlingParams) (g : Snapshot) (silent start settled : ℕ) (w : W
 
   seen : IsSettledSeen p w
   seen =
-      let long = once.long in settled_in p w n refl net_w x.calm invariant (omega (arith, long, over))
+      let long = once.long in settled_in p w n refl net_w x.calm invariant (omega (arith, long, late))
 
-  -- claims are made of all links always
-  pub once_claimed : (begin : ℕ) → start ≤ begin → IsClaimedAlways p begin w
-  once_claimed begin later =
+  pub rest_claimed : (begin : ℕ) → start ≤ begin → AreSilentBy p begin w → IsClaimedAlways p begin w
+  rest_claimed begin later =
       sound_claimed p start silent w once.standing once.asked asked sound seen off begin later
-      (silent_from_now p begin silent w once.standing.world once.standing.silent once.past)
+
+-- So it is once traces are told anew.
+module _ (p : SettlingParams) (silent start settled : ℕ) (w : WorldState)
+    (once : SettlesOnce p silent settled w) (asked : HaveAskedBy start w) (tells : TellsOnce p silent settled w)
+    (quiet : HaveQuietLinks p.params w) (off : NothingLapses p.params)
+    (gone_by : told_by p settled w + largest_interval p < w.time) where
+  late_then : settled < w.time
+  late_then = omega (arith, gone_by)
+
+  told : told_by p settled w < w.time
+  told = omega (arith, gone_by)
+
+  state : IsSettledState says_announce (left_network p silent w) (view w)
+  state = once.state quiet off late_then
+
+  -- all that is held and in flight is sound
+  anew_sound : IsSoundWorld w
+  anew_sound = record {
+    lanes = λ j l at f a among said. elim (tells.flights quiet off told j l f a at among said) [
+      | inl is ↦ is
+      | inr old ↦
+          let left = state.calm.left j l f at among in
+          absurd (omega (arith, old, left, gone_by))
+    ];
+    stations = all_held_right says_announce (left_network p silent w) (left_net p silent w once.standing.world)
+        once.near (suc settled) (view w) state (tells.levels quiet off late_then) (right_by p silent settled w told);
+  }
+
+  pub once_claimed : (begin : ℕ) → start ≤ begin → AreSilentBy p begin w → IsClaimedAlways p begin w
+  once_claimed = rest_claimed p silent start settled w once asked quiet off late_then anew_sound

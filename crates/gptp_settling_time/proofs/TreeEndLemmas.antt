@@ -17,6 +17,7 @@ use Rattle.gptp_model.specs.declared.station.Station.{Station}
 use Rattle.gptp_bmca_machine.specs.Network.{Network}
 use Rattle.gptp_bmca_machine.specs.SoundLaws.{AllAreNear}
 use Rattle.gptp_bmca_machine.specs.Station.{Station as SeenStation}
+use Rattle.gptp_bmca_machine.specs.Touch.{Disable, StationTouch}
 use Rattle.gptp_bmca_machine.proofs.PlaceLemmas.{same_there as machine_there}
 use Rattle.gptp_invariants.specs.ChoiceSettlesAsMachine.{IsWorld}
 use Rattle.gptp_invariants.specs.ChoiceView.{says_announce, station_view, view}
@@ -82,16 +83,17 @@ module _ (p : SettlingParams) (silent : ℕ) (w : WorldState) (is : IsWorld p w)
 
   -- the top answers, and what stands at this place is the other end
   pub record TopAnswers : Type 0 where
-    pub lost : ℕ
+    pub touch : StationTouch
     pub at : ℕ
-    pub answers : EndAnswers says_announce n top lost at (view w) (view w')
+    pub answers : EndAnswers says_announce n top touch at (view w) (view w')
     pub end : (m : SeenStation) → slice_get (view w').stations at ≡ Some m → m.live ≡ true
         → (top ≡ other) ⊎ (m.clock ≡ other)
 
-  at_end : (lost at : ℕ) (station : Station) → slice_get w.stations at ≡ Some station → clock station.system ≡ other
-      → EndAnswers says_announce n top lost at (view w) (view w') → (m : SeenStation)
+  at_end : (touch : StationTouch) (at : ℕ) (station : Station) → slice_get w.stations at ≡ Some station
+      → clock station.system ≡ other
+      → EndAnswers says_announce n top touch at (view w) (view w') → (m : SeenStation)
       → slice_get (view w').stations at ≡ Some m → m.live ≡ true → (top ≡ other) ⊎ (m.clock ≡ other)
-  at_end lost at station stands is_other a m there lives = elim (ℕ_discrete at (n.place top)) [
+  at_end touch at station stands is_other a m there lives = elim (ℕ_discrete at (n.place top)) [
     | yes same ↦
         let one = machine_there (view w).stations at (station_view station) a.s (station_there w.stations at station
         stands) (subst (λ i. slice_get (view w).stations i ≡ Some a.s) (sym same) a.here) in
@@ -110,10 +112,10 @@ module _ (p : SettlingParams) (silent : ℕ) (w : WorldState) (is : IsWorld p w)
       let a = turns_a p w is place channel here draws w' is' told seen near silent top stays live_a live_b is_a i number
       in
       record {
-        lost = i;
+        touch = Disable (suc i);
         at = told.place_b;
         answers = a;
-        end = at_end i told.place_b told.station_b told.is_b.here (told.is_b.named ∙ is_b) a;
+        end = at_end (Disable (suc i)) told.place_b told.station_b told.is_b.here (told.is_b.named ∙ is_b) a;
       }
 
   by_b : channel.b.clock ≡ top → channel.a.clock ≡ other → (i : ℕ) → channel.b.port ≡ i
@@ -123,10 +125,10 @@ module _ (p : SettlingParams) (silent : ℕ) (w : WorldState) (is : IsWorld p w)
       let a = turns_b p w is place channel here draws w' is' told seen near silent top stays live_a live_b is_b i number
       in
       record {
-        lost = i;
+        touch = Disable (suc i);
         at = told.place_a;
         answers = a;
-        end = at_end i told.place_a told.station_a told.is_a.here (told.is_a.named ∙ is_a) a;
+        end = at_end (Disable (suc i)) told.place_a told.station_a told.is_a.here (told.is_a.named ∙ is_a) a;
       }
 
   pub top_answers : TopAnswers

@@ -1,6 +1,6 @@
 -- A link in use goes down in a world of a document whose choice had stood for an announce interval: what is in flight
 -- names the best, and a delay is over.
-use Rattle.std.proofs.Common.{List, [], ap, arith, inl, inr, subst, sym, true, ℕ, ◌++◌, ◌+◌, ◌∷◌, ◌≡◌, ◌≤◌, slice_get, Some}
+use Rattle.std.proofs.Common.{List, [], ap, arith, inl, inr, subst, sym, true, ℕ, ◌++◌, ◌∷◌, ◌≡◌, ◌≤◌, slice_get, Some}
 use Rattle.gptp_lists.proofs.MappedLemmas.{alike}
 use Rattle.gptp_graph.specs.PathBound.{path_bound}
 use Rattle.gptp_links.specs.declared.link.Direction.{Direction}

@@ -1,5 +1,4 @@
--- A link goes down that cuts a tree off. What others hold is sound at once, and so is what is in flight, but for what
--- is due soon.
+-- A tree begins to fall back. What others hold is sound at once, and so is what is in flight, but for what is due soon.
 use Rattle.std.proofs.Common.{◌≡◌, ◌⊎◌, ◌≤◌, ◌+◌, ℕ, suc, true, Some, slice_get, sym, subst, ◌∙◌, inl, inr}
 use Rattle.gptp_lists.specs.Members.{In}
 use Rattle.gptp_graph.specs.Best.{IsBest}
@@ -17,20 +16,21 @@ use Rattle.gptp_bmca_machine.specs.RestLaws.{SameWiring}
 use Rattle.gptp_bmca_machine.specs.SoundEverywhere.{IsSoundEverywhere, IsSoundSent, StationIsSound}
 use Rattle.gptp_bmca_machine.specs.SoundLaws.{UnlinkedAreOff}
 use Rattle.gptp_bmca_machine.specs.Station.{Disabled, MachineState, Received, Station}
+use Rattle.gptp_bmca_machine.specs.Touch.{StationTouch}
 use Rattle.gptp_bmca_machine.proofs.CutTreeLemmas.{beside, cuts_off, tree_dec}
 use Rattle.gptp_bmca_machine.proofs.FallEndLemmas.{FallsOff}
 use Rattle.gptp_bmca_machine.proofs.FallLemmas.{falls_by}
 use Rattle.gptp_settling_time.proofs.EndAnswersLemmas.{EndAnswers, HeldBefore, flew, held_before}
 use Rattle.gptp_settling_time.proofs.TreeSoundLemmas.{IsOldInTree, IsSoundOutside, LanesBeginApart, linked_at, tells_outside}
-use Rattle.gptp_settling_time.proofs.TreeTracesLemmas.{HasAllButLink, sound_outside}
 
-module _ (says : Spelling) (n0 n : Network) (top other : ℕ) (best next : System) (base : ℕ) (depth : ℕ → ℕ)
-    (t : CutsTree n0.graph n top best next base depth) (has : HasAllButLink n0.graph n.graph top other)
-    (in_top : IsBest n.graph top next) (outside : IsBest n.graph other next → ⊥)
+module _ (says : Spelling) (n0 n : Network) (top : ℕ) (best next : System) (base : ℕ) (depth : ℕ → ℕ)
+    (t : CutsTree n0.graph n top best next base depth)
+    (stays : (v : ℕ) (c : Announce) → (IsBest n.graph v next → ⊥) → In v (clocks n0.graph)
+    → IsWorse n0.graph v c ⊎ Whole n0.graph v c → IsWorse n.graph v c ⊎ Whole n.graph v c)
     (moved_top : Unmoved n0.graph n top → ⊥) (net0 : IsSettlingNetwork n0) (w : MachineState) (calm0 : Calm n0 w)
     (invariant0 : Invariant says n0 w) (late0 : settled_from n0 ≤ w.time)
-    (sound0 : IsSoundEverywhere says n0.graph w) (same : SameWiring n0 n) (w' : MachineState) (lost place : ℕ)
-    (a : EndAnswers says n top lost place w w') (start : ℕ)
+    (sound0 : IsSoundEverywhere says n0.graph w) (same : SameWiring n0 n) (w' : MachineState) (touch : StationTouch)
+    (place : ℕ) (a : EndAnswers says n top touch place w w') (start : ℕ)
     (b' : FallsOff says n0.graph n top best next base depth t start w') (apart' : LanesBeginApart w')
     (dark' : UnlinkedAreOff n.graph w') (old : ℕ)
     (deep : (v : ℕ) → IsBest n.graph v next → falls_by n start (depth v) + n.most ≤ old)
@@ -39,20 +39,16 @@ module _ (says : Spelling) (n0 n : Network) (top other : ℕ) (best next : Syste
   abbrev g : Snapshot
   g = n0.graph
 
-  stays : (v : ℕ) (c : Announce) → (IsBest n.graph v next → ⊥) → In v (clocks g) → IsWorse g v c ⊎ Whole g v c
-      → IsWorse n.graph v c ⊎ Whole n.graph v c
-  stays = sound_outside g n top best next base depth t other has in_top outside
-
   held_outside : (i : ℕ) (s : Station) → slice_get w'.stations i ≡ Some s → s.live ≡ true
       → (IsBest n.graph s.clock next → ⊥) → StationIsSound n.graph s
   held_outside i s at live out k r (q, at_q, holds) =
       came (linked_at says g n top best next base depth t start w' b' i s at live dark' k q at_q
       (λ off. let both : Received r ≡ Disabled = sym holds ∙ off in absurd cc))
     where
-      o : HeldBefore says n0 n top t.well t.left moved_top net0 w calm0 invariant0 late0 sound0 same w' lost place a
+      o : HeldBefore says n0 n top t.well t.left moved_top net0 w calm0 invariant0 late0 sound0 same w' touch place a
           b'.after.kept s.clock k r
       o =
-          held_before says n0 n top t.well t.left moved_top net0 w calm0 invariant0 late0 sound0 same w' lost place a
+          held_before says n0 n top t.well t.left moved_top net0 w calm0 invariant0 late0 sound0 same w' touch place a
           b'.after.kept i s k r at live (q, at_q, holds)
 
       came : IsLinked n.graph (port_of s.clock (suc k)) → CameSound n.graph s.clock (suc k) r
@@ -81,7 +77,7 @@ module _ (says : Spelling) (n0 n : Network) (top other : ℕ) (best next : Syste
       → In f l.frames → says f.octets c
       → IsSoundSent n.graph l.from c ⊎ IsOldInTree n.graph next old l.from l.to f.due
   flies_outside j l f c at among said =
-      elim (flew says n0 n top t.well t.left moved_top net0 w calm0 invariant0 late0 sound0 same w' lost place a
+      elim (flew says n0 n top t.well t.left moved_top net0 w calm0 invariant0 late0 sound0 same w' touch place a
       b'.after.kept j l f c at among said) [
         | inr sent ↦
             let (port, own, master, from) = sent.own in

@@ -20,6 +20,7 @@ use Rattle.gptp_bmca_machine.specs.SoundEverywhere.{IsSoundEverywhere}
 use Rattle.gptp_bmca_machine.specs.SoundLaws.{AllAreNear, IsSoundOnLinks, UnlinkedAreOff}
 use Rattle.gptp_bmca_machine.specs.Station.{MachineState, Port, Received, Reception, Station}
 use Rattle.gptp_bmca_machine.specs.TurnTree.{TurnsTree}
+use Rattle.gptp_bmca_machine.specs.Touch.{StationTouch}
 use Rattle.gptp_bmca_machine.proofs.FallBeginLemmas.{falling_begins, settles_begin}
 use Rattle.gptp_bmca_machine.proofs.FallLeaveLemmas.{TreeAnswers}
 use Rattle.gptp_bmca_machine.proofs.FallLemmas.{IsAftermath, IsFreeAt, off_hold_old}
@@ -41,8 +42,8 @@ module _ (says : Spelling) (n0 n : Network) (tree : List ℕ) (top other last ou
     (depth : ℕ → ℕ) (t : TurnsTree n0.graph n tree top other last out best base depth) (in_top : In top tree)
     (net0 : IsSettlingNetwork n0) (w : MachineState) (calm0 : Calm n0 w) (invariant0 : Invariant says n0 w)
     (late0 : settled_from n0 ≤ w.time) (near0 : AllAreNear n0.graph) (sound0 : IsSoundEverywhere says n0.graph w)
-    (named0 : FlightNames says n0.graph w) (same : SameWiring n0 n) (w' : MachineState) (lost place : ℕ)
-    (a : EndAnswers says n top lost place w w')
+    (named0 : FlightNames says n0.graph w) (same : SameWiring n0 n) (w' : MachineState) (touch : StationTouch)
+    (place : ℕ) (a : EndAnswers says n top touch place w w')
     (beside : (c : ℕ) (m : Station) → In c tree ⊎ (c ≡ out) → slice_get w'.stations (n.place c) ≡ Some m
     → n.place c ≢ place) (kept' : IsAfterLoss n w') (dark' : UnlinkedAreOff n.graph w') where
   abbrev g : Snapshot
@@ -62,32 +63,32 @@ module _ (says : Spelling) (n0 n : Network) (tree : List ℕ) (top other last ou
   came0 : (v p u q : ℕ) (l : Lane) (f : AnnounceFrame) (c : Announce) → In v tree → In u tree
       → Joins n.graph (port_of v (suc p)) (port_of u (suc q)) → depth v ≡ suc (depth u)
       → slice_get w.lanes (n.lane (port_of v (suc p))) ≡ Some l → In f l.frames → says f.octets c
-      → Whole n.graph v c ⊎ In u c.path
+      → Whole t.ways v c ⊎ In u c.path
   came0 v p u q l f c in_v in_u joins higher at among said =
       let (whole, root) = link_whole says n0 n net0 w calm0 sound0 named0 same v p u q l f c best
       (t.left.links (port_of v (suc p)) (port_of u (suc q)) joins) at among said (t.was_best v in_v) in
       up_whole g n tree top other last out best base depth t v u c in_v in_u
       (suc q, suc p, Joins-sym n.graph (port_of v (suc p)) (port_of u (suc q)) joins) higher whole root
 
-  beside_so : (c : ℕ) (m : Station) → In c (clocks n.graph) → Around (IsOf tree) (LeadsOut last out) c
+  beside_so : (c : ℕ) (m : Station) → In c (clocks n.graph) → Around (IsOf tree) (LeadsOut last out) c → c ≢ top
       → slice_get w'.stations (n.place c) ≡ Some m
       → n.place c ≢ place
-  beside_so c m known (inl in_c) at = beside c m (inl in_c) at
-  beside_so c m known (inr (v, (is_last, is_out))) at = beside c m (inr is_out) at
+  beside_so c m known (inl in_c) apart at = beside c m (inl in_c) at
+  beside_so c m known (inr (v, (is_last, is_out))) apart at = beside c m (inr is_out) at
 
   abbrev answer : TreeAnswers says n (Around (IsOf tree) (LeadsOut last out)) top w w'
-  answer = answers says n (Around (IsOf tree) (LeadsOut last out)) top lost place w w' a kept' (t.lives top in_top)
+  answer = answers says n (Around (IsOf tree) (LeadsOut last out)) top touch place w w' a kept' (t.lives top in_top)
       beside_so
 
   lanes_so : (p q : PortIdentity) (l' : Lane) → Joins n.graph p q → slice_get w'.lanes (n.lane p) ≡ Some l'
       → (l : Lane) × (slice_get w.lanes (n.lane p) ≡ Some l) × LaneStep a.s.clock a.sends l l'
-  lanes_so = lanes_then says n (Around (IsOf tree) (LeadsOut last out)) top lost place w w' a kept' (t.lives top in_top)
-      beside_so
+  lanes_so = lanes_then says n (Around (IsOf tree) (LeadsOut last out)) top touch place w w' a kept'
+      (t.lives top in_top) beside_so
 
   after : IsAftermath says g n w'
   after = record {
     kept = kept';
-    fits = fits' says n0 n top t.well t.left moved_top net0 w calm0 invariant0 late0 sound0 same w' lost place a kept';
+    fits = fits' says n0 n top t.well t.left moved_top net0 w calm0 invariant0 late0 sound0 same w' touch place a kept';
     dark = off_hold_old g n w' dark';
   }
 
@@ -102,10 +103,10 @@ module _ (says : Spelling) (n0 n : Network) (tree : List ℕ) (top other last ou
 
     -- what is held there was told before, and doesn't name the system that holds it
     held_left : (s : Station) (pu : Port) (r : Reception) → slice_get w'.stations (n.place last) ≡ Some s
-        → slice_get s.ports q ≡ Some pu → pu.held ≡ Received r → Whole n.graph out r.said
+        → slice_get s.ports q ≡ Some pu → pu.held ≡ Received r → Whole t.ways out r.said
     held_left s pu r at there holds =
         let (live, clock) = lives_at n w' kept'.calm last (t.lives last t.in_last) s at in
-        let o = held_before says n0 n top t.well t.left moved_top net0 w calm0 invariant0 late0 sound0 same w' lost
+        let o = held_before says n0 n top t.well t.left moved_top net0 w calm0 invariant0 late0 sound0 same w' touch
         place a kept' (n.place last) s q r at live (pu, there, holds) in
         let named = o.clock ∙ clock in
         let over = subst (λ c. Joins g (port_of out (suc p)) (port_of c (suc q))) (sym named) joins0 in
@@ -122,7 +123,7 @@ module _ (says : Spelling) (n0 n : Network) (tree : List ℕ) (top other last ou
         ]
       where
         whole_at : (o : HeldBefore says n0 n top t.well t.left moved_top net0 w calm0 invariant0 late0 sound0 same w'
-            lost place a kept' s.clock q r) → Joins g (port_of out (suc p)) (port_of o.old.clock (suc q))
+            touch place a kept' s.clock q r) → Joins g (port_of out (suc p)) (port_of o.old.clock (suc q))
             → r.said.root ≡ best.identity → Whole g out r.said
         whole_at o over root =
             let came = sound0.stations o.i o.old o.at o.live q r o.holds in
@@ -137,7 +138,7 @@ module _ (says : Spelling) (n0 n : Network) (tree : List ℕ) (top other last ou
                   absurd (omega (arith, above, root))
             ])
 
-    inward : IsFreeAt says n out p last q w'
+    inward : IsFreeAt says t.ways n out p last q w'
     inward s pu l' at there lane' = record {
       hears = λ r holds. held_left s pu r at there holds;
       flight = λ f c among said. flies (lanes_so (port_of out (suc p)) (port_of last (suc q)) l' joins lane') f c among
@@ -146,7 +147,7 @@ module _ (says : Spelling) (n0 n : Network) (tree : List ℕ) (top other last ou
       where
         flies : ((l : Lane) × (slice_get w.lanes (n.lane (port_of out (suc p))) ≡ Some l)
             × LaneStep a.s.clock a.sends l l') → (f : AnnounceFrame) (c : Announce) → In f l'.frames
-            → says f.octets c → Whole n.graph out c ⊎ In last c.path
+            → says f.octets c → Whole t.ways out c ⊎ In last c.path
         flies (l, at_l, step) f c among said =
             elim (In-parts f l.frames step.news (subst (In f) step.behind among)) [
               | inl old ↦
@@ -163,10 +164,10 @@ module _ (says : Spelling) (n0 n : Network) (tree : List ℕ) (top other last ou
             ]
 
   inward_so : (v p u q : ℕ) → LeadsOut last out u v → Joins n.graph (port_of v (suc p)) (port_of u (suc q))
-      → IsFreeAt says n v p u q w'
+      → IsFreeAt says t.ways n v p u q w'
   inward_so v p u q (is_last, is_out) joins =
-      subst (λ c. IsFreeAt says n c p u q w') (sym is_out)
-      (subst (λ c. IsFreeAt says n out p c q w') (sym is_last)
+      subst (λ c. IsFreeAt says t.ways n c p u q w') (sym is_out)
+      (subst (λ c. IsFreeAt says t.ways n out p c q w') (sym is_last)
       (inward p q (subst (λ c. Joins n.graph (port_of out (suc p)) (port_of c (suc q))) is_last
       (subst (λ c. Joins n.graph (port_of c (suc p)) (port_of u (suc q))) is_out joins))))
 
@@ -174,14 +175,14 @@ module _ (says : Spelling) (n0 n : Network) (tree : List ℕ) (top other last ou
 
   held_sound : HeldIsSound g w'
   held_sound i s k r at live holds =
-      let o = held_before says n0 n top t.well t.left moved_top net0 w calm0 invariant0 late0 sound0 same w' lost place
+      let o = held_before says n0 n top t.well t.left moved_top net0 w calm0 invariant0 late0 sound0 same w' touch place
       a kept' i s k r at live holds in
       subst (λ c. CameSound g c (suc k) r) o.clock (sound0.stations o.i o.old o.at o.live k r o.holds)
 
   sound' : IsSoundOnLinks says g w'
   sound' = record {
     lanes = λ j l f c at among said joins. elim (flew says n0 n top t.well t.left moved_top net0 w calm0 invariant0
-        late0 sound0 same w' lost place a kept' j l f c at among said) [
+        late0 sound0 same w' touch place a kept' j l f c at among said) [
           | inl o ↦
               let is = sound0.lanes j o.l o.at f c o.among said in
               record {
@@ -208,13 +209,12 @@ module _ (says : Spelling) (n0 n : Network) (tree : List ℕ) (top other last ou
   tree_turns = record {
     back = record {
       after = after;
-      still = levels' says n0 n top t.well t.left moved_top net0 w calm0 invariant0 late0 sound0 same w' lost place a
+      still = levels' says n0 n top t.well t.left moved_top net0 w calm0 invariant0 late0 sound0 same w' touch place a
           kept';
       falling = falling_begins says n0 n (IsOf tree) (LeadsOut last out) top best best base depth
           (turns_moves g n tree top other last out best base depth t) net0 w calm0 invariant0 late0 came0 same w' in_top
-          answer lost refl lanes_so after dark' inward_so;
+          answer a.only lanes_so after dark' inward_so;
     };
-    dark = dark';
     sound = sound';
   }
 
@@ -243,7 +243,7 @@ module _ (says : Spelling) (n0 n : Network) (tree : List ℕ) (top other last ou
         let (s, at, live, clock) = station_of g n t.well t.left w' after.kept after.fits.stations out lives in
         let apart : out ≢ top = λ is_top. t.outside (subst (λ c. In c tree) (sym is_top) in_top) in
         let stood = a.stood (n.place out) s at
-        (place_apart says n (Around (IsOf tree) (LeadsOut last out)) top lost place w w' a kept' (t.lives top in_top)
+        (place_apart says n (Around (IsOf tree) (LeadsOut last out)) top touch place w w' a kept' (t.lives top in_top)
         beside_so out s lives apart at) (beside out s (inr refl) at) in
         let one : rest.stand.u ≡ s =
         same_there w.stations (n.place out) rest.stand.u s
@@ -268,7 +268,7 @@ module _ (says : Spelling) (n0 n : Network) (tree : List ℕ) (top other last ou
   turn_settles over before times late = record {
     levels = settles_begin says n0 n (IsOf tree) (LeadsOut last out) top best best base depth
         (turns_moves g n tree top other last out best base depth t) net0 w calm0 invariant0 late0 came0 same w' in_top
-        answer lost refl lanes_so after dark' inward_so before
+        answer a.only lanes_so after dark' inward_so before
         (λ f. let room = times.room f in omega (arith, room, late));
     way = λ p k joins leads turned. absurd (not_turned p k joins leads turned);
   }

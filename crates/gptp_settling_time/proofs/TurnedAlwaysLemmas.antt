@@ -28,14 +28,16 @@ use Rattle.gptp_invariants.proofs.ChoiceCalmKeptLemmas.{KeepsNetwork, acts_keep}
 use Rattle.gptp_invariants.proofs.ChoiceSeenActLemmas.{acts_seen}
 use Rattle.gptp_invariants.proofs.ChoiceSettlesAsMachineLemmas.{paths_bound}
 use Rattle.gptp_invariants.proofs.WorldNewsCourseLemmas.{later_keeps}
+use Rattle.gptp_invariants.proofs.WorldNewsLemmas.{silent_from_now}
 use Rattle.gptp_settling_time.proofs.AlwaysClaimedLemmas.{IsClaimedAlways}
 use Rattle.gptp_settling_time.proofs.LeftClaimedLemmas.{HaveAskedBy, asked_acts, asked_later, left_net, left_network}
 use Rattle.gptp_settling_time.proofs.MovedAlwaysLemmas.{IsMovedAlways, calm_now, moved_acts, moved_later, moved_seen, nothing_held, turned_by}
 use Rattle.gptp_settling_time.proofs.MovedLemmas.{best_before, received_then}
 use Rattle.gptp_settling_time.proofs.NamesItselfLemmas.{AllNameItself}
+use Rattle.gptp_settling_time.proofs.RightBeginLemmas.{root_right}
 use Rattle.gptp_settling_time.proofs.SettledSeenLemmas.{stage_settled}
-use Rattle.gptp_settling_time.proofs.TellsRightLemmas.{IsSettledState, settled_state}
-use Rattle.gptp_settling_time.proofs.ToldAnewLemmas.{SettlesOnce, TellsOnce, once_claimed, same_way, tells_begins, tells_on, way_in}
+use Rattle.gptp_settling_time.proofs.TellsRightLemmas.{IsSettledState, LevelTellsRight, settled_state}
+use Rattle.gptp_settling_time.proofs.ToldAnewLemmas.{SettlesOnce, TellsOnce, once_claimed, same_way, tells_begins, tells_on, told_over, way_in}
 use Rattle.gptp_settling_time.proofs.TurnLemmas.{starts_far}
 
 -- What is claimed of a world since a link went down at a time by which one system is moved: it has settled a way later,
@@ -108,18 +110,27 @@ module _ (p : SettlingParams) (g : Snapshot) (silent start : ℕ) (w : WorldStat
             }) d best v pp u q near leads;
       }) (omega (arith, late)) (nothing_held p silent w is.standing is.asked quiet is.past)
 
-  moved_once : SettlesOnce p g silent (start + way_in w) w
+  near : AllAreNear (snapshot_of w)
+  near = subst (λ (z : Network). AllAreNear z.graph) (sym is.same) is.turns.near
+
+  -- the best was so before, and what names it in no steps names it alone
+  root : HaveQuietLinks p.params w → NothingLapses p.params → start + way_in w < w.time → (base : ℕ)
+      → LevelTellsRight says_announce (left_network p silent w) base (view w) 0
+  root quiet off late =
+      root_right says_announce g (left_network p silent w) (left_net p silent w world) near (view w)
+      (state quiet off late)
+      (λ v u best joined is_best here.
+      best_before says_announce g is.n is.x is.d is.e is.best is.turns v best
+      (subst (λ (z : Network). IsBest z.graph v best) is.same is_best))
+      (subst (λ z. AllNameItself says_announce z g (view w)) (sym is.same) (is.seen quiet off).0.itself)
+
+  moved_once : SettlesOnce p silent (start + way_in w) w
   moved_once = record {
     standing = is.standing;
     asked = is.asked;
-    past = is.past;
-    near = subst (λ (z : Network). AllAreNear z.graph) (sym is.same) is.turns.near;
+    near = near;
     long = omega arith;
-    was = λ v u best joined is_best here.
-        best_before says_announce g is.n is.x is.d is.e is.best is.turns v best
-        (subst (λ (z : Network). IsBest z.graph v best) is.same is_best);
-    itself = λ quiet off.
-        subst (λ z. AllNameItself says_announce z g (view w)) (sym is.same) (is.seen quiet off).0.itself;
+    root = root;
     state = state;
   }
 
@@ -135,8 +146,8 @@ module _ (p : SettlingParams) (g : Snapshot) (silent start : ℕ) (w w' : WorldS
       record {
         moved = moved';
         asked = asked';
-        tells = tells_on p g silent (start + way_in w') w w'
-            (subst (λ way. SettlesOnce p g silent (start + way) w) (sym same) (moved_once p g silent start w is.moved))
+        tells = tells_on p silent (start + way_in w') w w'
+            (subst (λ way. SettlesOnce p silent (start + way) w) (sym same) (moved_once p g silent start w is.moved))
             (moved_once p g silent start w' moved')
             (subst (λ way. TellsOnce p silent (start + way) w) (sym same) is.tells) keeps step;
       }
@@ -178,6 +189,7 @@ pub turned_claimed : (p : SettlingParams) (g : Snapshot) (silent start : ℕ) (w
     → IsTurnedAlways p g silent start w → HaveQuietLinks p.params w → NothingLapses p.params
     → start + way_in w + pred (path_bound (snapshot_of w)) * (largest_interval p + delay_in w) < w.time
     → (begin : ℕ) → start ≤ begin → IsClaimedAlways p begin w
-turned_claimed p g silent start w is quiet off over =
-    once_claimed p g silent start (start + way_in w) w (moved_once p g silent start w is.moved) is.asked is.tells
-    (several p g silent start w is.moved) quiet off over
+turned_claimed p g silent start w is quiet off over begin later =
+    once_claimed p silent start (start + way_in w) w (moved_once p g silent start w is.moved) is.asked is.tells quiet
+    off (told_over p (start + way_in w) w (several p g silent start w is.moved) over) begin later
+    (silent_from_now p begin silent w is.moved.standing.world is.moved.standing.silent is.moved.past)

@@ -1,10 +1,11 @@
 -- The act by which a link goes down, so that a tree turns to its one way out.
-use Rattle.std.proofs.Common.{◌≡◌, ◌≢◌, ◌⊎◌, ◌≤◌, ◌+◌, ℕ, suc, true, List, Some, slice_get, refl, sym, subst, ◌∙◌, inl, inr, arith}
+use Rattle.std.proofs.Common.{◌≡◌, ◌≢◌, ◌⊎◌, ◌≤◌, ◌+◌, ℕ, suc, true, List, Some, slice_get, refl, sym, ap, subst, ◌∙◌, inl, inr, arith}
 use Rattle.gptp_lists.specs.Members.{In}
 use Rattle.gptp_graph.specs.PathBound.{path_bound}
-use Rattle.gptp_graph.specs.Snapshot.{Adjacent, System, clocks}
+use Rattle.gptp_graph.specs.Snapshot.{Adjacent, IsWellFormed, Joins, PortIdentity, System, clocks, port_of}
 use Rattle.gptp_graph.proofs.LinkLemmas.{Adjacent-clock, Adjacent-sym}
 use Rattle.gptp_links.specs.declared.link.Direction.{Direction}
+use Rattle.gptp_links.specs.declared.link.Direction.TheVariants.{FromA, FromB}
 use Rattle.gptp_links.specs.Fate.{Draw}
 use Rattle.gptp_scenario.specs.Calm.{NothingLapses}
 use Rattle.gptp_scenario.specs.Params.{KeepPace}
@@ -15,10 +16,10 @@ use Rattle.gptp_system.specs.Input.{PortDown}
 use Rattle.gptp_system.specs.State.{clock}
 use Rattle.gptp_model.specs.Acts.{Acts}
 use Rattle.gptp_model.specs.Changing.{TellsEnds, taken_down}
-use Rattle.gptp_model.specs.World.{Channel, WorldState, sender}
+use Rattle.gptp_model.specs.World.{Channel, WorldState, receiver, sender}
 use Rattle.gptp_model.specs.declared.done.Done.{Done}
 use Rattle.gptp_model.specs.declared.station.Station.{Station}
-use Rattle.gptp_bmca_machine.specs.LossLaws.{IsAfterLoss}
+use Rattle.gptp_bmca_machine.specs.LossLaws.{IsAfterLoss, Unmoved}
 use Rattle.gptp_bmca_machine.specs.Network.{Network}
 use Rattle.gptp_bmca_machine.specs.RestLaws.{SameWiring}
 use Rattle.gptp_bmca_machine.specs.SoundEverywhere.{IsSoundEverywhere}
@@ -39,7 +40,7 @@ use Rattle.gptp_settling_time.proofs.AlwaysClaimedLemmas.{IsStanding}
 use Rattle.gptp_settling_time.proofs.FallAlwaysLemmas.{fallen_by, settles_by}
 use Rattle.gptp_settling_time.proofs.FallDownLemmas.{FlightNames}
 use Rattle.gptp_settling_time.proofs.LeftClaimedLemmas.{HaveAskedLong, left_network}
-use Rattle.gptp_settling_time.proofs.LoweredLemmas.{ends, less_then, ready_on, wires}
+use Rattle.gptp_settling_time.proofs.LoweredLemmas.{ends, less_then, ready_on, still_joins, wires}
 use Rattle.gptp_settling_time.proofs.MovedAlwaysLemmas.{after_loss, dark_now}
 use Rattle.gptp_settling_time.proofs.ReducedLemmas.{NearerStay}
 use Rattle.gptp_settling_time.proofs.SettledSeenLemmas.{IsSettledSeen}
@@ -50,9 +51,10 @@ use Rattle.gptp_graph.proofs.DecisionLemmas.{in_dec}
 use Rattle.gptp_graph.proofs.DistanceLemmas.{IsDistance-neighbour}
 use Rattle.gptp_graph.proofs.ExistenceLemmas.{distance_exists}
 use Rattle.gptp_bmca_machine.specs.TurnTree.{TurnsTree}
-use Rattle.gptp_bmca_machine.proofs.TurnLemmas.{TurnsBack, out_is_at}
+use Rattle.gptp_bmca_machine.proofs.TurnLemmas.{TurnsBack}
 use Rattle.gptp_bmca_machine.proofs.TurnLevelLemmas.{TurnSettles}
 use Rattle.gptp_bmca_machine.proofs.TurnTreeLemmas.{beyond_out}
+use Rattle.gptp_bmca_machine.proofs.RestLemmas.{left_of}
 use Rattle.gptp_settling_time.specs.TreeLosses.{IsTurnedTree}
 use Rattle.gptp_settling_time.proofs.TreeEndLemmas.{TopAnswers, top_answers}
 use Rattle.gptp_settling_time.proofs.TreeTurnsLemmas.{tree_turns, turn_settles}
@@ -93,44 +95,101 @@ module _ (p : SettlingParams) (silent owner port : ℕ) (w : WorldState) (draws 
   wired : SameWiring seen.n n
   wired = wires p w is acts.1.place channel here draws w' is' told seen near n refl
 
+  well : IsWellFormed (snapshot_of w)
+  well = stands_well w is.sound is.between is.encodable
+
+  well' : IsWellFormed (snapshot_of w')
+  well' = stands_well w' is'.sound is'.between is'.encodable
+
+  others : (v : ℕ) → In v (clocks n.graph) → (In v tree → ⊥) → Unmoved (snapshot_of w) n v
+  others v known out_v =
+      let unmoved = so.others v known out_v in record { live = known; best = unmoved.best; far = unmoved.far }
+
+  out_lives : In out (clocks (snapshot_of w'))
+  out_lives = Adjacent-clock (snapshot_of w') last out well' so.joined
+
+  out_of : In other tree → ⊥
+  out_of in_other =
+      let less = so.nearer (base + depth other) (so.was other in_other) in
+      absurd (omega (arith, less))
+
+  -- the end of the way out is another
+  out_apart : out ≡ other → ⊥
+  out_apart same =
+      let less = less_then p w is acts.1.place channel here draws w' is' told seen near in
+      let (i, k, joins) = so.joined in
+      let (d, there) = distance_exists (snapshot_of w) out well (Adjacent-clock (snapshot_of w) last out well
+      (i, k, less.links (port_of last i) (port_of out k) joins)) in
+      let nearer = so.nearer d (subst (λ c. IsDistance (snapshot_of w) c d) same there) in
+      let (far, last_at) = distance_exists (snapshot_of w') last well' (so.lives last so.in_last) in
+      let more = so.farther last far so.in_last last_at in
+      let by = IsDistance-neighbour (snapshot_of w') out last d far well'
+      (Adjacent-sym (snapshot_of w') last out so.joined) ((so.others out out_lives so.outside).far d there) last_at in
+      omega (arith, nearer, more, by)
+
+  -- each link between the two ends of the way out is left
+  way_stood : (a b : ℕ) → Joins (snapshot_of w) (port_of last a) (port_of out b)
+      → Joins (snapshot_of w') (port_of last a) (port_of out b)
+  way_stood a b joins = elim (still_joins p w is acts.1.place channel here draws w' is' told seen near (port_of last a)
+      (port_of out b) joins) [
+        | inl still ↦ still
+        | inr (direction, from, to) ↦ absurd (by direction (ap (λ (e : PortIdentity). e.clock) from)
+            (ap (λ (e : PortIdentity). e.clock) to) ends_are)
+      ]
+    where
+      ends_so : (x y : ℕ) → last ≡ x → out ≡ y → ((x ≡ top) × (y ≡ other)) ⊎ ((x ≡ other) × (y ≡ top)) → ⊥
+      ends_so x y is_x is_y (inl (is_top, is_other)) = out_apart (is_y ∙ is_other)
+      ends_so x y is_x is_y (inr (is_other, is_top)) =
+          out_of (subst (λ c. In c tree) (is_x ∙ is_other) so.in_last)
+
+      by : (direction : Direction) → last ≡ (sender direction channel).clock → out ≡ (receiver direction channel).clock
+          → ((channel.a.clock ≡ top) × (channel.b.clock ≡ other)) ⊎ ((channel.b.clock ≡ top) × (channel.a.clock ≡
+          other))
+          → ⊥
+      by FromA from to (inl (is_a, is_b)) = ends_so channel.a.clock channel.b.clock from to (inl (is_a, is_b))
+      by FromA from to (inr (is_b, is_a)) = ends_so channel.a.clock channel.b.clock from to (inr (is_a, is_b))
+      by FromB from to (inl (is_a, is_b)) = ends_so channel.b.clock channel.a.clock from to (inr (is_b, is_a))
+      by FromB from to (inr (is_b, is_a)) = ends_so channel.b.clock channel.a.clock from to (inl (is_b, is_a))
+
   -- what the machine knows of it
   turns : TurnsTree (snapshot_of w) n tree top other last out best base depth
   turns =
       let less = less_then p w is acts.1.place channel here draws w' is' told seen near in
       record {
-        well = stands_well w' is'.sound is'.between is'.encodable;
-        left = record {
-          graph = stands_well w is.sound is.between is.encodable;
-          systems = less.systems;
-          links = less.links;
-        };
+        well = well';
+        left = left_of (snapshot_of w) n well less.systems less.links;
         lives = so.lives;
-        others = λ v known out.
-            let unmoved = so.others v known out in
-            record { live = known; best = unmoved.best; far = unmoved.far };
         was_best = so.was_best;
         is_best = so.is_best;
         was = so.was;
         farther = so.farther;
         first = so.first;
-        nearer = so.nearer;
         lost = so.lost;
+        ways = snapshot_of w';
+        told = record {
+          well = well';
+          left = left_of (snapshot_of w') n well' (λ s known. known) (λ a b joins. joins);
+          were = left_of (snapshot_of w) n well less.systems less.links;
+          stands = λ s known. known;
+          stood = less.systems;
+          at_tree = λ v i q in_v joins. joins;
+          reach = path_bound (snapshot_of w');
+          paths = paths_bound p w' is';
+          few = omega (arith, few);
+        };
         kept = so.kept;
         steps = so.steps;
         single = so.single;
         leaves = so.leaves;
         in_last = so.in_last;
         outside = so.outside;
+        unmoved = others out out_lives so.outside;
         joined = so.joined;
         one_way = so.one_way;
+        way_stood = way_stood;
         paths = paths_bound p w' is';
         few = few;
       }
-
-  out_of : In other tree → ⊥
-  out_of in_other =
-      let less = so.nearer (base + depth other) (so.was other in_other) in
-      absurd (omega (arith, less))
 
   -- the other end is unmoved, and so are its neighbours that are nearer
   other_stays : In other (clocks (snapshot_of w'))
@@ -153,17 +212,6 @@ module _ (p : SettlingParams) (silent owner port : ℕ) (w : WorldState) (draws 
                 there (subst (λ c. IsDistance (snapshot_of w') c (suc e)) is_out farther) in
                 absurd (omega (arith, far))
           ]
-
-  -- the end of the way out is another
-  out_apart : out ≡ other → ⊥
-  out_apart same =
-      let o = out_is_at says_announce (snapshot_of w) n tree top other last out best base depth turns in
-      let less = so.nearer o.d (subst (λ c. IsDistance (snapshot_of w) c o.d) same o.there) in
-      let (far, there) = distance_exists n.graph last turns.well (so.lives last so.in_last) in
-      let more = so.farther last far so.in_last there in
-      let by = IsDistance-neighbour n.graph out last o.d far turns.well (Adjacent-sym n.graph last out so.joined) o.now
-      there in
-      omega (arith, less, more, by)
 
   answers : TopAnswers p silent w is acts.1.place channel here draws w' is' told seen near live top other ends_are
       other_stays
@@ -219,10 +267,10 @@ module _ (p : SettlingParams) (silent owner port : ℕ) (w : WorldState) (draws 
       (settles_by n w.time) (turn_times h n tree top other last out best base depth t w.time) (view w')) seen.graph
       (λ t near0 sound0 named0. (
         tree_turns says_announce seen.n n tree top other last out best base depth t so.in_top seen.net (view w)
-            seen.calm seen.invariant seen.late near0 sound0 named0 wired (view w') answers.lost answers.at
+            seen.calm seen.invariant seen.late near0 sound0 named0 wired (view w') answers.touch answers.at
             answers.answers (λ c m around at. beside_at kept' c m around at) kept' dark',
         turn_settles says_announce seen.n n tree top other last out best base depth t so.in_top seen.net (view w)
-            seen.calm seen.invariant seen.late near0 sound0 named0 wired (view w') answers.lost answers.at
+            seen.calm seen.invariant seen.late near0 sound0 named0 wired (view w') answers.touch answers.at
             answers.answers (λ c m around at. beside_at kept' c m around at) kept' dark' (fallen_by n w.time)
             (settles_by n w.time) (turn_times seen.n.graph n tree top other last out best base depth t w.time)
             (let time = answers.answers.time in omega (arith, time)),
@@ -249,6 +297,7 @@ module _ (p : SettlingParams) (silent owner port : ℕ) (w : WorldState) (draws 
     base = base;
     depth = depth;
     turns = turns;
+    others = others;
     past = by_now;
     late = late;
     seen = begins;

@@ -5,7 +5,7 @@ use Rattle.gptp_lists.specs.Members.{In}
 use Rattle.gptp_graph.specs.Best.{IsBest}
 use Rattle.gptp_graph.specs.Distance.{IsDistance, IsNear}
 use Rattle.gptp_graph.specs.PathBound.{path_bound}
-use Rattle.gptp_graph.specs.Snapshot.{IsLinked, Snapshot, System, port_of}
+use Rattle.gptp_graph.specs.Snapshot.{IsLinked, Snapshot, System, clocks, port_of}
 use Rattle.gptp_graph.proofs.ExistenceLemmas.{distance_exists}
 use Rattle.gptp_graph.proofs.PathBoundLemmas.{IsDistance-within}
 use Rattle.gptp_links.specs.Fate.{Draw}
@@ -21,12 +21,13 @@ use Rattle.gptp_model.specs.declared.done.Done.{Done}
 use Rattle.gptp_model.specs.declared.station.Station.{Station}
 use Rattle.gptp_bmca_machine.specs.Acts.{MachineSteps}
 use Rattle.gptp_bmca_machine.specs.Clean.{CameOverLink}
-use Rattle.gptp_bmca_machine.specs.LossLaws.{IsAfterLoss}
+use Rattle.gptp_bmca_machine.specs.LossLaws.{IsAfterLoss, Unmoved}
 use Rattle.gptp_bmca_machine.specs.Network.{Network}
 use Rattle.gptp_bmca_machine.specs.Run.{NearHaveSettled}
 use Rattle.gptp_bmca_machine.specs.SoundLaws.{UnlinkedAreOff}
 use Rattle.gptp_bmca_machine.specs.Station.{HoldsAt, Reception, Station as SeenStation}
 use Rattle.gptp_bmca_machine.specs.TurnTree.{TurnsTree}
+use Rattle.gptp_bmca_machine.proofs.FallLemmas.{off_drop}
 use Rattle.gptp_bmca_machine.proofs.RestLemmas.{IsClear, root_above, steps_above}
 use Rattle.gptp_bmca_machine.proofs.TurnEndLemmas.{near_have_settled, system_is_clear}
 use Rattle.gptp_bmca_machine.proofs.TurnLemmas.{TurnsBack, turns_on}
@@ -92,6 +93,7 @@ pub record IsTurnedTreeAlways (p : SettlingParams) (g : Snapshot) (silent start 
   pub base : ℕ
   pub depth : ℕ → ℕ
   pub turns : TurnsTree g n tree top other last out best base depth
+  pub others : (v : ℕ) → In v (clocks n.graph) → (In v tree → ⊥) → Unmoved g n v
   pub past : silent ≤ w.time
   pub late : delay_in w ≤ w.time
   pub seen : HaveQuietLinks p.params w → NothingLapses p.params
@@ -137,7 +139,7 @@ module _ (p : SettlingParams) (g : Snapshot) (silent start : ℕ) (w w' : WorldS
         settles_on says_announce g is.n is.tree is.top is.other is.last is.out is.best is.base is.depth is.turns start
         (fallen_by is.n start) (settles_by is.n start)
         (turn_times g is.n is.tree is.top is.other is.last is.out is.best is.base is.depth is.turns start) (view w)
-        (view w') (is.seen quiet off).0 back' step (is.seen quiet off).1
+        (view w') (is.seen quiet off).0 back' step (off_drop g is.n (view w) (view w') dark') (is.seen quiet off).1
 
   turned_step : IsTurnedTreeAlways p g silent start w'
   turned_step = record {
@@ -154,6 +156,7 @@ module _ (p : SettlingParams) (g : Snapshot) (silent start : ℕ) (w w' : WorldS
     base = is.base;
     depth = is.depth;
     turns = is.turns;
+    others = is.others;
     past = past';
     late = late';
     seen = λ quiet' off. (back' quiet' off, settles' quiet' off);
@@ -215,7 +218,7 @@ module _ (p : SettlingParams) (g : Snapshot) (silent start : ℕ) (w : WorldStat
   has =
       near_have_settled says_announce g is.n is.tree is.top is.other is.last is.out is.best is.base is.depth t start
       (fallen_by is.n start) (settles_by is.n start) times (view w) (is.seen quiet off).0 (is.seen quiet off).1 by_now
-      early
+      is.others early
 
   -- what each live system holds is bounded
   clear : (i : ℕ) (s : SeenStation) → slice_get (view w).stations i ≡ Some s → s.live ≡ true
@@ -223,8 +226,8 @@ module _ (p : SettlingParams) (g : Snapshot) (silent start : ℕ) (w : WorldStat
       → IsClear is.n.graph s
   clear i s at live (d, here, near) =
       system_is_clear says_announce g is.n is.tree is.top is.other is.last is.out is.best is.base is.depth t start
-      (fallen_by is.n start) (settles_by is.n start) times (view w) (is.seen quiet off).0 (is.seen quiet off).1 by_now i
-      s at live d here near
+      (fallen_by is.n start) (settles_by is.n start) times (view w) (is.seen quiet off).0 (is.seen quiet off).1 by_now
+      is.others i s at live d here near
 
   settled : Settled w
   settled =

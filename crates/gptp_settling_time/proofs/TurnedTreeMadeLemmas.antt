@@ -25,7 +25,7 @@ use Rattle.gptp_theorem.specs.PlayedLaws.{IsPlayable}
 use Rattle.gptp_theorem.specs.Reached.{channel_wire}
 use Rattle.gptp_theorem.proofs.AlikeLemmas.{best as alike_best, clock_among, distance as alike_distance, turned}
 use Rattle.gptp_settling_time.specs.Arrivals.{HasArrivedBy}
-use Rattle.gptp_settling_time.specs.InTurn.{TurnsTreeCalm}
+use Rattle.gptp_settling_time.specs.EventKinds.{TurnsTreeCalm}
 use Rattle.gptp_settling_time.specs.TreeLosses.{IsTurnedTree, TurnsTreeLink}
 use Rattle.gptp_settling_time.proofs.TurnedTreeActLemmas.{act_turns_tree}
 use Rattle.gptp_settling_time.proofs.TurnedTreeRestLemmas.{IsTurnedTreeAnew, tree_anew_begins}

@@ -18,7 +18,7 @@ use Rattle.gptp_model.specs.World.{WorldState}
 use Rattle.gptp_model.specs.declared.done.Done.{Done}
 use Rattle.gptp_bmca_machine.specs.Acts.{MachineSteps}
 use Rattle.gptp_bmca_machine.specs.Network.{Network}
-use Rattle.gptp_bmca_machine.specs.SoundLaws.{AllAreNear}
+use Rattle.gptp_bmca_machine.specs.SoundLaws.{AllAreNear, UnlinkedAreOff}
 use Rattle.gptp_bmca_machine.proofs.StillLemmas.{best_was}
 use Rattle.gptp_invariants.specs.ChoiceCalm.{HaveQuietLinks, delay_in}
 use Rattle.gptp_invariants.specs.ChoiceSeenLaws.{IsNoChange}
@@ -28,12 +28,15 @@ use Rattle.gptp_invariants.specs.WorldStanding.{snapshot_of}
 use Rattle.gptp_invariants.proofs.ChoiceCalmKeptLemmas.{KeepsNetwork, acts_keep}
 use Rattle.gptp_invariants.proofs.ChoiceSeenActLemmas.{acts_seen}
 use Rattle.gptp_invariants.proofs.WorldNewsCourseLemmas.{later_keeps}
+use Rattle.gptp_invariants.proofs.WorldNewsLemmas.{silent_from_now}
 use Rattle.gptp_settling_time.proofs.AlwaysClaimedLemmas.{IsClaimedAlways}
 use Rattle.gptp_settling_time.proofs.FallAlwaysLemmas.{fallen_by, settles_by}
-use Rattle.gptp_settling_time.proofs.LeftClaimedLemmas.{HaveAskedBy, asked_acts, asked_later}
+use Rattle.gptp_settling_time.proofs.LeftClaimedLemmas.{HaveAskedBy, asked_acts, asked_later, left_net, left_network}
 use Rattle.gptp_settling_time.proofs.NamesItselfLemmas.{AllNameItself, sound_itself}
-use Rattle.gptp_settling_time.proofs.TellsRightLemmas.{IsSettledState}
-use Rattle.gptp_settling_time.proofs.ToldAnewLemmas.{SettlesOnce, TellsOnce, once_claimed, same_way, tells_begins, tells_on, way_in}
+use Rattle.gptp_settling_time.proofs.MovedAlwaysLemmas.{dark_now}
+use Rattle.gptp_settling_time.proofs.RightBeginLemmas.{root_right}
+use Rattle.gptp_settling_time.proofs.TellsRightLemmas.{IsSettledState, LevelTellsRight}
+use Rattle.gptp_settling_time.proofs.ToldAnewLemmas.{SettlesOnce, TellsOnce, once_claimed, same_way, tells_begins, tells_on, told_over, way_in}
 use Rattle.gptp_settling_time.proofs.TurnedRestLemmas.{turned_state}
 use Rattle.gptp_settling_time.proofs.TurnedTreeLemmas.{IsTurnedTreeAlways, by_now, turn_times, turned_tree_acts, turned_tree_later}
 
@@ -60,7 +63,7 @@ module _ (p : SettlingParams) (g : Snapshot) (silent start : ℕ) (w : WorldStat
         IsBest-unique is.n.graph v is.best best is.turns.well (is.turns.is_best v in_v) is_best in
         subst (IsBest g v) one (is.turns.was_best v in_v)
     | no out ↦
-        best_was g is.n is.turns.well is.turns.left v best (is.turns.others v is_best.reached.1.begins out) is_best
+        best_was g is.n is.turns.well is.turns.left v best (is.others v is_best.reached.1.begins out) is_best
   ]
 
   itself : HaveQuietLinks p.params w → NothingLapses p.params → AllNameItself says_announce is.n g (view w)
@@ -82,17 +85,27 @@ module _ (p : SettlingParams) (g : Snapshot) (silent start : ℕ) (w : WorldStat
       (fallen_by is.n start) (settles_by is.n start)
       (turn_times g is.n is.tree is.top is.other is.last is.out is.best is.base is.depth is.turns start) (view w)
       (is.seen quiet off).0 (is.seen quiet off).1 (by_now p g silent start w is quiet off (omega (arith, late)))
+      is.others (subst (λ (z : Network). UnlinkedAreOff z.graph (view w)) is.same
+      (dark_now p silent w is.standing is.asked quiet is.past))
+
+  -- what names the best in no steps names it alone
+  root : HaveQuietLinks p.params w → NothingLapses p.params → start + 2 * way_in w < w.time → (base : ℕ)
+      → LevelTellsRight says_announce (left_network p silent w) base (view w) 0
+  root quiet off late =
+      root_right says_announce g (left_network p silent w) (left_net p silent w is.standing.world)
+      (subst (λ (z : Network). AllAreNear z.graph) (sym is.same) near) (view w)
+      (subst (λ z. IsSettledState says_announce z (view w)) (sym is.same) (state quiet off late))
+      (λ v u best joined is_best here. was v best (subst (λ (z : Network). IsBest z.graph v best) is.same is_best))
+      (subst (λ z. AllNameItself says_announce z g (view w)) (sym is.same) (itself quiet off))
 
   -- links are at rest two ways later
-  tree_once : SettlesOnce p g silent (start + 2 * way_in w) w
+  tree_once : SettlesOnce p silent (start + 2 * way_in w) w
   tree_once = record {
     standing = is.standing;
     asked = is.asked;
-    past = is.past;
     near = subst (λ (z : Network). AllAreNear z.graph) (sym is.same) near;
     long = omega arith;
-    was = λ v u best joined is_best here. was v best (subst (λ (z : Network). IsBest z.graph v best) is.same is_best);
-    itself = λ quiet off. subst (λ z. AllNameItself says_announce z g (view w)) (sym is.same) (itself quiet off);
+    root = root;
     state = λ quiet off late. subst (λ z. IsSettledState says_announce z (view w)) (sym is.same) (state quiet off late);
   }
 
@@ -117,8 +130,8 @@ module _ (p : SettlingParams) (g : Snapshot) (silent start : ℕ) (w w' : WorldS
       record {
         tree = tree';
         asked = asked';
-        tells = tells_on p g silent (start + 2 * way_in w') w w'
-            (subst (λ way. SettlesOnce p g silent (start + 2 * way) w) (sym same)
+        tells = tells_on p silent (start + 2 * way_in w') w w'
+            (subst (λ way. SettlesOnce p silent (start + 2 * way) w) (sym same)
             (tree_once p g silent start w is.tree))
             (tree_once p g silent start w' tree')
             (subst (λ way. TellsOnce p silent (start + 2 * way) w) (sym same) is.tells) keeps step;
@@ -162,6 +175,7 @@ pub tree_anew_claimed : (p : SettlingParams) (g : Snapshot) (silent start : ℕ)
     → IsTurnedTreeAnew p g silent start w → HaveQuietLinks p.params w → NothingLapses p.params
     → start + 2 * way_in w + pred (path_bound (snapshot_of w)) * (largest_interval p + delay_in w) < w.time
     → (begin : ℕ) → start ≤ begin → IsClaimedAlways p begin w
-tree_anew_claimed p g silent start w is quiet off over =
-    once_claimed p g silent start (start + 2 * way_in w) w (tree_once p g silent start w is.tree) is.asked is.tells
-    (several p g silent start w is.tree) quiet off over
+tree_anew_claimed p g silent start w is quiet off over begin later =
+    once_claimed p silent start (start + 2 * way_in w) w (tree_once p g silent start w is.tree) is.asked is.tells quiet
+    off (told_over p (start + 2 * way_in w) w (several p g silent start w is.tree) over) begin later
+    (silent_from_now p begin silent w is.tree.standing.world is.tree.standing.silent is.tree.past)

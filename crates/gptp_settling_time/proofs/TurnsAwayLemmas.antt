@@ -12,6 +12,7 @@ use Rattle.gptp_bmca_machine.specs.RestLaws.{SameWiring}
 use Rattle.gptp_bmca_machine.specs.SoundEverywhere.{IsSoundEverywhere}
 use Rattle.gptp_bmca_machine.specs.SoundLaws.{AllAreNear}
 use Rattle.gptp_bmca_machine.specs.Station.{MachineState, Station}
+use Rattle.gptp_bmca_machine.specs.Touch.{StationTouch}
 use Rattle.gptp_bmca_machine.proofs.StillLemmas.{StillSettles, live_before}
 use Rattle.gptp_settling_time.proofs.EndAnswersLemmas.{EndAnswers, fits', flew, held_before, levels'}
 use Rattle.gptp_settling_time.proofs.BesideLemmas.{IsDark, IsMoving}
@@ -33,7 +34,8 @@ module _ (says : Spelling) (n0 n : Network) (x d e : ℕ) (best : System) (t : T
 module _ (says : Spelling) (n0 n : Network) (x d e : ℕ) (best : System) (t : TurnsOne n0.graph n x d e best)
     (net0 : IsSettlingNetwork n0) (w : MachineState) (calm0 : Calm n0 w) (invariant0 : Invariant says n0 w)
     (late0 : settled_from n0 ≤ w.time) (near0 : AllAreNear n0.graph) (sound0 : IsSoundEverywhere says n0.graph w)
-    (same : SameWiring n0 n) (w' : MachineState) (lost other : ℕ) (a : EndAnswers says n x lost other w w')
+    (same : SameWiring n0 n) (w' : MachineState) (touch : StationTouch) (other : ℕ)
+    (a : EndAnswers says n x touch other w w')
     (kept' : IsAfterLoss n w') (dark' : IsDark n w') where
   abbrev g : Snapshot
   g = n0.graph
@@ -46,11 +48,11 @@ module _ (says : Spelling) (n0 n : Network) (x d e : ℕ) (best : System) (t : T
 
   fits_then : EverythingFits says g n w'
   fits_then = fits' says n0 n x t.well t.left (moved_x says n0 n x d e best t) net0 w calm0 invariant0 late0 sound0
-      same w' lost other a kept'
+      same w' touch other a kept'
 
   levels_then : (f : ℕ) → StillSettles says g n f w'
   levels_then = levels' says n0 n x t.well t.left (moved_x says n0 n x d e best t) net0 w calm0 invariant0 late0
-      sound0 same w' lost other a kept'
+      sound0 same w' touch other a kept'
 
   -- ---- what names the system
 
@@ -58,7 +60,7 @@ module _ (says : Spelling) (n0 n : Network) (x d e : ℕ) (best : System) (t : T
       → HoldsOnly (NamesLate g x e best) m
   held_names i m at live place r holds =
       let o = held_before says n0 n x t.well t.left (moved_x says n0 n x d e best t) net0 w calm0 invariant0 late0
-      sound0 same w' lost other a kept' i m place r at live holds in
+      sound0 same w' touch other a kept' i m place r at live holds in
       held_late says n0 n x d e best t net0 w calm0 invariant0 late0 near0 o.i o.old place r o.at o.live o.holds
       (sound0.stations o.i o.old o.at o.live place r o.holds)
 
@@ -69,7 +71,7 @@ module _ (says : Spelling) (n0 n : Network) (x d e : ℕ) (best : System) (t : T
           → In f l'.frames → says f.octets c → In l'.to.clock (clocks n.graph)
           → ComesLate g x e best l'.from l'.to c
       lanes j l' f c at among said known = elim (flew says n0 n x t.well t.left (moved_x says n0 n x d e best t)
-          net0 w calm0 invariant0 late0 sound0 same w' lost other a kept' j l' f c at among said) [
+          net0 w calm0 invariant0 late0 sound0 same w' touch other a kept' j l' f c at among said) [
             | inl o ↦
                 let fit = fits0.lanes j o.l f c o.at o.among said
                 (live_before g n t.well t.left o.l.to.clock
@@ -89,7 +91,7 @@ module _ (says : Spelling) (n0 n : Network) (x d e : ℕ) (best : System) (t : T
   itself' : AllNameItself says n g w'
   itself' = record {
     lanes = λ j l' f c at among said known. elim (flew says n0 n x t.well t.left (moved_x says n0 n x d e best t) net0
-        w calm0 invariant0 late0 sound0 same w' lost other a kept' j l' f c at among said) [
+        w calm0 invariant0 late0 sound0 same w' touch other a kept' j l' f c at among said) [
           | inl o ↦
               let sent = sound0.lanes j o.l o.at f c o.among said in sound_itself g o.l.from c sent.source sent.sound
           | inr sent ↦
@@ -98,7 +100,7 @@ module _ (says : Spelling) (n0 n : Network) (x d e : ℕ) (best : System) (t : T
         ];
     stations = λ i m at live place r holds.
         let o = held_before says n0 n x t.well t.left (moved_x says n0 n x d e best t) net0 w calm0 invariant0 late0
-        sound0 same w' lost other a kept' i m place r at live holds in
+        sound0 same w' touch other a kept' i m place r at live holds in
         let came = sound0.stations o.i o.old o.at o.live place r o.holds in
         sound_itself g came.from r.said came.source came.sound;
   }

@@ -28,6 +28,7 @@ use Rattle.gptp_bmca_machine.specs.Network.{Network}
 use Rattle.gptp_bmca_machine.specs.RestLaws.{SameWiring}
 use Rattle.gptp_bmca_machine.specs.SoundEverywhere.{IsSoundEverywhere}
 use Rattle.gptp_bmca_machine.specs.SoundLaws.{AllAreNear}
+use Rattle.gptp_bmca_machine.specs.Touch.{Disable, StationTouch}
 use Rattle.gptp_invariants.specs.ChoiceCalm.{HaveQuietLinks, delay_in}
 use Rattle.gptp_invariants.specs.ChoiceSettlesAsMachine.{IsWorld}
 use Rattle.gptp_invariants.specs.ChoiceView.{says_announce, view}
@@ -53,6 +54,7 @@ use Rattle.gptp_settling_time.proofs.TurnsAwayLemmas.{moving'}
 use Rattle.gptp_settling_time.proofs.OneEndLemmas.{turns_a, turns_b}
 use Rattle.gptp_settling_time.proofs.TurnsTellLemmas.{each_begins}
 use Rattle.gptp_settling_time.proofs.WidenedLemmas.{ready_first}
+use Rattle.gptp_bmca_machine.proofs.RestLemmas.{left_of}
 
 module _ (p : SettlingParams) (w : WorldState) (is : IsWorld p w) (place : ℕ) (channel : Channel)
     (here : slice_get w.net.channels place ≡ Some channel) (draws : List Draw) (w' : WorldState) (is' : IsWorld p w')
@@ -85,7 +87,8 @@ module _ (p : SettlingParams) (w : WorldState) (is : IsWorld p w) (place : ℕ) 
 
   -- ---- what is claimed from then on
 
-  module _ (lost other : ℕ) (a : EndAnswers says_announce n x lost other (view w) (view w')) (pace : KeepPace p)
+  module _ (touch : StationTouch) (other : ℕ)
+      (a : EndAnswers says_announce n x touch other (view w) (view w')) (pace : KeepPace p)
       (measured' : LinkIsMeasured w') (past : next ≤ w.time)
       (way : pred (path_bound (snapshot_of w')) * delay_in w' ≤ w'.time) (sound : IsSoundWorld w)
       (ready' : AreReadyBy p next w') (silent : AreSilentBy p next w) where
@@ -123,9 +126,9 @@ module _ (p : SettlingParams) (w : WorldState) (is : IsWorld p w) (place : ℕ) 
         × EachTurns says_announce h n x d e best t (w.time + n.most) (turned_by n w.time) (view w')) seen.graph
         (λ near0 sound0 t. (
           moving' says_announce seen.n n x d e best t seen.net (view w) seen.calm seen.invariant seen.late near0 sound0
-              wired (view w') lost other a kept' dark',
+              wired (view w') touch other a kept' dark',
           each_begins says_announce seen.n n x d e best t seen.net (view w) seen.calm seen.invariant seen.late near0
-              sound0 wired (view w') lost other a kept' dark' (turned_by n w.time),
+              sound0 wired (view w') touch other a kept' dark' (turned_by n w.time),
         )) near sound turns
       where
         kept' : IsAfterLoss n (view w')
@@ -187,11 +190,8 @@ module _ (p : SettlingParams) (next owner port : ℕ) (w : WorldState) (draws : 
         let less = less_then p w is place channel here draws w' is' told seen near in
         record {
           well = stands_well w' is'.sound is'.between is'.encodable;
-          left = record {
-            graph = stands_well w is.sound is.between is.encodable;
-            systems = less.systems;
-            links = less.links;
-          };
+          left = left_of (snapshot_of w) (left_network p next w') (stands_well w is.sound is.between is.encodable)
+              less.systems less.links;
           near = near_then;
           others = so.others;
           was_best = so.was_best;
@@ -230,17 +230,18 @@ module _ (p : SettlingParams) (next owner port : ℕ) (w : WorldState) (draws : 
       beside p w is place channel here draws w' is' told seen near next x d e best turns (sender way channel).clock,
     )
 
-    begins_so : (lost other : ℕ) → EndAnswers says_announce (left_network p next w') x lost other (view w) (view w')
+    begins_so : (touch : StationTouch) (other : ℕ)
+        → EndAnswers says_announce (left_network p next w') x touch other (view w) (view w')
         → IsMovedAlways p (snapshot_of w) next w.time w'
-    begins_so lost other a =
-        turned_begins p w is place channel here draws w' is' told seen near next x d e best turns lost other a pace
+    begins_so touch other a =
+        turned_begins p w is place channel here draws w' is' told seen near next x d e best turns touch other a pace
         measured' past way sound still_ready silent
 
     by_a : channel.a.clock ≡ x → (n : ℕ) → channel.a.port ≡ n → HasPortNumber told.station_a.system n
         → IsMovedAlways p (snapshot_of w) next w.time w'
     by_a is_a zero number of = absurd (let least = of.least in omega (arith, least))
     by_a is_a (suc i) number of =
-        begins_so i told.place_b
+        begins_so (Disable (suc i)) told.place_b
         (turns_a p w is place channel here draws w' is' told seen near next x stays live_a live_b is_a i
         number)
 
@@ -248,7 +249,7 @@ module _ (p : SettlingParams) (next owner port : ℕ) (w : WorldState) (draws : 
         → IsMovedAlways p (snapshot_of w) next w.time w'
     by_b is_b zero number of = absurd (let least = of.least in omega (arith, least))
     by_b is_b (suc i) number of =
-        begins_so i told.place_a
+        begins_so (Disable (suc i)) told.place_a
         (turns_b p w is place channel here draws w' is' told seen near next x stays live_a live_b is_b i
         number)
 

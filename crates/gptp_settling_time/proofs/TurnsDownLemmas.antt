@@ -26,9 +26,10 @@ use Rattle.gptp_invariants.proofs.ChoiceSeenCallLemmas.{IsCallSeen, calls_seen}
 use Rattle.gptp_invariants.proofs.ChoiceSeenLaneLemmas.{lane_from, lane_there}
 use Rattle.gptp_invariants.proofs.ChoiceTakeUpLemmas.{BeginApart}
 use Rattle.gptp_invariants.proofs.WorldAnsweringLemmas.{IsAnswering}
-use Rattle.gptp_settling_time.proofs.LoweredLemmas.{CanLose, StandsReduced, goes_down_reduced, reduced_on}
+use Rattle.gptp_settling_time.proofs.PortDownLemmas.{CanLose, StandsReduced, goes_down_reduced, reduced_on}
 use Rattle.gptp_settling_time.proofs.ReducedLemmas.{IsReducedStation, reduced_itself}
 use Rattle.gptp_settling_time.proofs.EndAnswersLemmas.{EndAnswers}
+use Rattle.gptp_bmca_machine.proofs.FallLeaveLemmas.{disable_only}
 
 -- ---- the end that isn't moved
 
@@ -131,8 +132,9 @@ module _ (p : SettlingParams) (w : WorldState) (place : ℕ) (channel : Channel)
       ap (λ (m : Lane). m.frames) at.is
       ∙ ap (map frame_view) (flows.still (sym (ap (λ (m : Lane). m.is_up) at.is) ∙ off))
 
-  pub turns_down : EndAnswers says_announce n x port place_z (view w) (view w')
+  pub turns_down : EndAnswers says_announce n x (Disable (suc port)) place_z (view w) (view w')
   turns_down = record {
+    only = disable_only (suc port);
     s = seen.call.s;
     s' = seen.call.s';
     sends = seen.call.sends;

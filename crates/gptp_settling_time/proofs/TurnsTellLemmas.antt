@@ -24,7 +24,7 @@ use Rattle.gptp_bmca_machine.specs.RestLaws.{SameWiring}
 use Rattle.gptp_bmca_machine.specs.SoundEverywhere.{IsSoundEverywhere}
 use Rattle.gptp_bmca_machine.specs.SoundLaws.{AllAreNear}
 use Rattle.gptp_bmca_machine.specs.Station.{Disabled, HoldsAt, MachineState, Mine, Port, Reception, Station}
-use Rattle.gptp_bmca_machine.specs.Touch.{Disable, IsUsable}
+use Rattle.gptp_bmca_machine.specs.Touch.{IsUsable, StationTouch}
 use Rattle.gptp_bmca_machine.proofs.PlaceLemmas.{same_there}
 use Rattle.gptp_bmca_machine.proofs.RestingLemmas.{all_choose, by_then_at, links_stay, stays_so}
 use Rattle.gptp_bmca_machine.proofs.StillLemmas.{port_there, still, still_stays}
@@ -77,7 +77,8 @@ tail_behind says k from e best last (f ∷ fs) news final tail =
 module _ (says : Spelling) (n0 n : Network) (x d e : ℕ) (best : System) (t : TurnsOne n0.graph n x d e best)
     (net0 : IsSettlingNetwork n0) (w : MachineState) (calm0 : Calm n0 w) (invariant0 : Invariant says n0 w)
     (late0 : settled_from n0 ≤ w.time) (near0 : AllAreNear n0.graph) (sound0 : IsSoundEverywhere says n0.graph w)
-    (same : SameWiring n0 n) (w' : MachineState) (lost other : ℕ) (a : EndAnswers says n x lost other w w')
+    (same : SameWiring n0 n) (w' : MachineState) (touch : StationTouch) (other : ℕ)
+    (a : EndAnswers says n x touch other w w')
     (kept' : IsAfterLoss n w') (dark' : IsDark n w') where
   abbrev g : Snapshot
   g = n0.graph
@@ -91,17 +92,17 @@ module _ (says : Spelling) (n0 n : Network) (x d e : ℕ) (best : System) (t : T
   fits_then : (i : ℕ) (m : Station) (place : ℕ) (r : Reception) → slice_get w'.stations i ≡ Some m → m.live ≡ true
       → HoldsAt m place r → CameFits g m.clock (suc place) r
   fits_then = received' says n0 n x t.well t.left (moved_x says n0 n x d e best t) net0 w calm0 invariant0 late0
-      sound0 same w' lost other a
+      sound0 same w' touch other a
       kept'
 
   moving_now : IsMoving says g n x e best w'
-  moving_now = moving' says n0 n x d e best t net0 w calm0 invariant0 late0 near0 sound0 same w' lost other a kept'
+  moving_now = moving' says n0 n x d e best t net0 w calm0 invariant0 late0 near0 sound0 same w' touch other a kept'
       dark'
 
   placed : (c : ℕ) (s : Station) → slice_get w.stations (n.place c) ≡ Some s
       → slice_get w.stations (n0.place c) ≡ Some s
   placed = at_place says n0 n x t.well t.left (moved_x says n0 n x d e best t) net0 w calm0 invariant0 late0 sound0
-      same w' lost other a
+      same w' touch other a
       kept'
 
   -- ---- what the system tells now
@@ -110,7 +111,7 @@ module _ (says : Spelling) (n0 n : Network) (x d e : ℕ) (best : System) (t : T
   known =
       subst (λ c. In c (clocks n.graph)) named'
       (known_x says n0 n x t.well t.left (moved_x says n0 n x d e best t) net0 w calm0 invariant0 late0 sound0 same
-      w' lost other a
+      w' touch other a
       kept')
 
   close : e < 255
@@ -123,7 +124,7 @@ module _ (says : Spelling) (n0 n : Network) (x d e : ℕ) (best : System) (t : T
   came : (place : ℕ) (r : Reception) → HoldsAt a.s' place r → HeldDown g x place r d
   came place r holds =
       let o = held_before says n0 n x t.well t.left (moved_x says n0 n x d e best t) net0 w calm0 invariant0 late0
-      sound0 same w' lost other a
+      sound0 same w' touch other a
       kept'
       (n.place x) a.s' place r a.there live' holds in
       let clock = o.clock ∙ named' in
@@ -263,7 +264,7 @@ module _ (says : Spelling) (n0 n : Network) (x d e : ℕ) (best : System) (t : T
       port : Port
       there : slice_get a.s.ports p ≡ Some old
       there' : slice_get a.s'.ports p ≡ Some port
-      answer : PortStep says a.s.clock (suc p) w.time (Disable (suc lost)) a.s'.root a.s'.steps old port a.sends
+      answer : PortStep says a.s.clock (suc p) w.time touch a.s'.root a.s'.steps old port a.sends
 
     tells : Tells
     tells = by (port_there g n t.well t.left w' kept' fits_then x p (port_of y (suc q)) a.s' a.there joins)
@@ -282,7 +283,11 @@ module _ (says : Spelling) (n0 n : Network) (x d e : ℕ) (best : System) (t : T
       ]
 
       mid_is : z.answer.mid ≡ z.old.held
-      mid_is = elim z.answer.before [ inl (here, off) ↦ absurd (lit off) | inr (other, is) ↦ is ]
+      mid_is =
+          elim (a.only.spares a.s.clock (suc p) w.time z.old.held z.answer.mid z.answer.before) [
+            | inl off ↦ absurd (lit off)
+            | inr is ↦ is
+          ]
 
       -- it was master
       mine : z.old.held ≡ Mine best.identity d
@@ -455,7 +460,7 @@ module _ (says : Spelling) (n0 n : Network) (x d e : ℕ) (best : System) (t : T
     old' turned s pu l at there at_l =
         by_port s pu l at there at_l tells
         (port_stood says n0 n x t.well t.left (moved_x says n0 n x d e best t) net0 w calm0 invariant0 late0 sound0
-        same w' lost other a
+        same w' touch other a
         kept' y q
         s pu neighbour.apart neighbour.known at there (on s pu l at there at_l))
         (a.lanes (n.lane from) l at_l)

@@ -25,7 +25,7 @@ use Rattle.gptp_bmca_machine.specs.Touch.{Hear, Replaces, StationTouch}
 use Rattle.gptp_bmca_machine.proofs.EndsLemmas.{clear_at}
 use Rattle.gptp_bmca_machine.proofs.LevelLemmas.{invariant_kept}
 use Rattle.gptp_bmca_machine.proofs.LossLemmas.{fits_kept}
-use Rattle.gptp_bmca_machine.proofs.RestLemmas.{is_master}
+use Rattle.gptp_bmca_machine.proofs.RestLemmas.{is_master, left_of}
 use Rattle.gptp_bmca_machine.proofs.RestingLemmas.{all_choose, by_then_at}
 use Rattle.gptp_settling_time.specs.Losses.{IsUnmoved}
 use Rattle.gptp_settling_time.proofs.FitsLemmas.{IsLeftUnmoved, UnlinkedHoldNothing, distance_before, received_still}
@@ -207,7 +207,7 @@ left_kept says g n w w' well net left near farther calm calm' nothing early late
 
     fits' : EverythingFits says g n w'
     fits' =
-        fits_kept says g n (record { graph = well; systems = left.systems; links = left.links }) w w' calm
+        fits_kept says g n (left_of g n well left.systems left.links) w w' calm
         (calm' unlinked') step is.fits
 
     invariant' : Invariant says n w'

@@ -1,5 +1,5 @@
 -- A link that comes up between live systems, where some ports ask again soon.
-use Rattle.std.proofs.Common.{◌≡◌, ◌<◌, ◌≤◌, ◌+◌, ℕ, Bool, true, false, List, slice_get, refl, sym, ap, subst, ◌∙◌, inl, inr, arith}
+use Rattle.std.proofs.Common.{◌≡◌, ◌≢◌, ◌<◌, ◌≤◌, ◌+◌, ℕ, Bool, true, false, List, slice_get, refl, sym, ap, subst, ◌∙◌, inl, inr, arith}
 use Rattle.gptp_lists.proofs.PlaceLemmas.{get-set_other, same_place}
 use Rattle.gptp_links.specs.Fate.{Draw}
 use Rattle.gptp_scenario.specs.Params.{KeepPace}
@@ -22,7 +22,7 @@ use Rattle.gptp_invariants.specs.WorldNews.{AreSilentBy}
 use Rattle.gptp_invariants.specs.WorldSound.{IsSoundWorld}
 use Rattle.gptp_invariants.proofs.ChoiceCalmKeptLemmas.{KeepsNetwork}
 use Rattle.gptp_invariants.proofs.DelayChangeKeptLemmas.{acts_measured}
-use Rattle.gptp_invariants.proofs.FailedSilentElsewhereLemmas.{changed_silent, up_silences}
+use Rattle.gptp_invariants.proofs.FailedSilentElsewhereLemmas.{changed_silent, stood_elsewhere, up_silences}
 use Rattle.gptp_invariants.proofs.WorldOutlineLemmas.{acts_time}
 use Rattle.gptp_invariants.proofs.WorldSoundCallLemmas.{tells_keep}
 use Rattle.gptp_invariants.proofs.WorldSoundLemmas.{sound_gains}
@@ -104,8 +104,10 @@ module _ (p : SettlingParams) (by next number port : ℕ) (w : WorldState) (draw
         go : (b : Bool) → k.channel.up ≡ b → AreSilentBy p next w'
         go true is_up = subst (AreSilentBy p next) (sym (same is_up)) (changed_silent p next w silent)
         go false is_down = λ at s.
-            up_silences p next at k.place k.channel w draws w' is.sound.wired k.is.here
-            (λ e. apart at s k.place k.channel k.is (sym e)) (told is_down) silent s
+            let other : at.link ≢ k.place = λ e. apart at s k.place k.channel k.is (sym e) in
+            up_silences p at k.place k.channel w draws w' is.sound.wired k.is.here other (told is_down) s next
+            (silent at (stood_elsewhere p at k.place k.channel w draws w' is.sound.wired k.is.here other (told is_down)
+            s))
 
     pub up_soon : IsSoundWorld w → w.time ≤ by → by < next → IsNewsSoon p next w'
     up_soon sound early before_next =

@@ -10,7 +10,7 @@ use Rattle.gptp_scenario.specs.Network.{IsNetwork, NetworkState}
 use Rattle.gptp_scenario.specs.declared.change.Timed.{Timed}
 use Rattle.gptp_scenario.specs.declared.network.LinkSpec.{LinkSpec}
 use Rattle.gptp_settling_time.specs.HowSoon.{IsIdleEvent}
-use Rattle.gptp_settling_time.specs.InTurn.{AreUsedSince}
+use Rattle.gptp_settling_time.specs.Leads.{AreUsedSince}
 use Rattle.gptp_settling_time.proofs.SamePathsLemmas.{StandAlike, idle_alike, lives_back, turned_alike}
 use Rattle.gptp_settling_time.proofs.SilentSpanLemmas.{used_from}
 

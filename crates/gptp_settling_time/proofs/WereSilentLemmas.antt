@@ -35,7 +35,7 @@ use Rattle.gptp_invariants.proofs.WorldNewsLemmas.{silent_from_now}
 use Rattle.gptp_invariants.proofs.WorldOutlineLemmas.{acts_time}
 use Rattle.gptp_theorem.proofs.CalmKeptLemmas.{no_change}
 use Rattle.gptp_theorem.specs.Reached.{StandsAsPlanned, channel_wire}
-use Rattle.gptp_settling_time.specs.InTurn.{AreUsedSince}
+use Rattle.gptp_settling_time.specs.Leads.{AreUsedSince}
 use Rattle.gptp_settling_time.specs.Losses.{NoneSilent}
 use Rattle.gptp_settling_time.proofs.FailedAloneLemmas.{here_before, link_used, silent_still, stood_beside}
 use Rattle.gptp_settling_time.proofs.GainLemmas.{live_named, lives_so, used_as}

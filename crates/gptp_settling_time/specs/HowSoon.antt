@@ -21,9 +21,11 @@
 -- - By the one event a link goes down that so cuts a tree off, or turns one to its one way out, once what was sent
 --   before the time before had come to rest has arrived. Choice and roles ask for twice the greatest delay for each
 --   system of a path but one.
--- - By the first event a system fails and so cuts trees off, once that has arrived, and no other comes but such links.
+-- - By the first event a system fails and so moves trees, once that has arrived, and no other comes but such links.
 --   The choice asks for what others hold of it to age, and then for twice the greatest delay for each system of a path
 --   but one. Roles stand then too, once no port beside it is capable.
+-- - By several events systems and links are taken away, and no system is moved in all but such as are cut off. It is 0
+--   where no lost link is silent.
 -- - By the events anything is taken away, whatever is moved. The choice asks for the longest receipt timeout and the
 --   greatest delay for each system of a path, and then for an announce interval and the greatest delay for each but
 --   one. Roles stand then too, once the ports beside a system that failed aren't capable any more.
@@ -55,9 +57,11 @@ use Rattle.gptp_network.specs.Document.{DocumentState}
 use Rattle.gptp_network.specs.Snapshot.{events_by}
 use Rattle.gptp_settling_time.specs.Arrivals.{HasArrivedBy}
 use Rattle.gptp_settling_time.specs.Gains.{ChangesNothing, EndHasFailed, LeavesCapable, Repeats, TakesNothing}
-use Rattle.gptp_settling_time.specs.InTurn.{AddsHeard, BettersClock, FlightIsGone, MakesNothing, NoneUsed, TellsNothing, UsedVaryLittle, WidensLink, turned_echo_span}
-use Rattle.gptp_settling_time.specs.Losses.{AgesWithin, CutsFarEnd, FailsFarEnd, FailsHeard, LeavesChoice, LosesAny, LowersLink, LowersUnused, NoneSilent, TurnsLink, UpIsUsed}
-use Rattle.gptp_settling_time.specs.TreeLosses.{FailsTrees, LowersTree, TurnsTreeLink}
+use Rattle.gptp_settling_time.specs.EventKinds.{AddsHeard, BettersClock, FlightIsGone, FlightIsGoneFrom, MakesNothing, NoneUsed, TellsNothing, UsedVaryLittle, WidensLink}
+use Rattle.gptp_settling_time.specs.Leads.{TakesAny}
+use Rattle.gptp_settling_time.specs.Rests.{FlightIsGoneSince, turned_echo_span}
+use Rattle.gptp_settling_time.specs.Losses.{AgesWithin, CutsFarEnd, FailsFarEnd, FailsHeard, LeavesChoice, LosesAny, LowersLink, LowersUnused, MovesNoneInAll, NoneSilent, TurnsLink, UpIsUsed}
+use Rattle.gptp_settling_time.specs.TreeLosses.{CutsAllBeyondFrom, FailsTrees, FallsTree, TurnsTreeLink}
 
 -- ---- times
 
@@ -107,6 +111,11 @@ IsGainToo n next made event = IsGainEvent n next made event ⊎ MakesNothing n m
 -- stands.
 abbrev pub IsDownToo : NetworkState → List Timed → Timed → Type 0
 IsDownToo n made event = LowersUnused n made event ⊎ Repeats n made event
+
+-- Behind a far end that fails, at the same time: a link goes down that is up, and of which an end has failed; or the
+-- event changes nothing.
+abbrev pub IsIdleBeside : NetworkState → List Timed → Timed → Type 0
+IsIdleBeside n made event = LowersUnused n made event ⊎ ChangesNothing n made event.act
 
 -- this is so of each of the events, by what stands just before it
 abbrev pub EachEvent : (List Timed → Timed → Type 0) → List Timed → List Timed → Type 0
@@ -248,11 +257,11 @@ abbrev pub TurnsOneLink : NetworkState → List Timed → List Timed → Type 0
 TurnsOneLink n = OneEvent (TurnsLink n)
 
 -- By the first of them a system fails that is the far end of each of its links. By the others links go down that are
--- up, and of which an end has failed, or nothing is done.
+-- up, and of which an end has failed, or nothing is changed.
 abbrev pub FailsEndFirst : NetworkState → List Timed → List Timed → Type 0
 FailsEndFirst n made [] = ⊥
 FailsEndFirst n made (event ∷ events) =
-    FailsFarEnd n made event × EachEvent (IsDownToo n) (made ++ event ∷ []) events
+    FailsFarEnd n made event × EachEvent (IsIdleBeside n) (made ++ event ∷ []) events
 
 -- how soon the roles stand after them
 abbrev pub RolesAfterFailure : NetworkState → List Timed → List Timed → ℕ → Type 0
@@ -294,6 +303,18 @@ AreLossEvents n made (event ∷ events) =
 abbrev pub LosesEvents : NetworkState → List Timed → List Timed → Type 0
 LosesEvents n = AfterIdleEvents n (AreLossEvents n)
 
+-- behind an event that takes a system or a link away: another, or a link goes down of which an end has failed, or
+-- nothing is done
+abbrev pub IsTakenToo : NetworkState → List Timed → Timed → Type 0
+IsTakenToo n made event = TakesAny n made event ⊎ IsDownToo n made event
+
+-- several do, the first of which takes a system or a link away, and the others are such
+abbrev pub TakesSeveral : NetworkState → List Timed → List Timed → Type 0
+TakesSeveral n made [] = ⊥
+TakesSeveral n made (event ∷ []) = ⊥
+TakesSeveral n made (event ∷ other ∷ events) =
+    TakesAny n made event × EachEvent (IsTakenToo n) (made ++ event ∷ []) (other ∷ events)
+
 -- the greatest delay of a link in use, before them or after them
 abbrev pub delay_between : NetworkState → List Timed → List Timed → ℕ
 delay_between n made now = max (sync_paths n made).delay (sync_paths n (made ++ now)).delay
@@ -304,7 +325,7 @@ RolesAfterLoss n made now choice roles =
     (NoneSilent n made (made ++ now) × (roles ≡ choice))
     ⊎ (roles ≡ max choice (silence_span (pace_of n)))
 
--- By the first of them a system fails, which so cuts trees off. By the others links go down that are up, and of which
+-- By the first of them a system fails, which so moves trees. By the others links go down that are up, and of which
 -- an end has failed, or nothing is done.
 abbrev pub FailsTreesFirst : NetworkState → List Timed → List Timed → Type 0
 FailsTreesFirst n made [] = ⊥
@@ -347,13 +368,21 @@ BoundsAnyLoss n made now choice roles =
     × (choice ≡ loss_span (pace_of n) (sync_paths n (made ++ now)) (delay_between n made now))
     × RolesAfterLoss n made now choice roles
 
+-- Where several systems and links are taken away, no system is moved in all but such as are cut off, and no lost link
+-- is silent, choice and roles stand at once, whoever is moved between.
+abbrev pub BoundsTaken : NetworkState → List Timed → List Timed → ℕ → ℕ → Type 0
+BoundsTaken n made now choice roles =
+    TakesSeveral n made now × MovesNoneInAll n made (made ++ now) × NoneSilent n made (made ++ now)
+    × (choice ≡ 0) × (roles ≡ 0)
+
 -- What the events of a time take away asks for so much: of the choice, and of the roles.
 abbrev pub BoundsLoss : NetworkState → List Timed → List Timed → ℕ → ℕ → Type 0
 BoundsLoss n made now choice roles =
     BoundsLowered n made now choice roles
     ⊎ (BoundsFailed n made now choice roles
     ⊎ (BoundsTurned n made now choice roles
-    ⊎ (BoundsHeard n made now choice roles ⊎ BoundsAnyLoss n made now choice roles)))
+    ⊎ (BoundsHeard n made now choice roles
+    ⊎ (BoundsAnyLoss n made now choice roles ⊎ BoundsTaken n made now choice roles))))
 
 -- The events of a time take something away, and ask for what `Asks` says. Nothing lapses for want of Sync. The network
 -- is calm, and the events come once the time before has come to rest, by one of its bounds.
@@ -388,9 +417,9 @@ TreeNext n Moves events Then last time Asks =
     × BeforeRepeats n (OneEvent Moves) (events_by last events) (events_at time events)
     × Asks (events_by time events)
 
--- a tree is cut off
+-- a tree falls back
 abbrev pub FallsNext : NetworkState → List Timed → (ℕ → Type 0) → ℕ → ℕ → (List Timed → Type 0) → Type 0
-FallsNext n = TreeNext n (LowersTree n)
+FallsNext n = TreeNext n (FallsTree n)
 
 -- a tree turns to its one way out
 abbrev pub TurnsNext : NetworkState → List Timed → (ℕ → Type 0) → ℕ → ℕ → (List Timed → Type 0) → Type 0
@@ -400,7 +429,7 @@ TurnsNext n = TreeNext n (TurnsTreeLink n)
 abbrev pub BoundsTree : NetworkState → ℕ → ℕ → List Timed → Type 0
 BoundsTree n choice roles events = (choice ≡ 2 * way_span (sync_paths n events)) × (roles ≡ choice)
 
--- By the first event of a time a system fails, which so cuts trees off, and they ask for what `Asks` says. Nothing
+-- By the first event of a time a system fails, which so moves trees, and they ask for what `Asks` says. Nothing
 -- lapses for want of Sync. The network is calm. What was sent before the time before had come to rest has arrived.
 abbrev pub SplitsNext : NetworkState → List Timed → (ℕ → Type 0) → ℕ → ℕ → (List Timed → List Timed → Type 0) → Type 0
 SplitsNext n events Then last time Asks =
@@ -440,10 +469,12 @@ RestsOnceTold n made now rest =
 abbrev pub RestsAfterOneLoss : NetworkState → List Timed → List Timed → ℕ → Type 0
 RestsAfterOneLoss n made now rest =
     (CutsOneEnd n made now
-    × ((gone : ℕ) × FlightIsGone n (made ++ now) gone × (rest ≡ max (2 * way_span (sync_paths n (made ++ now))) gone)))
+    × ((gone : ℕ) × FlightIsGoneFrom n (made ++ now) (last_change (made ++ now)) gone
+    × (rest ≡ max (2 * way_span (sync_paths n (made ++ now))) gone)))
     ⊎ ((FailsEndFirst n made now
-    × ((NoneSilent n made (made ++ now) × FlightIsGone n made rest)
-    ⊎ ((gone : ℕ) × FlightIsGone n made gone × (rest ≡ max (silence_span (pace_of n)) gone))))
+    × ((NoneSilent n made (made ++ now) × FlightIsGoneFrom n made (last_change (made ++ now)) rest)
+    ⊎ ((gone : ℕ) × FlightIsGoneFrom n made (last_change (made ++ now)) gone
+    × (rest ≡ max (silence_span (pace_of n)) gone))))
     ⊎ ((LowersOneLink n made now
     × ((gone : ℕ) × FlightIsGone n (made ++ now) gone
     × (rest ≡ max (echo_span (pace_of n) (sync_paths n (made ++ now))) gone)))
@@ -455,13 +486,34 @@ RestsAfterOneLoss n made now rest =
 abbrev pub RestsAfterAnyLoss : NetworkState → List Timed → List Timed → ℕ → Type 0
 RestsAfterAnyLoss n made now rest = (choice : ℕ) × BoundsAnyLoss n made now choice rest
 
-abbrev pub RestsAfterLoss : NetworkState → List Timed → List Timed → ℕ → Type 0
-RestsAfterLoss n made now rest = RestsAfterOneLoss n made now rest ⊎ RestsAfterAnyLoss n made now rest
+-- After several systems and links were taken away, by which none is moved in all but such as are cut off, it has where
+-- each link that is up then is in use once right traces have been told.
+abbrev pub RestsTaken : NetworkState → List Timed → List Timed → ℕ → Type 0
+RestsTaken n made now rest =
+    TakesSeveral n made now × MovesNoneInAll n made (made ++ now)
+    × ((sync_paths n made).systems ≤ 255)
+    × UpIsUsed n (made ++ now)
+    × (max (echo_span (pace_of n) (sync_paths n (made ++ now))) (sync_paths n (made ++ now)).delay ≤ rest)
 
--- After a tree was cut off it has come to rest once the tree has settled and what was in flight is gone.
+abbrev pub RestsAfterLoss : NetworkState → List Timed → List Timed → ℕ → Type 0
+RestsAfterLoss n made now rest =
+    RestsAfterOneLoss n made now rest ⊎ (RestsAfterAnyLoss n made now rest ⊎ RestsTaken n made now rest)
+
+-- After a tree fell back it has come to rest once the tree has settled and what was in flight is gone.
 abbrev pub RestsTree : NetworkState → ℕ → List Timed → Type 0
 RestsTree n rest events =
     (gone : ℕ) × FlightIsGone n events gone × (rest ≡ max (2 * way_span (sync_paths n events)) gone)
+
+-- After trees were moved, as a system failed, it has come to rest once right traces have been told by distance since
+-- they settled, and what was in flight is gone. Where all beyond that system was cut off they needn't be told anew.
+-- Roles have to stand too.
+abbrev pub RestsSplit : NetworkState → ℕ → List Timed → List Timed → Type 0
+RestsSplit n rest made now =
+    (choice : ℕ) × (roles : ℕ) × BoundsSplit n choice roles made now
+    × ((max roles (choice + max (echo_span (pace_of n) (sync_paths n (made ++ now))) (largest_interval (pace_of n)))
+    ≤ rest)
+    ⊎ (CutsAllBeyondFrom n made (made ++ now) × (flight : ℕ) × FlightIsGoneSince n made (made ++ now) flight
+    × (max roles (choice + flight) ≤ rest)))
 
 -- By so much later than a time the network has come to rest, by the times before it, the latest first: it has settled,
 -- and nothing that is held, or in flight, names what is gone. The first time of all is 0. After a tree has turned right
@@ -473,8 +525,10 @@ IsRestBoundAfter n events (last ∷ earlier) time rest =
     ⊎ (LosesNext n events (λ then. IsRestBoundAfter n events earlier last then) last time
     (λ made now. RestsAfterLoss n made now rest)
     ⊎ (FallsNext n events (λ then. IsRestBoundAfter n events earlier last then) last time (RestsTree n rest)
-    ⊎ TurnsNext n events (λ then. IsRestBoundAfter n events earlier last then) last time
-    (λ all. rest ≡ turned_echo_span n all)))
+    ⊎ (TurnsNext n events (λ then. IsRestBoundAfter n events earlier last then) last time
+    (λ all. rest ≡ turned_echo_span n all)
+    ⊎ SplitsNext n events (λ then. IsRestBoundAfter n events earlier last then) last time
+    (λ made now. RestsSplit n rest made now))))
 
 -- ---- bounds
 

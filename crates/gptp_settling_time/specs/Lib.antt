@@ -6,6 +6,10 @@ pub mod Idle
 pub mod Losses
 pub mod TreeLosses
 pub mod Starts
+pub mod Pasts
+pub mod EventKinds
+pub mod Leads
+pub mod Rests
 pub mod InTurn
 pub mod ExactInTurn
 pub mod Unchanged

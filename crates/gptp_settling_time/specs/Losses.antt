@@ -53,6 +53,14 @@ MovesNoneJoined n before event = (g g' : Snapshot) (v : ℕ) → StandsAfter n b
     → StandsAfter n (before ++ event ∷ []) g' → In v (clocks g')
     → IsUnmovedOrCutOff g g' v
 
+-- After more events no system is moved in all but such as are cut off from all others. The greatest delay of a link in
+-- use gets no greater, and no path longer.
+pub record MovesNoneInAll (n : NetworkState) (ago events : List Timed) : Type 0 where
+  pub moves : (g g' : Snapshot) (v : ℕ) → StandsAfter n ago g → StandsAfter n events g' → In v (clocks g')
+      → IsUnmovedOrCutOff g g' v
+  pub delay : (sync_paths n events).delay ≤ (sync_paths n ago).delay
+  pub paths : (sync_paths n events).systems ≤ (sync_paths n ago).systems
+
 -- After these events this one sets the priority1 of a system that lives, and the settled choice stays: no system is
 -- moved. So that system is nobody's best, before and after, or keeps its identity. No path has more than 255 systems.
 pub record LeavesChoice (n : NetworkState) (before : List Timed) (event : Timed) : Type 0 where
@@ -89,6 +97,12 @@ pub record LowersUnused (n : NetworkState) (before : List Timed) (event : Timed)
 abbrev pub UpIsUsed : NetworkState → List Timed → Type 0
 UpIsUsed n events = (place : ℕ) (v : LinkSpec) → slice_get n.links place ≡ Some v → (link_after events v).up ≡ true
     → IsUsed n.systems events (link_after events v)
+
+-- no link that is up after these events takes longer than one in use
+abbrev pub NoneUpIsSlower : NetworkState → List Timed → Type 0
+NoneUpIsSlower n events = (place : ℕ) (v : LinkSpec) → slice_get n.links place ≡ Some v
+    → (link_after events v).up ≡ true
+    → (link_after events v).bounds.max ≤ (sync_paths n events).delay
 
 -- The system is the far end of each of its links: its neighbours are nearer to the best, or as near and have the lower
 -- clock. So none of them gets its choice from it.

@@ -11,7 +11,7 @@
 //!
 //! Where the greatest delay of each new link is below twice its least no announce interval has to pass: after a start
 //! (`specs/Starts.antt`), and event by event after links come up and a priority1 gets better. An event that changes
-//! nothing asks for no time (`specs/InTurn.antt`), nor does a priority1 by which no system is moved
+//! nothing asks for no time (`specs/Leads.antt`), nor does a priority1 by which no system is moved
 //! (`specs/Losses.antt`). After a link goes down by which one system alone is moved, 1 ns and the greatest delay for
 //! each system of a path but one have to pass. Once a document has settled no act leaves a system another
 //! (`specs/Unchanged.antt`), and offsets are exact as soon as a Sync has come down a way (`specs/ExactInTurn.antt`). So

@@ -13,9 +13,9 @@ use Rattle.gptp_scenario.specs.Calm.{IsCalm, NothingLapses}
 use Rattle.gptp_scenario.specs.Network.{NetworkState}
 use Rattle.gptp_scenario.specs.declared.change.Timed.{Timed}
 use Rattle.gptp_settling_time.specs.Arrivals.{HasArrivedBy}
-use Rattle.gptp_settling_time.specs.TreeLosses.{LowersTree, TurnsTreeLink}
-use Rattle.gptp_settling_time.specs.HowSoon.{BeforeRepeats, BesideIdle, BoundsChoice, BoundsEvents, BoundsFirst, BoundsLoss, BoundsNext, BoundsSplit, BoundsStart, BoundsTree, FailsTreesFirst, HasArrivedNext, IsChoiceAloneBound, IsChoiceBound, IsChoiceBoundAfter, IsLossBoundAfter, IsRestBoundAfter, LosesNext, NoneBetween, OneEvent, RestsAfterLoss, RestsTree, SplitsNext, TreeNext, events_at}
-use Rattle.gptp_settling_time.specs.InTurn.{turned_echo_span}
+use Rattle.gptp_settling_time.specs.TreeLosses.{FallsTree, TurnsTreeLink}
+use Rattle.gptp_settling_time.specs.HowSoon.{BeforeRepeats, BesideIdle, BoundsChoice, BoundsEvents, BoundsFirst, BoundsLoss, BoundsNext, BoundsSplit, BoundsStart, BoundsTree, FailsTreesFirst, HasArrivedNext, IsChoiceAloneBound, IsChoiceBound, IsChoiceBoundAfter, IsLossBoundAfter, IsRestBoundAfter, LosesNext, NoneBetween, OneEvent, RestsAfterLoss, RestsSplit, RestsTree, SplitsNext, TreeNext, events_at}
+use Rattle.gptp_settling_time.specs.Rests.{turned_echo_span}
 use Rattle.gptp_theorem.specs.PlayedLaws.{IsPlayable}
 use Rattle.gptp_timeline.proofs.EventLemmas.{filter_each, filter_in_order}
 use Rattle.gptp_timeline.proofs.PastLemmas.{by_sooner}
@@ -187,12 +187,16 @@ module _ (n : NetworkState) (all : List Timed) (until : ℕ) where
   rest_by (last ∷ earlier) time rest le (inr (inr (inl falls))) =
       inr (inr (inl (tree_by (λ before. IsRestBoundAfter n all earlier last before)
       (λ before. IsRestBoundAfter n (events_by until all) earlier last before) last time le
-      (λ soon before. rest_by earlier last before soon) (LowersTree n) (RestsTree n rest) falls)))
-  rest_by (last ∷ earlier) time rest le (inr (inr (inr turns))) =
-      inr (inr (inr (tree_by (λ before. IsRestBoundAfter n all earlier last before)
+      (λ soon before. rest_by earlier last before soon) (FallsTree n) (RestsTree n rest) falls)))
+  rest_by (last ∷ earlier) time rest le (inr (inr (inr (inl turns)))) =
+      inr (inr (inr (inl (tree_by (λ before. IsRestBoundAfter n all earlier last before)
       (λ before. IsRestBoundAfter n (events_by until all) earlier last before) last time le
       (λ soon before. rest_by earlier last before soon) (TurnsTreeLink n)
-      (λ events. rest ≡ turned_echo_span n events) turns)))
+      (λ events. rest ≡ turned_echo_span n events) turns))))
+  rest_by (last ∷ earlier) time rest le (inr (inr (inr (inr splits)))) =
+      inr (inr (inr (inr (splits_by (λ before. IsRestBoundAfter n all earlier last before)
+      (λ before. IsRestBoundAfter n (events_by until all) earlier last before) last time le
+      (λ soon before. rest_by earlier last before soon) (λ made now. RestsSplit n rest made now) splits))))
 
   bound_by : (earlier : List ℕ) (time choice : ℕ) → time ≤ until → IsChoiceBoundAfter n all earlier time choice
       → IsChoiceBoundAfter n (events_by until all) earlier time choice
@@ -213,7 +217,7 @@ module _ (n : NetworkState) (all : List Timed) (until : ℕ) where
   loss_by (last ∷ earlier) time choice roles le (inr (inl falls)) =
       inr (inl (tree_by (λ before. IsRestBoundAfter n all earlier last before)
       (λ before. IsRestBoundAfter n (events_by until all) earlier last before) last time le
-      (λ soon before. rest_by earlier last before soon) (LowersTree n) (BoundsTree n choice roles) falls))
+      (λ soon before. rest_by earlier last before soon) (FallsTree n) (BoundsTree n choice roles) falls))
   loss_by (last ∷ earlier) time choice roles le (inr (inr (inl turns))) =
       inr (inr (inl (tree_by (λ before. IsRestBoundAfter n all earlier last before)
       (λ before. IsRestBoundAfter n (events_by until all) earlier last before) last time le
