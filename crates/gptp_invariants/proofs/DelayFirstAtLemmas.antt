@@ -222,6 +222,26 @@ first_measured at first by w l late =
     has_measured_by (link_setting at w l.is.link) (least_delay at w l.is.link) reads_as_request reads_as_reply first
     first by (meter at w l.is.link) l.is.facts l.measures late
 
+-- where it measures so from its first request on, that is the least delay of each exchange since
+pub first_exactly : (at : LinkPlace) (first : ℕ) (w : WorldState) (x : IsMeasuringAt first first at w)
+    → InvFirst (link_setting at w x.is.link) (least_delay at w x.is.link) reads_as_request reads_as_reply first
+    (meter at w x.is.link)
+first_exactly at first w x = by x.measures
+  where
+    k : Setting
+    k = link_setting at w x.is.link
+
+    least : ℕ
+    least = least_delay at w x.is.link
+
+    by : MeasuresBy k least reads_as_request reads_as_reply first first (meter at w x.is.link)
+        → InvFirst k least reads_as_request reads_as_reply first (meter at w x.is.link)
+    by (inl due) =
+        let (n, asked) = x.is.inv.since in let short = x.is.short in absurd (omega (arith, due, asked, short))
+    by (inr (since, from, until, exact)) =
+        let same : since ≡ first = omega (arith, from, until) in
+        subst (λ t. InvFirst k least reads_as_request reads_as_reply t (meter at w x.is.link)) same exact
+
 -- ---- a port comes up
 
 -- if a port comes up, it is another one than this

@@ -54,7 +54,9 @@ first_same first by at w w' (x, soon) s = (
     link = s.after;
     short = goes_over at w w' x.link s (λ k least m. exchange_span k < k.period) x.short;
     facts = goes_over at w w' x.link s (λ k least m. Facts k first m.pair) x.facts;
-    inv = goes_over at w w' x.link s (λ k least m. InvFirst k least reads_as_request reads_as_reply first m) x.inv;
+    less = x.less;
+    within = goes_over at w w' x.link s (λ k least m. x.less ≤ least) x.within;
+    inv = goes_over at w w' x.link s (λ k least m. InvFirst k x.less reads_as_request reads_as_reply first m) x.inv;
   },
   goes_over at w w' x.link s (λ k least m. first + k.period + exchange_span k < by) soon,
 )

@@ -76,7 +76,7 @@ module _ (p : SettlingParams) (by next number port : ℕ) (w : WorldState) (draw
 
     comes_up : (at : LinkPlace) → at.link ≡ k.place → LinkStandsAt at brought → IsComing p by next at w'
     comes_up at place_is old =
-        let first = up_first p number port w draws done w' pace is measured acts down at place_is old in
+        let first = (up_first p number port w draws done w' pace is measured acts down at place_is old).is in
         inl (inl (w.time, (first, exchange_over p w.time next at w' is' first.link soon)))
 
     down_coming : AreComing p by next w'

@@ -1,6 +1,6 @@
 -- A link in use whose delays get wider: in a world that has settled all stands as it did, and claims are made of all
 -- links always.
-use Rattle.std.proofs.Common.{◌≡◌, ◌≢◌, ◌<◌, ◌≤◌, ◌+◌, ◌-◌, ◌*◌, ◌/◌, ◌%◌, ℕ, zero, suc, true, List, [], ◌∷◌, map, Some, slice_get, slice_set, refl, sym, ap, subst, ◌∙◌, inl, inr, arith}
+use Rattle.std.proofs.Common.{◌≡◌, ◌≢◌, ◌<◌, ◌≤◌, ◌+◌, ◌-◌, ◌*◌, ◌/◌, ◌%◌, ℕ, zero, suc, min, true, List, [], ◌∷◌, map, Some, slice_get, slice_set, refl, sym, ap, subst, ◌∙◌, inl, inr, arith}
 use Rattle.std.specs.Prelude.{if◌then◌else◌}
 use Rattle.std.proofs.lemmas.Nat.{div-add-mod', mod_below}
 use Rattle.std.proofs.lemmas.Option.{same_Some}
@@ -46,7 +46,7 @@ use Rattle.gptp_invariants.specs.ChoiceCalm.{HaveQuietLinks, paths_with}
 use Rattle.gptp_invariants.specs.ChoiceSettlesAsMachine.{IsWorld}
 use Rattle.gptp_invariants.specs.ChoiceView.{lane_view, lanes_view, says_announce, station_view, view}
 use Rattle.gptp_invariants.specs.DelayFirstAt.{IsFirstBy}
-use Rattle.gptp_invariants.specs.DelayLinkView.{IsLinkOf, LinkPlace, least_delay, link_setting, meter, pair, pair_view, reads_as_reply, reads_as_request, setting_view, kept_view}
+use Rattle.gptp_invariants.specs.DelayLinkView.{IsLinkOf, LinkPlace, link_setting, meter, pair, pair_view, reads_as_reply, reads_as_request, setting_view, kept_view}
 use Rattle.gptp_invariants.specs.DelayMeasured.{LinkIsMeasured, LinkStandsAt}
 use Rattle.gptp_invariants.specs.FailedUnanswered.{IsFailedAmong, IsLastAnswered, IsOff, StandsUnanswered}
 use Rattle.gptp_invariants.specs.WorldNews.{AreReadyBy, AreSilentBy, IsNews, IsReadyBy, news_network}
@@ -67,9 +67,8 @@ use Rattle.gptp_settling_time.proofs.StandsLikeLemmas.{none_short}
 use Rattle.gptp_settling_time.proofs.WiderLinkLemmas.{facts_wide, first_wide}
 use Rattle.gptp_settling_time.proofs.WillAskLemmas.{first_since, watched_later}
 
--- the second bounds are wider than the first, the greatest delay by so much at most
+-- the greatest delay of the second bounds is larger than that of the first, by so much at most
 pub record AreWiderBy (by : ℕ) (old new : Bounds) : Type 0 where
-  pub least : new.min ≤ old.min
   pub most : old.max ≤ new.max
   pub more : new.max ≤ old.max + by
   pub lossless_before : old.loss ≡ 0
@@ -306,12 +305,6 @@ module _ (p : SettlingParams) (start next by place : ℕ) (w : WorldState) (is :
         let bounds : l.channel.bounds.max ≡ channel.bounds.max = ap (λ (c : Channel). c.bounds.max) channel_is in
         omega (arith, more, bounds)
 
-    sooner : b.min ≤ least_delay at w l
-    sooner =
-        let least = wider.least in
-        let bounds : l.channel.bounds.min ≡ channel.bounds.min = ap (λ (c : Channel). c.bounds.min) channel_is in
-        omega (arith, least, bounds)
-
   module _ (pace : KeepPace p) (is' : IsWorld p widened) (later : start + 2 * by ≤ next) (past : next ≤ w.time) where
     -- two intervals between requests and an exchange are over
     first_widened : (at : LinkPlace) → at.link ≡ place → LinkStandsAt at widened → (first : ℕ)
@@ -323,7 +316,8 @@ module _ (p : SettlingParams) (start next by place : ℕ) (w : WorldState) (is :
         let seen_is = seen at same s l in
         let long = longer at same s l in
         let most = within at same s l in
-        let quick = sooner at same s l in
+        let less : ℕ = min x.less b.min in
+        let quick : less ≤ x.less = omega arith in
         let is_good = good at same s l in
         let period = period_is p at w is l in
         let turnaround : k.turnaround ≡ p.params.turnaround =
@@ -336,14 +330,15 @@ module _ (p : SettlingParams) (start next by place : ℕ) (w : WorldState) (is :
                 (omega (arith, is_good, period, turnaround, answered));
             facts = subst (λ (y : Setting). Facts y first (pair at widened here_then)) (sym settled_is)
                 (subst (λ (m : Meter). Facts (record k { most = b.max }) first m.pair) (sym seen_is)
-                (facts_wide k b.max (least_delay at w l) b.min long quick reads_as_request reads_as_reply first
-                (pair at w l) x.facts));
-            inv = subst (λ (y : Setting). InvFirst y b.min reads_as_request reads_as_reply first
+                (facts_wide k b.max x.less less long quick reads_as_request reads_as_reply first (pair at w l)
+                x.facts));
+            less = less;
+            within = omega arith;
+            inv = subst (λ (y : Setting). InvFirst y less reads_as_request reads_as_reply first
                 (meter at widened here_then)) (sym settled_is)
-                (subst (λ (m : Meter). InvFirst (record k { most = b.max }) b.min reads_as_request reads_as_reply first
+                (subst (λ (m : Meter). InvFirst (record k { most = b.max }) less reads_as_request reads_as_reply first
                 m) (sym seen_is)
-                (first_wide k b.max (least_delay at w l) b.min long quick reads_as_request reads_as_reply first
-                (meter at w l) x.inv));
+                (first_wide k b.max x.less less long quick reads_as_request reads_as_reply first (meter at w l) x.inv));
           },
           subst (λ (y : Setting). first + y.period + exchange_span y < next) (sym settled_is)
               (omega (arith, soon, most, later)),

@@ -118,6 +118,8 @@ first_since gone calm at w x asked =
         back = λ f member.
             due_since (link_setting at w x.link) gone calm (pair at w x.link) f late (x.facts.back f member);
       };
+      less = least_delay at w x.link;
+      within = omega arith;
       inv = record {
         since = asked;
         clean = x.inv.phases.clean since;
