@@ -1,8 +1,7 @@
 -- A link in use whose delays get wider: in a world that has settled all stands as it did, and claims are made of all
 -- links always.
-use Rattle.std.proofs.Common.{◌≡◌, ◌≢◌, ◌<◌, ◌≤◌, ◌+◌, ◌-◌, ◌*◌, ◌/◌, ◌%◌, ℕ, zero, suc, min, true, List, [], ◌∷◌, map, Some, slice_get, slice_set, refl, sym, ap, subst, ◌∙◌, inl, inr, arith}
+use Rattle.std.proofs.Common.{◌≡◌, ◌≢◌, ◌<◌, ◌≤◌, ◌+◌, ◌*◌, ℕ, zero, suc, min, true, List, [], ◌∷◌, map, Some, slice_get, slice_set, refl, sym, ap, subst, ◌∙◌, inl, inr, arith}
 use Rattle.std.specs.Prelude.{if◌then◌else◌}
-use Rattle.std.proofs.lemmas.Nat.{div-add-mod', mod_below}
 use Rattle.std.proofs.lemmas.Option.{same_Some}
 use Rattle.gptp_lists.specs.Members.{In}
 use Rattle.gptp_lists.proofs.MappedLemmas.{same_there}
@@ -65,7 +64,7 @@ use Rattle.gptp_settling_time.proofs.SameLinkLemmas.{StaysSameLink, ready_same}
 use Rattle.gptp_settling_time.proofs.SettledSeenLemmas.{HasSettledSeen, IsSettledSeen, stage_settled}
 use Rattle.gptp_settling_time.proofs.StandsLikeLemmas.{none_short}
 use Rattle.gptp_settling_time.proofs.WiderLinkLemmas.{facts_wide, first_wide}
-use Rattle.gptp_settling_time.proofs.WillAskLemmas.{first_since, watched_later}
+use Rattle.gptp_settling_time.proofs.WillAskLemmas.{first_from, first_since, watched_later}
 
 -- the greatest delay of the second bounds is larger than that of the first, by so much at most
 pub record AreWiderBy (by : ℕ) (old new : Bounds) : Type 0 where
@@ -87,15 +86,10 @@ module _ (p : SettlingParams) (start : ℕ) (w : WorldState) (is : IsWorld p w) 
       let period = period_is p at w is x.link in
       let short = x.good.short in
       let beyond : calm ≤ asked = omega (arith, timer, period, late, past) in
-      let n = (asked - calm) / k.period in
-      let first = calm + (asked - calm) % k.period in
-      let parts = div-add-mod' (asked - calm) k.period in
-      let within : first < calm + k.period =
-      let below = mod_below (asked - calm) k.period (omega (arith, short)) in omega (arith, below) in (
+      let (first, from, within, since) = first_from calm asked k.period (omega (arith, short)) beyond in (
         first,
         (
-          first_since gone first at w (watched_later gone calm first at w (omega arith) x)
-              (n, omega (arith, parts, beyond)),
+          first_since gone first at w (watched_later gone calm first at w from x) since,
           omega (arith, short, period, late, within),
         ),
       )
