@@ -48,7 +48,6 @@ use Rattle.gptp_settling_time.proofs.AlwaysClaimedLemmas.{IsStanding, start_calm
 use Rattle.gptp_settling_time.proofs.FitsLemmas.{IsLeftUnmoved, UnlinkedHoldNothing}
 use Rattle.gptp_settling_time.proofs.LeftClaimedLemmas.{HaveAskedBy, HaveAskedLong, asked_acts, asked_heard, asked_later, asked_ready, bare_calm, left_calm, left_net, left_network, same_left, standing_acts, standing_later, way_later}
 use Rattle.gptp_settling_time.proofs.NearEndLemmas.{NearEndsStay, near_ends_hold_none, near_now}
-use Rattle.gptp_settling_time.proofs.NewsMeasuredLemmas.{ready_measures}
 use Rattle.gptp_settling_time.proofs.SeenSettledLemmas.{seen_chooses, seen_settles}
 use Rattle.gptp_settling_time.proofs.UnlinkedLemmas.{IsLeftSeen}
 
@@ -294,10 +293,3 @@ module _ (p : SettlingParams) (g : Snapshot) (aged silent : ℕ) (w : WorldState
             aging_left.invariant
             (station_there w.stations place station here) live is_best (omega arith)),
       )
-
--- its ports have measured their links
-pub aging_measured : (p : SettlingParams) (g : Snapshot) (aged silent : ℕ) (w : WorldState)
-    → IsAgingAlways p g aged silent w → HaveQuietLinks p.params w → w.last_change + window_span p.params ≤ w.time
-    → HaveMeasuredLinks w
-aging_measured p g aged silent w is quiet =
-    ready_measures p w.last_change w is.standing.world (asked_ready p w is.asked) quiet

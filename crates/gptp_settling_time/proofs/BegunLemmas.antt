@@ -72,6 +72,9 @@ module _ {F : Type 0} (answers : Bounds → ℕ → F → Option ℕ → F → T
       claim = claim;
       stands = stands;
       limited = λ most within. limited_begins answers n fate fate_after w k;
+      measures = λ by led place stands.
+          measuring_later p 0 place by w led
+          (inl (0, start_first answers n fate fate_after w playable.network sound k claim.world place stands));
       named = named_begins p w claim.world claim.pace.largest
           (starts_are_last _ (initial n) k.draws w refl k.starts);
       slow = begun_none_faster answers n fate fate_after w sound.wired.setups k;

@@ -53,7 +53,6 @@ use Rattle.gptp_settling_time.proofs.DueLemmas.{UpIsInUse, use_kept}
 use Rattle.gptp_settling_time.proofs.FallDownLemmas.{OffSettles}
 use Rattle.gptp_settling_time.proofs.LeftClaimedLemmas.{HaveAskedBy, HaveAskedLong, asked_acts, asked_later, asked_ready, left_network, same_left, standing_acts, standing_later}
 use Rattle.gptp_settling_time.proofs.MovedAlwaysLemmas.{after_loss, calm_now, dark_now}
-use Rattle.gptp_settling_time.proofs.NewsMeasuredLemmas.{ready_measures}
 use Rattle.gptp_settling_time.proofs.SeenSettledLemmas.{seen_settles}
 use Rattle.gptp_settling_time.proofs.SettledSeenLemmas.{IsSettledSeen, settled_in}
 use Rattle.gptp_settling_time.proofs.TreeSoundLemmas.{IsSoundOutside, outside_kept}
@@ -345,10 +344,3 @@ module _ (p : SettlingParams) (g : Snapshot) (silent start : ℕ) (w : WorldStat
             systems_bounded says_announce timed (view w) place (station_view station) best net calm invariant
             (station_there w.stations place station here) live is_best (omega arith)),
       )
-
--- its ports have measured their links
-pub fallen_measured : (p : SettlingParams) (g : Snapshot) (silent start : ℕ) (w : WorldState)
-    → IsFallenAlways p g silent start w → HaveQuietLinks p.params w
-    → w.last_change + window_span p.params ≤ w.time → HaveMeasuredLinks w
-fallen_measured p g silent start w is quiet =
-    ready_measures p w.last_change w is.standing.world (asked_ready p w is.asked) quiet

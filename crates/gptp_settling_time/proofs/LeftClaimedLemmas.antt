@@ -49,7 +49,6 @@ use Rattle.gptp_settling_time.proofs.AlwaysClaimedLemmas.{AreHeard, IsStanding, 
 use Rattle.gptp_settling_time.proofs.FitsLemmas.{IsLeftUnmoved, UnlinkedHoldNothing}
 use Rattle.gptp_settling_time.proofs.HeardLemmas.{IsFirstLong, first_acted, first_later}
 use Rattle.gptp_settling_time.proofs.LinkStoodLemmas.{stood_in}
-use Rattle.gptp_settling_time.proofs.NewsMeasuredLemmas.{ready_measures}
 use Rattle.gptp_settling_time.proofs.SeenSettledLemmas.{seen_chooses, seen_settles}
 use Rattle.gptp_settling_time.proofs.SettledSeenLemmas.{IsSettledSeen, settled_in}
 use Rattle.gptp_settling_time.proofs.UnlinkedLemmas.{IsLeftSeen, LostAreFarther, left_kept}
@@ -359,9 +358,3 @@ module _ (p : SettlingParams) (g : Snapshot) (silent : ℕ) (w : WorldState) (is
             systems_bounded says_announce n (view w) place (station_view station) best net calm seen.invariant
             (station_there w.stations place station here) live is_best (omega arith)),
       )
-
--- its ports have measured their links
-pub left_measured : (p : SettlingParams) (g : Snapshot) (silent : ℕ) (w : WorldState) → IsLeftAlways p g silent w
-    → HaveQuietLinks p.params w → w.last_change + window_span p.params ≤ w.time → HaveMeasuredLinks w
-left_measured p g silent w is quiet =
-    ready_measures p w.last_change w is.standing.world (asked_ready p w is.asked) quiet

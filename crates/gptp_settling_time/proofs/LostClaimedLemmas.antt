@@ -48,7 +48,6 @@ use Rattle.gptp_invariants.proofs.WorldStandsLemmas.{stands_well}
 use Rattle.gptp_settling_time.proofs.AlwaysClaimedLemmas.{AreHeard, IsClaimedAlways, IsStanding, linked_on, same_start, start_calm, start_network}
 use Rattle.gptp_settling_time.proofs.LeftClaimedLemmas.{HaveAskedBy, asked_acts, asked_later, standing_acts, standing_later}
 use Rattle.gptp_settling_time.proofs.LiveTracesLemmas.{TellersLive, ToldIsClean, told_begins, told_kept, told_whole}
-use Rattle.gptp_settling_time.proofs.NewsMeasuredLemmas.{ready_measures}
 use Rattle.gptp_settling_time.proofs.SeenSettledLemmas.{seen_chooses, seen_settles}
 use Rattle.gptp_settling_time.proofs.SettledSeenLemmas.{IsSettledSeen, always_seen, news_seen, settled_in}
 use Rattle.gptp_settling_time.proofs.StandsLikeLemmas.{none_short}
@@ -438,11 +437,3 @@ module _ (p : SettlingParams) (since most silent : ℕ) (w : WorldState) (is : I
     heard = asked_are_heard p since start w is.asked;
     settling = λ m bounded quiet off. always_seen p m start w world sound seen bounded;
   }
-
--- its ports have measured their links
-pub lost_measured : (p : SettlingParams) (since most silent : ℕ) (w : WorldState)
-    → IsLostAlways p since most silent w → w.last_change + window_span p.params ≤ w.time → HaveMeasuredLinks w
-lost_measured p since most silent w is late =
-    let change = is.change in
-    ready_measures p since w is.standing.world (asked_are_ready p since w is.asked) is.quiet
-    (omega (arith, change, late))

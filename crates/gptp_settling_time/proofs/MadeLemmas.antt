@@ -144,6 +144,21 @@ one_more n before (first ∷ events) event time (one, more) =
     let (rest, last) = one_more n (before ++ first ∷ []) events event time more in
     ((one, rest), subst (λ es. IsSparedBy n es event time) (append_assoc before (first ∷ []) events) last)
 
+one_more_measures : (n : NetworkState) (before : List Timed) (by : ℕ) (events : List Timed) (event : Timed) (time : ℕ)
+    → MeasureBy n before by (events ++ event ∷ []) time
+    → (now : ℕ) × MeasureBy n before by events now × (next : ℕ) × MeasureNext n (before ++ events) now event next
+    × (next ≤ time)
+one_more_measures n before by [] event time (next, one, until) =
+    (by, omega arith, next, subst (λ es. MeasureNext n es by event next) (sym (append-nil before)) one, until)
+one_more_measures n before by (first ∷ events) event time (next, one, more) =
+    let (now, rest, then, last, until) = one_more_measures n (before ++ first ∷ []) next events event time more in (
+      now,
+      (next, one, rest),
+      then,
+      subst (λ es. MeasureNext n es now event then) (append_assoc before (first ∷ []) events) last,
+      until,
+    )
+
 -- ---- an event is made
 
 module _ {F : Type 0} (answers : Bounds → ℕ → F → Option ℕ → F → Type 0) (d : DocumentState)
@@ -301,6 +316,17 @@ module _ {F : Type 0} (answers : Bounds → ℕ → F → Option ℕ → F → T
               (gone, past, both.0, both.1)
         ]
 
+    -- by when ports measure by the least delays in force
+    measures_after : (by : ℕ) → MeasureBy n [] 0 more by → AreMeasuringBy p by w'
+    measures_after by led =
+        let (now, before, next, last, until) = one_more_measures n [] 0 made event by led in
+        let change = made_last in
+        let time = made_time in
+        elim last [
+          | inl anew ↦ measuring_anew p by w' claim_after.watched (omega (arith, anew, until, change, time))
+          | inr leaves ↦ ?
+        ]
+
     pub made_keeps : KeepsTo d more w'
     made_keeps = record {
       claim = claim_after;
@@ -313,6 +339,7 @@ module _ {F : Type 0} (answers : Bounds → ℕ → F → Option ℕ → F → T
           limited_made most made event is.change then k.draws w' is.act acts.1 made_time (short_after most within)
           (limited_later (arrived_by most made) w event.at k.ready.timely.now
           (keeps.limited most (within_before n made (event ∷ []) most within)));
+      measures = measures_after;
       named = named_begins p w' claim_after.world claim_after.pace.largest made_last;
     }
 

@@ -1,13 +1,14 @@
 -- By when the ports of a world measure its links by the least delays in force, and that they have measured them.
-use Rattle.std.proofs.Common.{◌≡◌, ◌⊎◌, ◌≤◌, ◌<◌, ◌+◌, ◌-◌, ◌*◌, ℕ, zero, suc, true, List, Some, slice_get, sym, ap, subst, ◌∙◌, inl, inr, arith}
+use Rattle.std.proofs.Common.{◌≡◌, ◌⊎◌, ◌≤◌, ◌<◌, ◌+◌, ◌-◌, ◌*◌, ℕ, zero, suc, true, List, Some, slice_get, refl, sym, ap, subst, ◌∙◌, inl, inr, arith}
 use Rattle.gptp_lists.proofs.MappedLemmas.{same_there, some_same}
 use Rattle.gptp_graph.specs.Snapshot.{Joins, PortIdentity}
 use Rattle.gptp_links.specs.Fate.{Draw}
 use Rattle.gptp_setup.specs.declared.setup.Params.{Params}
 use Rattle.gptp_setup.specs.Intervals.{interval_of}
-use Rattle.gptp_setup.specs.SettlingParams.{SettlingParams}
+use Rattle.gptp_setup.specs.SettlingParams.{SettlingParams, largest_interval}
 use Rattle.gptp_scenario.specs.SettlingTime.{window_span}
 use Rattle.gptp_scenario.specs.declared.change.Act.{Act}
+use Rattle.gptp_scenario.specs.declared.change.Act.TheVariants.{Change as Changing, Deliver, Expire}
 use Rattle.gptp_system.specs.declared.port.Port.{Port}
 use Rattle.gptp_system.specs.State.{clock, number, own}
 use Rattle.gptp_model.specs.Acts.{Acts, at as at_time}
@@ -19,15 +20,19 @@ use Rattle.gptp_model.specs.World.{WorldState, receiver, sender}
 use Rattle.gptp_pdelay_machine.specs.FirstLaws.{exchange_span}
 use Rattle.gptp_pdelay_machine.specs.Measured.{HasMeasured}
 use Rattle.gptp_invariants.specs.ChoiceCalm.{HaveQuietLinks, delay_in}
+use Rattle.gptp_invariants.specs.ChoiceSeenLaws.{IsNoChange}
 use Rattle.gptp_invariants.specs.ChoiceSettlesAsMachine.{IsWorld}
 use Rattle.gptp_invariants.specs.DelayElsewhereLaws.{LeavesAlone}
 use Rattle.gptp_invariants.specs.DelayFirstAt.{IsMeasuringAt}
 use Rattle.gptp_invariants.specs.DelayLinkView.{IsLinkOf, LinkPlace, least_delay, link_setting, pair}
 use Rattle.gptp_invariants.specs.DelayMeasured.{LinkIsMeasured, LinkStandsAt}
 use Rattle.gptp_invariants.specs.DelayMeasuredLinks.{HasMeasuredLink, HaveMeasuredLinks}
+use Rattle.gptp_invariants.specs.DelayWatch.{GoodLinksMeasure}
 use Rattle.gptp_invariants.specs.DelayWatched.{IsWatched}
 use Rattle.gptp_invariants.specs.WorldStanding.{live_stations, snapshot_of}
 use Rattle.gptp_invariants.specs.ChoiceView.{port_identity_number}
+use Rattle.gptp_invariants.proofs.ChoiceCalmKeptLemmas.{acts_keep}
+use Rattle.gptp_invariants.proofs.DelayCapableKeptLemmas.{stood}
 use Rattle.gptp_invariants.proofs.DelayElsewhereLemmas.{watch_goes_through}
 use Rattle.gptp_invariants.proofs.DelayFirstAtLemmas.{first_goes_on, first_goes_through, first_measured}
 use Rattle.gptp_invariants.proofs.DelayWatchLemmas.{watch_goes_on}
@@ -38,6 +43,7 @@ use Rattle.gptp_invariants.proofs.WorldWayLemmas.{IsWay, way_of}
 use Rattle.gptp_invariants.proofs.DelayUsedLinkLemmas.{receiver_lives}
 use Rattle.gptp_invariants.proofs.DelayLinkLemmas.{good_between}
 use Rattle.gptp_settling_time.proofs.HeardLemmas.{period_is}
+use Rattle.gptp_settling_time.proofs.LinkStoodLemmas.{stood_in}
 use Rattle.gptp_settling_time.proofs.WillAskLemmas.{WillAsk, first_from, measuring_since, watched_later, will_goes_on, will_goes_through}
 
 -- ---- a link
@@ -125,6 +131,36 @@ module _ (p : SettlingParams) (by : ℕ) (at : LinkPlace) where
           record { is = one.is; measures = inr (calm, omega arith, soon, one.is.inv) },
         )
   ]
+
+-- ---- all links
+
+pub measuring_time : (p : SettlingParams) (by time : ℕ) (w : WorldState) → IsSound w → w.time ≤ time
+    → NothingBefore time w.net.pending → AreMeasuringBy p by w → AreMeasuringBy p by (at_time time w)
+measuring_time p by time w sound later nothing measures at stands =
+    measuring_goes_on p by at time w sound later nothing
+    (measures at (stood_in at (at_time time w) w stands refl stands.here))
+
+-- no act that is no change touches it
+alone : (at : LinkPlace) (act : Act) (w : WorldState) → IsNoChange act → LeavesAlone at act w
+alone at (Deliver link direction) w none = tt
+alone at (Expire number timer) w none = tt
+alone at (Changing change) w none = absurd none
+
+pub measuring_acts : (p : SettlingParams) (by : ℕ) (act : Act) (w : WorldState) (draws : List Draw) (done : Done)
+    (w' : WorldState) → IsNoChange act → Acts act w draws done w' → IsWorld p w → IsWorld p w' → LinkIsMeasured w
+    → AreMeasuringBy p by w → AreMeasuringBy p by w'
+measuring_acts p by act w draws done w' none acts is is' measured measures at stands =
+    let keeps = acts_keep act w draws done w' none acts in
+    measuring_goes_through p by at act w w' draws done is.sound measured (alone at act w none) acts
+    (measures at (stood p w w' is is' keeps at stands))
+
+-- a link that is watched since the last change is measured so two announce intervals later
+pub measuring_anew : (p : SettlingParams) (by : ℕ) (w : WorldState) → GoodLinksMeasure p w
+    → w.last_change + 2 * largest_interval p + interval_of p.params.pdelay ≤ by → AreMeasuringBy p by w
+measuring_anew p by w watched late at stands =
+    inr (inl (w.last_change + largest_interval p, w.last_change + 2 * largest_interval p, late, watched at stands))
+
+-- ---- what is measured
 
 -- the intervals of a window are one and those of its other exchanges
 whole_window : (window period : ℕ) → window * period ≤ (window - 1) * period + period

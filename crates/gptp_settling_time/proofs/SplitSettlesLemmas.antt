@@ -32,7 +32,6 @@ use Rattle.gptp_settling_time.proofs.AtRestLemmas.{LinksAreAtRest}
 use Rattle.gptp_settling_time.proofs.EmptiedLemmas.{older_calm}
 use Rattle.gptp_settling_time.proofs.FallAlwaysLemmas.{fallen_by, settles_by}
 use Rattle.gptp_settling_time.proofs.LeftClaimedLemmas.{asked_ready, left_calm, left_network}
-use Rattle.gptp_settling_time.proofs.NewsMeasuredLemmas.{ready_measures}
 use Rattle.gptp_settling_time.proofs.SeenSettledLemmas.{near_choose, near_settle}
 use Rattle.gptp_settling_time.proofs.SplitAlwaysLemmas.{IsSplitAlways, none_now, split_after, split_network}
 use Rattle.gptp_settling_time.proofs.SplitLemmas.{IsCut, IsTurned, IsTwice, SplitSettles, SplitsBack, cut_times, tops_times, turned_times}
@@ -155,12 +154,3 @@ module _ (p : SettlingParams) (g : Snapshot) (By : PortIdentity → ℕ → Type
       near_settle p (dark_from from) w world refl well (dark_after from standing_now).calm (has from standing_now) came
       (omega arith) now in
       (settled, bounded_by p w world settled above)
-
--- its ports have measured their links
-pub split_measured : (p : SettlingParams) (g : Snapshot) (By : PortIdentity → ℕ → Type 0) (Limits : ℕ → Type 0)
-    (failed gone silent : ℕ)
-    (w : WorldState) → IsSplitAlways p g By Limits failed gone silent w → HaveQuietLinks p.params w
-    → w.last_change + window_span p.params ≤ w.time
-    → HaveMeasuredLinks w
-split_measured p g By Limits failed gone silent w is quiet =
-    ready_measures p w.last_change w is.standing.world (asked_ready p w is.asked) quiet

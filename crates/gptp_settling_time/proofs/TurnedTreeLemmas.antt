@@ -53,7 +53,6 @@ use Rattle.gptp_settling_time.proofs.AlwaysClaimedLemmas.{IsStanding}
 use Rattle.gptp_settling_time.proofs.FallAlwaysLemmas.{fallen_by, falls_within, settles_by, settles_later}
 use Rattle.gptp_settling_time.proofs.LeftClaimedLemmas.{HaveAskedBy, HaveAskedLong, asked_acts, asked_later, asked_ready, left_network, same_left, standing_acts, standing_later}
 use Rattle.gptp_settling_time.proofs.MovedAlwaysLemmas.{after_loss, calm_now, dark_now}
-use Rattle.gptp_settling_time.proofs.NewsMeasuredLemmas.{ready_measures}
 use Rattle.gptp_settling_time.proofs.SeenSettledLemmas.{near_settle}
 
 -- ---- times
@@ -265,10 +264,3 @@ module _ (p : SettlingParams) (g : Snapshot) (silent start : ℕ) (w : WorldStat
 
   pub turned_tree_settles : Settled w × IsBoundedWorld w
   turned_tree_settles = (settled, bounded_by p w world settled above)
-
--- its ports have measured their links
-pub turned_tree_measured : (p : SettlingParams) (g : Snapshot) (silent start : ℕ) (w : WorldState)
-    → IsTurnedTreeAlways p g silent start w → HaveQuietLinks p.params w
-    → w.last_change + window_span p.params ≤ w.time → HaveMeasuredLinks w
-turned_tree_measured p g silent start w is quiet =
-    ready_measures p w.last_change w is.standing.world (asked_ready p w is.asked) quiet
