@@ -48,6 +48,7 @@ use Rattle.gptp_theorem.proofs.KeptLemmas.{time_stands}
 use Rattle.gptp_theorem.proofs.SyncPathLemmas.{paths_stand}
 use Rattle.gptp_settling_time.specs.Arrivals.{arrived_by}
 use Rattle.gptp_settling_time.specs.Gains.{AreCapableAnyway, AreCapableNext, AreCapableStill, AreSparedBy, ChangesNothing, HasDelaysWithin, IsGainAfter, IsIdleAfter, IsSparedBy, JoinsLive, LeavesCapable, SparesFailed, TakesNothing, UsesNoLink}
+use Rattle.gptp_settling_time.specs.Measuring.{MeasureBy, MeasureNext}
 use Rattle.gptp_settling_time.specs.Idle.{Lives}
 use Rattle.gptp_settling_time.specs.EventKinds.{AddsHeard}
 use Rattle.gptp_settling_time.proofs.GainLemmas.{all_live, better_lives, failed_so, gain_so, idle_so, lives_so, used_as}
@@ -57,6 +58,7 @@ use Rattle.gptp_settling_time.proofs.AskedInTimeLemmas.{AreAskedInTime, are_aske
 use Rattle.gptp_settling_time.proofs.BetweenFailedLemmas.{AreGoneBetween, gone_begins, gone_later}
 use Rattle.gptp_settling_time.proofs.DelayWithinLemmas.{within_before, within_last}
 use Rattle.gptp_settling_time.proofs.KeptToLemmas.{IsNewsTo, KeepsTo, WereAskedInTime, keeps_later}
+use Rattle.gptp_settling_time.proofs.MeasuringLemmas.{AreMeasuringBy, measuring_anew}
 use Rattle.gptp_settling_time.proofs.NamedWorldLemmas.{named_begins}
 use Rattle.gptp_settling_time.proofs.NewsSoonLemmas.{AreComing, HowComing, IsNewsFrom, IsNewsSoon, coming_later, from_coming, from_later, from_sound}
 use Rattle.gptp_settling_time.proofs.PriorityNewsLemmas.{priority_soon, priority_stays_news}

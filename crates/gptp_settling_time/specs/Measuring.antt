@@ -13,8 +13,8 @@ use Rattle.gptp_settling_time.specs.EventKinds.{WidensLink}
 use Rattle.gptp_settling_time.specs.Gains.{AreSparedBy}
 
 -- Where ports measure so by a time, they do by the next after one of these changes. The ports of a link that comes up
--- ask then. Those of a system that recovers do, and those beside it within a peer delay interval: what it sent before it
--- failed is gone by then. The ports of a link whose delays are set, and that all asked before, ask within one.
+-- ask then. Those of a system that recovers do, and those beside it within a peer delay interval: what it sent before
+-- it failed is gone by then. The ports of a link whose delays are set, and that all asked before, ask within one.
 abbrev pub LeavesMeasuring : NetworkState → List Timed → ℕ → Timed → ℕ → Act → Type 0
 LeavesMeasuring n before by event next (Changing (LinkUp number port)) = event.at ≤ next
 LeavesMeasuring n before by event next (Changing (LinkDown number port)) = ⊤
