@@ -7,7 +7,6 @@ use Rattle.gptp_graph.specs.Snapshot.{Snapshot, System}
 use Rattle.gptp_graph.proofs.PathBoundLemmas.{IsDistance-within}
 use Rattle.gptp_links.specs.Fate.{Draw}
 use Rattle.gptp_scenario.specs.Calm.{NothingLapses}
-use Rattle.gptp_scenario.specs.SettlingTime.{window_span}
 use Rattle.gptp_scenario.specs.declared.change.Act.{Act}
 use Rattle.gptp_setup.specs.SettlingParams.{SettlingParams}
 use Rattle.gptp_model.specs.Acts.{Acts, at as at_time}
@@ -27,7 +26,6 @@ use Rattle.gptp_invariants.specs.ChoiceSeenLaws.{IsNoChange}
 use Rattle.gptp_invariants.specs.ChoiceSettled.{Settled}
 use Rattle.gptp_invariants.specs.ChoiceSettlesAsMachine.{IsWorld}
 use Rattle.gptp_invariants.specs.ChoiceView.{says_announce, station_view, view}
-use Rattle.gptp_invariants.specs.DelayMeasuredLinks.{HaveMeasuredLinks}
 use Rattle.gptp_invariants.specs.WorldBounded.{IsBoundedWorld}
 use Rattle.gptp_invariants.specs.WorldEncodableLaws.{SetsAnOctet}
 use Rattle.gptp_invariants.specs.WorldStanding.{snapshot_of}
