@@ -44,7 +44,7 @@ use Rattle.gptp_bmca_machine.proofs.SoundLemmas.{received_fits}
 use Rattle.gptp_invariants.specs.ChoiceCalm.{HaveQuietLinks, paths_with}
 use Rattle.gptp_invariants.specs.ChoiceSettlesAsMachine.{IsWorld}
 use Rattle.gptp_invariants.specs.ChoiceView.{lane_view, lanes_view, says_announce, station_view, view}
-use Rattle.gptp_invariants.specs.DelayFirstAt.{IsFirstBy}
+use Rattle.gptp_invariants.specs.DelayFirstAt.{IsFirstAt, IsFirstBy}
 use Rattle.gptp_invariants.specs.DelayLinkView.{IsLinkOf, LinkPlace, link_setting, meter, pair, pair_view, reads_as_reply, reads_as_request, setting_view, kept_view}
 use Rattle.gptp_invariants.specs.DelayMeasured.{LinkIsMeasured, LinkStandsAt}
 use Rattle.gptp_invariants.specs.FailedUnanswered.{IsFailedAmong, IsLastAnswered, IsOff, StandsUnanswered}
@@ -60,7 +60,8 @@ use Rattle.gptp_settling_time.proofs.AlwaysClaimedLemmas.{AreHeard, IsClaimedAlw
 use Rattle.gptp_settling_time.proofs.HeardLemmas.{period_is}
 use Rattle.gptp_settling_time.proofs.LinkStoodLemmas.{stood_in}
 use Rattle.gptp_settling_time.proofs.LinkUpLemmas.{lane_set}
-use Rattle.gptp_settling_time.proofs.SameLinkLemmas.{StaysSameLink, ready_same}
+use Rattle.gptp_settling_time.proofs.MeasuringLemmas.{AreMeasuringBy, has_begun, measuring_later}
+use Rattle.gptp_settling_time.proofs.SameLinkLemmas.{StaysSameLink, measuring_same, ready_same}
 use Rattle.gptp_settling_time.proofs.SettledSeenLemmas.{HasSettledSeen, IsSettledSeen, stage_settled}
 use Rattle.gptp_settling_time.proofs.StandsLikeLemmas.{none_short}
 use Rattle.gptp_settling_time.proofs.WiderLinkLemmas.{facts_wide, first_wide}
@@ -299,17 +300,16 @@ module _ (p : SettlingParams) (start next by place : ℕ) (w : WorldState) (is :
         let bounds : l.channel.bounds.max ≡ channel.bounds.max = ap (λ (c : Channel). c.bounds.max) channel_is in
         omega (arith, more, bounds)
 
-  module _ (pace : KeepPace p) (is' : IsWorld p widened) (later : start + 2 * by ≤ next) (past : next ≤ w.time) where
-    -- two intervals between requests and an exchange are over
-    first_widened : (at : LinkPlace) → at.link ≡ place → LinkStandsAt at widened → (first : ℕ)
-        → IsFirstBy first start at w → IsFirstBy first next at widened
-    first_widened at same s first (x, soon) =
+  module _ (pace : KeepPace p) where
+    -- exchanges go on as they did
+    first_at_widened : (at : LinkPlace) → at.link ≡ place → LinkStandsAt at widened → (first : ℕ) → IsFirstAt first at w
+        → IsFirstAt first at widened
+    first_at_widened at same s first x =
         let l = x.link in
         let k = link_setting at w l in
         let settled_is = settled at same s l in
         let seen_is = seen at same s l in
         let long = longer at same s l in
-        let most = within at same s l in
         let less : ℕ = min x.less b.min in
         let quick : less ≤ x.less = omega arith in
         let is_good = good at same s l in
@@ -317,23 +317,47 @@ module _ (p : SettlingParams) (start next by place : ℕ) (w : WorldState) (is :
         let turnaround : k.turnaround ≡ p.params.turnaround =
         ap (λ (y : Params). y.turnaround) (answers_by at same s l) in
         let answered = pace.params.answered in
-        let here_then = after at same s l in (
-          record {
-            link = here_then;
-            short = subst (λ (y : Setting). exchange_span y < y.period) (sym settled_is)
-                (omega (arith, is_good, period, turnaround, answered));
-            facts = subst (λ (y : Setting). Facts y first (pair at widened here_then)) (sym settled_is)
-                (subst (λ (m : Meter). Facts (record k { most = b.max }) first m.pair) (sym seen_is)
-                (facts_wide k b.max x.less less long quick reads_as_request reads_as_reply first (pair at w l)
-                x.facts));
-            less = less;
-            within = omega arith;
-            inv = subst (λ (y : Setting). InvFirst y less reads_as_request reads_as_reply first
-                (meter at widened here_then)) (sym settled_is)
-                (subst (λ (m : Meter). InvFirst (record k { most = b.max }) less reads_as_request reads_as_reply first
-                m) (sym seen_is)
-                (first_wide k b.max x.less less long quick reads_as_request reads_as_reply first (meter at w l) x.inv));
-          },
+        let here_then = after at same s l in
+        record {
+          link = here_then;
+          short = subst (λ (y : Setting). exchange_span y < y.period) (sym settled_is)
+              (omega (arith, is_good, period, turnaround, answered));
+          facts = subst (λ (y : Setting). Facts y first (pair at widened here_then)) (sym settled_is)
+              (subst (λ (m : Meter). Facts (record k { most = b.max }) first m.pair) (sym seen_is)
+              (facts_wide k b.max x.less less long quick reads_as_request reads_as_reply first (pair at w l) x.facts));
+          less = less;
+          within = omega arith;
+          inv = subst (λ (y : Setting). InvFirst y less reads_as_request reads_as_reply first
+              (meter at widened here_then)) (sym settled_is)
+              (subst (λ (m : Meter). InvFirst (record k { most = b.max }) less reads_as_request reads_as_reply first m)
+              (sym seen_is)
+              (first_wide k b.max x.less less long quick reads_as_request reads_as_reply first (meter at w l) x.inv));
+        }
+
+    -- so the next request finds nothing old, and exchanges since then take the least delay in force
+    measures_widened : (soon : ℕ) → soon < w.time → IsWorld p widened → AreMeasuringBy p soon w
+        → AreMeasuringBy p (w.time + interval_of p.params.pdelay) widened
+    measures_widened soon past is' measures at s = elim (same_place at.link place) [
+      | inl same ↦
+          let (first, x) = has_begun p soon at w is past (measures at (stood at s)) in
+          let one = first_at_widened at same s first x.is in
+          let asked = one.facts.asked in
+          let period = period_is p at widened is' one.link in
+          inl (first, record { is = one; measures = inl (omega (arith, asked, period)) })
+      | inr apart ↦
+          measuring_later p soon at (w.time + interval_of p.params.pdelay) widened (omega (arith, past))
+          (measuring_same p soon at w widened (other_link at apart) (measures at (stood at s)))
+    ]
+
+  module _ (pace : KeepPace p) (is' : IsWorld p widened) (later : start + 2 * by ≤ next) (past : next ≤ w.time) where
+    -- two intervals between requests and an exchange are over
+    first_widened : (at : LinkPlace) → at.link ≡ place → LinkStandsAt at widened → (first : ℕ)
+        → IsFirstBy first start at w → IsFirstBy first next at widened
+    unfolding first_at_widened
+    first_widened at same s first (x, soon) =
+        let settled_is = settled at same s x.link in
+        let most = within at same s x.link in (
+          first_at_widened pace at same s first x,
           subst (λ (y : Setting). first + y.period + exchange_span y < next) (sym settled_is)
               (omega (arith, soon, most, later)),
         )
@@ -508,3 +532,14 @@ module _ (p : SettlingParams) (start next by number port least most : ℕ) (w : 
       (widened_always p start next by k.place w is k.channel b k.is.here used wider quiet pace
       (subst (IsWorld p) same is') later past off (subst LinkIsMeasured same measured')
       (subst IsSoundWorld same sound') ready silent settled)
+
+  -- by when ports measure by the least delays in force
+  pub widened_measures : (soon : ℕ) → soon < w.time → AreMeasuringBy p soon w
+      → AreMeasuringBy p (w.time + interval_of p.params.pdelay) w'
+  widened_measures soon past measures =
+      let k = acts.1 in
+      let b : Bounds = set_to least most 0 k.channel in
+      let same : w' ≡ record w { last_change = w.time; net = with_bounds b k.place k.channel w.net } = k.so.1 in
+      subst (AreMeasuringBy p (w.time + interval_of p.params.pdelay)) (sym same)
+      (measures_widened p start next by k.place w is k.channel b k.is.here used wider quiet pace soon past
+      (subst (IsWorld p) same is') measures)
