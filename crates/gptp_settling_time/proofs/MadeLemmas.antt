@@ -46,19 +46,20 @@ use Rattle.gptp_theorem.proofs.ChangeLemmas.{changes_stand}
 use Rattle.gptp_theorem.proofs.SettlingInvariantLemmas.{IsFitEvent, least_of}
 use Rattle.gptp_theorem.proofs.KeptLemmas.{time_stands}
 use Rattle.gptp_theorem.proofs.SyncPathLemmas.{paths_stand}
+use Rattle.gptp_theorem.proofs.CalmLemmas.{quiet_stands}
 use Rattle.gptp_settling_time.specs.Arrivals.{arrived_by}
 use Rattle.gptp_settling_time.specs.Gains.{AreCapableAnyway, AreCapableNext, AreCapableStill, AreSparedBy, ChangesNothing, HasDelaysWithin, IsGainAfter, IsIdleAfter, IsSparedBy, JoinsLive, LeavesCapable, SparesFailed, TakesNothing, UsesNoLink}
-use Rattle.gptp_settling_time.specs.Measuring.{MeasureBy, MeasureNext}
+use Rattle.gptp_settling_time.specs.Measuring.{LeavesMeasuring, MeasureBy, MeasureNext}
 use Rattle.gptp_settling_time.specs.Idle.{Lives}
 use Rattle.gptp_settling_time.specs.EventKinds.{AddsHeard}
-use Rattle.gptp_settling_time.proofs.GainLemmas.{all_live, better_lives, failed_so, gain_so, idle_so, lives_so, used_as}
+use Rattle.gptp_settling_time.proofs.GainLemmas.{all_live, better_lives, failed_so, gain_so, idle_so, lives_so, used_as, used_so, within_so}
 use Rattle.gptp_settling_time.proofs.IdleLemmas.{idle_still}
 use Rattle.gptp_settling_time.proofs.AskedElsewhereLemmas.{up_gone_still, up_in_time_still}
 use Rattle.gptp_settling_time.proofs.AskedInTimeLemmas.{AreAskedInTime, are_asked_begin, are_asked_later}
 use Rattle.gptp_settling_time.proofs.BetweenFailedLemmas.{AreGoneBetween, gone_begins, gone_later}
 use Rattle.gptp_settling_time.proofs.DelayWithinLemmas.{within_before, within_last}
 use Rattle.gptp_settling_time.proofs.KeptToLemmas.{IsNewsTo, KeepsTo, WereAskedInTime, keeps_later}
-use Rattle.gptp_settling_time.proofs.MeasuringLemmas.{AreMeasuringBy, measuring_anew}
+use Rattle.gptp_settling_time.proofs.MeasuringLemmas.{AreMeasuringBy, measuring_anew, measuring_later, measuring_time}
 use Rattle.gptp_settling_time.proofs.NamedWorldLemmas.{named_begins}
 use Rattle.gptp_settling_time.proofs.NewsSoonLemmas.{AreComing, HowComing, IsNewsFrom, IsNewsSoon, coming_later, from_coming, from_later, from_sound}
 use Rattle.gptp_settling_time.proofs.PriorityNewsLemmas.{priority_soon, priority_stays_news}
@@ -67,7 +68,8 @@ use Rattle.gptp_settling_time.proofs.RecoverLemmas.{recover_alone, recover_in_ti
 use Rattle.gptp_settling_time.proofs.RecoverAloneLemmas.{UsesNone, none_stands}
 use Rattle.gptp_settling_time.proofs.SinceSetLemmas.{limited_later, limited_made}
 use Rattle.gptp_settling_time.proofs.StandsStillLemmas.{StandsStill, asked_still, between_still, from_stands}
-use Rattle.gptp_settling_time.proofs.UpSoonLemmas.{up_soon}
+use Rattle.gptp_settling_time.proofs.UpSoonLemmas.{up_measures, up_soon}
+use Rattle.gptp_settling_time.proofs.WidenedLemmas.{widened_measures}
 
 -- what is so at both ends of a link is so where it leads to
 end_so : (So : ℕ → Type 0) (direction : Direction) (channel : Channel) → So channel.a.clock → So channel.b.clock
@@ -319,6 +321,34 @@ module _ {F : Type 0} (answers : Bounds → ℕ → F → Option ℕ → F → T
         ]
 
     -- by when ports measure by the least delays in force
+    measured_event : (now next : ℕ) → now ≤ next → AreMeasuringBy p now then → (change : Change) → is.change ≡ change
+        → LeavesMeasuring n made now event next (Changing change) → AreMeasuringBy p next w'
+    measured_event now next longer measures (LinkUp number port) same late =
+        up_measures p number port then k.draws done w' claim_now.pace claim_now.world claim_after.world
+        claim_now.measured (acts_as (LinkUp number port) same) now next longer late measures
+    measured_event now next longer measures (LinkDown number port) same leaves = ?
+    measured_event now next longer measures (LinkSet number port min max loss) same ((wider, x), calm, past, late) =
+        let came : Acts (Changing (LinkSet x.clock x.port x.min x.max 0)) then k.draws done w' =
+        subst (λ act. Acts act then k.draws done w') x.act k.acts in
+        let quiet = (quiet_stands n made then playable.network stands_now claim_now.world.sound calm).links in
+        let within = within_so n made then stands_now claim_now.world.sound (port_id x.clock x.port) x.max wider x.within
+        came.1.place came.1.channel came.1.is in
+        let used = used_so n made then stands_now claim_now.world.sound came.1.channel within.used in
+        let measured_then = widened_measures p wider x.clock x.port x.min x.max then k.draws done w' claim_now.pace
+        claim_now.world claim_after.world quiet came used
+        (record {
+          most = within.most;
+          more = within.more;
+          lossless_before = (quiet came.1.place came.1.channel came.1.is.here used).lossless;
+          lossless = refl;
+        }) now past measures in
+        λ place stands.
+        measuring_later p (event.at + interval_of p.params.pdelay) next place w' late (measured_then place stands)
+    measured_event now next longer measures (Fail number) same leaves = ?
+    measured_event now next longer measures (Recover number) same leaves = ?
+    measured_event now next longer measures (Priority1 number value) same leaves = ?
+    measured_event now next longer measures (Inject number port octets) same none = absurd none
+
     measures_after : (by : ℕ) → MeasureBy n [] 0 more by → AreMeasuringBy p by w'
     measures_after by led =
         let (now, before, next, last, until) = one_more_measures n [] 0 made event by led in
@@ -326,7 +356,12 @@ module _ {F : Type 0} (answers : Bounds → ℕ → F → Option ℕ → F → T
         let time = made_time in
         elim last [
           | inl anew ↦ measuring_anew p by w' claim_after.watched (omega (arith, anew, until, change, time))
-          | inr leaves ↦ ?
+          | inr (longer, leaves) ↦
+              let measures = measuring_time p now event.at w keeps.claim.world.sound k.ready.timely.now
+              k.ready.timely.first (keeps.measures now before) in
+              let then = measured_event now next longer measures is.change refl
+              (subst (LeavesMeasuring n made now event next) is.act leaves) in
+              λ place stands. measuring_later p next place by w' until (then place stands)
         ]
 
     pub made_keeps : KeepsTo d more w'

@@ -533,7 +533,12 @@ module _ (p : SettlingParams) (start next by number port least most : ℕ) (w : 
       (subst (IsWorld p) same is') later past off (subst LinkIsMeasured same measured')
       (subst IsSoundWorld same sound') ready silent settled)
 
-  -- by when ports measure by the least delays in force
+-- by when ports measure by the least delays in force
+module _ (p : SettlingParams) (by number port least most : ℕ) (w : WorldState) (draws : List Draw) (done : Done)
+    (w' : WorldState) (pace : KeepPace p) (is : IsWorld p w) (is' : IsWorld p w') (quiet : HaveQuietLinks p.params w)
+    (acts : Acts (Changing (LinkSet number port least most 0)) w draws done w')
+    (used : channel_is_used (live_stations w.stations) acts.1.channel ≡ true)
+    (wider : AreWiderBy by acts.1.channel.bounds (set_to least most 0 acts.1.channel)) where
   pub widened_measures : (soon : ℕ) → soon < w.time → AreMeasuringBy p soon w
       → AreMeasuringBy p (w.time + interval_of p.params.pdelay) w'
   widened_measures soon past measures =
@@ -541,5 +546,5 @@ module _ (p : SettlingParams) (start next by number port least most : ℕ) (w : 
       let b : Bounds = set_to least most 0 k.channel in
       let same : w' ≡ record w { last_change = w.time; net = with_bounds b k.place k.channel w.net } = k.so.1 in
       subst (AreMeasuringBy p (w.time + interval_of p.params.pdelay)) (sym same)
-      (measures_widened p start next by k.place w is k.channel b k.is.here used wider quiet pace soon past
+      (measures_widened p 0 0 by k.place w is k.channel b k.is.here used wider quiet pace soon past
       (subst (IsWorld p) same is') measures)
