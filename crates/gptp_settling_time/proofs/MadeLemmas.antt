@@ -64,7 +64,7 @@ use Rattle.gptp_settling_time.proofs.NamedWorldLemmas.{named_begins}
 use Rattle.gptp_settling_time.proofs.NewsSoonLemmas.{AreComing, HowComing, IsNewsFrom, IsNewsSoon, coming_later, from_coming, from_later, from_sound}
 use Rattle.gptp_settling_time.proofs.PriorityNewsLemmas.{priority_soon, priority_stays_news}
 use Rattle.gptp_settling_time.proofs.PrioritySparedLemmas.{priority_gone, priority_in_time}
-use Rattle.gptp_settling_time.proofs.RecoverLemmas.{recover_alone, recover_in_time, recover_soon}
+use Rattle.gptp_settling_time.proofs.RecoverLemmas.{recover_alone, recover_in_time, recover_measures, recover_soon}
 use Rattle.gptp_settling_time.proofs.RecoverAloneLemmas.{UsesNone, none_stands}
 use Rattle.gptp_settling_time.proofs.SinceSetLemmas.{limited_later, limited_made}
 use Rattle.gptp_settling_time.proofs.StandsStillLemmas.{StandsStill, asked_still, between_still, from_stands}
@@ -345,7 +345,15 @@ module _ {F : Type 0} (answers : Bounds → ℕ → F → Option ℕ → F → T
         λ place stands.
         measuring_later p (event.at + interval_of p.params.pdelay) next place w' late (measured_then place stands)
     measured_event now next longer measures (Fail number) same leaves = ?
-    measured_event now next longer measures (Recover number) same leaves = ?
+    measured_event now next longer measures (Recover number) same (failed, alone, late) =
+        let (gone, past, asked, all) = keeps.asked event.at alone in
+        let came = acts_as (Recover number) same in
+        let exchange = delay_in w' + p.params.turnaround + delay_in w' in
+        recover_measures p next (event.at + 2 * interval_of p.params.pdelay + exchange + 1) number then k.draws done w'
+        claim_now.pace claim_now.world claim_after.world claim_now.measured claim_after.measured came
+        (failed_so n made then stands_now claim_now.world.sound number failed came.1.place came.1.station
+        (record { here = came.1.is.here; named = came.1.is.named })) gone past (asked_now gone asked) now longer late
+        (omega arith) measures
     measured_event now next longer measures (Priority1 number value) same leaves = ?
     measured_event now next longer measures (Inject number port octets) same none = absurd none
 
