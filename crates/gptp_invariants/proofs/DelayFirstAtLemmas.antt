@@ -77,7 +77,8 @@ module _ (at : LinkPlace) (first : ℕ) where
       (act_of k reads_as_request reads_as_reply m m' one.acts) one.out one.back
       is.facts in
       let same_least : least ≡ least_delay at w' seen.after = ap (λ (b : Bounds). b.min) (sym seen.bounds) in
-      let inv = first_kept k is.less reads_as_request reads_as_reply first first m m' is.short (omega arith) is.facts facts
+      let inv = first_kept k is.less reads_as_request reads_as_reply first first m m' is.short (omega arith) is.facts
+      facts
       (sent_later least is.less w.time m.pair.out m'.pair.out is.within one.out_late)
       (sent_later least is.less w.time m.pair.back m'.pair.back is.within one.back_late) one.acts is.inv in
       record {
@@ -86,7 +87,8 @@ module _ (at : LinkPlace) (first : ℕ) where
         facts = subst (λ (x : Setting). Facts x first m'.pair) (sym seen.settled) facts;
         less = is.less;
         within = subst (λ n. is.less ≤ n) same_least is.within;
-        inv = subst (λ (x : Setting). InvFirst x is.less reads_as_request reads_as_reply first m') (sym seen.settled) inv;
+        inv = subst (λ (x : Setting). InvFirst x is.less reads_as_request reads_as_reply first m') (sym seen.settled)
+            inv;
       }
 
   first_like : (w w' : WorldState) (is : IsFirstAt first at w) (l : IsLinkOf at w')
@@ -577,7 +579,8 @@ came_beside at time port place p w draws answer w' k of other is =
     let beside : at.asking ≡ place → (sender at.direction l.channel).port ≢ p =
     λ same. subst (λ n. n ≢ p) (sym is.port_is) (other same) in
     record {
-      first = measuring_acted at time time w w' is.first (up_beside at place p w draws answer w' k of is.orderly l beside);
+      first = measuring_acted at time time w w' is.first
+          (up_beside at place p w draws answer w' k of is.orderly l beside);
       orderly = calls_orderly place (PortUp p) w draws answer w' is.orderly k;
       now = step.time ∙ is.now;
       port_is = ap (λ (q : PortId). q.port)

@@ -267,7 +267,8 @@ module _ (p : SettlingParams) (at : LinkPlace) (w : WorldState) (sound : IsSound
             (of_a call.1.station call.1.here) places.0
             (ready_port s.channel.a.port (ap (λ d. (sender d s.channel).port) is))
 
-        second : CallsIfLive k.place_b (PortUp s.channel.b.port) k.between k.second w' → IsMeasuringAt w.time w.time at w'
+        second : CallsIfLive k.place_b (PortUp s.channel.b.port) k.between k.second w'
+            → IsMeasuringAt w.time w.time at w'
         second (inl (answer, c)) =
             (came_beside at w.time s.channel.a.port k.place_b s.channel.b.port k.between k.second answer w' c
             (of_b c.station c.here) (λ same. absurd (s.apart (same ∙ sym places.1))) first).first
@@ -290,7 +291,8 @@ module _ (p : SettlingParams) (at : LinkPlace) (w : WorldState) (sound : IsSound
             (of_a c.station c.here) (λ same. absurd (s.apart (same ∙ sym places.1))) b_ready
         first (inr (failed, none, same)) = subst (IsReady at w.time s.channel.b.port) (sym same) b_ready
 
-        second : CallsIfLive k.place_b (PortUp s.channel.b.port) k.between k.second w' → IsMeasuringAt w.time w.time at w'
+        second : CallsIfLive k.place_b (PortUp s.channel.b.port) k.between k.second w'
+            → IsMeasuringAt w.time w.time at w'
         second calls =
             let begun = first k.at_a in
             let call = live_call k.place_b (PortUp s.channel.b.port) k.between k.second w' begun.link.asking.station

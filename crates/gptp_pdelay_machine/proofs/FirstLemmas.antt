@@ -409,7 +409,8 @@ module _ (k : Setting) (least : ℕ) (asks : List ℕ → Request → Type 0) (r
       → IsSentLate least m.pair.time m.pair.back m'.pair.back → MeterActs k asks replies m m'
       → InvFirst k less asks replies first m → MeasuresBy k least asks replies first by m
       → MeasuresBy k least asks replies first by m'
-  measures_by_kept less gone first by m m' short old facts facts' there home acts inv (inr (since, from, until, exact)) =
+  measures_by_kept less gone first by m m' short old facts facts' there home acts inv
+      (inr (since, from, until, exact)) =
       inr (
         since,
         from,
@@ -493,8 +494,8 @@ module _ (k : Setting) (least : ℕ) (asks : List ℕ → Request → Type 0) (r
   measured_by gone by m some facts (inr (first, since, until, inv)) late =
       window_full gone first m facts inv (omega (arith, until, late))
 
-  pub has_measured_by : (gone first by : ℕ) (m : Meter) → Facts k gone m.pair → MeasuresBy k least asks replies first by m
-      → by + k.window * k.period + exchange_span k < m.pair.time → HasMeasured k least m.kept.last
+  pub has_measured_by : (gone first by : ℕ) (m : Meter) → Facts k gone m.pair
+      → MeasuresBy k least asks replies first by m → by + k.window * k.period + exchange_span k < m.pair.time → HasMeasured k least m.kept.last
   has_measured_by gone first by m facts (inl due) late =
       let timer = facts.request_timer in absurd (omega (arith, timer, due, late))
   has_measured_by gone first by m facts (inr (since, from, until, exact)) late =

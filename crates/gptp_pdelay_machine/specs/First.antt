@@ -37,8 +37,8 @@ module _ (k : Setting) (least : ℕ) (asks : List ℕ → Request → Type 0) (r
       ⊎ ((first : ℕ) × (gone ≤ first) × (first ≤ by) × InvFirst first m)
 
   -- The port measures by this least delay from a request on that is sent by this time: the next request is due by then,
-  -- or it was sent, once old frames were gone. So it is of a link whose least delay has risen, where exchanges that began
-  -- before may have taken less.
+  -- or it was sent, once old frames were gone. So it is of a link whose least delay has risen, where exchanges that
+  -- began before may have taken less.
   abbrev pub MeasuresBy : ℕ → ℕ → Meter → Type 0
   MeasuresBy gone by m =
       (m.pair.asker.asked + k.period ≤ by)

@@ -208,8 +208,8 @@ module _ {F : Type 0} (answers : Bounds → ℕ → F → Option ℕ → F → T
       (exact_begins d playable events is.calm is.last settled is.settles behind most within old measured)
       (exact_later d playable events is.calm is.last settled is.settles behind most within old measured)
       (λ u one drawn v next was v_is.
-      exact_act d playable events is.calm is.last settled is.settles behind most within old measured answers u one drawn v next
-      was v_is)
+      exact_act d playable events is.calm is.last settled is.settles behind most within old measured answers u one
+      drawn v next was v_is)
       [] is.first events ts k.started k.drawn first w refl (events_made d now playable.network playable.events)
       (events_fit d now playable) is.lead k.courses begun (begun_last answers d playable fate k.started first k.begun)
 

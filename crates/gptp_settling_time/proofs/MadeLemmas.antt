@@ -331,8 +331,8 @@ module _ {F : Type 0} (answers : Bounds → ℕ → F → Option ℕ → F → T
         let came : Acts (Changing (LinkSet x.clock x.port x.min x.max 0)) then k.draws done w' =
         subst (λ act. Acts act then k.draws done w') x.act k.acts in
         let quiet = (quiet_stands n made then playable.network stands_now claim_now.world.sound calm).links in
-        let within = within_so n made then stands_now claim_now.world.sound (port_id x.clock x.port) x.max wider x.within
-        came.1.place came.1.channel came.1.is in
+        let within = within_so n made then stands_now claim_now.world.sound (port_id x.clock x.port) x.max wider
+        x.within came.1.place came.1.channel came.1.is in
         let used = used_so n made then stands_now claim_now.world.sound came.1.channel within.used in
         let measured_then = widened_measures p wider x.clock x.port x.min x.max then k.draws done w' claim_now.pace
         claim_now.world claim_after.world quiet came used

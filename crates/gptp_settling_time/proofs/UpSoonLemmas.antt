@@ -116,12 +116,15 @@ module _ (p : SettlingParams) (by next number port : ℕ) (w : WorldState) (draw
     links_silent = go link.channel.up refl
       where
         go : (b : Bool) → link.channel.up ≡ b → AreSilentBy p next w'
-        go true is_up = subst (AreSilentBy p next) (sym (same p number port w draws done w' pace is is' measured acts is_up)) (changed_silent p next w silent)
+        go true is_up =
+            subst (AreSilentBy p next) (sym (same p number port w draws done w' pace is is' measured acts is_up))
+            (changed_silent p next w silent)
         go false is_down = λ at s.
             let other : at.link ≢ link.place = λ e. apart at s link.place link.channel link.is (sym e) in
             let told_so = told p number port w draws done w' pace is is' measured acts is_down in
             up_silences p at link.place link.channel w draws w' is.sound.wired link.is.here other told_so s next
-            (silent at (stood_elsewhere p at link.place link.channel w draws w' is.sound.wired link.is.here other told_so s))
+            (silent at (stood_elsewhere p at link.place link.channel w draws w' is.sound.wired link.is.here other
+            told_so s))
 
     pub up_soon : IsSoundWorld w → w.time ≤ by → by < next → IsNewsSoon p next w'
     up_soon sound early before_next =

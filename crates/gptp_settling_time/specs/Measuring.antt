@@ -40,8 +40,8 @@ MeasureBy n before by [] time = by ≤ time
 MeasureBy n before by (event ∷ events) time =
     (next : ℕ) × MeasureNext n before by event next × MeasureBy n (before ++ event ∷ []) next events time
 
--- Each link is measured by this time, where a rate is that of one interval between requests: these are over then, and an
--- exchange over the slowest link.
+-- Each link is measured by this time, where a rate is that of one interval between requests: these are over then, and
+-- an exchange over the slowest link.
 abbrev pub AreMeasuredBefore : NetworkState → List Timed → ℕ → Type 0
 AreMeasuredBefore n events time =
     (by : ℕ) × MeasureBy n [] 0 events by
