@@ -124,6 +124,14 @@ heard_on p start at w is (inl (first, x)) late =
     (meter at w t.link) t.facts t.inv (omega (arith, by, late))
 heard_on p start at w is (inr x) late = stays_on p at w is x
 
+-- so it is from a later start on
+pub heard_from : (p : SettlingParams) (start next : ℕ) (at : LinkPlace) (w : WorldState) → start ≤ next
+    → IsHeardAt p start at w → IsHeardAt p next at w
+heard_from p start next at w more (inl (first, x)) =
+    let by = x.by in
+    inl (first, record { one = x.one; few = x.few; other = x.other; by = omega (arith, by, more) })
+heard_from p start next at w more (inr stays) = inr stays
+
 timely_due : (first : ℕ) (at : LinkPlace) (w : WorldState) (x : IsTimelyAt first at w) (f : LaneFrame)
     → In f (pair at w x.link).out → f.due ≤ w.time + x.link.channel.bounds.max
 timely_due first at w x f member =

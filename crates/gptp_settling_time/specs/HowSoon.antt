@@ -57,7 +57,7 @@ use Rattle.gptp_network.specs.Document.{DocumentState}
 use Rattle.gptp_network.specs.Snapshot.{events_by}
 use Rattle.gptp_settling_time.specs.Arrivals.{HasArrivedBy}
 use Rattle.gptp_settling_time.specs.Gains.{ChangesNothing, EndHasFailed, LeavesCapable, Repeats, TakesNothing}
-use Rattle.gptp_settling_time.specs.EventKinds.{AddsHeard, BettersClock, FlightIsGone, FlightIsGoneFrom, MakesNothing, NoneUsed, TellsNothing, UsedVaryLittle, WidensLink}
+use Rattle.gptp_settling_time.specs.EventKinds.{AddsHeard, FlightIsGone, FlightIsGoneFrom, MakesNothing, NoneUsed, TellsNothing, UsedVaryLittle, WidensLink}
 use Rattle.gptp_settling_time.specs.Leads.{TakesAny}
 use Rattle.gptp_settling_time.specs.Rests.{FlightIsGoneSince, turned_echo_span}
 use Rattle.gptp_settling_time.specs.Losses.{AgesWithin, CutsFarEnd, FailsFarEnd, FailsHeard, LeavesChoice, LosesAny, LowersLink, LowersUnused, MovesNoneInAll, NoneSilent, TurnsLink, UpIsUsed}
@@ -93,13 +93,8 @@ IsStillEvent n made event = IsIdleEvent n made event ⊎ LeavesChoice n made eve
 abbrev pub IsGainEvent : NetworkState → ℕ → List Timed → Timed → Type 0
 IsGainEvent n next made event = TakesNothing n made event.act × LeavesCapable n made event next event.act
 
--- what it tells is heard at once: a link comes up whose delay varies little, a system recovers that uses none, or a
--- priority1 gets better
-abbrev pub IsHeardEvent : NetworkState → ℕ → List Timed → Timed → Type 0
-IsHeardEvent n next made event = AddsHeard n made event next ⊎ BettersClock n made event next
-
--- Behind an event that is heard at once, at the same time: a link whose delay varies little comes up, a system recovers
--- that uses none, or the event makes nothing of what then stands.
+-- Behind an event whose telling is heard at once, at the same time: another such, or the event makes nothing of what
+-- then stands.
 abbrev pub IsHeardToo : NetworkState → ℕ → List Timed → Timed → Type 0
 IsHeardToo n next made event = AddsHeard n made event next ⊎ MakesNothing n made event next
 
@@ -122,11 +117,11 @@ abbrev pub EachEvent : (List Timed → Timed → Type 0) → List Timed → List
 EachEvent Is made [] = ⊤
 EachEvent Is made (event ∷ events) = Is made event × EachEvent Is (made ++ event ∷ []) events
 
--- the first of them is heard at once, and the others are too
+-- what the first of them tells is heard at once, and so is what the others tell
 abbrev pub AreHeardEvents : NetworkState → ℕ → List Timed → List Timed → Type 0
 AreHeardEvents n next made [] = ⊥
 AreHeardEvents n next made (event ∷ events) =
-    IsHeardEvent n next made event × EachEvent (IsHeardToo n next) (made ++ event ∷ []) events
+    AddsHeard n made event next × EachEvent (IsHeardToo n next) (made ++ event ∷ []) events
 
 -- the first of them is a gain, and the others are too
 abbrev pub AreGainEvents : NetworkState → ℕ → List Timed → List Timed → Type 0
