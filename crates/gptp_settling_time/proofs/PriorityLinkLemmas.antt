@@ -1,5 +1,5 @@
 -- A priority1 that is set, seen at a link: what its system sends enters the lanes, and all else of the link stays.
-use Rattle.std.proofs.Common.{◌≡◌, ◌<◌, ℕ, List, sym, ap, subst, ◌∙◌, inl, inr}
+use Rattle.std.proofs.Common.{◌≡◌, ◌<◌, ℕ, List, ap, subst, ◌∙◌, inl, inr}
 use Rattle.gptp_lists.proofs.PlaceLemmas.{get-set_all}
 use Rattle.gptp_links.specs.declared.bounds.Bounds.{Bounds}
 use Rattle.gptp_links.specs.Fate.{Draw}
@@ -83,10 +83,10 @@ module _ (p : SettlingParams) (w : WorldState) (is : IsWorld p w) (owner value :
         link_called at place (Priority value) set draws called.0 w' k tt orderly same.after (λ here. tt) (λ here. tt)
 
     asking : measure_at step.after.asking.state ≡ measure_at same.after.asking.state
-    asking = elim step.asking [ | inl here ↦ here.1 | inr left ↦ left.1 ]
+    asking = elim step.asking [ inl here ↦ here.1 | inr left ↦ left.1 ]
 
     answering : measure_at step.after.answering.state ≡ measure_at same.after.answering.state
-    answering = elim step.answering [ | inl here ↦ here.1 | inr left ↦ left.1 ]
+    answering = elim step.answering [ inl here ↦ here.1 | inr left ↦ left.1 ]
 
     sent : ActsInTime (least_delay at set same.after) (link_setting at set same.after) (meter at set same.after)
         (meter at w' step.after)

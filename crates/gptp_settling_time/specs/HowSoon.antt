@@ -7,9 +7,8 @@
 -- time by which the choice of the time before stands has sharper ones, by its events:
 -- - They make nothing of what stands. The bound is 0.
 -- - They are gains. It is what ports take to become capable, an announce interval, and the greatest delay for each
---   system of a path but one. No announce interval has to pass where what the first gain tells is heard at once, and
---   each later gain is a link whose delay varies little, or a system that recovers and uses no link. Nor has one at the
---   start where all delays vary little.
+--   system of a path but one. No announce interval has to pass where what each tells is heard at once, nor at the start
+--   where all delays vary little.
 -- - By the one event a link goes down, and no system is moved but such as are cut off. It is 0.
 -- - By the first event a system fails that is the far end of each of its links, and no other comes but links that go
 --   down of which an end has failed. The bound of the choice is 0. Roles stand once the ports beside it aren't capable
@@ -35,7 +34,7 @@
 -- Wider delays of a link in use ask for no time either, where they come first. These gains are followed, at a time
 -- behind events that make nothing: a link that comes up between live systems, a system that recovers, and a priority1
 -- of a live system that gets better. The first is heard at once where its delay varies little, the second where it uses
--- no link, the last where no path has more than 255 systems. At time 0 links may go down and come up, systems fail and
+-- no link, the last always. At time 0 links may go down and come up, systems fail and
 -- a priority1 be set. Not followed are other delays that are set, octets that are put onto a link, and gains and losses
 -- of one time. There the span stands.
 use Rattle.std.specs.Prelude.{◌≡◌, ◌<◌, ◌≤◌, ◌⊎◌, ◌+◌, ◌*◌, ◌==◌, ℕ, ⊤, max, min, suc, List, [], ◌∷◌, ◌++◌, filter}
