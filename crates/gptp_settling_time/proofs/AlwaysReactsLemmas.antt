@@ -1,5 +1,5 @@
--- A system that reacts where all is claimed always, after which all that is held is sound: each link is at a stage then,
--- whether the network has settled or not.
+-- A system that reacts where all is claimed always, after which all that is held is sound: each link is at a stage
+-- then, whether the network has settled or not.
 use Rattle.std.proofs.Common.{◌≡◌, ◌⊎◌, ◌≤◌, ◌<◌, ◌+◌, ℕ, suc, true, [], ◌∷◌, Some, slice_get, sym, subst, ◌∙◌, inl, inr, arith}
 use native.Mathlib.Decide.{dec_le}
 use Rattle.gptp_lists.specs.Members.{In}

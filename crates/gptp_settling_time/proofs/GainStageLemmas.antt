@@ -51,7 +51,8 @@ module _ (says : Spelling) (n n' : Network) (net : IsSettlingNetwork n) (net' : 
     (w : MachineState) (calm : Calm n w) (invariant : Invariant says n w) (always : ClaimsAlways n)
     (news : HasNews n.graph n'.graph) (d : ℕ) (best : System) (v p u q : ℕ)
     (joins : Joins n.graph (port_of v (suc p)) (port_of u (suc q))) (leads : LeadsFarther n'.graph d best v p u q)
-    (s : Station) (at : slice_get w.stations (n.place v) ≡ Some s) (own : (s.root ≡ best.identity) × (s.steps ≡ d)) where
+    (s : Station) (at : slice_get w.stations (n.place v) ≡ Some s)
+    (own : (s.root ≡ best.identity) × (s.steps ≡ d)) where
   known : In v (clocks n.graph)
   known = Joins-clock n.graph (port_of v (suc p)) (port_of u (suc q)) net.graph joins
 
