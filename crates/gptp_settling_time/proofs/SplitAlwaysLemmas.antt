@@ -81,8 +81,8 @@ split_network p silent w = record (aging_network p silent w) { gone = 0 }
 abbrev pub left_by : (p : SettlingParams) (g : Snapshot) → IsSplit p g → ℕ → ℕ
 left_by p g s gone = fallen_by s.n (pred gone)
 
--- What was in flight at a time is gone by another: an announce interval or the greatest delay later, or the latter where
--- no link that is up is slower and what was in flight as a link was last set has arrived.
+-- What was in flight at a time is gone by another: an announce interval or the greatest delay later, or the latter
+-- where no link that is up is slower and what was in flight as a link was last set has arrived.
 abbrev pub IsDroppedBy : SettlingParams → (ℕ → Type 0) → ℕ → ℕ → WorldState → Type 0
 IsDroppedBy p Limits start old w = IsGoneBy p start old w
     ⊎ (NoneUpIsSlowerIn w × (limit : ℕ) × Limits limit × (limit ≤ old) × (start + delay_in w ≤ old))
