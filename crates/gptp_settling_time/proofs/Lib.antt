@@ -223,6 +223,7 @@ pub mod SplitTracesLemmas
 pub mod SplitSoundLemmas
 pub mod TopsDeepLemmas
 pub mod TopsRestLemmas
+pub mod LeftAloneLemmas
 pub mod SplitLinksLemmas
 pub mod SplitSettlesLemmas
 pub mod SplitRestLemmas

@@ -218,7 +218,7 @@ module _ (says : Spelling) (g : Snapshot) (n : Network) (lost : ℕ) (best : Sys
 
     -- all that is told is sound
     pub all_tell : AllTellSound n.graph w
-    all_tell s i port a at live own = elim (in_tree s.clock lives) [
+    all_tell s i port a at live own master j l f at_l among from = elim (in_tree s.clock lives) [
       | inl stays ↦ tells_still w back linked i s at live stays (all.stations i s at live) port a own
       | inr (t, is, in_s) ↦ record {
         sender = lives;

@@ -61,7 +61,7 @@ use Rattle.gptp_settling_time.specs.EventKinds.{AddsHeard, BettersClock, FlightI
 use Rattle.gptp_settling_time.specs.Leads.{TakesAny}
 use Rattle.gptp_settling_time.specs.Rests.{FlightIsGoneSince, turned_echo_span}
 use Rattle.gptp_settling_time.specs.Losses.{AgesWithin, CutsFarEnd, FailsFarEnd, FailsHeard, LeavesChoice, LosesAny, LowersLink, LowersUnused, MovesNoneInAll, NoneSilent, TurnsLink, UpIsUsed}
-use Rattle.gptp_settling_time.specs.TreeLosses.{CutsAllBeyondFrom, FailsTrees, FallsTree, TurnsTreeLink}
+use Rattle.gptp_settling_time.specs.TreeLosses.{CutsAllBeyondFrom, FailsTrees, FallsTree, LeavesAloneFrom, TurnsTreeLink}
 
 -- ---- times
 
@@ -505,15 +505,16 @@ RestsTree n rest events =
     (gone : ℕ) × FlightIsGone n events gone × (rest ≡ max (2 * way_span (sync_paths n events)) gone)
 
 -- After trees were moved, as a system failed, it has come to rest once right traces have been told by distance since
--- they settled, and what was in flight is gone. Where all beyond that system was cut off they needn't be told anew.
--- Roles have to stand too.
+-- they settled, and what was in flight is gone. Where all beyond that system was cut off they needn't be told anew. Where
+-- each live system was left alone it is enough that roles stand and what was in flight is gone.
 abbrev pub RestsSplit : NetworkState → ℕ → List Timed → List Timed → Type 0
 RestsSplit n rest made now =
     (choice : ℕ) × (roles : ℕ) × BoundsSplit n choice roles made now
     × ((max roles (choice + max (echo_span (pace_of n) (sync_paths n (made ++ now))) (largest_interval (pace_of n)))
     ≤ rest)
-    ⊎ (CutsAllBeyondFrom n made (made ++ now) × (flight : ℕ) × FlightIsGoneSince n made (made ++ now) flight
-    × (max roles (choice + flight) ≤ rest)))
+    ⊎ ((CutsAllBeyondFrom n made (made ++ now) × (flight : ℕ) × FlightIsGoneSince n made (made ++ now) flight
+    × (max roles (choice + flight) ≤ rest))
+    ⊎ (LeavesAloneFrom n made (made ++ now) × UpIsUsed n made × (max roles (sync_paths n made).delay ≤ rest))))
 
 -- By so much later than a time the network has come to rest, by the times before it, the latest first: it has settled,
 -- and nothing that is held, or in flight, names what is gone. The first time of all is 0. After a tree has turned right
