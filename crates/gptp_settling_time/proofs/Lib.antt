@@ -224,6 +224,7 @@ pub mod SplitSoundLemmas
 pub mod TopsDeepLemmas
 pub mod TopsRestLemmas
 pub mod LeftAloneLemmas
+pub mod UpJoinsLemmas
 pub mod SplitLinksLemmas
 pub mod SplitSettlesLemmas
 pub mod SplitRestLemmas

@@ -23,7 +23,7 @@ use Rattle.gptp_theorem.proofs.AlikeLemmas.{clock_among, turned, best as alike_b
 use Rattle.gptp_theorem.proofs.SnapshotLemmas.{snapshots_stand}
 use Rattle.gptp_theorem.proofs.SyncPathLemmas.{paths_stand}
 use Rattle.gptp_settling_time.specs.Losses.{IsCutOff, IsFarEnd, IsTurned, IsUnmoved, IsUnmovedOrCutOff, MovesNone, MovesNoneJoined, TurnsSystem}
-use Rattle.gptp_settling_time.specs.TreeLosses.{CutsAllBeyond, IsTreeCutOff}
+use Rattle.gptp_settling_time.specs.TreeLosses.{CutsAllBeyond, IsTreeCutOff, LeavesAlone}
 use Rattle.gptp_settling_time.proofs.KeptToLemmas.{KeepsTo}
 
 -- a system is unmoved between two snapshots that is so between others of the same systems and links
@@ -92,6 +92,15 @@ beyond_alike g h g' h' before now cuts = record {
   where
     back : AreAlike h' g'
     back = turned g' h' now
+
+-- and where each live system is left alone
+pub leaves_alike : (g h g' h' : Snapshot) → AreAlike g h → AreAlike g' h' → LeavesAlone h h' → LeavesAlone g g'
+leaves_alike g h g' h' before now leaves = record {
+  none = λ from to joins. leaves.none from to (joins_alike g' h' now from to joins);
+  one = λ v p q t u known first second.
+      leaves.one v p q t u (clock_among g' h' now v known) (joins_alike g h before (port_of v p) t first)
+      (joins_alike g h before (port_of v q) u second);
+}
 
 far_alike : (g h : Snapshot) → AreAlike g h → (v : ℕ) → IsFarEnd h v → IsFarEnd g v
 far_alike g h alike_is v is_far u far near joined away close =
