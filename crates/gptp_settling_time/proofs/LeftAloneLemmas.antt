@@ -1,5 +1,5 @@
--- A failure leaves each live system alone that had one link at most. What is told over a link that was in use is sound at
--- once: who follows another holds what it follows at the port to its one link, so that it doesn't tell there.
+-- A failure leaves each live system alone that had one link at most. What is told over a link that was in use is sound
+-- at once: who follows another holds what it follows at the port to its one link, so that it doesn't tell there.
 use Rattle.std.proofs.Common.{◌≡◌, ◌⊎◌, ◌<◌, ℕ, zero, suc, true, List, [], ◌∷◌, Some, slice_get, refl, sym, ap, subst, ◌∙◌, inl, inr, arith}
 use Rattle.gptp_lists.specs.Members.{Different, In}
 use Rattle.gptp_graph.specs.Best.{IsBest}

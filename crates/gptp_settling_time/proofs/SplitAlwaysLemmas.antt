@@ -391,11 +391,13 @@ module _ (p : SettlingParams) (g : Snapshot) (By : PortIdentity → ℕ → Type
       → SplitsBack p g is.split start (view w') × SplitSettles p g is.split start (view w')
   seen' quiet' off start may =
       let quiet = quiet_before quiet' in
-      let before = may_before p g By Limits Were failed gone silent w w' is standing' asked' goes (senders_kept w w' keeps)
+      let before = may_before p g By Limits Were failed gone silent w w' is standing' asked'
+          goes (senders_kept w w' keeps)
       same_then links_then by_then limited_then were_then late_then on start may in
       seen_then p g By Limits Were failed gone silent w w' is standing' asked' goes
       (senders_kept w w' keeps) same_then links_then
-      by_then limited_then were_then late_then on quiet quiet' off start may (view w).lanes (is.seen quiet off start before) step
+      by_then limited_then were_then late_then on quiet quiet' off start may (view w).lanes
+          (is.seen quiet off start before) step
 
   abbrev made : IsSplit p g
   made = is.split
@@ -443,7 +445,8 @@ module _ (p : SettlingParams) (g : Snapshot) (By : PortIdentity → ℕ → Type
       → FlightsAreSound says_announce made.n.graph old (view w')
   flights' cuts since old is_old quiet' off late' = elim (dec_lt (left_by p g made gone) w.time) [
     | yes late ↦
-        flights_then p g By Limits Were failed gone silent w w' is standing' asked' goes (senders_kept w w' keeps) same_then
+        flights_then p g By Limits Were failed gone silent w w' is standing' asked' goes
+            (senders_kept w w' keeps) same_then
         links_then by_then limited_then were_then late_then on quiet quiet' off (pred gone) (inl now) (view w).lanes
         (is.seen quiet off (pred gone) (inl now)) step cuts (says' cuts quiet' off) late' old
         (is.flights cuts (sym keeps.change ∙ since) old (old_before is_old) quiet off late)

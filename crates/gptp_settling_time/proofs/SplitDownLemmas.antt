@@ -274,7 +274,8 @@ module _ (p : SettlingParams) (g : Snapshot) (By : PortIdentity → ℕ → Type
     module _ (start : ℕ) (may : MayStart gone s.since start w') where
       may_then : MayStart gone s.since start w
       may_then =
-          may_before p g By Limits Were failed gone silent w w' split standing_then asked_then goes sends same' links' by'
+          may_before p g By Limits Were failed gone silent w w' split standing_then asked_then
+              goes sends same' links' by'
           limited' were' late' on
           start may
 

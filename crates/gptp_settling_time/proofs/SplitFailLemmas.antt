@@ -258,7 +258,8 @@ module _ (p : SettlingParams) (number : ℕ) (w : WorldState) (draws : List Draw
         elim (loses.others l.from.clock (Joins-clock g l.from l.to well joins)) [
           | inl known ↦
               let is_sound = sound.lanes j l stood f a among said in
-              inl (alone_said g n' well' left' number loses leaves l.from l.to a joins known is_sound.source is_sound.sound
+              inl (alone_said g n' well' left' number loses leaves l.from l.to a joins known
+                  is_sound.source is_sound.sound
               (λ b is_best. named j l f a b stood among said joins is_best)
               (λ d e here there. onward j l f a d e stood among said joins here there))
           | inr is_lost ↦
@@ -419,7 +420,8 @@ module _ (p : SettlingParams) (number : ℕ) (w : WorldState) (draws : List Draw
 
       module _ (By : PortIdentity → ℕ → Type 0) (Limits Were : ℕ → Type 0)
           (limited : (limit : ℕ) → Limits limit → AreLimitedBy limit w)
-          (were : (old : ℕ) → Were old → UpIsInUse w × (w.time + delay_in w ≤ old)) (gone : ℕ) (measured' : LinkIsMeasured w')
+          (were : (old : ℕ) → Were old → UpIsInUse w × (w.time + delay_in w ≤ old)) (gone : ℕ)
+              (measured' : LinkIsMeasured w')
           (long : w.time + silence_span p < silent) (by : WorldAgesBy p By w')
           (linked : (port : PortIdentity) (until : ℕ) → By port until → IsLinked g port)
           (is_gone : GoesUntil g By gone ⊎ (silent ≤ gone)) (later : w.time < gone) (late' : delay_in w' ≤ w'.time)

@@ -47,6 +47,7 @@ use Rattle.gptp_settling_time.proofs.FallDownLemmas.{FlightNames}
 use Rattle.gptp_settling_time.proofs.GainLemmas.{lives_so, unused_so, up_so}
 use Rattle.gptp_settling_time.proofs.HoldSpanLemmas.{ages_over}
 use Rattle.gptp_settling_time.proofs.KeptToLemmas.{KeepsTo}
+use Rattle.gptp_settling_time.proofs.LeftToLemmas.{up_in_use}
 use Rattle.gptp_settling_time.proofs.LossMadeLemmas.{HasRestedSo}
 use Rattle.gptp_settling_time.proofs.NamedLemmas.{IsNamedFrom}
 use Rattle.gptp_settling_time.proofs.SettledSeenLemmas.{IsSettledSeen}
@@ -327,9 +328,11 @@ module _ (d : DocumentState) (playable : IsPlayable d) (made : List Timed) (even
     abbrev Over : List Timed → ℕ → PortIdentity → ℕ → Type 0
     Over events by = GoesOver n so.before ago events so.failed by silent
 
-    down : IsSplitAlways p so.before (Over made gone) (SetLimits n ago) (WereUsed n ago so.failed) so.failed gone silent w'
+    down : IsSplitAlways p so.before (Over made gone) (SetLimits n ago)
+        (WereUsed n ago so.failed) so.failed gone silent w'
     down =
-        down_splits p so.before (Over made gone) (SetLimits n ago) (WereUsed n ago so.failed) so.failed gone silent y.clock y.port then
+        down_splits p so.before (Over made gone) (SetLimits n ago) (WereUsed n ago so.failed) so.failed gone silent
+            y.clock y.port then
         draws done w' after.claim.world after.claim.measured lowered so.since.split quiet_then
         (up_so n made then keeps.stands end y.up lowered.1.place lowered.1.channel lowered.1.is)
         (unused_so n made then keeps.stands world_then.sound end y.failed) falls.off
@@ -337,7 +340,8 @@ module _ (d : DocumentState) (playable : IsPlayable d) (made : List Timed) (even
     -- what has no steps still names its sender alone
     names_down : SplitNamesAlone p silent w'
     names_down =
-        alone_down p so.before (Over made gone) (SetLimits n ago) (WereUsed n ago so.failed) so.failed gone silent y.clock y.port then
+        alone_down p so.before (Over made gone) (SetLimits n ago) (WereUsed n ago so.failed)
+            so.failed gone silent y.clock y.port then
         draws done w' after.claim.world after.claim.measured lowered so.since.split quiet_then
         (up_so n made then keeps.stands end y.up lowered.1.place lowered.1.channel lowered.1.is)
         (unused_so n made then keeps.stands world_then.sound end y.failed) so.since.alone
@@ -366,8 +370,10 @@ module _ (d : DocumentState) (playable : IsPlayable d) (made : List Timed) (even
       before = so.before;
       stood = so.stood;
       failed = so.failed;
-      since = split_anew_begins p so.before (Over more gone) (SetLimits n ago) (WereUsed n ago so.failed) so.failed gone silent w'
-          (split_by p so.before (Over made gone) (SetLimits n ago) (WereUsed n ago so.failed) so.failed gone silent w' down
+      since = split_anew_begins p so.before (Over more gone) (SetLimits n ago)
+          (WereUsed n ago so.failed) so.failed gone silent w'
+          (split_by p so.before (Over made gone) (SetLimits n ago) (WereUsed n ago so.failed)
+              so.failed gone silent w' down
           (Over more gone) gone over_more
           (λ port until is. is.1) (over_gone n so.before ago more so.failed gone silent) (inl (omega arith))) names_down
           last;

@@ -81,7 +81,8 @@ WereUsed n ago failed old = UpIsUsed n ago × (failed + (sync_paths n ago).delay
 -- time has passed since the system failed.
 pub split_by : (p : SettlingParams) (g : Snapshot) (By : PortIdentity → ℕ → Type 0)
     (Limits Were : ℕ → Type 0) (failed gone silent : ℕ)
-    (w : WorldState) → IsSplitAlways p g By Limits Were failed gone silent w → (By' : PortIdentity → ℕ → Type 0) (gone' : ℕ)
+    (w : WorldState) → IsSplitAlways p g By Limits Were failed gone silent w →
+        (By' : PortIdentity → ℕ → Type 0) (gone' : ℕ)
     → WorldAgesBy p By' w → ((port : PortIdentity) (until : ℕ) → By' port until → IsLinked g port)
     → GoesUntil g By' gone' ⊎ (silent ≤ gone') → (gone ≤ gone') ⊎ ((failed < gone') × (w.time ≤ failed))
     → IsSplitAlways p g By' Limits Were failed gone' silent w
@@ -185,7 +186,8 @@ module _ (d : DocumentState) (ago events : List Timed) (gone silent : ℕ) where
       let timed = t.told.timed in
       let p = pace_of d.network in
       let By = GoesOver d.network so.before ago events so.failed gone silent in
-      let then = anew_later p so.before By (SetLimits d.network ago) (WereUsed d.network ago so.failed) so.failed gone silent timed.at w
+      let then = anew_later p so.before By (SetLimits d.network ago) (WereUsed d.network ago so.failed) so.failed gone
+          silent timed.at w
       was.ready.timely.now was.ready.timely.first
       so.since in
       record {
@@ -193,7 +195,8 @@ module _ (d : DocumentState) (ago events : List Timed) (gone silent : ℕ) where
         before = so.before;
         stood = so.stood;
         failed = so.failed;
-        since = anew_acts p so.before By (SetLimits d.network ago) (WereUsed d.network ago so.failed) so.failed gone silent timed.act (at timed.at w)
+        since = anew_acts p so.before By (SetLimits d.network ago) (WereUsed d.network ago so.failed) so.failed gone
+            silent timed.act (at timed.at w)
             was.draws t.told.done t.after
             (no_change next.item timed.act w next.act) (next_octet next.item timed.act w next.act) was.acts then;
         were = were_act d ago events answers t fate drawn w next was so.keeps so.were;
@@ -226,17 +229,20 @@ module _ (d : DocumentState) (ago events : List Timed) (gone silent : ℕ) where
 
     -- its choice stands
     pub split_to_chooses : ChoiceStands w
-    split_to_chooses = split_chooses p so.before By (SetLimits d.network ago) (WereUsed d.network ago so.failed) so.failed gone silent w so.since.split
+    split_to_chooses = split_chooses p so.before By (SetLimits d.network ago) (WereUsed d.network ago so.failed)
+        so.failed gone silent w so.since.split
         quiet off start may late_now
 
     -- it has settled
     pub split_to_settled : (silent ≤ w.time) ⊎ NoneSilent d.network ago events → Settled w × IsBoundedWorld w
     split_to_settled (inl now) =
-        split_settles p so.before By (SetLimits d.network ago) (WereUsed d.network ago so.failed) so.failed gone silent w so.since.split quiet off start
+        split_settles p so.before By (SetLimits d.network ago) (WereUsed d.network ago so.failed) so.failed gone silent
+            w so.since.split quiet off start
         may late_now silent
         so.since.split.standing.silent now
     split_to_settled (inr none) =
-        split_settles p so.before By (SetLimits d.network ago) (WereUsed d.network ago so.failed) so.failed gone silent w so.since.split quiet off start
+        split_settles p so.before By (SetLimits d.network ago) (WereUsed d.network ago so.failed) so.failed gone silent
+            w so.since.split quiet off start
         may late_now w.time
         (none_silent_from d ago events w so.keeps so.were none w.time) (omega arith)
 

@@ -505,8 +505,8 @@ RestsTree n rest events =
     (gone : ℕ) × FlightIsGone n events gone × (rest ≡ max (2 * way_span (sync_paths n events)) gone)
 
 -- After trees were moved, as a system failed, it has come to rest once right traces have been told by distance since
--- they settled, and what was in flight is gone. Where all beyond that system was cut off they needn't be told anew. Where
--- each live system was left alone it is enough that roles stand and what was in flight is gone.
+-- they settled, and what was in flight is gone. Where all beyond that system was cut off they needn't be told anew.
+-- Where each live system was left alone it is enough that roles stand and what was in flight is gone.
 abbrev pub RestsSplit : NetworkState → ℕ → List Timed → List Timed → Type 0
 RestsSplit n rest made now =
     (choice : ℕ) × (roles : ℕ) × BoundsSplit n choice roles made now

@@ -84,7 +84,8 @@ abbrev pub IsToldApart : NetworkState → List Timed → List Timed → ℕ → 
 IsToldApart n ago events gone time =
     (gone + 2 * way_span (sync_paths n events) + nearer_echo_span n events + largest_interval (pace_of n) ≤ time)
     ⊎ ((CutsAllBeyondFrom n ago events × (flight : ℕ) × FlightIsGoneSince n ago events flight
-    × (gone + 2 * way_span (sync_paths n events) ≤ time) × (gone + way_span (sync_paths n events) + flight ≤ time))
+    × (gone + 2 * way_span (sync_paths n events) ≤ time)
+    × (gone + way_span (sync_paths n events) + flight ≤ time))
     ⊎ (LeavesAloneFrom n ago events × UpIsUsed n ago × (gone + 2 * way_span (sync_paths n events) ≤ time)
     × (last_change events + (sync_paths n ago).delay < time)))
 
