@@ -14,7 +14,7 @@ use Rattle.gptp_bmca_machine.specs.Calm.{Calm}
 use Rattle.gptp_bmca_machine.specs.Clean.{IsWorse, Whole}
 use Rattle.gptp_bmca_machine.specs.CutTree.{LosesSystem}
 use Rattle.gptp_bmca_machine.specs.Facts.{FollowsItself, FollowsPort, station_system}
-use Rattle.gptp_bmca_machine.specs.Frame.{Announce, AnnounceFrame, Lane, Spelling}
+use Rattle.gptp_bmca_machine.specs.Frame.{Announce, AnnounceFrame, Lane}
 use Rattle.gptp_bmca_machine.specs.LossLaws.{IsWhatIsLeft}
 use Rattle.gptp_bmca_machine.specs.Network.{Network}
 use Rattle.gptp_bmca_machine.specs.SoundEverywhere.{IsSoundSent, StationIsSound}
@@ -32,8 +32,7 @@ abbrev pub FliesOnLinks : Snapshot → MachineState → Type 0
 FliesOnLinks g w = (j : ℕ) (l : Lane) (f : AnnounceFrame) → slice_get w.lanes j ≡ Some l → In f l.frames
     → Joins g l.from l.to
 
-module _ (says : Spelling) (g : Snapshot) (n : Network) (alone : LeavesAlone g n.graph) (w : MachineState)
-    (calm : Calm n w) where
+module _ (g : Snapshot) (n : Network) (alone : LeavesAlone g n.graph) (w : MachineState) (calm : Calm n w) where
   -- what is told over a link of before is sound
   pub alone_tell : HeldWereLinked g n w → FliesOnLinks g w → AllTellSound n.graph w
   alone_tell linked flies s i port a at live own master j l f at_l among from =

@@ -331,7 +331,7 @@ module _ (p : SettlingParams) (g : Snapshot) (By : PortIdentity → ℕ → Type
         → FlightsAreSound says_announce n.graph old (view w')
     alone_then leaves old is_were =
         flights_kept says_announce n.graph old x (view w')
-        (alone_tell says_announce g n leaves (view w') kept'.calm (linked' quiet')
+        (alone_tell g n leaves (view w') kept'.calm (linked' quiet')
         (flies_on g w' standing'.world.sound (were' old is_were))) step
 
     module _ (cuts : CutsAllBeyond g n.graph) where

@@ -271,7 +271,7 @@ module _ (p : SettlingParams) (g : Snapshot) (By : PortIdentity → ℕ → Type
           let left = at_rest.calm.left j l f at among in
           absurd (omega (arith, due, left, past))
     ];
-    stations = alone_hold says_announce g is.split.split.n leaves (view w)
+    stations = alone_hold g is.split.split.n leaves (view w)
         (subst (λ z. Calm z (view w)) is.split.same
         (split_after p silent w is.split.standing is.split.asked quiet off is.split.late).calm)
         (subst (λ (z : Network). UnlinkedHoldNothing z.graph (view w)) is.split.same at_rest.none);
