@@ -116,7 +116,7 @@ module _ (d : DocumentState) (playable : IsPlayable d) (all : List Timed) (calm 
       let change = (after_keeps d all (Split ago gone silent) w so).stands.last in
       split_measured p so.before (GoesOver d.network so.before ago all so.failed gone silent) (SetLimits d.network ago)
       (WereUsed d.network ago so.failed) so.failed gone silent w so.since.split links
-          (omega (arith, behind, on, change))
+      (omega (arith, behind, on, change))
   have_measured (Lost ago since most silent) w so settles links on =
       let change = (after_keeps d all (Lost ago since most silent) w so).stands.last in
       lost_measured p since most silent w so.is (omega (arith, behind, on, change))

@@ -24,7 +24,7 @@ use Rattle.gptp_bmca_machine.proofs.PlaceLemmas.{same_there}
 use Rattle.gptp_bmca_machine.proofs.TraceLemmas.{whole_own}
 use Rattle.gptp_settling_time.specs.TreeLosses.{LeavesAlone}
 use Rattle.gptp_settling_time.proofs.FitsLemmas.{UnlinkedHoldNothing}
-use Rattle.gptp_settling_time.proofs.SplitSoundLemmas.{HeldWereLinked}
+use Rattle.gptp_settling_time.proofs.StillSoundLemmas.{HeldWereLinked}
 use Rattle.gptp_settling_time.proofs.ToldAnewLemmas.{AllTellSound}
 
 -- each frame in flight comes over one of these links

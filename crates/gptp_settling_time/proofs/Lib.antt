@@ -220,6 +220,7 @@ pub mod SplitLemmas
 pub mod SplitAlwaysLemmas
 pub mod SplitDownLemmas
 pub mod SplitTracesLemmas
+pub mod StillSoundLemmas
 pub mod SplitSoundLemmas
 pub mod TopsDeepLemmas
 pub mod TopsRestLemmas

@@ -195,7 +195,7 @@ module _ (d : DocumentState) (playable : IsPlayable d) (made : List Timed) (even
     since = subst (IsSplitAnew p so.before (GoesOver n so.before ago more so.failed gone silent) (SetLimits n ago)
         (WereUsed n ago so.failed) so.failed gone silent) (sym same)
         (anew_by p so.before (GoesOver n so.before ago made so.failed gone silent) (SetLimits n ago)
-            (WereUsed n ago so.failed) so.failed gone
+        (WereUsed n ago so.failed) so.failed gone
         silent then so.since
         (GoesOver n so.before ago more so.failed gone silent)
         (λ quiet.

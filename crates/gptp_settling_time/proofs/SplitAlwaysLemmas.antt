@@ -53,7 +53,8 @@ use Rattle.gptp_settling_time.proofs.LinkBetweenLemmas.{IsLinkBetween, SameSende
 use Rattle.gptp_settling_time.proofs.SinceSetLemmas.{AreLimitedBy, limited_acts, limited_later}
 use Rattle.gptp_settling_time.proofs.OffForGoodLemmas.{AreOffForGood, GoOnOff, good_acts, good_later, stays_disabled}
 use Rattle.gptp_settling_time.proofs.SplitLemmas.{IsCut, IsSplit, IsTurned, IsTwice, SplitSettles, SplitState, SplitStaysOff, SplitsBack, split_settles_on, splits_on}
-use Rattle.gptp_settling_time.proofs.SplitSoundLemmas.{AllSayStill, HeldWereLinked, all_tell, still_kept}
+use Rattle.gptp_settling_time.proofs.SplitSoundLemmas.{all_tell}
+use Rattle.gptp_settling_time.proofs.StillSoundLemmas.{AllSayStill, HeldWereLinked, still_kept}
 use Rattle.gptp_settling_time.proofs.ToldAnewLemmas.{FlightsAreSound, flights_kept}
 use Rattle.gptp_settling_time.proofs.UpJoinsLemmas.{UpJoins, flies_on, up_kept}
 
@@ -337,8 +338,9 @@ module _ (p : SettlingParams) (g : Snapshot) (By : PortIdentity → ℕ → Type
     module _ (cuts : CutsAllBeyond g n.graph) where
       pub says_then : AllSayStill says_announce g n x → AllSayStill says_announce g n (view w')
       says_then =
-          still_kept says_announce g n s.lost s.best (IsCut p g s start) (IsTurned p g s start) (IsTwice p g s start)
-          s.moves start s.near cuts (λ t is. is) x (view w') was.0.back back'.back (linked' quiet') step
+          still_kept says_announce g n s.moves.well s.moves.left s.near cuts x (view w')
+              was.0.back.after.kept.calm kept'
+          back'.back.after.fits.stations back'.back.still (linked' quiet') step
 
       pub flights_then : AllSayStill says_announce g n (view w') → fallen_by n start < w'.time → (old : ℕ)
           → FlightsAreSound says_announce n.graph old x → FlightsAreSound says_announce n.graph old (view w')
@@ -392,12 +394,12 @@ module _ (p : SettlingParams) (g : Snapshot) (By : PortIdentity → ℕ → Type
   seen' quiet' off start may =
       let quiet = quiet_before quiet' in
       let before = may_before p g By Limits Were failed gone silent w w' is standing' asked'
-          goes (senders_kept w w' keeps)
+      goes (senders_kept w w' keeps)
       same_then links_then by_then limited_then were_then late_then on start may in
       seen_then p g By Limits Were failed gone silent w w' is standing' asked' goes
       (senders_kept w w' keeps) same_then links_then
       by_then limited_then were_then late_then on quiet quiet' off start may (view w).lanes
-          (is.seen quiet off start before) step
+      (is.seen quiet off start before) step
 
   abbrev made : IsSplit p g
   made = is.split
@@ -446,7 +448,7 @@ module _ (p : SettlingParams) (g : Snapshot) (By : PortIdentity → ℕ → Type
   flights' cuts since old is_old quiet' off late' = elim (dec_lt (left_by p g made gone) w.time) [
     | yes late ↦
         flights_then p g By Limits Were failed gone silent w w' is standing' asked' goes
-            (senders_kept w w' keeps) same_then
+        (senders_kept w w' keeps) same_then
         links_then by_then limited_then were_then late_then on quiet quiet' off (pred gone) (inl now) (view w).lanes
         (is.seen quiet off (pred gone) (inl now)) step cuts (says' cuts quiet' off) late' old
         (is.flights cuts (sym keeps.change ∙ since) old (old_before is_old) quiet off late)

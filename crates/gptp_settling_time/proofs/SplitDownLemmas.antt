@@ -46,7 +46,7 @@ use Rattle.gptp_settling_time.proofs.SinceSetLemmas.{AreLimitedBy, limited_unset
 use Rattle.gptp_settling_time.proofs.SplitAlwaysLemmas.{IsDroppedBy, alone_then, IsSplitAlways, MayStart, left_by, may_before, one_before, says_then, seen_then, split_after, split_network, split_then}
 use Rattle.gptp_settling_time.proofs.SplitLemmas.{IsCut, IsSplit, IsTurned, IsTwice, SplitSettles, SplitState, SplitsBack, cut_times, tops_times, turned_times}
 use Rattle.gptp_settling_time.proofs.SplitRestLemmas.{SplitNamesAlone}
-use Rattle.gptp_settling_time.proofs.SplitSoundLemmas.{AllSayStill}
+use Rattle.gptp_settling_time.proofs.StillSoundLemmas.{AllSayStill}
 use Rattle.gptp_settling_time.proofs.ToldAnewLemmas.{FlightsAreSound}
 use Rattle.gptp_settling_time.proofs.UpJoinsLemmas.{UpJoins, up_down, up_kept}
 use Rattle.gptp_settling_time.proofs.UnusedDownLemmas.{asked', delay_taken, either, emptied, keeps, late_then, snapshot_taken, standing', tells, time}
@@ -275,7 +275,7 @@ module _ (p : SettlingParams) (g : Snapshot) (By : PortIdentity → ℕ → Type
       may_then : MayStart gone s.since start w
       may_then =
           may_before p g By Limits Were failed gone silent w w' split standing_then asked_then
-              goes sends same' links' by'
+          goes sends same' links' by'
           limited' were' late' on
           start may
 

@@ -80,7 +80,7 @@ use Rattle.gptp_settling_time.proofs.SplitAlwaysLemmas.{GoesUntil, IsSplitAlways
 use Rattle.gptp_settling_time.proofs.TopsDeepLemmas.{tops_deep}
 use Rattle.gptp_settling_time.proofs.SplitLemmas.{IsSplit, SplitSettles, SplitState, SplitsBack, turned_times, tops_times}
 use Rattle.gptp_settling_time.proofs.SplitRestLemmas.{IsSplitAnew, SplitNamesAlone, split_anew_begins}
-use Rattle.gptp_settling_time.proofs.SplitSoundLemmas.{AllSayStill}
+use Rattle.gptp_settling_time.proofs.StillSoundLemmas.{AllSayStill}
 use Rattle.gptp_settling_time.proofs.SplitTracesLemmas.{still_sound}
 use Rattle.gptp_settling_time.proofs.ToldAnewLemmas.{FlightsAreSound}
 use Rattle.gptp_settling_time.proofs.UpJoinsLemmas.{up_begins}
@@ -241,12 +241,12 @@ module _ (p : SettlingParams) (number : ℕ) (w : WorldState) (draws : List Draw
     says_still cuts = record {
       lanes = λ j l f a at among said known stays.
           let is_sound = sound.lanes j l (lane_still j l at) f a among said in
-          still_sound g n' well' left' number loses cuts a.source.clock a stays
+          still_sound g n' well' left' loses.systems cuts a.source.clock a stays
           (subst (λ (q : PortIdentity). IsWorse g q.clock a ⊎ Whole g q.clock a) (sym is_sound.source) is_sound.sound);
       stations = λ i s at live place r holds stays.
           let came = sound.stations i s (alone.stood_seen p number w draws done w' is is' acts lives i s at live) live
           place r holds in
-          still_sound g n' well' left' number loses cuts r.said.source.clock r.said stays
+          still_sound g n' well' left' loses.systems cuts r.said.source.clock r.said stays
           (subst (λ (q : PortIdentity). IsWorse g q.clock r.said ⊎ Whole g q.clock r.said) (sym came.source)
           came.sound);
     }
@@ -259,7 +259,7 @@ module _ (p : SettlingParams) (number : ℕ) (w : WorldState) (draws : List Draw
           | inl known ↦
               let is_sound = sound.lanes j l stood f a among said in
               inl (alone_said g n' well' left' number loses leaves l.from l.to a joins known
-                  is_sound.source is_sound.sound
+              is_sound.source is_sound.sound
               (λ b is_best. named j l f a b stood among said joins is_best)
               (λ d e here there. onward j l f a d e stood among said joins here there))
           | inr is_lost ↦
@@ -421,7 +421,7 @@ module _ (p : SettlingParams) (number : ℕ) (w : WorldState) (draws : List Draw
       module _ (By : PortIdentity → ℕ → Type 0) (Limits Were : ℕ → Type 0)
           (limited : (limit : ℕ) → Limits limit → AreLimitedBy limit w)
           (were : (old : ℕ) → Were old → UpIsInUse w × (w.time + delay_in w ≤ old)) (gone : ℕ)
-              (measured' : LinkIsMeasured w')
+          (measured' : LinkIsMeasured w')
           (long : w.time + silence_span p < silent) (by : WorldAgesBy p By w')
           (linked : (port : PortIdentity) (until : ℕ) → By port until → IsLinked g port)
           (is_gone : GoesUntil g By gone ⊎ (silent ≤ gone)) (later : w.time < gone) (late' : delay_in w' ≤ w'.time)

@@ -332,7 +332,7 @@ module _ (d : DocumentState) (playable : IsPlayable d) (made : List Timed) (even
         (WereUsed n ago so.failed) so.failed gone silent w'
     down =
         down_splits p so.before (Over made gone) (SetLimits n ago) (WereUsed n ago so.failed) so.failed gone silent
-            y.clock y.port then
+        y.clock y.port then
         draws done w' after.claim.world after.claim.measured lowered so.since.split quiet_then
         (up_so n made then keeps.stands end y.up lowered.1.place lowered.1.channel lowered.1.is)
         (unused_so n made then keeps.stands world_then.sound end y.failed) falls.off
@@ -341,7 +341,7 @@ module _ (d : DocumentState) (playable : IsPlayable d) (made : List Timed) (even
     names_down : SplitNamesAlone p silent w'
     names_down =
         alone_down p so.before (Over made gone) (SetLimits n ago) (WereUsed n ago so.failed)
-            so.failed gone silent y.clock y.port then
+        so.failed gone silent y.clock y.port then
         draws done w' after.claim.world after.claim.measured lowered so.since.split quiet_then
         (up_so n made then keeps.stands end y.up lowered.1.place lowered.1.channel lowered.1.is)
         (unused_so n made then keeps.stands world_then.sound end y.failed) so.since.alone
@@ -373,7 +373,7 @@ module _ (d : DocumentState) (playable : IsPlayable d) (made : List Timed) (even
       since = split_anew_begins p so.before (Over more gone) (SetLimits n ago)
           (WereUsed n ago so.failed) so.failed gone silent w'
           (split_by p so.before (Over made gone) (SetLimits n ago) (WereUsed n ago so.failed)
-              so.failed gone silent w' down
+          so.failed gone silent w' down
           (Over more gone) gone over_more
           (λ port until is. is.1) (over_gone n so.before ago more so.failed gone silent) (inl (omega arith))) names_down
           last;

@@ -150,7 +150,7 @@ module _ (p : SettlingParams) (g : Snapshot) (By : PortIdentity → ℕ → Type
 pub anew_later : (p : SettlingParams) (g : Snapshot) (By : PortIdentity → ℕ → Type 0) (Limits Were : ℕ → Type 0)
     (failed gone silent time : ℕ)
     (w : WorldState) → w.time ≤ time → NothingBefore time w.net.pending → IsSplitAnew p g By
-        Limits Were failed gone silent w
+    Limits Were failed gone silent w
     → IsSplitAnew p g By Limits Were failed gone silent (at_time time w)
 anew_later p g By Limits Were failed gone silent time w later first is =
     anew_step p g By Limits Were failed gone silent w (at_time time w) is

@@ -82,7 +82,7 @@ WereUsed n ago failed old = UpIsUsed n ago × (failed + (sync_paths n ago).delay
 pub split_by : (p : SettlingParams) (g : Snapshot) (By : PortIdentity → ℕ → Type 0)
     (Limits Were : ℕ → Type 0) (failed gone silent : ℕ)
     (w : WorldState) → IsSplitAlways p g By Limits Were failed gone silent w →
-        (By' : PortIdentity → ℕ → Type 0) (gone' : ℕ)
+    (By' : PortIdentity → ℕ → Type 0) (gone' : ℕ)
     → WorldAgesBy p By' w → ((port : PortIdentity) (until : ℕ) → By' port until → IsLinked g port)
     → GoesUntil g By' gone' ⊎ (silent ≤ gone') → (gone ≤ gone') ⊎ ((failed < gone') × (w.time ≤ failed))
     → IsSplitAlways p g By' Limits Were failed gone' silent w
@@ -187,7 +187,7 @@ module _ (d : DocumentState) (ago events : List Timed) (gone silent : ℕ) where
       let p = pace_of d.network in
       let By = GoesOver d.network so.before ago events so.failed gone silent in
       let then = anew_later p so.before By (SetLimits d.network ago) (WereUsed d.network ago so.failed) so.failed gone
-          silent timed.at w
+      silent timed.at w
       was.ready.timely.now was.ready.timely.first
       so.since in
       record {
@@ -237,12 +237,12 @@ module _ (d : DocumentState) (ago events : List Timed) (gone silent : ℕ) where
     pub split_to_settled : (silent ≤ w.time) ⊎ NoneSilent d.network ago events → Settled w × IsBoundedWorld w
     split_to_settled (inl now) =
         split_settles p so.before By (SetLimits d.network ago) (WereUsed d.network ago so.failed) so.failed gone silent
-            w so.since.split quiet off start
+        w so.since.split quiet off start
         may late_now silent
         so.since.split.standing.silent now
     split_to_settled (inr none) =
         split_settles p so.before By (SetLimits d.network ago) (WereUsed d.network ago so.failed) so.failed gone silent
-            w so.since.split quiet off start
+        w so.since.split quiet off start
         may late_now w.time
         (none_silent_from d ago events w so.keeps so.were none w.time) (omega arith)
 
