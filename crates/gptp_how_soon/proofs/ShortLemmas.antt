@@ -194,7 +194,7 @@ module _ (n : NetworkState) (network : IsNetwork n) (paths : SyncPaths) (few : p
             (quiet (aged_by loss + 2 * way_span paths + gone_by n paths loss.soon) (omega (arith, w, b, g)))
             (omega (arith, w, a, b))
         by SystemTurned = let w = way in let e = echo in omega (arith, w, e)
-        by TreeFalls = let w = way in let g = gone paths loss.soon short in omega (arith, w, g)
+        by TreeFalls = let w = way in let g = gone paths loss.used_before short in omega (arith, w, g)
         by TreeTurned = let w = way in let e = echo in omega (arith, w, e)
         by FailureMovesTrees =
             let w = way in let e = echo in let l = largest in let a = aged_most in let g = gone paths loss.soon short in

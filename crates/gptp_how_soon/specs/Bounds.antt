@@ -151,7 +151,7 @@ sound_of_row n loss paths FailureCutsOff gained =
     if loss.cuts_all then quiet_by n loss (aged_by loss + 2 * way_span paths + gone_by n paths loss.soon)
     else max (aged_by loss + 2 * way_span paths) (aged_echo_span n loss paths)
 sound_of_row n loss paths SystemTurned gained = 2 * way_span paths + echo_span (pace_of n) paths
-sound_of_row n loss paths TreeFalls gained = max (2 * way_span paths) (gone_by n paths loss.soon)
+sound_of_row n loss paths TreeFalls gained = max (2 * way_span paths) (gone_by n paths loss.used_before)
 sound_of_row n loss paths TreeTurned gained = 2 * way_span paths + echo_span (pace_of n) paths
 sound_of_row n loss paths FailureMovesTrees gained =
     quiet_by n loss

@@ -10,6 +10,7 @@ mod WorseningLemmas
 mod UnmovedLemmas
 mod RepeatLemmas
 mod LoweredLemmas
+mod IdleStandsLemmas
 mod FailedLemmas
 mod CutOffLemmas
 mod LivesOnLemmas
@@ -20,6 +21,8 @@ mod TreeBelowLemmas
 mod FallsBelowLemmas
 mod TreeLemmas
 mod TreeWorsenedLemmas
+mod TreeByLemmas
+mod TwoTopsLemmas
 mod TurnedTreeTestLemmas
 mod TurnsBelowLemmas
 mod TurnedTreeLemmas
@@ -34,9 +37,14 @@ mod RowReasonLemmas
 mod StartRowLemmas
 mod RowTestLemmas
 mod ArrivedLemmas
+mod FlightLemmas
 mod RowLemmas
-mod AnyLossLemmas
 mod TakenAwayLemmas
+mod CutsAllLemmas
+mod RowLossLemmas
+mod AnyLossLemmas
+mod AgedLemmas
+mod LossBoundLemmas
 pub mod ChoiceLemmas
 pub mod StepLemmas
 mod SettledLemmas

@@ -1,6 +1,6 @@
 -- An event changes nothing, at the time of the event before, whatever priority1 a failed system gets by it: what is
 -- claimed of a world that is left stays, and of one that is cleared.
-use Rattle.std.proofs.Common.{◌≡◌, ◌≤◌, ◌+◌, ◌*◌, ◌∙◌, ℕ, pred, true, List, [], ◌∷◌, ◌++◌, slice_get, sym, ap, subst, inl, inr, arith}
+use Rattle.std.proofs.Common.{◌≡◌, ◌≤◌, ◌+◌, ◌*◌, ◌∙◌, ℕ, pred, List, [], ◌∷◌, ◌++◌, slice_get, sym, ap, subst, inl, inr, arith}
 use Rattle.gptp_graph.specs.PathBound.{path_bound}
 use Rattle.gptp_graph.specs.Snapshot.{Snapshot}
 use Rattle.gptp_links.specs.Fate.{Draw}
