@@ -396,7 +396,7 @@ module _ (d : DocumentState) (playable : IsPlayable d) where
             → sound ≡ (if used then max (echo_span (pace_of n) v.paths) v.paths.delay else span)
             → RestsAfterAnyLoss n made now sound ⊎ RestsTaken n made now sound
         by x true used same =
-            inr (x.takes, x.moves, x.few, used_up n playable.network (made ++ now) used, omega (arith, same))
+            inr (x.takes, x.moves, x.few, inl (used_up n playable.network (made ++ now) used, omega (arith, same)))
         by x false used same =
             inl (span, (several_lost n playable.network made now x.takes, refl, inl (x.none, same)))
 
@@ -552,7 +552,7 @@ module _ (d : DocumentState) (playable : IsPlayable d) where
         ))
     asks_by TakenAway row own =
         let x = taken n playable.network all b at late well row in
-        inl (x.rested, alone (Losing 0 0) (inr (inr (inr (inr (inr (x.takes, x.moves, x.none, refl, refl)))))))
+        inl (x.rested, alone (Losing 0 0) (inr (inr (inr (inr (inr (x.takes, x.moves, refl, inl (x.none, refl))))))))
     asks_by AnyLosses row own =
         let (rest, loses, roles) = losses n playable.network all b at late row in
         let span : ℕ = any_loss_span n loss v.paths in

@@ -235,3 +235,5 @@ pub mod SplitMadeLemmas
 pub mod MovedRestLemmas
 pub mod TurnedRestLemmas
 pub mod TurnedTreeRestLemmas
+pub mod TakenFartherLemmas
+pub mod WereSoundLemmas

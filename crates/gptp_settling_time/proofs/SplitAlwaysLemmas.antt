@@ -339,7 +339,7 @@ module _ (p : SettlingParams) (g : Snapshot) (By : PortIdentity → ℕ → Type
       pub says_then : AllSayStill says_announce g n x → AllSayStill says_announce g n (view w')
       says_then =
           still_kept says_announce g n s.moves.well s.moves.left s.near cuts x (view w')
-              was.0.back.after.kept.calm kept'
+          was.0.back.after.kept.calm kept'
           back'.back.after.fits.stations back'.back.still (linked' quiet') step
 
       pub flights_then : AllSayStill says_announce g n (view w') → fallen_by n start < w'.time → (old : ℕ)

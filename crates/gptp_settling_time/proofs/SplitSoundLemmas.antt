@@ -80,12 +80,12 @@ module _ (says : Spelling) (g : Snapshot) (n : Network) (lost : ℕ) (best : Sys
         sound = inr (says_whole says g n (IsCutOff n t.next) LeadsNowhere t.top best t.next t.base t.depth
             (moves_off g n t.top best t.next t.base t.depth (moves.cut t is)) start w back.after s.clock in_s s
             (at_place says g n moves.well moves.left near cuts w back.after.kept
-                back.after.fits.stations back.still linked i s at
+            back.after.fits.stations back.still linked i s at
             live)
             (holds_in_tree says g n (IsCutOff n t.next) LeadsNowhere t.top best t.next t.base t.depth
             (moves_off g n t.top best t.next t.base t.depth (moves.cut t is)) start w back.after (back.cut t is) s.clock
             in_s) (has_left t is s (at_place says g n moves.well moves.left near cuts w back.after.kept
-                back.after.fits.stations back.still linked i s at
+            back.after.fits.stations back.still linked i s at
             live) in_s) port a own);
       }
     ]
