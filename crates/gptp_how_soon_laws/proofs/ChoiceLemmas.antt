@@ -29,8 +29,8 @@ use Rattle.gptp_how_soon.specs.declared.bounds.SettlingTime.{SettlingTime}
 use Rattle.gptp_settling_time.specs.HowSoon.{BeforeRepeats, BoundsAnyLoss, BoundsChoice, BoundsEvents, BoundsLoss, BoundsSplit, BoundsStart, BoundsTree, FailsTreesFirst, IsChoiceBoundAfter, IsLossBoundAfter, IsRestBoundAfter, NoneBetween, RestsAfterAnyLoss, RestsAfterLoss, RestsOnceTold, RestsSplit, RestsTaken, RestsTree, RolesAfterFailure, TreeNext}
 use Rattle.gptp_settling_time.specs.EventKinds.{FlightIsGoneFrom}
 use Rattle.gptp_settling_time.specs.Rests.{FlightIsGoneSince, turned_echo_span}
-use Rattle.gptp_settling_time.specs.Losses.{NoneSilent}
-use Rattle.gptp_settling_time.specs.TreeLosses.{CutsAllBeyondFrom, FallsTree, TurnsTreeLink}
+use Rattle.gptp_settling_time.specs.Losses.{NoneSilent, UpIsUsed}
+use Rattle.gptp_settling_time.specs.TreeLosses.{CutsAllBeyondFrom, FallsTree, LeavesAloneFrom, TurnsTreeLink}
 use Rattle.gptp_settling_time.proofs.BesideIdleLemmas.{before_none}
 use Rattle.gptp_settling_time.proofs.MomentLemmas.{parted}
 use Rattle.gptp_settling_time.proofs.WellFormedLemmas.{after_well}
@@ -38,7 +38,7 @@ use Rattle.gptp_how_soon_laws.specs.Choice.{SettlingsAreChoiceBounds}
 use Rattle.gptp_how_soon_laws.proofs.FailedLemmas.{used_up}
 use Rattle.gptp_how_soon_laws.proofs.RowBoundLemmas.{HasOwnBounds, IsSoundSooner, IsTelling, bounds_choice, choice_or_own, past_row, sound_or_sooner, tells}
 use Rattle.gptp_how_soon_laws.proofs.RowLemmas.{gained, unchanged}
-use Rattle.gptp_how_soon_laws.proofs.RowLossLemmas.{ComesLate, FailsLate, FallsLate, GoesFirst, TakesSome, all_cut, cut_off, failed, failure_cuts, flight_now, heard, losses, lowered, none_left, same_paths, taken, tree_falls, tree_turned, turned}
+use Rattle.gptp_how_soon_laws.proofs.RowLossLemmas.{ComesLate, CutsAll, FailsLate, FallsLate, GoesFirst, TakesSome, all_cut, cut_off, failed, failure_cuts, flight_now, heard, left_alone, losses, lowered, none_left, same_paths, taken, tree_falls, tree_turned, turned}
 use Rattle.gptp_how_soon_laws.proofs.AgedLemmas.{aged, aging, quiet_later}
 use Rattle.gptp_how_soon_laws.proofs.LossBoundLemmas.{beside, greater, no_later, some_before, some_heard, some_lost, some_rested, some_trees}
 use Rattle.gptp_how_soon_laws.proofs.RepeatLemmas.{before_repeats}
@@ -71,6 +71,12 @@ begin_at (event ∷ events) = by (nat_le event.at 0) (event.at == 0) refl refl (
 rested_late : (aged ways echo quiet sound : ℕ) → sound ≡ max (aged + (ways + echo)) quiet
     → max (max (aged + ways) quiet) (aged + ways + echo) ≤ sound
 rested_late aged ways echo quiet sound is = omega (arith, is)
+
+rested_alone : (silent : Bool) (aged ways delay quiet sound : ℕ)
+    → sound ≡ (if silent then max (max (aged + ways) delay) quiet else max (aged + ways) delay)
+    → max (max (aged + ways) (if silent then max aged quiet else aged)) delay ≤ sound
+rested_alone true aged ways delay quiet sound is = omega (arith, is)
+rested_alone false aged ways delay quiet sound is = omega (arith, is)
 
 module _ (d : DocumentState) (playable : IsPlayable d) where
   abbrev n : NetworkState
@@ -223,8 +229,9 @@ module _ (d : DocumentState) (playable : IsPlayable d) where
     Enough sound choice roles =
         (max roles (choice + max (echo_span (pace_of n) (sync_paths n (made ++ now))) (largest_interval (pace_of n)))
         ≤ sound)
-        ⊎ (CutsAllBeyondFrom n made (made ++ now) × (flight : ℕ) × FlightIsGoneSince n made (made ++ now) flight
+        ⊎ ((CutsAllBeyondFrom n made (made ++ now) × (flight : ℕ) × FlightIsGoneSince n made (made ++ now) flight
         × (max roles (choice + flight) ≤ sound))
+        ⊎ (LeavesAloneFrom n made (made ++ now) × UpIsUsed n made × (max roles (sync_paths n made).delay ≤ sound)))
 
     -- it comes to rest so after a loss, or after a tree is cut off, one turns, or a failure cuts trees off
     abbrev Rests : ℕ → Type 0
@@ -271,7 +278,26 @@ module _ (d : DocumentState) (playable : IsPlayable d) where
         inr (inr (inr (inl (tree_next (TurnsTreeLink n) (λ events. sound ≡ turned_echo_span n events) calm off rest
         tree is))))
 
-    -- it has by so much later than the choice stands, where that is enough
+    abbrev fallen : ℕ
+    fallen = aged_by loss + 2 * way_span v.paths
+
+    -- it has by then, where that is enough
+    split_enough : (sound : ℕ) → FailsLate n playable.network all b at late
+        → Enough sound fallen (max fallen (quiet_by n loss (aged_by loss))) → RestsSplit n sound made now
+    split_enough sound x enough = (
+      fallen,
+      max fallen (quiet_by n loss (aged_by loss)),
+      (
+        aged_by loss,
+        quiet_by n loss (aged_by loss),
+        aging n playable.network all b at late well (some_trees n made now x.fails),
+        refl,
+        refl,
+      ),
+      enough,
+    )
+
+    -- so much later than the choice stands
     split_rests : (sound : ℕ) → FailsLate n playable.network all b at late → (more : ℕ)
         → sound ≡ quiet_by n loss (aged_by loss + 2 * way_span v.paths + more)
         → (max (max (aged_by loss + 2 * way_span v.paths) (quiet_by n loss (aged_by loss)))
@@ -285,18 +311,8 @@ module _ (d : DocumentState) (playable : IsPlayable d) where
         omega arith in
         let later = rested_late (aged_by loss) (2 * way_span v.paths) more (quiet_by n loss (aged_by loss)) sound
         (told ∙ ap (quiet_by n loss) same
-        ∙ quiet_later n playable.network all b at late well (2 * way_span v.paths + more)) in (
-          aged_by loss + 2 * way_span v.paths,
-          max (aged_by loss + 2 * way_span v.paths) (quiet_by n loss (aged_by loss)),
-          (
-            aged_by loss,
-            quiet_by n loss (aged_by loss),
-            aging n playable.network all b at late well (some_trees n made now x.fails),
-            refl,
-            refl,
-          ),
-          enough later,
-        )
+        ∙ quiet_later n playable.network all b at late well (2 * way_span v.paths + more)) in
+        split_enough sound x (enough later)
 
     -- it has come to rest by what the row of this loss says
     rests_by : (sound : ℕ) → sound ≡ sound_by n loss v.paths (row_at v) (gained_at n v)
@@ -379,12 +395,22 @@ module _ (d : DocumentState) (playable : IsPlayable d) where
         inr (inr (inr (x, split_rests sound x echo (told ∙ is) (λ later. inl later))))
     rests_by sound told (inr (inr (inr (inr (inr (inr (inr (inr (inr (which, cuts, is)))))))))) =
         let x = all_cut n playable.network all b at late well which cuts in
-        let gone : ℕ = gone_by n v.paths loss.soon in
-        let flight = flight_now n playable.network all b at late x.trees.fails in
-        inr (inr (inr (
-          x.trees,
-          split_rests sound x.trees gone (told ∙ is) (λ later. inr (x.beyond, gone, flight, later)),
-        )))
+        inr (inr (inr (x.trees, by x loss.alone refl (told ∙ is))))
+      where
+        gone : ℕ
+        gone = gone_by n v.paths loss.soon
+
+        by : CutsAll n playable.network all b at late → (apart : Bool) → loss.alone ≡ apart
+            → sound ≡ quiet_by n loss (if apart then max fallen v.paths_before.delay else fallen + gone)
+            → RestsSplit n sound made now
+        by x false some same =
+            let flight = flight_now n playable.network all b at late x.trees.fails in
+            split_rests sound x.trees gone same (λ later. inr (inl (x.beyond, gone, flight, later)))
+        by x true apart same =
+            let (leaves, used) = left_alone n playable.network all b at late well apart in
+            let over = rested_alone loss.silent (aged_by loss) (2 * way_span v.paths) v.paths_before.delay
+            (silence_span (pace_of n)) sound same in
+            split_enough sound x.trees (inr (inr (leaves, used, over)))
     rests_by sound told (inr (inr (inr (inr (inr (inr (inr (inr (inl (row, is)))))))))) =
         let x = taken n playable.network all b at late well row in
         inl (x.rested, alone (Resting sound) (inr (by x v.used refl (told ∙ is))))
