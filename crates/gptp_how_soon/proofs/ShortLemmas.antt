@@ -40,7 +40,7 @@ use Rattle.gptp_how_soon.specs.Silent.{is_heard_link, own_intervals}
 use Rattle.gptp_how_soon.specs.Times.{IsWatchedShortly, View, events_at, events_before, gained_at, heard_at, last_of, last_set, loss_at, row_at, settling_time, settling_times, settling_times_from, time_at, view_at}
 use Rattle.gptp_how_soon.specs.declared.bounds.Loss.{Loss}
 use Rattle.gptp_how_soon.specs.declared.bounds.Row.{Row}
-use Rattle.gptp_how_soon.specs.declared.bounds.Row.TheVariants.{AnyLosses, AnyPast, CutOff, FailedEnd, FailedHeard, FailureCutsOff, FailureMovesTrees, Gained, Lowered, SystemTurned, TakenAway, TreeFalls, TreeTurned, Unchanged}
+use Rattle.gptp_how_soon.specs.declared.bounds.Row.TheVariants.{AnyLosses, AnyPast, CutOff, FailedEnd, FailedHeard, FailureCutsOff, FailureMovesTrees, Gained, Lowered, SystemTurned, TakenApart, TakenAway, TreeFalls, TreeTurned, Unchanged}
 use Rattle.gptp_how_soon.specs.declared.bounds.SettlingTime.{SettlingTime}
 use Rattle.gptp_how_soon.specs.declared.kinds.Told.{Told}
 use Rattle.gptp_how_soon.proofs.SilentLemmas.{held_within}
@@ -163,6 +163,7 @@ module _ (n : NetworkState) (network : IsNetwork n) (paths : SyncPaths) (few : p
         by TreeTurned = let w = way in omega (arith, w)
         by FailureMovesTrees = cut_most
         by TakenAway = omega arith
+        by TakenApart = quiet 0 (omega arith)
         by AnyLosses = roles_lost
         by Gained = early
 
@@ -212,6 +213,9 @@ module _ (n : NetworkState) (network : IsNetwork n) (paths : SyncPaths) (few : p
             let e = echo in let l = losses loss soon in
             either_most loss.used (max (echo_span (pace_of n) paths) paths.delay) (any_loss_span n loss paths)
             195000000000000 (omega (arith, e, short)) (omega (arith, l))
+        by TakenApart =
+            let w = way in let g = gone paths loss.used short in
+            quiet (max (way_span paths) (gone_by n paths loss.used)) (omega (arith, w, g))
         by AnyLosses = roles_lost
         by Gained = early
 
@@ -239,6 +243,7 @@ module _ (n : NetworkState) (network : IsNetwork n) (paths : SyncPaths) (few : p
         by true TreeTurned = let w = way in let e = echo in omega (arith, w, e)
         by true FailureMovesTrees = let w = way in let e = kept in let a = aged_most in omega (arith, w, e, a)
         by true TakenAway = let e = echo in omega (arith, e)
+        by true TakenApart = omega arith
         by true AnyLosses = let l = losses loss soon in omega (arith, l)
         by true Gained = omega (arith, early)
 

@@ -13,7 +13,7 @@ use Rattle.gptp_how_soon.specs.Kinds.{recovers}
 use Rattle.gptp_how_soon.specs.Links.{varies}
 use Rattle.gptp_how_soon.specs.declared.bounds.Loss.{Loss}
 use Rattle.gptp_how_soon.specs.declared.bounds.Row.{Row}
-use Rattle.gptp_how_soon.specs.declared.bounds.Row.TheVariants.{AnyLosses, AnyPast, CutOff, FailedEnd, FailedHeard, FailureCutsOff, FailureMovesTrees, Gained, Lowered, SystemTurned, TakenAway, TreeFalls, TreeTurned, Unchanged}
+use Rattle.gptp_how_soon.specs.declared.bounds.Row.TheVariants.{AnyLosses, AnyPast, CutOff, FailedEnd, FailedHeard, FailureCutsOff, FailureMovesTrees, Gained, Lowered, SystemTurned, TakenApart, TakenAway, TreeFalls, TreeTurned, Unchanged}
 use Rattle.gptp_how_soon.specs.declared.bounds.Settling.{Settling}
 use Rattle.gptp_how_soon.specs.declared.bounds.SettlingTime.{SettlingTime}
 use Rattle.gptp_how_soon.specs.declared.kinds.Told.{Told}
@@ -82,6 +82,7 @@ choice_of_row n loss paths TreeFalls gained = 2 * way_span paths
 choice_of_row n loss paths TreeTurned gained = 2 * way_span paths
 choice_of_row n loss paths FailureMovesTrees gained = aged_by loss + 2 * way_span paths
 choice_of_row n loss paths TakenAway gained = 0
+choice_of_row n loss paths TakenApart gained = 0
 choice_of_row n loss paths AnyLosses gained = any_loss_span n loss paths
 choice_of_row n loss paths Gained gained = gained
 
@@ -105,6 +106,7 @@ roles_of_row n loss paths TreeTurned gained = choice_of_row n loss paths TreeTur
 roles_of_row n loss paths FailureMovesTrees gained =
     quiet_by n loss (choice_of_row n loss paths FailureMovesTrees gained)
 roles_of_row n loss paths TakenAway gained = 0
+roles_of_row n loss paths TakenApart gained = quiet_by n loss 0
 roles_of_row n loss paths AnyLosses gained = quiet_by n loss (any_loss_span n loss paths)
 roles_of_row n loss paths Gained gained = gained
 
@@ -166,6 +168,7 @@ sound_of_row n loss paths FailureMovesTrees gained =
     (if loss.cuts_all then apart_by n loss paths
     else aged_by loss + 2 * way_span paths + max (echo_span (pace_of n) paths) (largest_interval (pace_of n)))
 sound_of_row n loss paths TakenAway gained = taken_echo_span n loss paths
+sound_of_row n loss paths TakenApart gained = quiet_by n loss (max (way_span paths) (gone_by n paths loss.used))
 sound_of_row n loss paths AnyLosses gained = quiet_by n loss (any_loss_span n loss paths)
 sound_of_row n loss paths Gained gained = gained
 

@@ -114,6 +114,12 @@ moves_trees_after n made events =
     moves_trees (systems_after n events) (lost_ends n made events) (used_ends n events) (chosen_after n made)
     (chosen_after n events)
 
+-- each live far end of a link that is lost between these events is moved
+abbrev pub far_ends_move_after : NetworkState → List Timed → List Timed → Bool
+far_ends_move_after n made events =
+    list_all (far_end_moves (systems_after n events) (chosen_after n made) (chosen_after n events))
+    (lost_ends n made events)
+
 abbrev pub cuts_all_after : NetworkState → List Timed → List Timed → Bool
 cuts_all_after n made events =
     cuts_all (systems_after n events) (lost_ends n made events) (chosen_after n made) (chosen_after n events)

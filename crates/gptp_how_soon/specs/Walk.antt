@@ -1,6 +1,6 @@
 -- How a document stands at each time, as its events come (profile).
 use Rattle.std.specs.Prelude.{◌≡◌, ◌≤◌, ℕ, Bool, ◌++◌, ◌∷◌, [], ◌==◌, ◌&&◌, not, max, if◌then◌else◌, map, List, Some, None, IsTrue}
-use Rattle.std.specs.List.{find}
+use Rattle.std.specs.List.{find, list_all}
 use Rattle.std.specs.Option.{is_some}
 use Rattle.gptp_setup.specs.SettlingParams.{largest_interval}
 use Rattle.gptp_scenario.specs.Network.{NetworkState, pace_of}
@@ -15,7 +15,7 @@ use Rattle.gptp_how_soon.specs.Chosen.{any_counted, any_moved, chosen_over, ends
 use Rattle.gptp_how_soon.specs.Far.{all_cut_far_ends, are_far, none_up_longer, up_is_used}
 use Rattle.gptp_how_soon.specs.Kinds.{sets_bounds, takes_one, told_by}
 use Rattle.gptp_how_soon.specs.Links.{delay_set, longest_among, lost_among, new_among}
-use Rattle.gptp_how_soon.specs.MovedTrees.{cuts_all, moves_trees}
+use Rattle.gptp_how_soon.specs.MovedTrees.{cuts_all, far_end_moves, moves_trees}
 use Rattle.gptp_how_soon.specs.Rest.{has_come}
 use Rattle.gptp_how_soon.specs.Silent.{any_silent, heard_links, held_among, own_intervals}
 use Rattle.gptp_how_soon.specs.Times.{View, settling_time}
@@ -132,6 +132,8 @@ moves_seen n w at = record {
       (chosen_before w) (chosen_now w);
   taken = not (any_moved (systems_in w.tables.nodes.items) (chosen_before w) (chosen_now w))
       && not (any_silent w.used_before.items w.tables.standings.items);
+  apart = not (any_moved (systems_in w.tables.nodes.items) (chosen_before w) (chosen_now w))
+      && list_all (far_end_moves (systems_in w.tables.nodes.items) (chosen_before w) (chosen_now w)) (lost_seen w);
   cuts_all = (has_come_seen n w at
       && moves_trees (systems_in w.tables.nodes.items) (lost_seen w) (ends_in_use w.ends.items (used_now w))
       (chosen_before w) (chosen_now w))

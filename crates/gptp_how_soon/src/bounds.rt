@@ -95,6 +95,8 @@ pub enum Row {
     /// an end has failed, or they repeat what stands. All together move no system, also none that is cut off, and leave
     /// no link silent.
     TakenAway,
+    /// So it is, and links may be left silent; but no live system lost its link to a nearer one.
+    TakenApart,
     /// Some of its events are losses, the others make nothing of what stands, and no other row of a loss is so.
     AnyLosses,
     /// None of its events is a loss.
@@ -286,7 +288,11 @@ fn choice_by(network: &Network, loss: Loss, paths: SyncPaths, row: Row, gained: 
     }
     match row {
         Row::AnyPast => settling_span_at_once(network, paths),
-        Row::Unchanged | Row::Lowered | Row::FailedEnd | Row::TakenAway => 0,
+        Row::Unchanged
+        | Row::Lowered
+        | Row::FailedEnd
+        | Row::TakenAway
+        | Row::TakenApart => 0,
         Row::FailedHeard => aged_by(loss),
         Row::FailureCutsOff | Row::FailureMovesTrees => aged_by(loss) + 2 * way_span(paths),
         Row::CutOff | Row::SystemTurned | Row::TreeFalls | Row::TreeTurned => 2 * way_span(paths),
@@ -311,7 +317,7 @@ fn roles_by(network: &Network, loss: Loss, paths: SyncPaths, row: Row, gained: u
     match row {
         Row::AnyPast => settling_span_at_once(network, paths),
         Row::Unchanged | Row::Lowered | Row::TakenAway => 0,
-        Row::FailedEnd => quiet_by(network, loss, 0),
+        Row::FailedEnd | Row::TakenApart => quiet_by(network, loss, 0),
         Row::FailedHeard => quiet_by(network, loss, aged_by(loss)),
         Row::FailureCutsOff | Row::FailureMovesTrees => {
             quiet_by(network, loss, aged_by(loss) + 2 * way_span(paths))
@@ -417,6 +423,10 @@ fn sound_by(network: &Network, loss: Loss, paths: SyncPaths, row: Row, gained: u
         Row::Unchanged => 0,
         Row::Lowered => echo_span(network, paths).max(gone_by(network, paths, loss.used_before)),
         Row::TakenAway => taken_echo_span(network, loss, paths),
+        Row::TakenApart => {
+            let gone = gone_by(network, paths, loss.used);
+            quiet_by(network, loss, way_span(paths).max(gone))
+        }
         Row::CutOff => (2 * way_span(paths)).max(gone),
         Row::TreeFalls => (2 * way_span(paths)).max(gone_by(network, paths, loss.used_before)),
         Row::FailedEnd => quiet_by(network, loss, gone_before),
@@ -460,7 +470,7 @@ fn retold_by(network: &Network, loss: Loss, paths: SyncPaths, row: Row, gained: 
     }
     match row {
         Row::AnyPast => settling_span_at_once(network, paths),
-        Row::Unchanged | Row::FailedEnd => 0,
+        Row::Unchanged | Row::FailedEnd | Row::TakenApart => 0,
         Row::Lowered | Row::TakenAway => echo_span(network, paths),
         Row::FailedHeard => aged_by(loss) + echo_span(network, paths),
         Row::FailureCutsOff | Row::FailureMovesTrees => {

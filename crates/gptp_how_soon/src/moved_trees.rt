@@ -285,7 +285,7 @@ fn far_end_moves(systems: &[System], before: &[Chosen], now: &[Chosen], ends: &E
 }
 
 /// Whether it is so of each of these links.
-fn all_far_ends_move(systems: &[System], lost: &[Ends], before: &[Chosen], now: &[Chosen]) -> bool
+pub(crate) fn all_far_ends_move(systems: &[System], lost: &[Ends], before: &[Chosen], now: &[Chosen]) -> bool
     ensures { result ≡ list_all (far_end_moves systems.now before.now now.now) lost.now }
 {
     lost.iter()

@@ -34,6 +34,8 @@ pub struct Moves {
     pub trees_move: bool,
     /// Whether they move none, also none that is cut off, and leave no link silent.
     pub taken: bool,
+    /// Whether they move none, also none that is cut off, and no live system lost its link to a nearer one.
+    pub apart: bool,
     /// Whether then each system of these trees gets a worse root, and each live far end of a link that is lost is moved.
     pub cuts_all: bool,
     /// Whether each live system is alone then, which was at one link in use at most, and each link that was up was in
@@ -291,6 +293,8 @@ fn other_row(paths_before: SyncPaths, paths: SyncPaths, told: &[Told], moves: Mo
 {
     if is_end_followed(paths_before, paths, told) && (moves.far && !moves.any_moved) {
         Row::FailedEnd
+    } else if is_taking_followed(paths_before, paths, told) && moves.apart {
+        Row::TakenApart
     } else if is_taking_followed(paths_before, paths, told) && moves.taken {
         Row::TakenAway
     } else if any_loss(told) {

@@ -18,7 +18,7 @@ use crate::chosen::{
 use crate::far::{all_cut_far_ends, are_far, none_up_longer, up_is_used};
 use crate::kinds::{Told, sets_bounds, sets_link, takes_one, tell};
 use crate::links::{delay_set, longest_among, lost_among, mark_used, new_links};
-use crate::moved_trees::{cuts_all, moves_trees};
+use crate::moved_trees::{all_far_ends_move, cuts_all, moves_trees};
 use crate::rest::{
     Moves, asks_who_is_moved, comes_soon, has_come, heard_at_once, is_from_rest, row_of,
 };
@@ -171,6 +171,10 @@ impl Walk {
             tree_turns: both(come, turns_tree(&systems, &lost, &links, &before, &now)),
             trees_move: both(come, trees),
             taken: both(!any_moved, !silent),
+            apart: both(
+                !any_moved,
+                all_far_ends_move(&systems, &lost, &before, &now),
+            ),
             cuts_all: both(both(come, moves), cuts_all(&systems, &lost, &before, &now)),
             alone: both(
                 self.all_used_before,
@@ -205,6 +209,7 @@ impl Walk {
                 tree_turns: false,
                 trees_move: false,
                 taken: false,
+                apart: false,
                 cuts_all: false,
                 alone: false,
                 far: false,

@@ -23,14 +23,14 @@ use Rattle.gptp_how_soon.specs.Links.{longest_delay}
 use Rattle.gptp_how_soon.specs.Times.{View, events_at, gained_at, last_set, loss_at, ready_at, row_at, settling_time, settling_times, settling_times_from, time_at, view_at}
 use Rattle.gptp_how_soon.specs.declared.bounds.Loss.{Loss}
 use Rattle.gptp_how_soon.specs.declared.bounds.Row.{Row}
-use Rattle.gptp_how_soon.specs.declared.bounds.Row.TheVariants.{AnyLosses, AnyPast, CutOff, FailedEnd, FailedHeard, FailureCutsOff, FailureMovesTrees, Gained, Lowered, SystemTurned, TakenAway, TreeFalls, TreeTurned, Unchanged}
+use Rattle.gptp_how_soon.specs.declared.bounds.Row.TheVariants.{AnyLosses, AnyPast, CutOff, FailedEnd, FailedHeard, FailureCutsOff, FailureMovesTrees, Gained, Lowered, SystemTurned, TakenApart, TakenAway, TreeFalls, TreeTurned, Unchanged}
 use Rattle.gptp_how_soon.specs.declared.bounds.Settling.{Settling}
 use Rattle.gptp_how_soon.specs.declared.bounds.SettlingTime.{SettlingTime}
 use Rattle.gptp_settling_time.specs.HowSoon.{BeforeRepeats, BoundsAnyLoss, BoundsChoice, BoundsEvents, BoundsLoss, BoundsSplit, BoundsStart, BoundsTree, FailsTreesFirst, IsChoiceBoundAfter, IsLossBoundAfter, IsRestBoundAfter, NoneBetween, RestsAfterAnyLoss, RestsAfterLoss, RestsOnceTold, RestsSplit, RestsTaken, RestsTree, RolesAfterFailure, TreeNext}
-use Rattle.gptp_settling_time.specs.EventKinds.{FlightIsGoneFrom}
+use Rattle.gptp_settling_time.specs.EventKinds.{FlightIsGone, FlightIsGoneFrom}
 use Rattle.gptp_settling_time.specs.Rests.{FlightIsGoneSince, turned_echo_span}
 use Rattle.gptp_settling_time.specs.Losses.{NoneSilent, UpIsUsed}
-use Rattle.gptp_settling_time.specs.TreeLosses.{CutsAllBeyondFrom, FallsTree, LeavesAloneFrom, TurnsTreeLink}
+use Rattle.gptp_settling_time.specs.TreeLosses.{CutsAllBeyondFrom, FallsTree, LeavesAloneFrom, LosesFartherFrom, TurnsTreeLink}
 use Rattle.gptp_settling_time.proofs.BesideIdleLemmas.{before_none}
 use Rattle.gptp_settling_time.proofs.MomentLemmas.{parted}
 use Rattle.gptp_settling_time.proofs.WellFormedLemmas.{after_well}
@@ -38,6 +38,7 @@ use Rattle.gptp_how_soon_laws.specs.Choice.{SettlingsAreChoiceBounds}
 use Rattle.gptp_how_soon_laws.proofs.FailedLemmas.{used_up}
 use Rattle.gptp_how_soon_laws.proofs.RowBoundLemmas.{HasOwnBounds, IsSoundSooner, IsTelling, bounds_choice, choice_or_own, past_row, sound_or_sooner, tells}
 use Rattle.gptp_how_soon_laws.proofs.RowLemmas.{gained, unchanged}
+use Rattle.gptp_how_soon_laws.proofs.RowApartLemmas.{TakesApart, flight_apart, taken_apart}
 use Rattle.gptp_how_soon_laws.proofs.RowLossLemmas.{ComesLate, CutsAll, FailsLate, FallsLate, GoesFirst, TakesSome, all_cut, cut_off, failed, failure_cuts, flight_now, heard, left_alone, losses, lowered, none_left, same_paths, taken, tree_falls, tree_turned, turned}
 use Rattle.gptp_how_soon_laws.proofs.AgedLemmas.{aged, aging, quiet_later}
 use Rattle.gptp_how_soon_laws.proofs.LossBoundLemmas.{beside, greater, no_later, some_before, some_heard, some_lost, some_rested, some_trees}
@@ -393,7 +394,7 @@ module _ (d : DocumentState) (playable : IsPlayable d) where
         let x = failure_cuts n playable.network all b at late well row in
         let echo : ℕ = max (echo_span (pace_of n) v.paths) (largest_interval (pace_of n)) in
         inr (inr (inr (x, split_rests sound x echo (told ∙ is) (λ later. inl later))))
-    rests_by sound told (inr (inr (inr (inr (inr (inr (inr (inr (inr (which, cuts, is)))))))))) =
+    rests_by sound told (inr (inr (inr (inr (inr (inr (inr (inr (inr (inr (which, cuts, is))))))))))) =
         let x = all_cut n playable.network all b at late well which cuts in
         inr (inr (inr (x.trees, by x loss.alone refl (told ∙ is))))
       where
@@ -411,6 +412,26 @@ module _ (d : DocumentState) (playable : IsPlayable d) where
             let over = rested_alone loss.silent (aged_by loss) (2 * way_span v.paths) v.paths_before.delay
             (silence_span (pace_of n)) sound same in
             split_enough sound x.trees (inr (inr (leaves, used, over)))
+    rests_by sound told (inr (inr (inr (inr (inr (inr (inr (inr (inr (inl (row, is))))))))))) =
+        let x = taken_apart n playable.network all b at late well row in
+        inl (x.rested, alone (Resting sound) (inr (inr (by x v.silent refl (told ∙ is)))))
+      where
+        gone : ℕ
+        gone = gone_by n v.paths v.used
+
+        span : ℕ
+        span = max (way_span v.paths) gone
+
+        flight : FlightIsGone n (made ++ now) gone
+        flight = flight_apart n playable.network all b at late
+
+        by : TakesApart n playable.network all b at late → (silent : Bool) → v.silent ≡ silent
+            → sound ≡ (if silent then max span (silence_span (pace_of n)) else span) → RestsTaken n made now sound
+        by x true silent same =
+            (x.takes, x.moves, x.few, inr (x.farther, (gone, flight, inr (omega (arith, same)), omega (arith, same))))
+        by x false silent same =
+            let none = none_left n playable.network all b at late silent in
+            (x.takes, x.moves, x.few, inr (x.farther, (gone, flight, inl none, omega (arith, same))))
     rests_by sound told (inr (inr (inr (inr (inr (inr (inr (inr (inl (row, is)))))))))) =
         let x = taken n playable.network all b at late well row in
         inl (x.rested, alone (Resting sound) (inr (by x v.used refl (told ∙ is))))
@@ -579,6 +600,25 @@ module _ (d : DocumentState) (playable : IsPlayable d) where
     asks_by TakenAway row own =
         let x = taken n playable.network all b at late well row in
         inl (x.rested, alone (Losing 0 0) (inr (inr (inr (inr (inr (x.takes, x.moves, refl, inl (x.none, refl))))))))
+    asks_by TakenApart row own =
+        let x = taken_apart n playable.network all b at late well row in
+        inl (
+          x.rested,
+          alone (Losing 0 (quiet_by n loss 0)) (inr (inr (inr (inr (inr (
+            x.takes,
+            x.moves,
+            refl,
+            by x v.silent refl,
+          )))))),
+        )
+      where
+        by : TakesApart n playable.network all b at late → (silent : Bool) → v.silent ≡ silent
+            → (NoneSilent n made (made ++ now)
+            × ((if silent then max 0 (silence_span (pace_of n)) else 0) ≡ 0))
+            ⊎ (LosesFartherFrom n made (made ++ now) × ((sync_paths n made).systems ≤ 255)
+            × ((if silent then max 0 (silence_span (pace_of n)) else 0) ≡ silence_span (pace_of n)))
+        by x true is = inr (x.farther, x.few, omega arith)
+        by x false is = inl (none_left n playable.network all b at late is, refl)
     asks_by AnyLosses row own =
         let (rest, loses, roles) = losses n playable.network all b at late row in
         let span : ℕ = any_loss_span n loss v.paths in

@@ -43,6 +43,7 @@ mod TakenAwayLemmas
 mod AloneLemmas
 mod CutsAllLemmas
 mod RowLossLemmas
+mod RowApartLemmas
 mod AnyLossLemmas
 mod AgedLemmas
 mod LossBoundLemmas

@@ -59,6 +59,7 @@ module _ (n : NetworkState) (network : IsNetwork n) (events : List Timed) (b : S
     moved = v.moves.any_moved;
     trees = is_failing_followed v.paths_before v.paths v.told && v.moves.trees_move;
     ends = is_end_followed v.paths_before v.paths v.told && (v.moves.far && not v.moves.any_moved);
+    apart = is_taking_followed v.paths_before v.paths v.told && v.moves.apart;
     taken = is_taking_followed v.paths_before v.paths v.told && v.moves.taken;
     loss = list_any is_loss v.told;
     only = list_all brings_nothing v.told;

@@ -23,7 +23,7 @@ use Rattle.gptp_how_soon.specs.Tree.{cuts_tree_after, worsens_best_after}
 use Rattle.gptp_how_soon.specs.TurnedTree.{turns_tree_after}
 use Rattle.gptp_how_soon.specs.TwoTops.{trees_move_after}
 use Rattle.gptp_how_soon.specs.declared.bounds.Row.{Row}
-use Rattle.gptp_how_soon.specs.declared.bounds.Row.TheVariants.{AnyLosses, CutOff, FailedEnd, FailedHeard, FailureCutsOff, FailureMovesTrees, Lowered, SystemTurned, TakenAway, TreeFalls, TreeTurned}
+use Rattle.gptp_how_soon.specs.declared.bounds.Row.TheVariants.{AnyLosses, CutOff, FailedEnd, FailedHeard, FailureCutsOff, FailureMovesTrees, Lowered, SystemTurned, TakenApart, TakenAway, TreeFalls, TreeTurned}
 use Rattle.gptp_how_soon.specs.declared.bounds.SettlingTime.{SettlingTime}
 use Rattle.gptp_how_soon.specs.declared.kinds.Told.{Told}
 use Rattle.gptp_how_soon.specs.Links.{longest_delay}
@@ -74,16 +74,16 @@ module _ (n : NetworkState) (network : IsNetwork n) (events : List Timed) (b : S
   why : (row : Row) → row_at v ≡ row → ReasonOf tests row
   why = rows.why n network events b at late
 
-  rest_so : is_from_rest v.longest at v.paths_before v.paths v.told (Some b) ≡ true → HasComeToRest b at
+  pub rest_so : is_from_rest v.longest at v.paths_before v.paths v.told (Some b) ≡ true → HasComeToRest b at
   rest_so from = (rows.from_rest n network events b at late from).rested
 
   -- the greatest delay of a link in use gets no greater, no path gets longer, and none had more than 255 systems
-  record KeepsPaths : Type 0 where
+  pub record KeepsPaths : Type 0 where
     pub delay : (sync_paths n (made ++ now)).delay ≤ (sync_paths n made).delay
     pub paths : (sync_paths n (made ++ now)).systems ≤ (sync_paths n made).systems
     pub few : (sync_paths n made).systems ≤ 255
 
-  keeps_so : keeps_paths v.paths_before v.paths ≡ true → KeepsPaths
+  pub keeps_so : keeps_paths v.paths_before v.paths ≡ true → KeepsPaths
   keeps_so keeps =
       let few_test : Bool = nat_le v.paths_before.systems 255 in
       let delay_test : Bool = nat_le v.paths.delay v.paths_before.delay in
