@@ -135,8 +135,8 @@ module _ {F : Type 0} (answers : Bounds → ℕ → F → Option ℕ → F → T
     leads_to past (Heard next) leads named so =
         leads_to_heard answers d playable made event fate fate_after w w' done is fit k keeps moment past next leads so
     leads_to past (Left ago next) leads named so =
-        leads_to_left d playable made event then k.draws done w' k.acts refl time_now last_now keeps_then after past
-        ago next leads (later past so)
+        leads_to_left d playable made event then k.draws done w' k.acts refl time_now last_now keeps_then after is
+        fit.octet past ago next leads (later past so)
     leads_to past (Turned silent now) leads named so =
         leads_to_turned d playable made event then k.draws done w' k.acts refl time_now last_now keeps_then after past
         silent now leads (later past so)

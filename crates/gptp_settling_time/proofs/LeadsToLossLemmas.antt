@@ -51,6 +51,7 @@ use Rattle.gptp_settling_time.proofs.IdleBesideLemmas.{cleared_beside, left_besi
 use Rattle.gptp_settling_time.proofs.RepeatedLemmas.{aging_repeated, lost_repeated, taken_repeated, turned_repeated}
 use Rattle.gptp_settling_time.proofs.RestedSoLemmas.{rested_any, rested_gained, rested_heard}
 use Rattle.gptp_settling_time.proofs.TakenClearedLemmas.{taken_anew}
+use Rattle.gptp_settling_time.proofs.TakenEndsLemmas.{taken_ends}
 use Rattle.gptp_settling_time.proofs.TakenMadeLemmas.{taken_first, taken_more}
 use Rattle.gptp_settling_time.proofs.TakenToLemmas.{IsTakenTo}
 use Rattle.gptp_settling_time.proofs.WereSilentLemmas.{WereSilent, were_down}
@@ -130,37 +131,6 @@ module _ (d : DocumentState) (playable : IsPlayable d) (made : List Timed) (even
       subst (λ act. Acts act then draws done w') x.act acts in
       were_down n ago then draws done w' keeps.claim.world after.claim.world x.clock x.port came
       (up_so n made then keeps.stands (port_id x.clock x.port) x.up came.1.place came.1.channel came.1.is)
-
-  pub leads_to_left : (past : Past) (ago : List Timed) (next : ℕ) → EventLeads n made past event (Left ago next)
-      → IsAfter d made past then → IsLeftTo d ago more next w'
-  leads_to_left AnyPast ago next (settled, same, leaves) so =
-      loses ago (last_change made + capability_span p) next
-      (rested_any d playable made event then at_time keeps settled) same leaves
-  leads_to_left Starting ago next none so = absurd none
-  leads_to_left (Gained start) ago next (settled, same, leaves) so =
-      loses ago start next (rested_gained d playable made event then at_time keeps start settled so.news) same leaves
-  leads_to_left (Heard start) ago next (settled, same, leaves) so =
-      loses ago start next (rested_heard d playable made event then at_time keeps start settled so.since) same leaves
-  leads_to_left (Left old silent) ago next (falls, same_ago, same) so =
-      subst (λ es. IsLeftTo d es more next w') (sym same_ago)
-      (subst (λ t. IsLeftTo d old more t w') (sym same)
-      (elim falls [
-        | inl lowers ↦ record {
-          keeps = after;
-          before = so.before;
-          since = fallen_left so.before silent lowers so.since;
-          were = fallen_were old lowers so.were;
-        }
-        | inr idle ↦ left_beside d playable made event then draws done w' acts keeps after idle old silent so
-      ]))
-  leads_to_left (Turned silent now) ago next none so = absurd none
-  leads_to_left (Fallen silent now) ago next none so = absurd none
-  leads_to_left (TurnedTree silent now) ago next none so = absurd none
-  leads_to_left (Cleared was since silent right old) ago next none so = absurd none
-  leads_to_left (Aging old aged silent) ago next none so = absurd none
-  leads_to_left (Split old gone silent) ago next none so = absurd none
-  leads_to_left (Lost old since most silent) ago next none so = absurd none
-  leads_to_left (Fewer old since most silent) ago next none so = absurd none
 
   pub leads_to_turned : (past : Past) (silent now : ℕ) → EventLeads n made past event (Turned silent now)
       → IsAfter d made past then → IsTurnedTo d more silent now w'
@@ -379,6 +349,42 @@ module _ (d : DocumentState) (playable : IsPlayable d) (made : List Timed) (even
         (subst (λ t. IsTakenTo d old made begun delay t then) (sym same_silent) so)) in
         subst (λ es. IsTakenTo d es more since most silent w') (sym same_ago)
         (taken_on old since most silent which taken)
+
+    -- ---- it is left
+
+    pub leads_to_left : (past : Past) (ago : List Timed) (next : ℕ) → EventLeads n made past event (Left ago next)
+        → IsAfter d made past then → IsLeftTo d ago more next w'
+    leads_to_left AnyPast ago next (settled, same, leaves) so =
+        loses ago (last_change made + capability_span p) next
+        (rested_any d playable made event then at_time keeps settled) same leaves
+    leads_to_left Starting ago next none so = absurd none
+    leads_to_left (Gained start) ago next (settled, same, leaves) so =
+        loses ago start next (rested_gained d playable made event then at_time keeps start settled so.news) same leaves
+    leads_to_left (Heard start) ago next (settled, same, leaves) so =
+        loses ago start next (rested_heard d playable made event then at_time keeps start settled so.since) same leaves
+    leads_to_left (Left old silent) ago next (falls, same_ago, same) so =
+        subst (λ es. IsLeftTo d es more next w') (sym same_ago)
+        (subst (λ t. IsLeftTo d old more t w') (sym same)
+        (elim falls [
+          | inl lowers ↦ record {
+            keeps = after;
+            before = so.before;
+            since = fallen_left so.before silent lowers so.since;
+            were = fallen_were old lowers so.were;
+          }
+          | inr idle ↦ left_beside d playable made event then draws done w' acts keeps after idle old silent so
+        ]))
+    leads_to_left (Turned silent now) ago next none so = absurd none
+    leads_to_left (Fallen silent now) ago next none so = absurd none
+    leads_to_left (TurnedTree silent now) ago next none so = absurd none
+    leads_to_left (Cleared was since silent right old) ago next none so = absurd none
+    leads_to_left (Aging old aged silent) ago next none so = absurd none
+    leads_to_left (Split old gone silent) ago next none so = absurd none
+    leads_to_left (Lost old since most silent) ago next none so = absurd none
+    leads_to_left (Fewer old since most silent) ago next (which, same_ago, same, leaves, ends, few) so =
+        subst (λ es. IsLeftTo d es more next w') (sym same_ago)
+        (subst (λ t. IsLeftTo d old more t w') (sym same)
+        (taken_ends d old more since most silent w' (taken_on old since most silent which so) playable leaves ends few))
 
     -- ---- it is cleared
 

@@ -4,6 +4,8 @@ pub mod NewsMeasuredLemmas
 pub mod OneCallLemmas
 pub mod TakenClaimedLemmas
 pub mod TakenClearedLemmas
+pub mod TakenEndsLemmas
+pub mod EndsHeldLemmas
 pub mod TakenDownLossLemmas
 pub mod TakenFailLossLemmas
 pub mod TakenLeadLemmas

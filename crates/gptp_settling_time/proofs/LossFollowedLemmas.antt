@@ -29,7 +29,7 @@ use Rattle.gptp_settling_time.proofs.LossLeadLemmas.{IsLeftBy, dead_lead, heard_
 use Rattle.gptp_settling_time.proofs.LossRestLemmas.{last_at}
 use Rattle.gptp_settling_time.proofs.MomentLemmas.{all_at, last_by, parted}
 use Rattle.gptp_settling_time.proofs.SamePathsLemmas.{StandSame}
-use Rattle.gptp_settling_time.proofs.TakenLeadLemmas.{silent_from, taken_lead}
+use Rattle.gptp_settling_time.proofs.TakenLeadLemmas.{ends_lead, silent_from, taken_lead}
 use Rattle.gptp_settling_time.proofs.SilentSpanLemmas.{none_silent}
 
 -- ---- what a loss leads to
@@ -57,7 +57,7 @@ none_lost n made choice roles (inr (inl (fails, is_choice, after))) = fails
 none_lost n made choice roles (inr (inr (inl (turns, is_choice, same)))) = turns
 none_lost n made choice roles (inr (inr (inr (inl (fails, bounds))))) = fails
 none_lost n made choice roles (inr (inr (inr (inr (inl (any, is_choice, after)))))) = any
-none_lost n made choice roles (inr (inr (inr (inr (inr (takes, leaves, none, is_choice, is_roles)))))) = takes
+none_lost n made choice roles (inr (inr (inr (inr (inr (takes, leaves, is_choice, which)))))) = takes
 
 module _ (n : NetworkState) (network : IsNetwork n) (off : NothingLapses n.params) (time choice roles : ℕ) where
   abbrev IsLostTo : List Timed → List Timed → Past → Type 0
@@ -194,10 +194,15 @@ module _ (n : NetworkState) (network : IsNetwork n) (off : NothingLapses n.param
           let more = le-max_right choice quiet in
           heard held quiet (omega (arith, is_later)) (omega (arith, roles_later, more)) fails others bounds
       by (inr (inr (inr (inr (inl any))))) = any_lost any
-      by (inr (inr (inr (inr (inr (takes, leaves, none, is_choice, is_roles)))))) = record {
+      by (inr (inr (inr (inr (inr (takes, leaves, is_choice, inl (none, is_roles))))))) = record {
         last = Fewer earlier time (sync_paths n earlier).delay (silent_from n time);
         lead = taken_lead n time earlier (event ∷ now) seen at has calm_then off takes;
         so = (λ settled late. (off, leaves, none), λ settled late. (off, leaves, none));
+      }
+      by (inr (inr (inr (inr (inr (takes, leaves, is_choice, inr (ends, few, is_roles))))))) = record {
+        last = Left earlier (silent_from n time);
+        lead = ends_lead n time earlier (event ∷ now) seen at has calm_then off takes leaves ends few;
+        so = (λ settled late. (off, inl (omega (arith, is_roles, late))), λ settled late. off);
       }
 
   -- by one that moves trees, once what was sent before the choice stood has arrived

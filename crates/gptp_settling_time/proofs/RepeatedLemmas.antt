@@ -164,6 +164,7 @@ module _ (d : DocumentState) (playable : IsPlayable d) (made : List Timed) (even
     before = so.before;
     alike = so.alike;
     way = so.way;
+    near = so.near;
     later = so.later;
     is = subst (IsTakenAlways p so.before silent) (sym same) so.is;
   }

@@ -177,6 +177,13 @@ module _ (p : SettlingParams) (g : Snapshot) (since most silent : ℕ) (w : Worl
       farther = on.farther;
     });
     itself = record { lanes = is.seen.itself.lanes; stations = is.seen.itself.stations };
+    ends = λ near.
+        let was = is.seen.ends near in
+        record {
+          ends = λ i s place r from at live x.
+              was.ends i s place r from at live (record { live = x.live; best = x.best; far = x.far });
+          bare = was.bare;
+        };
   }
 
   none_now : UnlinkedHoldNothing (snapshot_of w) (view w)

@@ -84,10 +84,10 @@ module _ (d : DocumentState) (ago events : List Timed) (since most silent : ℕ)
   none = up_none_silent d.network ago events used
 
   left : IsLeftUnmoved so.before (snapshot_of w)
-  left = taken_to_left d ago events since most silent w so playable leaves none
+  left = taken_to_left d ago events since most silent w so playable leaves
 
   way : pred (path_bound (snapshot_of w)) * delay_in w ≤ w.time
-  way = taken_to_way d ago events since most silent w so playable leaves none
+  way = taken_to_way d ago events since most silent w so playable leaves
 
   near : AllAreNear (snapshot_of w)
   near = let fewer = leaves.paths in near_so d playable events w so.lost.keeps (omega (arith, few, fewer))

@@ -15,7 +15,7 @@ use Rattle.gptp_settling_time.specs.Pasts.{Aging, AnyPast, Cleared, Fallen, Fewe
 use Rattle.gptp_settling_time.specs.EventKinds.{nearer_echo_span}
 use Rattle.gptp_settling_time.specs.Leads.{EventLeads, TakesAny, TakesMore, TakesNow}
 use Rattle.gptp_settling_time.specs.InTurn.{LeadOn}
-use Rattle.gptp_settling_time.specs.Losses.{AreSilentAfter, MovesNoneInAll, UpIsUsed}
+use Rattle.gptp_settling_time.specs.Losses.{AreSilentAfter, LosesEnds, MovesNoneInAll, UpIsUsed}
 use Rattle.gptp_settling_time.proofs.LeadOnLemmas.{IsLed}
 use Rattle.gptp_settling_time.proofs.SettledPastLemmas.{HasSettled}
 use Rattle.gptp_settling_time.proofs.LosesLeadLemmas.{long_silent}
@@ -101,6 +101,48 @@ module _ (n : NetworkState) (time : ℕ) where
     more_taken made (made ++ event ∷ []) (other ∷ now) (sync_paths n made).delay (last_behind made event ∙ here) at
         others,
   )
+
+  -- ---- where each link is lost with its farther end it is left so as the last of them is taken away
+
+  left_taken : (ago made now : List Timed) (other : Timed) (most : ℕ) → last_change made ≡ time
+      → AllNow (other ∷ now) → EachEvent (IsTakenToo n) made (other ∷ now)
+      → MovesNoneInAll n ago (made ++ other ∷ now) → LosesEnds n ago (made ++ other ∷ now)
+      → (sync_paths n ago).systems ≤ 255
+      → LeadOn n made (Fewer ago time most silent_from) (other ∷ now) (Left ago silent_from)
+  left_taken ago made [] other most last (here, at) (which, each) leaves ends few = (
+    Fewer ago time most silent_from,
+    inl refl,
+    Left ago silent_from,
+    (takes_more made other last here which, refl, refl, leaves, ends, few),
+    refl,
+  )
+  left_taken ago made (event ∷ now) other most last (here, at) (which, each) leaves ends few =
+      let all : (made ++ other ∷ []) ++ event ∷ now ≡ made ++ other ∷ event ∷ now =
+      append_assoc made (other ∷ []) (event ∷ now) in (
+        Fewer ago time most silent_from,
+        inl refl,
+        Fewer ago time most silent_from,
+        (takes_more made other last here which, refl, refl, refl, refl),
+        left_taken ago (made ++ other ∷ []) now event most (last_behind made other ∙ here) at each
+            (subst (MovesNoneInAll n ago) (sym all) leaves) (subst (LosesEnds n ago) (sym all) ends) few,
+      )
+
+  pub ends_lead : (made now : List Timed) (past : Past) → AllNow now → HasSettled n made past time → IsCalm n made
+      → NothingLapses n.params → TakesSeveral n made now → MovesNoneInAll n made (made ++ now)
+      → LosesEnds n made (made ++ now) → (sync_paths n made).systems ≤ 255
+      → LeadOn n made past now (Left made silent_from)
+  ends_lead made [] past at settled calm off none leaves ends few = absurd none
+  ends_lead made (event ∷ []) past at settled calm off none leaves ends few = absurd none
+  ends_lead made (event ∷ other ∷ now) past (here, at) settled calm off (any, others) leaves ends few =
+      let all : (made ++ event ∷ []) ++ other ∷ now ≡ made ++ event ∷ other ∷ now =
+      append_assoc made (event ∷ []) (other ∷ now) in (
+        past,
+        inl refl,
+        Fewer made time (sync_paths n made).delay silent_from,
+        first_taken made event past here (subst (HasSettled n made past) (sym here) settled) calm off any,
+        left_taken made (made ++ event ∷ []) now other (sync_paths n made).delay (last_behind made event ∙ here) at
+            others (subst (MovesNoneInAll n made) (sym all) leaves) (subst (LosesEnds n made) (sym all) ends) few,
+      )
 
   -- ---- it is cleared as the last of them is taken away
 

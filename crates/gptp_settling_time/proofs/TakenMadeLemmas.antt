@@ -4,7 +4,8 @@ use Rattle.gptp_lists.specs.Members.{In}
 use Rattle.gptp_graph.specs.Best.{IsBest}
 use Rattle.gptp_graph.specs.Distance.{IsDistance}
 use Rattle.gptp_graph.specs.PathBound.{path_bound}
-use Rattle.gptp_graph.specs.Snapshot.{IsWellFormed, Joins, Snapshot, clocks}
+use Rattle.gptp_graph.specs.Snapshot.{IsWellFormed, Joins, Snapshot, clocks, port_of}
+use Rattle.gptp_graph.proofs.LinkLemmas.{Joins-sym}
 use Rattle.gptp_links.specs.Fate.{Draw}
 use Rattle.gptp_setup.specs.SettlingParams.{SettlingParams}
 use Rattle.gptp_scenario.specs.Network.{NetworkState, pace_of}
@@ -18,8 +19,10 @@ use Rattle.gptp_model.specs.Acts.{Acts}
 use Rattle.gptp_model.specs.declared.done.Done.{Done}
 use Rattle.gptp_model.specs.World.{WorldState, port_id}
 use Rattle.gptp_network.specs.Document.{DocumentState}
+use Rattle.gptp_bmca_machine.specs.Clean.{CameSound}
 use Rattle.gptp_bmca_machine.specs.LossLaws.{EverythingFits, Unmoved}
 use Rattle.gptp_bmca_machine.specs.Network.{Network}
+use Rattle.gptp_bmca_machine.specs.SoundLaws.{AllAreNear}
 use Rattle.gptp_bmca_machine.proofs.StillLemmas.{StillSettles}
 use Rattle.gptp_bmca_machine.proofs.RestLemmas.{left_of}
 use Rattle.gptp_invariants.specs.ChoiceCalm.{delay_in, sync_paths_of}
@@ -37,6 +40,8 @@ use Rattle.gptp_settling_time.specs.Losses.{AreSilentAfter, LosesAny, LowersUnus
 use Rattle.gptp_settling_time.proofs.AgingClaimedLemmas.{aging_network}
 use Rattle.gptp_settling_time.proofs.AgingStillLemmas.{IsEmptied, still_emptied, still_settled}
 use Rattle.gptp_settling_time.proofs.FailedHeardLemmas.{delay_within}
+use Rattle.gptp_settling_time.proofs.EndsHeldLemmas.{EndsHoldNothing, ends_begin, ends_emptied}
+use Rattle.gptp_settling_time.proofs.FitsLemmas.{UnlinkedHoldNothing}
 use Rattle.gptp_settling_time.proofs.GainLemmas.{lives_so, up_so}
 use Rattle.gptp_settling_time.proofs.KeptToLemmas.{KeepsTo}
 use Rattle.gptp_settling_time.proofs.LosingLemmas.{IsLosing, TakesAway, lost_losing, takes_shorter}
@@ -50,7 +55,7 @@ use Rattle.gptp_settling_time.proofs.TakenClaimedLemmas.{IsTakenAlways, taken_af
 use Rattle.gptp_settling_time.proofs.TakenDownLossLemmas.{down_taken}
 use Rattle.gptp_settling_time.proofs.TakenFailLossLemmas.{fail_taken}
 use Rattle.gptp_settling_time.proofs.TakenToLemmas.{IsTakenTo}
-use Rattle.gptp_settling_time.proofs.WorldMovesLemmas.{alike_so}
+use Rattle.gptp_settling_time.proofs.WorldMovesLemmas.{alike_so, near_so}
 
 -- ---- it begins
 
@@ -97,6 +102,19 @@ module _ (p : SettlingParams) (since most silent : ℕ) (w : WorldState) (losing
       subst (λ h. StillSettles says_announce h seen.n d (view w)) seen.graph
       (still_settled says_announce seen.n (view w) seen.net seen.calm seen.invariant seen.late d)
 
+  -- at a port that no link is at nothing is received, as all came over one
+  unlinked : UnlinkedHoldNothing g (view w)
+  unlinked i s place r there live none holds =
+      let came : CameSound g s.clock (suc place) r = sound.stations i s there live place r holds in
+      none (came.from, Joins-sym g came.from (port_of s.clock (suc place)) came.joins)
+
+  ends : AllAreNear g → EndsHoldNothing g n (view w)
+  ends near =
+      ends_emptied g seen.n n (view w) (view w) itself back
+      (subst (λ h. EndsHoldNothing h seen.n (view w)) seen.graph
+      (ends_begin says_announce seen.n (view w) seen.net seen.calm seen.invariant seen.late
+      (subst AllAreNear (sym seen.graph) near) (subst (λ h. UnlinkedHoldNothing h (view w)) (sym seen.graph) unlinked)))
+
   pub taken_begins : IsTakenAlways p g silent w
   taken_begins = record {
     well = well;
@@ -105,6 +123,7 @@ module _ (p : SettlingParams) (since most silent : ℕ) (w : WorldState) (losing
     late = late;
     seen = record {
       fits = fits;
+      ends = ends;
       itself = itself_begins says_announce n g (view w) sound;
       still = still_emptied says_announce g seen.n n well
           (record {
@@ -213,6 +232,7 @@ module _ (d : DocumentState) (playable : IsPlayable d) (made : List Timed) (even
         before = snapshot_of then;
         alike = alike_so d playable made then keeps;
         way = subst (λ (x : SyncPaths). pred x.systems * x.delay ≤ since) paths way_then;
+        near = near_so d playable made then keeps;
         later = later;
         is = taken_by (snapshot_of then) since most silent losing
             (takes d playable made event then draws done w' is acts octet at_time time last keeps after since most
@@ -229,6 +249,7 @@ module _ (d : DocumentState) (playable : IsPlayable d) (made : List Timed) (even
     before = so.before;
     alike = so.alike;
     way = so.way;
+    near = so.near;
     later = so.later;
     is = elim which [
       | inl (any, unanswered) ↦

@@ -1,26 +1,29 @@
 -- What is known of each state since links or systems were taken away, whoever is moved: all that is held and in flight
--- fits the snapshot of before, each system that is unmoved keeps its root and steps and tells them, and what names the
--- best in no steps names it alone.
+-- fits the snapshot of before, each system that is unmoved keeps its root and steps and tells them, what names the best
+-- in no steps names it alone, and where all were near nothing is received over a link to who was farther.
 use Rattle.std.proofs.Common.{◌≤◌, ℕ, suc, subst, inl, inr, arith}
 use Rattle.gptp_lists.specs.Members.{In}
 use Rattle.gptp_graph.specs.Snapshot.{IsWellFormed, Joins, PortIdentity, Snapshot, System}
 use Rattle.gptp_bmca_machine.specs.Acts.{MachineSteps}
 use Rattle.gptp_bmca_machine.specs.Frame.{Spelling}
-use Rattle.gptp_bmca_machine.specs.LossLaws.{EverythingFits, IsAfterLoss, IsWhatIsLeft}
+use Rattle.gptp_bmca_machine.specs.LossLaws.{EverythingFits, IsAfterLoss, IsWhatIsLeft, Unmoved}
 use Rattle.gptp_bmca_machine.specs.Network.{Network}
 use Rattle.gptp_bmca_machine.specs.RestLaws.{SameWiring}
+use Rattle.gptp_bmca_machine.specs.SoundLaws.{AllAreNear}
 use Rattle.gptp_bmca_machine.specs.Station.{MachineState}
 use Rattle.gptp_bmca_machine.proofs.LossLemmas.{fits_kept}
 use Rattle.gptp_bmca_machine.proofs.StillLemmas.{StillSettles, levels_below}
 use Rattle.gptp_bmca_machine.proofs.RestLemmas.{left_of}
 use Rattle.gptp_settling_time.proofs.AgingStillLemmas.{IsEmptied, still_emptied}
 use Rattle.gptp_settling_time.proofs.BetweenUnmovedLemmas.{known_on, unmoved_between}
+use Rattle.gptp_settling_time.proofs.EndsHeldLemmas.{EndsHoldNothing, ends_emptied, ends_kept}
 use Rattle.gptp_settling_time.proofs.NamesItselfLemmas.{AllNameItself, itself_kept}
 
 pub record IsTakenSeen (says : Spelling) (g : Snapshot) (n : Network) (w : MachineState) : Type 0 where
   pub fits : EverythingFits says g n w
   pub still : (d : ℕ) → StillSettles says g n d w
   pub itself : AllNameItself says n g w
+  pub ends : AllAreNear g → EndsHoldNothing g n w
 
 -- every step keeps that
 pub taken_kept : (says : Spelling) (g : Snapshot) (n : Network) (w w' : MachineState) → IsWellFormed n.graph
@@ -32,6 +35,8 @@ taken_kept says g n w w' well' less was after step seen = record {
       levels_below says g n well' less w w' was after seen.fits.stations fits.stations step seen.still (suc d) d
       (omega arith);
   itself = itself_kept says n g w w' was.calm after.calm step seen.itself;
+  ends = λ near.
+      ends_kept says g n well' less near w was seen.fits seen.still (seen.ends near) w' step;
 }
   where
     fits : EverythingFits says g n w'
@@ -77,11 +82,15 @@ module _ (says : Spelling) (g : Snapshot) (n n' : Network) (well' : IsWellFormed
           seen.itself.stations i s (emptied.stations i s at live) live place r holds;
     }
 
+    between : (v : ℕ) → Unmoved g n' v → Unmoved g n v
+    between v is = unmoved_between g n n' well' first_systems first_links systems links v is
+
     pub taken_emptied : IsTakenSeen says g n' w'
     taken_emptied = record {
       fits = fits';
       itself = itself';
+      ends = λ near. ends_emptied g n n' w w' emptied between (seen.ends near);
       still = still_emptied says g n n' well' same links
-          (λ v is. unmoved_between g n n' well' first_systems first_links systems links v is)
+          between
           less_left w w' emptied late after' fits' seen.still;
     }

@@ -12,6 +12,7 @@ use Rattle.gptp_model.specs.Course.{WasDone}
 use Rattle.gptp_model.specs.Pending.{NothingBefore}
 use Rattle.gptp_model.specs.Views.{IsNextAct}
 use Rattle.gptp_model.specs.World.{WorldState}
+use Rattle.gptp_bmca_machine.specs.SoundLaws.{AllAreNear}
 use Rattle.gptp_network.specs.Document.{DocumentState}
 use Rattle.gptp_network.specs.Snapshot.{StandsAfter}
 use Rattle.gptp_network.proofs.ExistenceLemmas.{stands_after}
@@ -44,6 +45,7 @@ pub record IsTakenTo (d : DocumentState) (ago events : List Timed) (since most s
   pub before : Snapshot
   pub alike : (g : Snapshot) → StandsAfter d.network ago g → AreAlike before g
   pub way : pred (sync_paths d.network ago).systems * (sync_paths d.network ago).delay ≤ since
+  pub near : (sync_paths d.network ago).systems ≤ 255 → AllAreNear before
   pub later : since < silent
   pub is : IsTakenAlways (pace_of d.network) before silent w
 
@@ -55,6 +57,7 @@ module _ (d : DocumentState) (ago events : List Timed) (since most silent : ℕ)
     before = so.before;
     alike = so.alike;
     way = so.way;
+    near = so.near;
     later = so.later;
     is = taken_later (pace_of d.network) so.before since most silent time w later first so.lost.is so.is;
   }
@@ -72,6 +75,7 @@ module _ (d : DocumentState) (ago events : List Timed) (since most silent : ℕ)
         before = so.before;
         alike = so.alike;
         way = so.way;
+        near = so.near;
         later = so.later;
         is = taken_acts p so.before since most silent timed.act (at timed.at w) was.draws t.told.done t.after
             (no_change next.item timed.act w next.act) (next_octet next.item timed.act w next.act) was.acts
@@ -79,9 +83,9 @@ module _ (d : DocumentState) (ago events : List Timed) (since most silent : ℕ)
             (taken_later p so.before since most silent timed.at w now first so.lost.is so.is);
       }
 
-  -- where no system is moved in all, and no lost link is silent
+  -- where no system is moved in all
   module _ (w : WorldState) (so : IsTakenTo d ago events since most silent w) (playable : IsPlayable d)
-      (leaves : MovesNoneInAll d.network ago events) (none : NoneSilent d.network ago events) where
+      (leaves : MovesNoneInAll d.network ago events) where
     pub taken_to_left : IsLeftUnmoved so.before (snapshot_of w)
     taken_to_left = record {
       systems = so.is.systems;
@@ -109,17 +113,19 @@ module _ (d : DocumentState) (ago events : List Timed) (since most silent : ℕ)
         (sync_paths d.network ago).delay (sync_paths d.network events).delay leaves.paths leaves.delay in
         subst (λ (x : SyncPaths). pred x.systems * x.delay ≤ w.time) paths (omega (arith, less, before, begun))
 
-    quiet : AreSilentBy (pace_of d.network) w.time w
-    quiet = none_silent_from d ago events w so.lost.keeps so.lost.were none w.time
+    -- and no lost link is silent
+    module _ (none : NoneSilent d.network ago events) where
+      quiet : AreSilentBy (pace_of d.network) w.time w
+      quiet = none_silent_from d ago events w so.lost.keeps so.lost.were none w.time
 
-    -- its choice stands
-    pub taken_to_chooses : ChoiceStands w
-    taken_to_chooses =
-        taken_chooses (pace_of d.network) so.before since most silent w so.lost.is so.is taken_to_left taken_to_way
-        quiet
+      -- its choice stands
+      pub taken_to_chooses : ChoiceStands w
+      taken_to_chooses =
+          taken_chooses (pace_of d.network) so.before since most silent w so.lost.is so.is taken_to_left taken_to_way
+          quiet
 
-    -- it has settled
-    pub taken_to_settled : Settled w × IsBoundedWorld w
-    taken_to_settled =
-        taken_settles (pace_of d.network) so.before since most silent w so.lost.is so.is taken_to_left taken_to_way
-        quiet
+      -- it has settled
+      pub taken_to_settled : Settled w × IsBoundedWorld w
+      taken_to_settled =
+          taken_settles (pace_of d.network) so.before since most silent w so.lost.is so.is taken_to_left taken_to_way
+          quiet

@@ -22,7 +22,7 @@ use Rattle.gptp_theorem.specs.AlikeLaws.{AreAlike}
 use Rattle.gptp_theorem.proofs.AlikeLemmas.{clock_among, turned, best as alike_best, distance as alike_distance}
 use Rattle.gptp_theorem.proofs.SnapshotLemmas.{snapshots_stand}
 use Rattle.gptp_theorem.proofs.SyncPathLemmas.{paths_stand}
-use Rattle.gptp_settling_time.specs.Losses.{IsCutOff, IsFarEnd, IsTurned, IsUnmoved, IsUnmovedOrCutOff, MovesNone, MovesNoneJoined, TurnsSystem}
+use Rattle.gptp_settling_time.specs.Losses.{EndsAreLost, IsCutOff, IsFarEnd, IsTurned, IsUnmoved, IsUnmovedOrCutOff, MovesNone, MovesNoneJoined, TurnsSystem}
 use Rattle.gptp_settling_time.specs.TreeLosses.{CutsAllBeyond, IsTreeCutOff}
 use Rattle.gptp_settling_time.proofs.KeptToLemmas.{KeepsTo}
 
@@ -97,6 +97,20 @@ far_alike : (g h : Snapshot) → AreAlike g h → (v : ℕ) → IsFarEnd h v →
 far_alike g h alike_is v is_far u far near joined away close =
     is_far u far near (adjacent_alike g h alike_is v u joined) (alike_distance g h alike_is v far away)
     (alike_distance g h alike_is u near close)
+
+-- so is each link that is lost with its farther end
+pub ends_alike : (g h g' h' : Snapshot) → AreAlike g h → AreAlike g' h' → EndsAreLost h h' → EndsAreLost g g'
+ends_alike g h g' h' before now ends p q joins known =
+    elim (ends p q (joins_alike g h before p q joins) (clock_among g' h' now q.clock known)) [
+      | inl still ↦ inl (joins_alike h' g' (turned g' h' now) p q still)
+      | inr (gone, unmoved, farther) ↦ inr (
+        (λ there. gone (clock_among g' h' now p.clock there)),
+        unmoved_alike g h g' h' before now q.clock unmoved,
+        (λ far near from_p from_q.
+        farther far near (alike_distance g h before p.clock far from_p)
+        (alike_distance g h before q.clock near from_q)),
+      )
+    ]
 
 -- and a system that is moved
 turned_alike : (g h g' h' : Snapshot) → AreAlike g h → AreAlike g' h' → (x d e : ℕ) (best : System)

@@ -60,7 +60,7 @@ use Rattle.gptp_settling_time.specs.Gains.{ChangesNothing, EndHasFailed, LeavesC
 use Rattle.gptp_settling_time.specs.EventKinds.{AddsHeard, BettersClock, FlightIsGone, FlightIsGoneFrom, MakesNothing, NoneUsed, TellsNothing, UsedVaryLittle, WidensLink}
 use Rattle.gptp_settling_time.specs.Leads.{TakesAny}
 use Rattle.gptp_settling_time.specs.Rests.{FlightIsGoneSince, turned_echo_span}
-use Rattle.gptp_settling_time.specs.Losses.{AgesWithin, CutsFarEnd, FailsFarEnd, FailsHeard, LeavesChoice, LosesAny, LowersLink, LowersUnused, MovesNoneInAll, NoneSilent, TurnsLink, UpIsUsed}
+use Rattle.gptp_settling_time.specs.Losses.{AgesWithin, CutsFarEnd, FailsFarEnd, FailsHeard, LeavesChoice, LosesAny, LosesEnds, LowersLink, LowersUnused, MovesNoneInAll, NoneSilent, TurnsLink, UpIsUsed}
 use Rattle.gptp_settling_time.specs.TreeLosses.{CutsAllBeyondFrom, FailsTrees, FallsTree, TurnsTreeLink}
 
 -- ---- times
@@ -369,11 +369,14 @@ BoundsAnyLoss n made now choice roles =
     × RolesAfterLoss n made now choice roles
 
 -- Where several systems and links are taken away, no system is moved in all but such as are cut off, and no lost link
--- is silent, choice and roles stand at once, whoever is moved between.
+-- is silent, choice and roles stand at once, whoever is moved between. Where links are silent the choice does if each
+-- link was lost with its farther end.
 abbrev pub BoundsTaken : NetworkState → List Timed → List Timed → ℕ → ℕ → Type 0
 BoundsTaken n made now choice roles =
-    TakesSeveral n made now × MovesNoneInAll n made (made ++ now) × NoneSilent n made (made ++ now)
-    × (choice ≡ 0) × (roles ≡ 0)
+    TakesSeveral n made now × MovesNoneInAll n made (made ++ now) × (choice ≡ 0)
+    × ((NoneSilent n made (made ++ now) × (roles ≡ 0))
+    ⊎ (LosesEnds n made (made ++ now) × ((sync_paths n made).systems ≤ 255)
+    × (roles ≡ silence_span (pace_of n))))
 
 -- What the events of a time take away asks for so much: of the choice, and of the roles.
 abbrev pub BoundsLoss : NetworkState → List Timed → List Timed → ℕ → ℕ → Type 0

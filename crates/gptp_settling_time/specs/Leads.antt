@@ -29,7 +29,7 @@ use Rattle.gptp_scenario.specs.declared.change.Timed.{Timed}
 use Rattle.gptp_scenario.specs.declared.network.LinkSpec.{LinkSpec}
 use Rattle.gptp_settling_time.specs.Arrivals.{HasArrivedBy}
 use Rattle.gptp_settling_time.specs.Gains.{AreCapableAnyway, AreCapableNext, AreCapableStill, HasRested, IdleNow, RepeatsNow, TakesNothing}
-use Rattle.gptp_settling_time.specs.Losses.{AgesWithin, AreSilentAfter, LosesAny, LowersUnused, MovesNoneInAll}
+use Rattle.gptp_settling_time.specs.Losses.{AgesWithin, AreSilentAfter, LosesAny, LosesEnds, LowersUnused, MovesNoneInAll}
 use Rattle.gptp_settling_time.specs.TreeLosses.{FailsTrees}
 use Rattle.gptp_settling_time.specs.Pasts.{Aging, AnyPast, Cleared, Fallen, Fewer, Gained, Heard, Left, Lost, Past, Split, Starting, Turned, TurnedTree}
 use Rattle.gptp_settling_time.specs.EventKinds.{AddsHeard, BettersClock, ClearsBy, FailsNow, FallsCalm, HasSettledAnyhow, HasSettledHeard, HasSettledSince, IsDownNow, IsDownOrIdle, LeavesSettled, LeavesStanding, LowersUnusedCalm, MakesNothing, StartsWith, TellsAnew, TellsNothing, TurnsCalm, TurnsTreeCalm, UsedVaryLittle, WidensFrom}
@@ -81,6 +81,14 @@ LeadsToHeard n before (Split ago gone silent) event next = ⊥
 LeadsToHeard n before (Lost ago since most silent) event next = ⊥
 LeadsToHeard n before (Fewer ago since most silent) event next = ⊥
 
+-- At the time of a loss more may be, a link may go down of which an end has failed, and events come that change
+-- nothing.
+abbrev pub TakesMore : NetworkState → List Timed → Timed → ℕ → ℕ → Type 0
+TakesMore n before event since silent =
+    ((event.at ≡ since)
+    × ((TakesAny n before event × AreSilentAfter (pace_of n) event.at silent event.act) ⊎ LowersUnused n before event))
+    ⊎ RepeatsNow n before event
+
 -- a network that had settled is left so
 abbrev pub LeadsToLeft : NetworkState → List Timed → Past → Timed → List Timed → ℕ → Type 0
 LeadsToLeft n before AnyPast event ago next =
@@ -100,7 +108,11 @@ LeadsToLeft n before (Cleared made since silent right old) event ago next = ⊥
 LeadsToLeft n before (Aging old aged silent) event ago next = ⊥
 LeadsToLeft n before (Split old gone silent) event ago next = ⊥
 LeadsToLeft n before (Lost old since most silent) event ago next = ⊥
-LeadsToLeft n before (Fewer old since most silent) event ago next = ⊥
+LeadsToLeft n before (Fewer old since most silent) event ago next =
+    TakesMore n before event since silent × (ago ≡ old) × (next ≡ silent)
+    × MovesNoneInAll n old (before ++ event ∷ [])
+    × LosesEnds n old (before ++ event ∷ [])
+    × ((sync_paths n old).systems ≤ 255)
 
 -- in a network that had settled a system turns by it now
 abbrev pub TurnsNow : NetworkState → List Timed → Timed → ℕ → ℕ → ℕ → Type 0
@@ -147,14 +159,6 @@ LeadsByTree n before past event Moves silent time = ⊥
 abbrev pub TakesAny : NetworkState → List Timed → Timed → Type 0
 TakesAny n before event =
     LosesAny n before event.act × ((number value : ℕ) → event.act ≡ Changing (Priority1 number value) → ⊥)
-
--- At the time of a loss more may be, a link may go down of which an end has failed, and events come that change
--- nothing.
-abbrev pub TakesMore : NetworkState → List Timed → Timed → ℕ → ℕ → Type 0
-TakesMore n before event since silent =
-    ((event.at ≡ since)
-    × ((TakesAny n before event × AreSilentAfter (pace_of n) event.at silent event.act) ⊎ LowersUnused n before event))
-    ⊎ RepeatsNow n before event
 
 -- A network that had settled is cleared, and one that is so stays so. One in which something ages is cleared as the
 -- last link goes down of which an end has failed. One from which systems and links are taken away is as the last is,

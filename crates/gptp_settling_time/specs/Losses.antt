@@ -7,7 +7,7 @@ use Rattle.std.specs.Prelude.{◌≡◌, ◌≢◌, ◌⊎◌, ◌<◌, ◌≤�
 use Rattle.gptp_lists.specs.Members.{In}
 use Rattle.gptp_graph.specs.Best.{IsBest}
 use Rattle.gptp_graph.specs.Distance.{IsDistance}
-use Rattle.gptp_graph.specs.Snapshot.{Adjacent, Joins, Snapshot, System, clocks, port_of}
+use Rattle.gptp_graph.specs.Snapshot.{Adjacent, Joins, PortIdentity, Snapshot, System, clocks, port_of}
 use Rattle.gptp_network.specs.Snapshot.{StandsAfter}
 use Rattle.gptp_roles.specs.Selection.{clock_of}
 use Rattle.gptp_scenario.specs.Calm.{IsLive, IsUsed, last_change}
@@ -60,6 +60,21 @@ pub record MovesNoneInAll (n : NetworkState) (ago events : List Timed) : Type 0 
       → IsUnmovedOrCutOff g g' v
   pub delay : (sync_paths n events).delay ≤ (sync_paths n ago).delay
   pub paths : (sync_paths n events).systems ≤ (sync_paths n ago).systems
+
+-- the first of two systems was farther from the best, or as far with the higher clock
+abbrev pub WasFarther : Snapshot → ℕ → ℕ → Type 0
+WasFarther g v u = (far near : ℕ) → IsDistance g v far → IsDistance g u near
+    → (near < far) ⊎ ((near ≡ far) × (u < v))
+
+-- Each link of the first snapshot to what is left is there still; or its other end is gone, which was the farther one,
+-- and who is left is unmoved.
+abbrev pub EndsAreLost : Snapshot → Snapshot → Type 0
+EndsAreLost g g' = (p q : PortIdentity) → Joins g p q → In q.clock (clocks g')
+    → Joins g' p q ⊎ ((In p.clock (clocks g') → ⊥) × IsUnmoved g g' q.clock × WasFarther g p.clock q.clock)
+
+-- so it is after more events
+abbrev pub LosesEnds : NetworkState → List Timed → List Timed → Type 0
+LosesEnds n ago events = (g g' : Snapshot) → StandsAfter n ago g → StandsAfter n events g' → EndsAreLost g g'
 
 -- After these events this one sets the priority1 of a system that lives, and the settled choice stays: no system is
 -- moved. So that system is nobody's best, before and after, or keeps its identity. No path has more than 255 systems.
