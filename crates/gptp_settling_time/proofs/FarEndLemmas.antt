@@ -20,7 +20,7 @@ use Rattle.gptp_settling_time.specs.Losses.{IsFarEnd, IsUnmoved}
 use Rattle.gptp_settling_time.proofs.FitsLemmas.{IsLeftUnmoved, best_before}
 
 -- no route to the best is shorter than the distance
-route_long : (g : Snapshot) (v e : ℕ) (best : System) (ys : List ℕ) → IsWellFormed g → IsBest g v best
+pub route_long : (g : Snapshot) (v e : ℕ) (best : System) (ys : List ℕ) → IsWellFormed g → IsBest g v best
     → IsDistance g v e → Route g v best.clock ys → e ≤ length ys
 route_long g v e best ys well is_best here route =
     let (back, on, as_long) = Route-reverse g v best.clock ys route in

@@ -6,6 +6,8 @@ pub mod TakenClaimedLemmas
 pub mod TakenClearedLemmas
 pub mod TakenEndsLemmas
 pub mod EndsHeldLemmas
+pub mod EndsSoundLemmas
+pub mod SoundBeforeLemmas
 pub mod TakenDownLossLemmas
 pub mod TakenFailLossLemmas
 pub mod TakenLeadLemmas

@@ -109,7 +109,7 @@ module _ (p : SettlingParams) (g : Snapshot) (since most silent : ℕ) (w w' : W
       let world = lost.standing.world in
       subst (λ x. IsTakenSeen says_announce g x (view w')) (sym same)
       (taken_kept says_announce g n (view w) (view w') (stands_well w world.sound world.between world.encodable)
-      (taken_left p g silent w is)
+      (taken_left p g silent w is) is.systems
       (taken_after p silent w lost.standing (λ start. asked_are_heard p since start w lost.asked) lost.quiet lost.off
       is.late)
       (subst (λ x. IsAfterLoss x (view w')) same
@@ -184,6 +184,7 @@ module _ (p : SettlingParams) (g : Snapshot) (since most silent : ℕ) (w : Worl
               was.ends i s place r from at live (record { live = x.live; best = x.best; far = x.far });
           bare = was.bare;
         };
+    sound = is.seen.sound;
   }
 
   none_now : UnlinkedHoldNothing (snapshot_of w) (view w)

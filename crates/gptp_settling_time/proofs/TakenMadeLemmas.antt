@@ -124,6 +124,7 @@ module _ (p : SettlingParams) (since most silent : ℕ) (w : WorldState) (losing
     seen = record {
       fits = fits;
       ends = ends;
+      sound = sound;
       itself = itself_begins says_announce n g (view w) sound;
       still = still_emptied says_announce g seen.n n well
           (record {

@@ -9,27 +9,31 @@ use Rattle.gptp_bmca_machine.specs.Frame.{Spelling}
 use Rattle.gptp_bmca_machine.specs.LossLaws.{EverythingFits, IsAfterLoss, IsWhatIsLeft, Unmoved}
 use Rattle.gptp_bmca_machine.specs.Network.{Network}
 use Rattle.gptp_bmca_machine.specs.RestLaws.{SameWiring}
+use Rattle.gptp_bmca_machine.specs.SoundEverywhere.{IsSoundEverywhere}
 use Rattle.gptp_bmca_machine.specs.SoundLaws.{AllAreNear}
 use Rattle.gptp_bmca_machine.specs.Station.{MachineState}
 use Rattle.gptp_bmca_machine.proofs.LossLemmas.{fits_kept}
 use Rattle.gptp_bmca_machine.proofs.StillLemmas.{StillSettles, levels_below}
 use Rattle.gptp_bmca_machine.proofs.RestLemmas.{left_of}
-use Rattle.gptp_settling_time.proofs.AgingStillLemmas.{IsEmptied, still_emptied}
+use Rattle.gptp_settling_time.proofs.AgingStillLemmas.{IsEmptied, emptied_reduced, still_emptied}
 use Rattle.gptp_settling_time.proofs.BetweenUnmovedLemmas.{known_on, unmoved_between}
 use Rattle.gptp_settling_time.proofs.EndsHeldLemmas.{EndsHoldNothing, ends_emptied, ends_kept}
+use Rattle.gptp_settling_time.proofs.LostEndLemmas.{sound_reduced}
 use Rattle.gptp_settling_time.proofs.NamesItselfLemmas.{AllNameItself, itself_kept}
+use Rattle.gptp_settling_time.proofs.SoundBeforeLemmas.{sound_before_kept}
 
 pub record IsTakenSeen (says : Spelling) (g : Snapshot) (n : Network) (w : MachineState) : Type 0 where
   pub fits : EverythingFits says g n w
   pub still : (d : ℕ) → StillSettles says g n d w
   pub itself : AllNameItself says n g w
   pub ends : AllAreNear g → EndsHoldNothing g n w
+  pub sound : IsSoundEverywhere says g w
 
 -- every step keeps that
 pub taken_kept : (says : Spelling) (g : Snapshot) (n : Network) (w w' : MachineState) → IsWellFormed n.graph
-    → IsWhatIsLeft g n → IsAfterLoss n w → IsAfterLoss n w' → MachineSteps says w w' → IsTakenSeen says g n w
-    → IsTakenSeen says g n w'
-taken_kept says g n w w' well' less was after step seen = record {
+    → IsWhatIsLeft g n → ((s : System) → In s n.graph.systems → In s g.systems) → IsAfterLoss n w → IsAfterLoss n w'
+    → MachineSteps says w w' → IsTakenSeen says g n w → IsTakenSeen says g n w'
+taken_kept says g n w w' well' less systems was after step seen = record {
   fits = fits;
   still = λ d.
       levels_below says g n well' less w w' was after seen.fits.stations fits.stations step seen.still (suc d) d
@@ -37,6 +41,7 @@ taken_kept says g n w w' well' less was after step seen = record {
   itself = itself_kept says n g w w' was.calm after.calm step seen.itself;
   ends = λ near.
       ends_kept says g n well' less near w was seen.fits seen.still (seen.ends near) w' step;
+  sound = sound_before_kept says g n less.graph systems w w' was.calm after.calm seen.fits seen.sound step;
 }
   where
     fits : EverythingFits says g n w'
@@ -90,6 +95,7 @@ module _ (says : Spelling) (g : Snapshot) (n n' : Network) (well' : IsWellFormed
       fits = fits';
       itself = itself';
       ends = λ near. ends_emptied g n n' w w' emptied between (seen.ends near);
+      sound = sound_reduced says g w w' (emptied_reduced w w' emptied) seen.sound;
       still = still_emptied says g n n' well' same links
           between
           less_left w w' emptied late after' fits' seen.still;
