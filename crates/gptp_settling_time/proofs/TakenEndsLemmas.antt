@@ -1,7 +1,7 @@
 -- Where several systems and links are taken away, no system is moved in all, and each link was lost with its farther
 -- end, the network is left as after the failure of one far end: nothing is held of who failed. So its choice stands,
 -- also where links are silent.
-use Rattle.std.proofs.Common.{List, pred, subst, sym, ℕ, ◌*◌, ◌≤◌, arith}
+use Rattle.std.proofs.Common.{List, arith, inl, pred, subst, sym, ℕ, ◌*◌, ◌≤◌}
 use Rattle.gptp_graph.specs.PathBound.{path_bound}
 use Rattle.gptp_graph.specs.Snapshot.{IsWellFormed, Snapshot}
 use Rattle.gptp_scenario.specs.Network.{pace_of}
@@ -24,9 +24,12 @@ use Rattle.gptp_settling_time.specs.Losses.{EndsAreLost, LosesEnds, MovesNoneInA
 use Rattle.gptp_settling_time.proofs.AgingClaimedLemmas.{aging_network}
 use Rattle.gptp_settling_time.proofs.AgingStillLemmas.{aging_over}
 use Rattle.gptp_settling_time.proofs.AlwaysClaimedLemmas.{AreHeard}
+use Rattle.gptp_settling_time.proofs.ClearedLemmas.{IsCleared}
+use Rattle.gptp_settling_time.proofs.DueLemmas.{AreDueBy}
+use Rattle.gptp_settling_time.proofs.EndsSoundLemmas.{ends_sound}
 use Rattle.gptp_settling_time.proofs.EndsHeldLemmas.{ends_farther, ends_unlinked}
 use Rattle.gptp_settling_time.proofs.FitsLemmas.{IsLeftUnmoved, UnlinkedHoldNothing}
-use Rattle.gptp_settling_time.proofs.LeftClaimedLemmas.{HaveAskedBy, HaveAskedLong, IsLeftAlways, left_network}
+use Rattle.gptp_settling_time.proofs.LeftClaimedLemmas.{HaveAskedBy, HaveAskedLong, IsLeftAlways, left_calm, left_net, left_network}
 use Rattle.gptp_settling_time.proofs.LeftToLemmas.{IsLeftTo}
 use Rattle.gptp_settling_time.proofs.LostClaimedLemmas.{IsLostAlways, asked_are_heard}
 use Rattle.gptp_settling_time.proofs.TakenClaimedLemmas.{IsTakenAlways, taken_after}
@@ -72,6 +75,17 @@ module _ (p : SettlingParams) (g : Snapshot) (since most silent : ℕ) (w : Worl
     farther = ends_farther g (snapshot_of w) well ends;
     late = way;
     seen = λ quiet off. seen;
+  }
+
+  -- And it is cleared at once: what is held is sound, and what is in flight once what is old is gone.
+  pub ends_cleared : (old : ℕ) → AreDueBy old w → IsCleared p g since silent 0 old w
+  ends_cleared old due = record {
+    left = ends_left;
+    asked = lost.asked;
+    sound = λ quiet off.
+        inl (ends_sound says_announce g (left_network p silent w) is.well (left_net p silent w world) ends left near
+        (view w) (left_calm p silent w lost.standing asked quiet none) seen.invariant (omega (arith, way)) none
+        is.seen.sound old due);
   }
 
 -- so it is in a world of a document
