@@ -8,6 +8,7 @@ pub mod TakenEndsLemmas
 pub mod EndsHeldLemmas
 pub mod EndsSoundLemmas
 pub mod SoundBeforeLemmas
+pub mod GoneBeforeLemmas
 pub mod TakenDownLossLemmas
 pub mod TakenFailLossLemmas
 pub mod TakenLeadLemmas

@@ -1,6 +1,6 @@
 -- An event repeats what stands, at the time of the event before: the world stays the very same, and with it all that is
 -- claimed of a loss.
-use Rattle.std.proofs.Common.{◌≡◌, ◌≤◌, ◌+◌, ℕ, suc, true, refl, List, [], ◌∷◌, ◌++◌, sym, ap, subst, ◌∙◌, inl}
+use Rattle.std.proofs.Common.{◌≡◌, ◌≤◌, ◌+◌, ℕ, suc, true, refl, List, [], ◌∷◌, ◌++◌, sym, ap, subst, ◌∙◌, inl, inr}
 use Rattle.gptp_lists.proofs.SystemSpecLemmas.{In-slice_get}
 use Rattle.gptp_graph.specs.Snapshot.{PortIdentity, Snapshot}
 use Rattle.gptp_links.specs.Fate.{Draw}
@@ -20,6 +20,8 @@ use Rattle.gptp_invariants.specs.WorldStanding.{snapshot_of}
 use Rattle.gptp_theorem.specs.PlayedLaws.{IsPlayable}
 use Rattle.gptp_settling_time.specs.Gains.{ChangesNothing, RepeatsNow}
 use Rattle.gptp_settling_time.specs.Losses.{IsHoldSpan}
+use Rattle.gptp_settling_time.proofs.GoneBeforeLemmas.{up_more}
+use Rattle.gptp_settling_time.proofs.SinceSetLemmas.{AreLimitedBy}
 use Rattle.gptp_settling_time.proofs.AgedLemmas.{AgedIsSound}
 use Rattle.gptp_settling_time.proofs.AgesByLemmas.{by_map}
 use Rattle.gptp_settling_time.proofs.AgesByWorldLemmas.{WorldAgesBy}
@@ -165,6 +167,9 @@ module _ (d : DocumentState) (playable : IsPlayable d) (made : List Timed) (even
     alike = so.alike;
     way = so.way;
     near = so.near;
+    up = up_more n playable.network made ago event so.up since silent (inr now);
+    slower = so.slower;
+    limited = λ gone flight. subst (AreLimitedBy (since + gone)) (sym same) (so.limited gone flight);
     later = so.later;
     is = subst (IsTakenAlways p so.before silent) (sym same) so.is;
   }

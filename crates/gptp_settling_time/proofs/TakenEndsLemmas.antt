@@ -1,12 +1,16 @@
 -- Where several systems and links are taken away, no system is moved in all, and each link was lost with its farther
 -- end, the network is left as after the failure of one far end: nothing is held of who failed. So its choice stands,
 -- also where links are silent.
-use Rattle.std.proofs.Common.{List, arith, inl, pred, subst, sym, ℕ, ◌*◌, ◌≤◌}
+use Rattle.std.proofs.Common.{List, ap, arith, inl, inr, pred, subst, sym, ℕ, ◌*◌, ◌+◌, ◌∙◌, ◌≡◌, ◌≤◌}
 use Rattle.gptp_graph.specs.PathBound.{path_bound}
 use Rattle.gptp_graph.specs.Snapshot.{IsWellFormed, Snapshot}
+use Rattle.gptp_lists.proofs.MappedLemmas.{alike}
+use Rattle.gptp_links.specs.declared.bounds.Bounds.{Bounds}
+use Rattle.gptp_scenario.specs.Change.{link_after}
 use Rattle.gptp_scenario.specs.Network.{pace_of}
 use Rattle.gptp_scenario.specs.SyncWait.{sync_paths}
 use Rattle.gptp_scenario.specs.declared.change.Timed.{Timed}
+use Rattle.gptp_scenario.specs.declared.network.LinkSpec.{LinkSpec}
 use Rattle.gptp_setup.specs.SettlingParams.{SettlingParams}
 use Rattle.gptp_model.specs.World.{WorldState}
 use Rattle.gptp_bmca_machine.specs.LossLaws.{IsAfterLoss}
@@ -20,20 +24,23 @@ use Rattle.gptp_invariants.specs.WorldStanding.{snapshot_of}
 use Rattle.gptp_invariants.proofs.WorldStandsLemmas.{stands_well}
 use Rattle.gptp_network.proofs.ExistenceLemmas.{stands_after}
 use Rattle.gptp_theorem.specs.PlayedLaws.{IsPlayable}
+use Rattle.gptp_theorem.specs.Reached.{channel_wire}
+use Rattle.gptp_settling_time.specs.EventKinds.{FlightIsGoneBy, FlightIsGoneFrom}
 use Rattle.gptp_settling_time.specs.Losses.{EndsAreLost, LosesEnds, MovesNoneInAll}
 use Rattle.gptp_settling_time.proofs.AgingClaimedLemmas.{aging_network}
 use Rattle.gptp_settling_time.proofs.AgingStillLemmas.{aging_over}
 use Rattle.gptp_settling_time.proofs.AlwaysClaimedLemmas.{AreHeard}
 use Rattle.gptp_settling_time.proofs.ClearedLemmas.{IsCleared}
-use Rattle.gptp_settling_time.proofs.DueLemmas.{AreDueBy}
+use Rattle.gptp_settling_time.proofs.DueLemmas.{AreDueBy, due_by_interval}
 use Rattle.gptp_settling_time.proofs.EndsSoundLemmas.{ends_sound}
 use Rattle.gptp_settling_time.proofs.EndsHeldLemmas.{ends_farther, ends_unlinked}
 use Rattle.gptp_settling_time.proofs.FitsLemmas.{IsLeftUnmoved, UnlinkedHoldNothing}
+use Rattle.gptp_settling_time.proofs.GoneBeforeLemmas.{due_within}
 use Rattle.gptp_settling_time.proofs.LeftClaimedLemmas.{HaveAskedBy, HaveAskedLong, IsLeftAlways, left_calm, left_net, left_network}
 use Rattle.gptp_settling_time.proofs.LeftToLemmas.{IsLeftTo}
 use Rattle.gptp_settling_time.proofs.LostClaimedLemmas.{IsLostAlways, asked_are_heard}
 use Rattle.gptp_settling_time.proofs.TakenClaimedLemmas.{IsTakenAlways, taken_after}
-use Rattle.gptp_settling_time.proofs.TakenToLemmas.{IsTakenTo, taken_to_left, taken_to_way}
+use Rattle.gptp_settling_time.proofs.TakenToLemmas.{IsTakenTo, UpIsGoneFrom, taken_to_left, taken_to_way}
 use Rattle.gptp_settling_time.proofs.UnlinkedLemmas.{IsLeftSeen}
 use Rattle.gptp_settling_time.proofs.WorldMovesLemmas.{alike_so, ends_alike, near_so}
 
@@ -88,7 +95,36 @@ module _ (p : SettlingParams) (g : Snapshot) (since most silent : ℕ) (w : Worl
         is.seen.sound old due);
   }
 
--- so it is in a world of a document
+-- in a world of a document all that is in flight is due as it was before
+pub ends_due : (d : DocumentState) (ago events : List Timed) (since most silent old : ℕ) (w : WorldState)
+    → IsTakenTo d ago events since most silent w → w.time ≡ since → FlightIsGoneBy d.network ago since old
+    → AreDueBy old w
+ends_due d ago events since most silent old w so now (gone, flight, is) = by flight
+  where
+    by_up : UpIsGoneFrom d.network ago since gone → AreDueBy old w
+    by_up up_is =
+        let delay = up_is.0 in
+        subst (λ t. AreDueBy t w) (sym is)
+        (due_within (sync_paths d.network ago).delay (since + gone) w so.lost.keeps.claim.world.sound
+        (λ link channel here up.
+            let (v, there, same) = alike (link_after events) channel_wire d.network.links w.net.channels
+            (sym so.lost.keeps.stands.links) link channel here in
+            let (was, bounds) = so.up link v there (ap (λ (x : LinkSpec). x.up) same ∙ up) in
+            let short = so.slower gone up_is link v there was in
+            let one : (link_after events v).bounds.max ≡ (link_after ago v).bounds.max =
+            ap (λ (b : Bounds). b.max) bounds in
+            let longest : (link_after events v).bounds.max ≡ channel.bounds.max =
+            ap (λ (x : LinkSpec). x.bounds.max) same in
+            omega (arith, short, one, longest)) (so.limited gone up_is) (omega (arith, delay, now)))
+
+    by : FlightIsGoneFrom d.network ago since gone → AreDueBy old w
+    by (inl (inl (used, delay))) = by_up (delay, inl used)
+    by (inl (inr interval)) =
+        subst (λ t. AreDueBy t w) (omega (arith, now, is, interval))
+        (due_by_interval (pace_of d.network) w so.lost.keeps.claim.world)
+    by (inr (slower, arrived, delay)) = by_up (delay, inr (slower, arrived))
+
+-- so it is left as after the failure of one far end
 pub taken_ends : (d : DocumentState) (ago events : List Timed) (since most silent : ℕ) (w : WorldState)
     → IsTakenTo d ago events since most silent w → IsPlayable d → MovesNoneInAll d.network ago events
     → LosesEnds d.network ago events → (sync_paths d.network ago).systems ≤ 255 → IsLeftTo d ago events silent w

@@ -1,6 +1,7 @@
 -- Links and systems are taken away at one time from a world of a document that has settled, whoever is moved between.
 use Rattle.std.proofs.Common.{◌≡◌, ◌⊎◌, ◌<◌, ◌≤◌, ◌*◌, ℕ, pred, true, List, [], ◌∷◌, ◌++◌, refl, sym, ap, subst, ◌∙◌, inl, inr, arith}
 use Rattle.gptp_lists.specs.Members.{In}
+use Rattle.gptp_lists.proofs.MappedLemmas.{alike}
 use Rattle.gptp_graph.specs.Best.{IsBest}
 use Rattle.gptp_graph.specs.Distance.{IsDistance}
 use Rattle.gptp_graph.specs.PathBound.{path_bound}
@@ -13,7 +14,9 @@ use Rattle.gptp_scenario.specs.SyncWait.{sync_paths}
 use Rattle.gptp_scenario.specs.declared.change.Act.TheVariants.{Change as Changing}
 use Rattle.gptp_scenario.specs.declared.change.Change.{Change}
 use Rattle.gptp_scenario.specs.declared.change.Change.TheVariants.{LinkDown, LinkUp, LinkSet, Fail, Recover, Priority1, Inject}
+use Rattle.gptp_scenario.specs.Change.{link_after}
 use Rattle.gptp_scenario.specs.declared.change.Timed.{Timed}
+use Rattle.gptp_scenario.specs.declared.network.LinkSpec.{LinkSpec}
 use Rattle.gptp_scenario.specs.declared.sync_wait.SyncPaths.{SyncPaths}
 use Rattle.gptp_model.specs.Acts.{Acts}
 use Rattle.gptp_model.specs.declared.done.Done.{Done}
@@ -34,16 +37,20 @@ use Rattle.gptp_invariants.specs.WorldStanding.{snapshot_of}
 use Rattle.gptp_invariants.proofs.WorldStandsLemmas.{stands_well}
 use Rattle.gptp_theorem.specs.PlayedLaws.{IsMade, IsPlayable}
 use Rattle.gptp_theorem.proofs.SyncPathLemmas.{paths_stand}
+use Rattle.gptp_theorem.specs.Reached.{channel_wire}
+use Rattle.gptp_settling_time.specs.Arrivals.{arrived_by}
 use Rattle.gptp_settling_time.specs.EventKinds.{MakesNothing, TurnsInVain}
-use Rattle.gptp_settling_time.specs.Leads.{LosesNow, TakesAny}
-use Rattle.gptp_settling_time.specs.Losses.{AreSilentAfter, LosesAny, LowersUnused}
+use Rattle.gptp_settling_time.specs.Leads.{LosesNow, TakesAny, TakesMore}
+use Rattle.gptp_settling_time.specs.Losses.{AreSilentAfter, LosesAny, LowersUnused, NoneUpIsSlower}
 use Rattle.gptp_settling_time.proofs.AgingClaimedLemmas.{aging_network}
 use Rattle.gptp_settling_time.proofs.AgingStillLemmas.{IsEmptied, still_emptied, still_settled}
 use Rattle.gptp_settling_time.proofs.FailedHeardLemmas.{delay_within}
 use Rattle.gptp_settling_time.proofs.EndsHeldLemmas.{EndsHoldNothing, ends_begin, ends_emptied}
 use Rattle.gptp_settling_time.proofs.FitsLemmas.{UnlinkedHoldNothing}
 use Rattle.gptp_settling_time.proofs.GainLemmas.{lives_so, up_so}
+use Rattle.gptp_settling_time.proofs.GoneBeforeLemmas.{limited_weaker, loses_sets_none, sets_none, up_any, up_itself, up_more, used_limited, used_slower}
 use Rattle.gptp_settling_time.proofs.KeptToLemmas.{KeepsTo}
+use Rattle.gptp_settling_time.proofs.LeftToLemmas.{up_in_use}
 use Rattle.gptp_settling_time.proofs.LosingLemmas.{IsLosing, TakesAway, lost_losing, takes_shorter}
 use Rattle.gptp_settling_time.proofs.LossMadeLemmas.{HasRestedSo}
 use Rattle.gptp_settling_time.proofs.LostClaimedLemmas.{IsLostAlways, asked_are_heard}
@@ -51,10 +58,11 @@ use Rattle.gptp_settling_time.proofs.LostMadeLemmas.{loses_first, loses_more, lo
 use Rattle.gptp_settling_time.proofs.LostToLemmas.{IsLostTo}
 use Rattle.gptp_settling_time.proofs.NamesItselfLemmas.{itself_begins}
 use Rattle.gptp_settling_time.proofs.SettledSeenLemmas.{IsSettledSeen, sound_fits}
+use Rattle.gptp_settling_time.proofs.SinceSetLemmas.{AreLimitedBy, limited_unset}
 use Rattle.gptp_settling_time.proofs.TakenClaimedLemmas.{IsTakenAlways, taken_after}
 use Rattle.gptp_settling_time.proofs.TakenDownLossLemmas.{down_taken}
 use Rattle.gptp_settling_time.proofs.TakenFailLossLemmas.{fail_taken}
-use Rattle.gptp_settling_time.proofs.TakenToLemmas.{IsTakenTo}
+use Rattle.gptp_settling_time.proofs.TakenToLemmas.{IsTakenTo, UpIsGoneFrom}
 use Rattle.gptp_settling_time.proofs.WorldMovesLemmas.{alike_so, near_so}
 
 -- ---- it begins
@@ -211,6 +219,32 @@ module _ (d : DocumentState) (playable : IsPlayable d) (made : List Timed) (even
         lowered x.clock x.port came
         (up_so n_of made then keeps.stands (port_id x.clock x.port) x.up came.1.place came.1.channel came.1.is)
 
+  -- what is in flight before it is gone so much later as links that are up say
+  paths_then : sync_paths n_of made ≡ sync_paths_of then
+  paths_then = paths_stand n_of made then playable.network keeps.stands world_then.sound
+
+  delay_then : (sync_paths n_of made).delay ≡ delay_in then
+  delay_then = ap (λ (x : SyncPaths). x.delay) paths_then
+
+  flies_slower : (gone since : ℕ) → UpIsGoneFrom n_of made since gone → IsSettledSeen p then
+      → NoneUpIsSlower n_of made
+  flies_slower gone since (is, inr (slower, arrived)) seen = slower
+  flies_slower gone since (is, inl used) seen place v there up =
+      let (channel, here, same) = alike channel_wire (link_after made) then.net.channels n_of.links keeps.stands.links
+      place v there in
+      let short = used_slower then (up_in_use d made then keeps used) place channel here
+      (ap (λ (x : LinkSpec). x.up) same ∙ up) in
+      let longest : channel.bounds.max ≡ (link_after made v).bounds.max = ap (λ (x : LinkSpec). x.bounds.max) same in
+      omega (arith, short, longest, delay_then)
+
+  flies_limited : (gone since : ℕ) → then.time ≡ since → UpIsGoneFrom n_of made since gone → IsSettledSeen p then
+      → AreLimitedBy (since + gone) then
+  flies_limited gone since now (is, inl used) seen =
+      limited_weaker (then.time + delay_in then) (since + gone) then (omega (arith, is, now, delay_then))
+      (used_limited p then world_then seen (up_in_use d made then keeps used))
+  flies_limited gone since now (is, inr (slower, (most, within, arrived))) seen =
+      limited_weaker (arrived_by most made) (since + gone) then arrived (keeps.limited most within)
+
   -- the first event, in a network that has settled
   pub taken_first : (start since most silent : ℕ) → HasRestedSo p start event.at then
       → LosesNow n_of made event since most silent → TakesAny n_of made event → since < silent
@@ -234,6 +268,11 @@ module _ (d : DocumentState) (playable : IsPlayable d) (made : List Timed) (even
         alike = alike_so d playable made then keeps;
         way = subst (λ (x : SyncPaths). pred x.systems * x.delay ≤ since) paths way_then;
         near = near_so d playable made then keeps;
+        up = up_any n_of playable.network made made event (up_itself n_of made) any;
+        slower = λ gone flight. flies_slower gone since flight seen;
+        limited = λ gone flight.
+            limited_unset (since + gone) event.act then draws done w' (loses_sets_none n_of playable.network made event.act
+            any.0) acts (flies_limited gone since (at_time ∙ sym here) flight seen);
         later = later;
         is = taken_by (snapshot_of then) since most silent losing
             (takes d playable made event then draws done w' is acts octet at_time time last keeps after since most
@@ -251,6 +290,11 @@ module _ (d : DocumentState) (playable : IsPlayable d) (made : List Timed) (even
     alike = so.alike;
     way = so.way;
     near = so.near;
+    up = up_more n_of playable.network made ago event so.up since silent more_now;
+    slower = so.slower;
+    limited = λ gone flight.
+        limited_unset (since + gone) event.act then draws done w'
+        (sets_none n_of playable.network made ago event so.up since silent more_now) acts (so.limited gone flight);
     later = so.later;
     is = elim which [
       | inl (any, unanswered) ↦
@@ -264,6 +308,12 @@ module _ (d : DocumentState) (playable : IsPlayable d) (made : List Timed) (even
     ];
   }
     where
+      more_now : TakesMore n_of made event since silent
+      more_now = elim which [
+        | inl (any, unanswered) ↦ inl (now, inl (any, unanswered))
+        | inr lowers ↦ inl (now, inr lowers)
+      ]
+
       losing : IsLosing p since most silent then
       losing = lost_losing p since most silent then so.lost.is (at_time ∙ now)
 

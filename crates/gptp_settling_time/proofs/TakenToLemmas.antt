@@ -1,9 +1,9 @@
 -- Worlds of documents since links or systems were taken away at a time, whoever was moved between.
-use Rattle.std.proofs.Common.{◌≡◌, ◌<◌, ◌≤◌, ◌*◌, ℕ, pred, Option, List, subst, inl, inr, arith}
+use Rattle.std.proofs.Common.{◌≡◌, ◌⊎◌, ◌<◌, ◌≤◌, ◌*◌, ◌+◌, ℕ, pred, Option, List, subst, inl, inr, arith}
 use Rattle.gptp_graph.specs.PathBound.{path_bound}
 use Rattle.gptp_graph.specs.Snapshot.{Snapshot}
 use Rattle.gptp_links.specs.declared.bounds.Bounds.{Bounds}
-use Rattle.gptp_scenario.specs.Network.{pace_of}
+use Rattle.gptp_scenario.specs.Network.{NetworkState, pace_of}
 use Rattle.gptp_scenario.specs.SyncWait.{sync_paths}
 use Rattle.gptp_scenario.specs.declared.change.Timed.{Timed}
 use Rattle.gptp_scenario.specs.declared.sync_wait.SyncPaths.{SyncPaths}
@@ -28,14 +28,23 @@ use Rattle.gptp_theorem.specs.PlayedLaws.{IsPlayable}
 use Rattle.gptp_theorem.proofs.AlikeLemmas.{clock_among}
 use Rattle.gptp_theorem.proofs.CalmKeptLemmas.{no_change}
 use Rattle.gptp_theorem.proofs.SyncPathLemmas.{paths_stand}
-use Rattle.gptp_settling_time.specs.Losses.{MovesNoneInAll, NoneSilent}
+use Rattle.gptp_settling_time.specs.Arrivals.{HasArrivedSinceSet}
+use Rattle.gptp_settling_time.specs.Losses.{MovesNoneInAll, NoneSilent, NoneUpIsSlower, UpIsUsed}
 use Rattle.gptp_settling_time.proofs.FitsLemmas.{IsLeftUnmoved}
+use Rattle.gptp_settling_time.proofs.GoneBeforeLemmas.{UpSince}
 use Rattle.gptp_settling_time.proofs.LeftToLemmas.{less_way}
 use Rattle.gptp_settling_time.proofs.LostClaimedLemmas.{lost_later}
 use Rattle.gptp_settling_time.proofs.LostToLemmas.{IsLostTo, lost_to_act, lost_to_later}
+use Rattle.gptp_settling_time.proofs.SinceSetLemmas.{AreLimitedBy, limited_acts, limited_later}
 use Rattle.gptp_settling_time.proofs.TakenClaimedLemmas.{IsTakenAlways, taken_acts, taken_chooses, taken_later, taken_settles}
 use Rattle.gptp_settling_time.proofs.WereSilentLemmas.{none_silent_from}
 use Rattle.gptp_settling_time.proofs.WorldMovesLemmas.{adjacent_alike, alike_so, unmoved_alike}
+
+-- what is in flight is gone so much later as links that are up say, after these events
+abbrev pub UpIsGoneFrom : NetworkState → List Timed → ℕ → ℕ → Type 0
+UpIsGoneFrom n ago since gone =
+    (gone ≡ (sync_paths n ago).delay)
+    × (UpIsUsed n ago ⊎ (NoneUpIsSlower n ago × HasArrivedSinceSet n ago (since + gone)))
 
 -- A world of a document after these events, the last of which came at that time and took something away. What it holds
 -- fits the snapshot after those before, from which the network had settled.
@@ -46,6 +55,9 @@ pub record IsTakenTo (d : DocumentState) (ago events : List Timed) (since most s
   pub alike : (g : Snapshot) → StandsAfter d.network ago g → AreAlike before g
   pub way : pred (sync_paths d.network ago).systems * (sync_paths d.network ago).delay ≤ since
   pub near : (sync_paths d.network ago).systems ≤ 255 → AllAreNear before
+  pub up : UpSince d.network ago events
+  pub slower : (gone : ℕ) → UpIsGoneFrom d.network ago since gone → NoneUpIsSlower d.network ago
+  pub limited : (gone : ℕ) → UpIsGoneFrom d.network ago since gone → AreLimitedBy (since + gone) w
   pub later : since < silent
   pub is : IsTakenAlways (pace_of d.network) before silent w
 
@@ -58,6 +70,9 @@ module _ (d : DocumentState) (ago events : List Timed) (since most silent : ℕ)
     alike = so.alike;
     way = so.way;
     near = so.near;
+    up = so.up;
+    slower = so.slower;
+    limited = λ gone flight. limited_later (since + gone) w time later (so.limited gone flight);
     later = so.later;
     is = taken_later (pace_of d.network) so.before since most silent time w later first so.lost.is so.is;
   }
@@ -76,6 +91,12 @@ module _ (d : DocumentState) (ago events : List Timed) (since most silent : ℕ)
         alike = so.alike;
         way = so.way;
         near = so.near;
+        up = so.up;
+        slower = so.slower;
+        limited = λ gone flight.
+            limited_acts (since + gone) timed.act (at timed.at w) was.draws t.told.done t.after
+            (no_change next.item timed.act w next.act) was.acts
+            (limited_later (since + gone) w timed.at now (so.limited gone flight));
         later = so.later;
         is = taken_acts p so.before since most silent timed.act (at timed.at w) was.draws t.told.done t.after
             (no_change next.item timed.act w next.act) (next_octet next.item timed.act w next.act) was.acts

@@ -81,6 +81,11 @@ LeadsToHeard n before (Split ago gone silent) event next = ⊥
 LeadsToHeard n before (Lost ago since most silent) event next = ⊥
 LeadsToHeard n before (Fewer ago since most silent) event next = ⊥
 
+-- a system or a link is taken away
+abbrev pub TakesAny : NetworkState → List Timed → Timed → Type 0
+TakesAny n before event =
+    LosesAny n before event.act × ((number value : ℕ) → event.act ≡ Changing (Priority1 number value) → ⊥)
+
 -- At the time of a loss more may be, a link may go down of which an end has failed, and events come that change
 -- nothing.
 abbrev pub TakesMore : NetworkState → List Timed → Timed → ℕ → ℕ → Type 0
@@ -154,11 +159,6 @@ LeadsByTree n before (Gained start) event Moves silent time =
 LeadsByTree n before (Heard start) event Moves silent time =
     (stood : ℕ) × HasSettledHeard n before start stood × TreeNow n before event Moves start stood silent time
 LeadsByTree n before past event Moves silent time = ⊥
-
--- a system or a link is taken away
-abbrev pub TakesAny : NetworkState → List Timed → Timed → Type 0
-TakesAny n before event =
-    LosesAny n before event.act × ((number value : ℕ) → event.act ≡ Changing (Priority1 number value) → ⊥)
 
 -- A network that had settled is cleared, and one that is so stays so. One in which something ages is cleared as the
 -- last link goes down of which an end has failed. One from which systems and links are taken away is as the last is,
