@@ -27,10 +27,10 @@ use Rattle.gptp_how_soon.specs.declared.bounds.Row.TheVariants.{AnyLosses, AnyPa
 use Rattle.gptp_how_soon.specs.declared.bounds.Settling.{Settling}
 use Rattle.gptp_how_soon.specs.declared.bounds.SettlingTime.{SettlingTime}
 use Rattle.gptp_settling_time.specs.HowSoon.{BeforeRepeats, BoundsAnyLoss, BoundsChoice, BoundsEvents, BoundsLoss, BoundsSplit, BoundsStart, BoundsTree, FailsTreesFirst, IsChoiceBoundAfter, IsLossBoundAfter, IsRestBoundAfter, NoneBetween, RestsAfterAnyLoss, RestsAfterLoss, RestsOnceTold, RestsSplit, RestsTaken, RestsTree, RolesAfterFailure, TreeNext}
-use Rattle.gptp_settling_time.specs.EventKinds.{FlightIsGone, FlightIsGoneFrom}
+use Rattle.gptp_settling_time.specs.EventKinds.{FlightIsGoneFrom}
 use Rattle.gptp_settling_time.specs.Rests.{FlightIsGoneSince, turned_echo_span}
 use Rattle.gptp_settling_time.specs.Losses.{NoneSilent, UpIsUsed}
-use Rattle.gptp_settling_time.specs.TreeLosses.{CutsAllBeyondFrom, FallsTree, LeavesAloneFrom, LosesFartherFrom, TurnsTreeLink}
+use Rattle.gptp_settling_time.specs.TreeLosses.{CutsAllBeyondFrom, FallsTree, LeavesAloneFrom, TurnsTreeLink}
 use Rattle.gptp_settling_time.proofs.BesideIdleLemmas.{before_none}
 use Rattle.gptp_settling_time.proofs.MomentLemmas.{parted}
 use Rattle.gptp_settling_time.proofs.WellFormedLemmas.{after_well}
@@ -38,7 +38,7 @@ use Rattle.gptp_how_soon_laws.specs.Choice.{SettlingsAreChoiceBounds}
 use Rattle.gptp_how_soon_laws.proofs.FailedLemmas.{used_up}
 use Rattle.gptp_how_soon_laws.proofs.RowBoundLemmas.{HasOwnBounds, IsSoundSooner, IsTelling, bounds_choice, choice_or_own, past_row, sound_or_sooner, tells}
 use Rattle.gptp_how_soon_laws.proofs.RowLemmas.{gained, unchanged}
-use Rattle.gptp_how_soon_laws.proofs.RowApartLemmas.{TakesApart, flight_apart, taken_apart}
+use Rattle.gptp_how_soon_laws.proofs.RowApartLemmas.{apart_bounds, apart_rests, taken_apart}
 use Rattle.gptp_how_soon_laws.proofs.RowLossLemmas.{ComesLate, CutsAll, FailsLate, FallsLate, GoesFirst, TakesSome, all_cut, cut_off, failed, failure_cuts, flight_now, heard, left_alone, losses, lowered, none_left, same_paths, taken, tree_falls, tree_turned, turned}
 use Rattle.gptp_how_soon_laws.proofs.AgedLemmas.{aged, aging, quiet_later}
 use Rattle.gptp_how_soon_laws.proofs.LossBoundLemmas.{beside, greater, no_later, some_before, some_heard, some_lost, some_rested, some_trees}
@@ -414,24 +414,10 @@ module _ (d : DocumentState) (playable : IsPlayable d) where
             split_enough sound x.trees (inr (inr (leaves, used, over)))
     rests_by sound told (inr (inr (inr (inr (inr (inr (inr (inr (inr (inl (row, is))))))))))) =
         let x = taken_apart n playable.network all b at late well row in
-        inl (x.rested, alone (Resting sound) (inr (inr (by x v.silent refl (told ∙ is)))))
-      where
-        gone : ℕ
-        gone = gone_by n v.paths v.used
-
-        span : ℕ
-        span = max (way_span v.paths) gone
-
-        flight : FlightIsGone n (made ++ now) gone
-        flight = flight_apart n playable.network all b at late
-
-        by : TakesApart n playable.network all b at late → (silent : Bool) → v.silent ≡ silent
-            → sound ≡ (if silent then max span (silence_span (pace_of n)) else span) → RestsTaken n made now sound
-        by x true silent same =
-            (x.takes, x.moves, x.few, inr (x.farther, (gone, flight, inr (omega (arith, same)), omega (arith, same))))
-        by x false silent same =
-            let none = none_left n playable.network all b at late silent in
-            (x.takes, x.moves, x.few, inr (x.farther, (gone, flight, inl none, omega (arith, same))))
+        inl (
+          x.rested,
+          alone (Resting sound) (inr (inr (apart_rests n playable.network all b at late x sound (told ∙ is)))),
+        )
     rests_by sound told (inr (inr (inr (inr (inr (inr (inr (inr (inl (row, is)))))))))) =
         let x = taken n playable.network all b at late well row in
         inl (x.rested, alone (Resting sound) (inr (by x v.used refl (told ∙ is))))
@@ -604,21 +590,9 @@ module _ (d : DocumentState) (playable : IsPlayable d) where
         let x = taken_apart n playable.network all b at late well row in
         inl (
           x.rested,
-          alone (Losing 0 (quiet_by n loss 0)) (inr (inr (inr (inr (inr (
-            x.takes,
-            x.moves,
-            refl,
-            by x v.silent refl,
-          )))))),
+          alone (Losing 0 (quiet_by n loss 0))
+              (inr (inr (inr (inr (inr (apart_bounds n playable.network all b at late x)))))),
         )
-      where
-        by : TakesApart n playable.network all b at late → (silent : Bool) → v.silent ≡ silent
-            → (NoneSilent n made (made ++ now)
-            × ((if silent then max 0 (silence_span (pace_of n)) else 0) ≡ 0))
-            ⊎ (LosesFartherFrom n made (made ++ now) × ((sync_paths n made).systems ≤ 255)
-            × ((if silent then max 0 (silence_span (pace_of n)) else 0) ≡ silence_span (pace_of n)))
-        by x true is = inr (x.farther, x.few, omega arith)
-        by x false is = inl (none_left n playable.network all b at late is, refl)
     asks_by AnyLosses row own =
         let (rest, loses, roles) = losses n playable.network all b at late row in
         let span : ℕ = any_loss_span n loss v.paths in
