@@ -143,7 +143,8 @@ module _ (time late : ℕ) where
       absurd (omega (arith, sent, early))
 
   module _ (w w' : WorldState) (p : SettlingParams) (is' : IsWorld p w') (keeps : KeepsNetwork w w')
-      (near : AllAreNear (snapshot_of w')) (since : ComesSince time late w') (stands : time ≤ w'.time → ChoiceStands w') where
+      (near : AllAreNear (snapshot_of w')) (since : ComesSince time late w') (stands : time ≤ w'.time → ChoiceStands w')
+      where
     wf : IsWellFormed (snapshot_of w')
     wf = stands_well w' is'.sound is'.between is'.encodable
 

@@ -75,8 +75,9 @@ module _ (p : SettlingParams) (g : Snapshot) (By : PortIdentity → ℕ → Type
       subst (λ (z : Network). (i : ℕ) (s : SeenStation) → slice_get (view w).stations i ≡ Some s → s.live ≡ true
       → IsClear z.graph s) (sym is.same)
       (system_clear says_announce g is.split.n is.split.lost is.split.best (IsCut p g is.split start)
-      (IsTurned p g is.split start) (IsTwice p g is.split start) is.split.moves start (fallen_by is.split.n start) (settles_by is.split.n start)
-      (cut_times p g is.split start) (turned_times p g is.split start) (tops_times p g is.split start) (view w) seen.0.back seen.1 by_now over)
+      (IsTurned p g is.split start) (IsTwice p g is.split start) is.split.moves start (fallen_by is.split.n start)
+      (settles_by is.split.n start) (cut_times p g is.split start) (turned_times p g is.split start)
+      (tops_times p g is.split start) (view w) seen.0.back seen.1 by_now over)
 
   came : (place : ℕ) (s : SeenStation) (i : ℕ) (r : Reception) → slice_get (view w).stations place ≡ Some s
       → s.live ≡ true → IsNear (snapshot_of w) s.clock → HoldsAt s i r
@@ -106,17 +107,18 @@ module _ (p : SettlingParams) (g : Snapshot) (By : PortIdentity → ℕ → Type
         subst (λ (z : Network). IsAfterLoss (record z { bare = 0; off = from }) (view w)
         → NearHaveSettled (record z { bare = 0; off = from }) (view w)) (sym is.same)
         (λ kept. near_have_settled says_announce g is.split.n is.split.lost is.split.best (IsCut p g is.split start)
-        (IsTurned p g is.split start) (IsTwice p g is.split start) is.split.moves start (fallen_by is.split.n start) (settles_by is.split.n start)
-        (cut_times p g is.split start) (turned_times p g is.split start) (tops_times p g is.split start) (view w) seen.0.back seen.1 by_now over 0 from
-        kept (omega arith)) dark_after
+        (IsTurned p g is.split start) (IsTwice p g is.split start) is.split.moves start (fallen_by is.split.n start)
+        (settles_by is.split.n start) (cut_times p g is.split start) (turned_times p g is.split start)
+        (tops_times p g is.split start) (view w) seen.0.back seen.1 by_now over 0 from kept (omega arith)) dark_after
 
   -- each link that leads farther is at rest
   rest : LinksAreAtRest says_announce (split_network p silent w) (view w)
   rest =
       subst (λ z. LinksAreAtRest says_announce z (view w)) (sym is.same)
       (failure_rests says_announce g is.split.n is.split.lost is.split.best (IsCut p g is.split start)
-      (IsTurned p g is.split start) (IsTwice p g is.split start) is.split.moves start (fallen_by is.split.n start) (settles_by is.split.n start)
-      (cut_times p g is.split start) (turned_times p g is.split start) (tops_times p g is.split start) (view w) seen.0.back seen.1 by_now over)
+      (IsTurned p g is.split start) (IsTwice p g is.split start) is.split.moves start (fallen_by is.split.n start)
+      (settles_by is.split.n start) (cut_times p g is.split start) (turned_times p g is.split start)
+      (tops_times p g is.split start) (view w) seen.0.back seen.1 by_now over)
 
   pub split_state : IsSettledState says_announce (left_network p silent w) (view w)
   split_state =

@@ -1,4 +1,5 @@
--- A tree that is cut off has a path that leads from each of its systems to a top: so none is deeper than paths are long.
+-- A tree that is cut off has a path that leads from each of its systems to a top: so none is deeper than paths are
+-- long.
 use Rattle.std.proofs.Common.{◌≡◌, ◌⊎◌, ◌<◌, ◌≤◌, ◌+◌, ℕ, suc, List, [], ◌∷◌, length, ap, inl, inr, arith}
 use Rattle.gptp_graph.specs.Best.{IsBest}
 use Rattle.gptp_graph.specs.Path.{Route}

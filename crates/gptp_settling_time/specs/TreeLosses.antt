@@ -182,9 +182,9 @@ pub record IsTreeCutOff (g g' : Snapshot) (best : System) (t : Tree) : Type 0 wh
       → p ≡ q
 
 -- From the first snapshot to the second a tree of systems is so cut off that lost its links to others at one or two of
--- them, its tops. Each was as far from the best of before as the nearer top says, from the base on; and by way of either
--- top it would have been near. Seen from either a link leads one deeper or less deep by one, and each system has one link
--- at most to such as are less deep.
+-- them, its tops. Each was as far from the best of before as the nearer top says, from the base on; and by way of
+-- either top it would have been near. Seen from either a link leads one deeper or less deep by one, and each system has
+-- one link at most to such as are less deep.
 pub record IsTreeCutTwice (g g' : Snapshot) (best : System) (t : TopsTree) : Type 0 where
   pub in_top : (side : Side) → IsBest g' (t.top side) t.next
   pub worse : best.identity < t.next.identity
