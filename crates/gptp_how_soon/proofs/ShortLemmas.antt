@@ -33,7 +33,7 @@ use Rattle.gptp_setup.proofs.IntervalLemmas.{interval_most}
 use Rattle.gptp_topology.specs.After.{standings_after}
 use Rattle.gptp_topology.specs.Times.{times_from, times_of}
 use Rattle.gptp_topology.specs.declared.course.Cable.{Cable}
-use Rattle.gptp_how_soon.specs.Bounds.{aged_by, aged_echo_span, any_loss_span, arrived_by, asked_again, choice_of_row, echo_of_row, exact_span, gone_by, is_again, needed_watch, quiet_by, ready, retold_by, roles_by, roles_of_row, set_span, settling_by, sound_by, sound_of_row, two_exchanges, watch}
+use Rattle.gptp_how_soon.specs.Bounds.{aged_by, aged_echo_span, any_loss_span, arrived_by, asked_again, choice_of_row, echo_if_kept, echo_of_row, exact_span, gone_by, is_again, needed_watch, quiet_by, ready, retold_by, roles_by, roles_of_row, set_span, settling_by, sound_by, sound_of_row, two_exchanges, watch}
 use Rattle.gptp_how_soon.specs.Kinds.{sets_bounds, sets_link}
 use Rattle.gptp_how_soon.specs.Links.{longest_delay}
 use Rattle.gptp_how_soon.specs.Silent.{is_heard_link, own_intervals}
@@ -169,8 +169,8 @@ module _ (n : NetworkState) (network : IsNetwork n) (paths : SyncPaths) (few : p
     sound_most : (row : Row) → sound_by n loss paths row gained ≤ 195000000000000
     sound_most row = either_most (not (n.params.sync_timeout == 0)) _ _ 195000000000000 span (by row)
       where
-        gone : (x : SyncPaths) → x.delay ≤ 16000000000 → gone_by n x loss.used_before ≤ 16000000000
-        gone x most = either_most loss.used_before x.delay (largest_interval (pace_of n)) 16000000000 most largest
+        gone : (x : SyncPaths) (soon : Bool) → x.delay ≤ 16000000000 → gone_by n x soon ≤ 16000000000
+        gone x soon most = either_most soon x.delay (largest_interval (pace_of n)) 16000000000 most largest
 
         aged : aged_echo_span n loss paths ≤ 195000000000000
         aged =
@@ -181,21 +181,30 @@ module _ (n : NetworkState) (network : IsNetwork n) (paths : SyncPaths) (few : p
         by : (r : Row) → sound_of_row n loss paths r gained ≤ 195000000000000
         by AnyPast = at_once
         by Unchanged = omega arith
-        by Lowered = let e = echo in let g = gone paths short in omega (arith, e, g)
-        by CutOff = let w = way in let g = gone paths short in omega (arith, w, g)
+        by Lowered = let e = echo in let g = gone paths loss.used_before short in omega (arith, e, g)
+        by CutOff = let w = way in let g = gone paths loss.soon short in omega (arith, w, g)
         by FailedEnd =
-            let g = gone loss.paths_before soon in
-            quiet (gone_by n loss.paths_before loss.used_before) (omega (arith, g))
+            let g = gone loss.paths_before loss.soon_before soon in
+            quiet (gone_by n loss.paths_before loss.soon_before) (omega (arith, g))
         by FailedHeard = aged
-        by FailureCutsOff = let w = way in let a = aged in let b = aged_most in omega (arith, w, a, b)
+        by FailureCutsOff =
+            let w = way in let a = aged in let b = aged_most in let g = gone paths loss.soon short in
+            either_most loss.cuts_all (quiet_by n loss (aged_by loss + 2 * way_span paths + gone_by n paths loss.soon))
+            (max (aged_by loss + 2 * way_span paths) (aged_echo_span n loss paths)) 195000000000000
+            (quiet (aged_by loss + 2 * way_span paths + gone_by n paths loss.soon) (omega (arith, w, b, g)))
+            (omega (arith, w, a, b))
         by SystemTurned = let w = way in let e = echo in omega (arith, w, e)
-        by TreeFalls = let w = way in let g = gone paths short in omega (arith, w, g)
+        by TreeFalls = let w = way in let g = gone paths loss.soon short in omega (arith, w, g)
         by TreeTurned = let w = way in let e = echo in omega (arith, w, e)
         by FailureMovesTrees =
-            let w = way in let e = echo in let l = largest in let a = aged_most in
+            let w = way in let e = echo in let l = largest in let a = aged_most in let g = gone paths loss.soon short in
+            let told : ℕ = max (echo_span (pace_of n) paths) (largest_interval (pace_of n)) in
+            let later : (if loss.cuts_all then gone_by n paths loss.soon else told) ≤ 32384000000000 =
+            either_most loss.cuts_all (gone_by n paths loss.soon) told 32384000000000 (omega (arith, g))
+            (omega (arith, e, l)) in
             quiet
-            (aged_by loss + (2 * way_span paths + max (echo_span (pace_of n) paths) (largest_interval (pace_of n))))
-            (omega (arith, w, e, l, a))
+            (aged_by loss + 2 * way_span paths + (if loss.cuts_all then gone_by n paths loss.soon else told))
+            (omega (arith, w, a, later))
         by TakenAway =
             let e = echo in let l = losses loss soon in
             either_most loss.used (max (echo_span (pace_of n) paths) paths.delay) (any_loss_span n loss paths)
@@ -206,10 +215,13 @@ module _ (n : NetworkState) (network : IsNetwork n) (paths : SyncPaths) (few : p
     retold_most : (row : Row) → retold_by n loss paths row gained ≤ 195000000000000
     retold_most row = by (n.params.sync_timeout == 0) row
       where
+        kept : echo_if_kept n loss paths ≤ 16384000000000
+        kept = either_most loss.cuts_all 0 (echo_span (pace_of n) paths) 16384000000000 (omega arith) echo
+
         by : (off : Bool) (r : Row)
             → (if not off then settling_span_with (pace_of n) paths paths.systems
             else choice_of_row n loss paths r gained)
-            + (if not off then 0 else echo_of_row n paths r)
+            + (if not off then 0 else echo_of_row n loss paths r)
             ≤ 195000000000000
         by false r = let s = span in omega (arith, s)
         by true AnyPast = let s = at_once in omega (arith, s)
@@ -218,11 +230,11 @@ module _ (n : NetworkState) (network : IsNetwork n) (paths : SyncPaths) (few : p
         by true CutOff = let w = way in omega (arith, w)
         by true FailedEnd = omega arith
         by true FailedHeard = let e = echo in let a = aged_most in omega (arith, e, a)
-        by true FailureCutsOff = let w = way in let e = echo in let a = aged_most in omega (arith, w, e, a)
+        by true FailureCutsOff = let w = way in let e = kept in let a = aged_most in omega (arith, w, e, a)
         by true SystemTurned = let w = way in let e = echo in omega (arith, w, e)
         by true TreeFalls = let w = way in omega (arith, w)
         by true TreeTurned = let w = way in let e = echo in omega (arith, w, e)
-        by true FailureMovesTrees = let w = way in let e = echo in let a = aged_most in omega (arith, w, e, a)
+        by true FailureMovesTrees = let w = way in let e = kept in let a = aged_most in omega (arith, w, e, a)
         by true TakenAway = let e = echo in omega (arith, e)
         by true AnyLosses = let l = losses loss soon in omega (arith, l)
         by true Gained = omega (arith, early)

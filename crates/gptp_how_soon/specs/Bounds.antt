@@ -113,10 +113,10 @@ roles_by n loss paths row gained =
     if not (n.params.sync_timeout == 0) then settling_span_with (pace_of n) paths paths.systems
     else roles_of_row n loss paths row gained
 
--- What was in flight is gone so much later than a time: by a delay where each link that was up is in use; else by an
+-- What was in flight is gone so much later than a time: by the greatest delay where it comes within that; else by an
 -- announce interval.
 abbrev pub gone_by : NetworkState → SyncPaths → Bool → ℕ
-gone_by n paths used_before = if used_before then paths.delay else largest_interval (pace_of n)
+gone_by n paths soon = if soon then paths.delay else largest_interval (pace_of n)
 
 -- How much later than a system fails that others heard each tells a right trace, and what was in flight is gone. They
 -- do at once where each link that is up is in use. Else they do once nobody holds what names it, 1 ns later than the
@@ -135,26 +135,29 @@ taken_echo_span n loss paths =
 
 -- By when all that is held and in flight is sound: as soon as the choice stands, but after a loss it may name what is
 -- gone. After a far end is cut off, a tree falls back, or a far end fails, only what was in flight does; of one that
--- fails by links of before too. After a link goes down by which no system is moved traces have to be told anew first,
--- and so they have where several are taken away. So they do once the choice stands where one system or a tree turns, or
--- one fails that others heard; where that cuts trees off what was in flight as they settled has to be gone too. After
--- losses without a row of their own all is sound once roles stand. After others it is as soon as the choice stands from
--- any past.
+-- fails by links of before too. So it is once the choice stands where a failure cuts off all that it moves. After a link
+-- goes down by which no system is moved traces have to be told anew first, and so they have where several are taken
+-- away. So they do once the choice stands where one system or a tree turns, or one fails that others heard; where that
+-- cuts trees off what was in flight as they settled has to be gone too. After losses without a row of their own all is
+-- sound once roles stand. After others it is as soon as the choice stands from any past.
 abbrev pub sound_of_row : NetworkState → Loss → SyncPaths → Row → ℕ → ℕ
 sound_of_row n loss paths AnyPast gained = settling_span_at_once (pace_of n) paths
 sound_of_row n loss paths Unchanged gained = 0
 sound_of_row n loss paths Lowered gained = max (echo_span (pace_of n) paths) (gone_by n paths loss.used_before)
-sound_of_row n loss paths CutOff gained = max (2 * way_span paths) (gone_by n paths loss.used_before)
-sound_of_row n loss paths FailedEnd gained = quiet_by n loss (gone_by n loss.paths_before loss.used_before)
+sound_of_row n loss paths CutOff gained = max (2 * way_span paths) (gone_by n paths loss.soon)
+sound_of_row n loss paths FailedEnd gained = quiet_by n loss (gone_by n loss.paths_before loss.soon_before)
 sound_of_row n loss paths FailedHeard gained = aged_echo_span n loss paths
 sound_of_row n loss paths FailureCutsOff gained =
-    max (aged_by loss + 2 * way_span paths) (aged_echo_span n loss paths)
+    if loss.cuts_all then quiet_by n loss (aged_by loss + 2 * way_span paths + gone_by n paths loss.soon)
+    else max (aged_by loss + 2 * way_span paths) (aged_echo_span n loss paths)
 sound_of_row n loss paths SystemTurned gained = 2 * way_span paths + echo_span (pace_of n) paths
-sound_of_row n loss paths TreeFalls gained = max (2 * way_span paths) (gone_by n paths loss.used_before)
+sound_of_row n loss paths TreeFalls gained = max (2 * way_span paths) (gone_by n paths loss.soon)
 sound_of_row n loss paths TreeTurned gained = 2 * way_span paths + echo_span (pace_of n) paths
 sound_of_row n loss paths FailureMovesTrees gained =
     quiet_by n loss
-    (aged_by loss + (2 * way_span paths + max (echo_span (pace_of n) paths) (largest_interval (pace_of n))))
+    (aged_by loss + 2 * way_span paths
+    + (if loss.cuts_all then gone_by n paths loss.soon
+    else max (echo_span (pace_of n) paths) (largest_interval (pace_of n))))
 sound_of_row n loss paths TakenAway gained = taken_echo_span n loss paths
 sound_of_row n loss paths AnyLosses gained = quiet_by n loss (any_loss_span n loss paths)
 sound_of_row n loss paths Gained gained = gained
@@ -165,22 +168,25 @@ sound_by n loss paths row gained =
     else sound_of_row n loss paths row gained
 
 -- How much later than the choice stands each system tells a right trace: where what names what is gone is told on by
--- systems that keep their choice.
-abbrev pub echo_of_row : NetworkState → SyncPaths → Row → ℕ
-echo_of_row n paths Lowered = echo_span (pace_of n) paths
-echo_of_row n paths FailedHeard = echo_span (pace_of n) paths
-echo_of_row n paths FailureCutsOff = echo_span (pace_of n) paths
-echo_of_row n paths SystemTurned = echo_span (pace_of n) paths
-echo_of_row n paths TreeTurned = echo_span (pace_of n) paths
-echo_of_row n paths FailureMovesTrees = echo_span (pace_of n) paths
-echo_of_row n paths TakenAway = echo_span (pace_of n) paths
-echo_of_row n paths row = 0
+-- systems that keep their choice. After a failure that cuts off all that it moves none does.
+abbrev pub echo_if_kept : NetworkState → Loss → SyncPaths → ℕ
+echo_if_kept n loss paths = if loss.cuts_all then 0 else echo_span (pace_of n) paths
 
-abbrev pub echo_by : NetworkState → SyncPaths → Row → ℕ
-echo_by n paths row = if not (n.params.sync_timeout == 0) then 0 else echo_of_row n paths row
+abbrev pub echo_of_row : NetworkState → Loss → SyncPaths → Row → ℕ
+echo_of_row n loss paths Lowered = echo_span (pace_of n) paths
+echo_of_row n loss paths FailedHeard = echo_span (pace_of n) paths
+echo_of_row n loss paths FailureCutsOff = echo_if_kept n loss paths
+echo_of_row n loss paths SystemTurned = echo_span (pace_of n) paths
+echo_of_row n loss paths TreeTurned = echo_span (pace_of n) paths
+echo_of_row n loss paths FailureMovesTrees = echo_if_kept n loss paths
+echo_of_row n loss paths TakenAway = echo_span (pace_of n) paths
+echo_of_row n loss paths row = 0
+
+abbrev pub echo_by : NetworkState → Loss → SyncPaths → Row → ℕ
+echo_by n loss paths row = if not (n.params.sync_timeout == 0) then 0 else echo_of_row n loss paths row
 
 abbrev pub retold_by : NetworkState → Loss → SyncPaths → Row → ℕ → ℕ
-retold_by n loss paths row gained = choice_by n loss paths row gained + echo_by n paths row
+retold_by n loss paths row gained = choice_by n loss paths row gained + echo_by n loss paths row
 
 -- a port at a link whose bounds are set measures it anew
 abbrev pub set_span : Params → SyncPaths → Bool → ℕ

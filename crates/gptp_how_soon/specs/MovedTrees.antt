@@ -6,6 +6,7 @@ use Rattle.gptp_scenario.specs.declared.change.Timed.{Timed}
 use Rattle.gptp_topology.specs.After.{systems_after}
 use Rattle.gptp_topology.specs.declared.nodes.System.{System}
 use Rattle.gptp_how_soon.specs.Chosen.{chosen_after, is_moved_at, lost_ends, used_ends}
+use Rattle.gptp_how_soon.specs.Silent.{hears}
 use Rattle.gptp_how_soon.specs.Tree.{has_better_root, has_same_root, is_below}
 use Rattle.gptp_how_soon.specs.TurnedTree.{is_turned_at, tree_turns_at}
 use Rattle.gptp_how_soon.specs.declared.chosen.Chosen.{Chosen}
@@ -64,6 +65,29 @@ ends_are_tops systems before now e f =
 abbrev pub agrees_with : List System → List Ends → List Chosen → List Chosen → Ends → Bool
 agrees_with systems lost before now e = list_all (ends_are_tops systems before now e) lost
 
+-- ---- all that is moved is cut off
+
+-- the system at a place stays, or gets a worse root
+abbrev pub stays_or_gets_worse : List System → List Chosen → List Chosen → ℕ → Bool
+stays_or_gets_worse systems before now place =
+    not (is_moved_at systems before now place) || has_better_root (slice_get before place) (slice_get now place)
+
+-- each end of a link is moved that lives and was the far end
+abbrev pub is_moved_if_far : List System → List Chosen → List Chosen → ℕ → ℕ → Bool
+is_moved_if_far systems before now one other =
+    not (hears systems before one other) || is_moved_at systems before now one
+
+abbrev pub far_end_moves : List System → List Chosen → List Chosen → Ends → Bool
+far_end_moves systems before now e =
+    is_moved_if_far systems before now e.a e.b && is_moved_if_far systems before now e.b e.a
+
+-- Each system that is moved gets a worse root, and each live far end of a link that is lost is moved. So what those
+-- hold that aren't moved never came over such a link.
+abbrev pub cuts_all : List System → List Ends → List Chosen → List Chosen → Bool
+cuts_all systems lost before now =
+    list_all (stays_or_gets_worse systems before now) (range_with_len 0 (length systems))
+    && list_all (far_end_moves systems before now) lost
+
 -- ---- trees
 
 -- an end of a link is the top of the tree that turns
@@ -89,3 +113,7 @@ abbrev pub moves_trees_after : NetworkState → List Timed → List Timed → Bo
 moves_trees_after n made events =
     moves_trees (systems_after n events) (lost_ends n made events) (used_ends n events) (chosen_after n made)
     (chosen_after n events)
+
+abbrev pub cuts_all_after : NetworkState → List Timed → List Timed → Bool
+cuts_all_after n made events =
+    cuts_all (systems_after n events) (lost_ends n made events) (chosen_after n made) (chosen_after n events)

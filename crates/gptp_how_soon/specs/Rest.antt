@@ -36,6 +36,11 @@ abbrev pub has_come : ℕ → ℕ → ℕ → Option SettlingTime → ℕ → Bo
 has_come interval delay arrived None at = false
 has_come interval delay arrived (Some b) at = has_come_by interval delay arrived b at b.settling
 
+-- What was in flight at a time has come within the greatest delay of a link in use: each link that is up is in use, or
+-- none takes longer, and what was in flight as a link was last set has arrived as soon.
+abbrev pub comes_soon : Bool → Bool → ℕ → ℕ → ℕ → Bool
+comes_soon used none_longer delay arrived at = used || (none_longer && nat_le arrived (at + delay))
+
 -- Events are followed where what each does is, and no system both fails and recovers.
 abbrev pub are_events_followed : List Told → Bool
 are_events_followed told = not (list_any is_other told) && not (fails_and_recovers told)
@@ -110,8 +115,9 @@ failed_row far any_moved = if far then FailedEnd else if any_moved then FailureC
 -- Where one link or one system is taken away such as are cut off don't count as moved. There it matters whether the
 -- link that goes down cuts off a far end, and whether the one system that it moves turns, or a tree falls off or turns.
 -- A tree falls back too as its best gets worse. Of a system that fails it matters whether it was a far end, so that no
--- other heard it, and whether it cuts off another, or trees. Where several are taken away it matters whether all of them together move any system, also one
--- that is cut off, and whether a link is left silent. All other losses have one row.
+-- other heard it, and whether it cuts off another, or trees. Where several are taken away it matters whether all of
+-- them together move any system, also one that is cut off, and whether a link is left silent. All other losses have one
+-- row.
 abbrev pub row_of : Bool → Bool → SyncPaths → SyncPaths → List Told → Moves → Row
 row_of from_rest first paths_before paths told moves =
     if not from_rest then AnyPast
@@ -150,6 +156,7 @@ no_moves = record {
   tree_turns = false;
   trees_move = false;
   taken = false;
+  cuts_all = false;
   far = false;
   held = 0;
 }

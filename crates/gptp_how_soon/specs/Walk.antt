@@ -11,10 +11,10 @@ use Rattle.gptp_topology.specs.Tables.{TablesActed, are_calm, cables_of, has_clo
 use Rattle.gptp_topology.specs.declared.nodes.System.{System}
 use Rattle.gptp_how_soon.specs.Bounds.{arrived_by}
 use Rattle.gptp_how_soon.specs.Chosen.{any_counted, any_moved, chosen_over, ends_among, ends_in_use}
-use Rattle.gptp_how_soon.specs.Far.{all_cut_far_ends, are_far, up_is_used}
+use Rattle.gptp_how_soon.specs.Far.{all_cut_far_ends, are_far, none_up_longer, up_is_used}
 use Rattle.gptp_how_soon.specs.Kinds.{sets_bounds, takes_one, told_by}
 use Rattle.gptp_how_soon.specs.Links.{delay_set, longest_among, lost_among, new_among}
-use Rattle.gptp_how_soon.specs.MovedTrees.{moves_trees}
+use Rattle.gptp_how_soon.specs.MovedTrees.{cuts_all, moves_trees}
 use Rattle.gptp_how_soon.specs.Rest.{has_come}
 use Rattle.gptp_how_soon.specs.Silent.{any_silent, heard_links, held_among, own_intervals}
 use Rattle.gptp_how_soon.specs.Times.{View, settling_time}
@@ -41,6 +41,7 @@ pub record IsFirstWalk (n : NetworkState) (w : Walk) : Type 0 where
   pub used : w.used_before.items ≡ map cable_is_used w.tables.standings.items
   pub paths : w.paths_before ≡ marked_paths w.tables.marks.items w.tables.nodes.items
   pub all_used : w.all_used_before ≡ up_is_used w.tables.standings.items
+  pub none_longer : w.none_longer_before ≡ none_up_longer w.paths_before.delay w.tables.standings.items
 
 -- an event of this time is passed
 pub record WalkPasses (at : ℕ) (act : Act) (old new : Walk) : Type 0 where
@@ -61,6 +62,7 @@ pub record WalkPasses (at : ℕ) (act : Act) (old new : Walk) : Type 0 where
   pub used : new.used_before ≡ old.used_before
   pub paths : new.paths_before ≡ old.paths_before
   pub all_used : new.all_used_before ≡ old.all_used_before
+  pub none_longer : new.none_longer_before ≡ old.none_longer_before
 
 -- it goes on to another time, where this is what is told of the one so far
 pub record WalkGoesOn (time : SettlingTime) (old new : Walk) : Type 0 where
@@ -76,6 +78,7 @@ pub record WalkGoesOn (time : SettlingTime) (old new : Walk) : Type 0 where
   pub used : new.used_before.items ≡ map cable_is_used old.tables.standings.items
   pub paths : new.paths_before ≡ marked_paths old.tables.marks.items old.tables.nodes.items
   pub all_used : new.all_used_before ≡ up_is_used old.tables.standings.items
+  pub none_longer : new.none_longer_before ≡ none_up_longer new.paths_before.delay old.tables.standings.items
 
 -- what systems that stand so choose over the links in use, before this time and now, and the links that are lost
 abbrev pub chosen_in : Walk → List System → List Bool → List Chosen
@@ -127,6 +130,8 @@ moves_seen n w at = record {
       (chosen_before w) (chosen_now w);
   taken = not (any_moved (systems_in w.tables.nodes.items) (chosen_before w) (chosen_now w))
       && not (any_silent w.used_before.items w.tables.standings.items);
+  cuts_all = has_come_seen n w at
+      && cuts_all (systems_in w.tables.nodes.items) (lost_seen w) (chosen_before w) (chosen_now w);
   far = are_far w.systems_before.items (chosen_before w) (ends_in_use w.ends.items w.used_before.items) w.told.items;
   held = held_among n (own_intervals n w.before at) (heard_seen w) w.tables.standings.items;
 }
@@ -140,10 +145,13 @@ view_seen n w at = record {
   before = w.before;
   paths_before = w.paths_before;
   used_before = w.all_used_before;
+  none_longer_before = w.none_longer_before;
+  arrived_before = arrived_by w.longest_before w.set_before;
   new = new_among (not (is_some w.before)) w.tables.standings.items w.used_before.items;
   told = w.told.items;
   moves = moves_seen n w at;
   used = up_is_used w.tables.standings.items;
+  none_longer = none_up_longer (marked_paths w.tables.marks.items w.tables.nodes.items).delay w.tables.standings.items;
   silent = any_silent w.used_before.items w.tables.standings.items;
   paths = marked_paths w.tables.marks.items w.tables.nodes.items;
   calm = are_calm n.params (marked_paths w.tables.marks.items w.tables.nodes.items) w.tables.marks.items;

@@ -49,6 +49,12 @@ pub struct Loss {
     /// Whether each link that was up just before was in use, and whether each that is up then is.
     pub used_before: bool,
     pub used: bool,
+    /// Whether what was in flight then comes within the greatest delay of a link in use; and so what was just before,
+    /// of one in use then.
+    pub soon: bool,
+    pub soon_before: bool,
+    /// Whether each system that is moved gets a worse root, and so does each live far end of a link that is lost.
+    pub cuts_all: bool,
     /// Whether a link is left silent: it was in use, and is up, but one of its ends has failed.
     pub silent: bool,
     /// For how long it counts what others hold of a system that fails, in ns; 0 where no link is left silent whose far
@@ -325,13 +331,13 @@ fn echo_span(network: &Network, paths: SyncPaths) -> u64
 }
 
 /// By how much later than a time what was in flight is gone, in ns.
-fn gone_by(network: &Network, paths: SyncPaths, used_before: bool) -> u64
+fn gone_by(network: &Network, paths: SyncPaths, soon: bool) -> u64
     requires { paths.delay ≤ 16000000000 }
-    ensures is { result ≡ gone_by network.now paths used_before }
+    ensures is { result ≡ gone_by network.now paths soon }
     ensures bound { result ≤ 16000000000 }
 {
     network.well_formed();
-    if used_before {
+    if soon {
         paths.delay
     } else {
         interval_of(network.largest())
@@ -384,25 +390,30 @@ fn sound_by(network: &Network, loss: Loss, paths: SyncPaths, row: Row, gained: u
     if network.params().sync_timeout != 0 {
         return network.settling_span_with(paths);
     }
-    let gone = gone_by(network, paths, loss.used_before);
-    let gone_before = gone_by(network, loss.paths_before, loss.used_before);
+    let gone = gone_by(network, paths, loss.soon);
+    let gone_before = gone_by(network, loss.paths_before, loss.soon_before);
     match row {
         Row::AnyPast => settling_span_at_once(network, paths),
         Row::Unchanged => 0,
-        Row::Lowered => echo_span(network, paths).max(gone),
+        Row::Lowered => echo_span(network, paths).max(gone_by(network, paths, loss.used_before)),
         Row::TakenAway => taken_echo_span(network, loss, paths),
         Row::CutOff | Row::TreeFalls => (2 * way_span(paths)).max(gone),
         Row::FailedEnd => quiet_by(network, loss, gone_before),
         Row::FailedHeard => aged_echo_span(network, loss, paths),
         Row::FailureCutsOff => {
             let aged = aged_by(loss) + 2 * way_span(paths);
-            aged.max(aged_echo_span(network, loss, paths))
+            if loss.cuts_all {
+                quiet_by(network, loss, aged + gone)
+            } else {
+                aged.max(aged_echo_span(network, loss, paths))
+            }
         }
         Row::SystemTurned | Row::TreeTurned => 2 * way_span(paths) + echo_span(network, paths),
         Row::FailureMovesTrees => {
             network.well_formed();
             let told = echo_span(network, paths).max(interval_of(network.largest()));
-            quiet_by(network, loss, aged_by(loss) + (2 * way_span(paths) + told))
+            let later = if loss.cuts_all { gone } else { told };
+            quiet_by(network, loss, aged_by(loss) + 2 * way_span(paths) + later)
         }
         Row::AnyLosses => quiet_by(network, loss, any_loss_span(network, loss, paths)),
         Row::Gained => gained,
@@ -428,7 +439,12 @@ fn retold_by(network: &Network, loss: Loss, paths: SyncPaths, row: Row, gained: 
         Row::Lowered | Row::TakenAway => echo_span(network, paths),
         Row::FailedHeard => aged_by(loss) + echo_span(network, paths),
         Row::FailureCutsOff | Row::FailureMovesTrees => {
-            aged_by(loss) + 2 * way_span(paths) + echo_span(network, paths)
+            let echo = if loss.cuts_all {
+                0
+            } else {
+                echo_span(network, paths)
+            };
+            aged_by(loss) + 2 * way_span(paths) + echo
         }
         Row::SystemTurned | Row::TreeTurned => echo_span(network, paths) + 2 * way_span(paths),
         Row::CutOff | Row::TreeFalls => 2 * way_span(paths),

@@ -2,10 +2,11 @@
 
 ghost use Rattle.std.specs.Prelude.{◌≡◌, length};
 ghost use Rattle.std.specs.List.{list_all, list_any, range_with_len};
-ghost use Rattle.gptp_how_soon.specs.MovedTrees.{agrees_with, are_tops, ends_are_tops, falls_at, is_in_or_apart, is_under, is_under_end, moves_trees, shares_root, shares_root_end, turns_at_end, turns_none_or_one};
+ghost use Rattle.gptp_how_soon.specs.MovedTrees.{agrees_with, are_tops, cuts_all, ends_are_tops, falls_at, far_end_moves, is_in_or_apart, is_moved_if_far, is_under, is_under_end, moves_trees, shares_root, shares_root_end, stays_or_gets_worse, turns_at_end, turns_none_or_one};
 ghost use Rattle.gptp_how_soon.specs.TurnedTree.{is_turned_at};
 
 use crate::chosen::{Chosen, Ends, is_moved_at};
+use crate::silent::hears;
 use crate::tree::{had_better_root, has_same_root, is_below};
 use crate::turned_tree::{is_turned_at, tree_turns_at};
 use gptp_topology::System;
@@ -245,4 +246,50 @@ pub(crate) fn moves_trees(
     all_agree(systems, lost, before, now)
         && all_are_in_or_apart(systems, lost, links, before, now)
         && turns_none_or_one(systems, lost, links, before, now)
+}
+
+/// Whether the system at a place stays, or gets a worse root.
+fn stays_or_gets_worse(systems: &[System], before: &[Chosen], now: &[Chosen], place: usize) -> bool
+    ensures { result ≡ stays_or_gets_worse systems.now before.now now.now place }
+{
+    !is_moved_at(systems, before, now, place) || had_better_root(before, now, place)
+}
+
+/// Whether each system is so.
+fn all_stay_or_get_worse(systems: &[System], before: &[Chosen], now: &[Chosen]) -> bool
+    ensures { result
+        ≡ list_all (stays_or_gets_worse systems.now before.now now.now) (range_with_len 0 (length systems.now)) }
+{
+    (0..systems.len()).all(|place| stays_or_gets_worse(systems, before, now, place))
+}
+
+/// Whether the one system is moved, if it lives and was the far end of a link with the other.
+fn is_moved_if_far(
+    systems: &[System],
+    before: &[Chosen],
+    now: &[Chosen],
+    one: usize,
+    other: usize,
+) -> bool
+    ensures { result ≡ is_moved_if_far systems.now before.now now.now one other }
+{
+    !hears(systems, before, one, other) || is_moved_at(systems, before, now, one)
+}
+
+/// Whether it is so of both ends of a link.
+fn far_end_moves(systems: &[System], before: &[Chosen], now: &[Chosen], ends: &Ends) -> bool
+    ensures { result ≡ far_end_moves systems.now before.now now.now ends.now }
+{
+    is_moved_if_far(systems, before, now, ends.a, ends.b)
+        && is_moved_if_far(systems, before, now, ends.b, ends.a)
+}
+
+/// Whether each system that is moved gets a worse root, and each live far end of these links, which are lost, is moved.
+pub(crate) fn cuts_all(systems: &[System], lost: &[Ends], before: &[Chosen], now: &[Chosen]) -> bool
+    ensures { result ≡ cuts_all systems.now lost.now before.now now.now }
+{
+    all_stay_or_get_worse(systems, before, now)
+        && lost
+            .iter()
+            .all(|ends| far_end_moves(systems, before, now, ends))
 }

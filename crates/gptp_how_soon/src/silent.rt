@@ -155,7 +155,7 @@ fn is_live(systems: &[System], place: usize) -> bool
 }
 
 /// Whether the system at the one place lives, and was the far end of a link with that at the other.
-fn hears(systems: &[System], before: &[Chosen], one: usize, other: usize) -> bool
+pub(crate) fn hears(systems: &[System], before: &[Chosen], one: usize, other: usize) -> bool
     ensures { result ≡ hears systems.now before.now one other }
 {
     is_live(systems, one) && is_nearer_at(systems, before, other, one)

@@ -1,6 +1,6 @@
 //! How a document stands at each time, as its events come.
 
-ghost use Rattle.std.specs.Prelude.{◌≡◌, ◌≤◌, if◌then◌else◌, IfOk, IfSome, OnOk};
+ghost use Rattle.std.specs.Prelude.{◌≡◌, ◌≤◌, ◌&&◌, if◌then◌else◌, IfOk, IfSome, OnOk};
 ghost use Rattle.gptp_network.specs.declared.keys.TheConstants.{LATEST_EVENT};
 ghost use Rattle.gptp_topology.specs.Tables.{AreMarked, marked_paths};
 ghost use Rattle.gptp_how_soon.specs.Times.{settling_time};
@@ -14,11 +14,13 @@ use crate::bounds::{
 use crate::chosen::{
     Chosen, Ends, any_counted, any_moved, choose, copy_systems, ends_in_use, ends_of,
 };
-use crate::far::{all_cut_far_ends, are_far, up_is_used};
+use crate::far::{all_cut_far_ends, are_far, none_up_longer, up_is_used};
 use crate::kinds::{Told, sets_bounds, sets_link, takes_one, tell};
 use crate::links::{delay_set, longest_among, lost_among, mark_used, new_links};
-use crate::moved_trees::moves_trees;
-use crate::rest::{Moves, asks_who_is_moved, has_come, heard_at_once, is_from_rest, row_of};
+use crate::moved_trees::{cuts_all, moves_trees};
+use crate::rest::{
+    Moves, asks_who_is_moved, comes_soon, has_come, heard_at_once, is_from_rest, row_of,
+};
 use crate::silent::{any_silent, heard_links, held_among, own_intervals};
 use crate::tree::{cuts_tree, worsens_best};
 use crate::turned::turns_one;
@@ -50,6 +52,15 @@ pub(crate) struct Walk {
     pub used_before: Vec<bool>,
     pub paths_before: SyncPaths,
     pub all_used_before: bool,
+    /// Whether none that was up took longer than those in use.
+    pub none_longer_before: bool,
+}
+
+/// Whether two things are so, each of which is told.
+fn both(one: bool, other: bool) -> bool
+    ensures { result ≡ (one && other) }
+{
+    one && other
 }
 
 impl Walk {
@@ -67,6 +78,7 @@ impl Walk {
         mark_used(&mut used_before, &tables.standings)?;
         let paths_before = tables.sync_paths();
         let all_used_before = up_is_used(&tables.standings);
+        let none_longer_before = none_up_longer(paths_before.delay, &tables.standings);
         let longest = longest_among(&cables);
         Ok(Walk {
             tables,
@@ -81,6 +93,7 @@ impl Walk {
             used_before,
             paths_before,
             all_used_before,
+            none_longer_before,
         })
     }
 
@@ -111,6 +124,7 @@ impl Walk {
         self.longest_before = self.longest;
         self.paths_before = paths;
         self.all_used_before = up_is_used(&self.tables.standings);
+        self.none_longer_before = none_up_longer(paths.delay, &self.tables.standings);
         self.told.clear();
         self.before = Some(time);
         Ok(())
@@ -139,16 +153,21 @@ impl Walk {
         let own = own_intervals(network, self.before, at);
         let heard = heard_links(alloc, &systems, &before, &self.used_before, &self.ends)?;
         let any_moved = any_moved(&systems, &before, &now);
+        let silent = any_silent(&self.used_before, &self.tables.standings);
         Ok(Moves {
             moved: any_counted(joined, &systems, &links, &before, &now),
             any_moved,
             cut: all_cut_far_ends(&systems, &before, &links_before, &links, &lost),
             turned,
-            falls: come && cuts_tree(&systems, &lost, &links, &before, &now),
-            worsens: come && worsens_best(&systems, &links, &before, &now, &self.told),
-            tree_turns: come && turns_tree(&systems, &lost, &links, &before, &now),
-            trees_move: come && moves_trees(&systems, &lost, &links, &before, &now),
-            taken: !any_moved && !any_silent(&self.used_before, &self.tables.standings),
+            falls: both(come, cuts_tree(&systems, &lost, &links, &before, &now)),
+            worsens: both(
+                come,
+                worsens_best(&systems, &links, &before, &now, &self.told),
+            ),
+            tree_turns: both(come, turns_tree(&systems, &lost, &links, &before, &now)),
+            trees_move: both(come, moves_trees(&systems, &lost, &links, &before, &now)),
+            taken: both(!any_moved, !silent),
+            cuts_all: both(come, cuts_all(&systems, &lost, &before, &now)),
             far: are_far(&self.systems_before, &before, &links_before, &self.told),
             held: held_among(network, own, &heard, &self.tables.standings),
         })
@@ -178,6 +197,7 @@ impl Walk {
                 tree_turns: false,
                 trees_move: false,
                 taken: false,
+                cuts_all: false,
                 far: false,
                 held: 0,
             })
@@ -215,17 +235,28 @@ impl Walk {
         let from_rest = is_from_rest(self.longest, at, paths_before, paths, told, self.before);
         let asked = asks_who_is_moved(from_rest, paths_before, paths, told);
         let moves = self.moves_if(alloc, network, at, asked)?;
+        let arrived = arrived_by(at, self.longest, self.last_set);
+        let arrived_before = arrived_before(self.longest_before, self.set_before);
+        let all_used = up_is_used(standings);
+        let none_longer = none_up_longer(paths.delay, standings);
+        let soon = comes_soon(all_used, none_longer, paths.delay, u128::from(arrived), at);
+        let used_before = self.all_used_before;
+        let longer = self.none_longer_before;
+        let soon_before = comes_soon(used_before, longer, paths_before.delay, arrived_before, at);
         let loss = Loss {
             paths_before,
-            used_before: self.all_used_before,
-            used: up_is_used(standings),
+            used_before,
+            used: all_used,
+            soon,
+            soon_before,
+            cuts_all: moves.cuts_all,
             silent: any_silent(used, standings),
             held: moves.held,
         };
         Ok(times_by(
             network,
             at,
-            arrived_by(at, self.longest, self.last_set),
+            arrived,
             loss,
             paths,
             self.tables.is_calm(network, paths),

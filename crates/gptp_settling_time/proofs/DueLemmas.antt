@@ -1,5 +1,5 @@
 -- When what is in flight is due: by an announce interval, or by the greatest delay of a link in use.
-use Rattle.std.proofs.Common.{◌≡◌, ◌⊎◌, ◌<◌, ◌≤◌, ◌+◌, ℕ, pred, true, Some, slice_get, sym, ap, subst, ◌∙◌, inl, inr, arith}
+use Rattle.std.proofs.Common.{◌≡◌, ◌⊎◌, ◌<◌, ◌≤◌, ◌+◌, ℕ, max, pred, true, Some, slice_get, sym, ap, subst, ◌∙◌, inl, inr, arith}
 use Rattle.gptp_lists.specs.Members.{In}
 use Rattle.gptp_graph.specs.Snapshot.{Joins}
 use Rattle.gptp_setup.specs.SettlingParams.{SettlingParams, largest_interval}
@@ -12,10 +12,12 @@ use Rattle.gptp_invariants.specs.ChoiceSettlesAsMachine.{IsWorld}
 use Rattle.gptp_invariants.specs.ChoiceView.{says_announce, view}
 use Rattle.gptp_invariants.specs.WorldStanding.{channel_is_used, live_stations, snapshot_of}
 use Rattle.gptp_invariants.proofs.ChoiceCalmFactLemmas.{frame_from}
+use Rattle.gptp_invariants.proofs.DelayLimitLemmas.{in_queue}
 use Rattle.gptp_invariants.proofs.WorldDueLemmas.{frames_on_links}
 use Rattle.gptp_invariants.proofs.WorldWayLemmas.{used_joins}
 use Rattle.gptp_settling_time.proofs.SettledSeenLemmas.{IsSettledSeen}
 use Rattle.gptp_settling_time.proofs.ReducedLemmas.{IsReduced}
+use Rattle.gptp_settling_time.proofs.SinceSetLemmas.{AreLimitedBy, arrive_limit}
 use Rattle.gptp_lists.proofs.MappedLemmas.{alike}
 use Rattle.gptp_model.proofs.BareLemmas.{bare}
 use Rattle.gptp_invariants.proofs.ChoiceCalmKeptLemmas.{KeepsNetwork}
@@ -69,6 +71,22 @@ due_by_delay p w is seen used j l f a there member said = by (seen.calm.facts.fr
         let grows = since_grows seen.n 0 (pred seen.n.reach) (omega arith) in
         let late = seen.late in
         absurd (omega (arith, old, left, begun, grows, late))
+
+-- no link that is up takes longer than one in use
+abbrev pub NoneUpIsSlowerIn : WorldState → Type 0
+NoneUpIsSlowerIn w = (link : ℕ) (channel : Channel) → slice_get w.net.channels link ≡ Some channel → channel.up ≡ true
+    → channel.bounds.max ≤ delay_in w
+
+-- then all that is in flight is due within the greatest delay, where none was set
+pub due_unset : (w : WorldState) → IsSound w → NoneUpIsSlowerIn w → AreLimitedBy 0 w → AreDueBy (w.time + delay_in w) w
+due_unset w sound slower limited j l f a there member said =
+    let at = frame_from w j l f there member in
+    let up = frames_on_links w sound at.link at.direction at.channel at.frame at.here at.among in
+    let short : at.channel.bounds.max ≤ delay_in w = slower at.link at.channel at.here up in
+    let soon : at.frame.due ≤ max (w.time + at.channel.bounds.max) 0 =
+    in_queue (arrive_limit 0 w.time) w.time at.direction at.channel (limited at.link at.channel at.here) at.frame
+    at.among in
+    subst (λ (x : AnnounceFrame). x.due ≤ w.time + delay_in w) (sym at.is) (omega (arith, soon, short))
 
 -- it stays so as long as the network stays
 pub use_kept : (w w' : WorldState) → KeepsNetwork w w' → UpIsInUse w → UpIsInUse w'

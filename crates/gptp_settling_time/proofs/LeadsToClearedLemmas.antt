@@ -12,7 +12,7 @@ use Rattle.gptp_scenario.specs.declared.change.Timed.{Timed}
 use Rattle.gptp_theorem.proofs.EventLemmas.{last_behind}
 use Rattle.gptp_settling_time.specs.HowSoon.{EachEvent, IsDownToo}
 use Rattle.gptp_settling_time.specs.Pasts.{Aging, AnyPast, Cleared, Fallen, Gained, Heard, Left, Fewer, Lost, Past, Split, Starting, Turned, TurnedTree}
-use Rattle.gptp_settling_time.specs.EventKinds.{CutsCalm, FailsCalm, FailsNow, FlightIsGone, LowersCalm, nearer_echo_span}
+use Rattle.gptp_settling_time.specs.EventKinds.{CutsCalm, FailsCalm, FailsNow, FlightIsGone, FlightIsGoneFrom, LowersCalm, nearer_echo_span}
 use Rattle.gptp_settling_time.specs.Leads.{EventLeads}
 use Rattle.gptp_settling_time.specs.InTurn.{LeadOn}
 use Rattle.gptp_settling_time.specs.Losses.{UpIsUsed}
@@ -29,7 +29,7 @@ module _ (n : NetworkState) (made : List Timed) (event : Timed) (gone : ℕ) whe
     pub over : silent ≤ by
 
   -- by a link that cuts it off, as ports without a link were off
-  pub cut_leads : FlightIsGone n (made ++ event ∷ []) gone → (past : Past) → HasSettled n made past event.at
+  pub cut_leads : FlightIsGoneFrom n (made ++ event ∷ []) gone → (past : Past) → HasSettled n made past event.at
       → CutsCalm n made event → IsClearedBy past event.at
   cut_leads flight AnyPast settled cuts =
       let passed = settled.passed in
@@ -68,7 +68,7 @@ module _ (n : NetworkState) (made : List Timed) (event : Timed) (gone : ℕ) whe
   cut_leads flight (Fewer ago since most silent) settled cuts = absurd settled
 
   -- or as it fails, once the ports beside it have been unanswered for long enough
-  pub fail_leads : FlightIsGone n made gone → (past : Past) → HasSettled n made past event.at → FailsCalm n made event
+  pub fail_leads : FlightIsGoneFrom n made gone → (past : Past) → HasSettled n made past event.at → FailsCalm n made event
       → IsClearedBy past (suc (event.at + silence_span (pace_of n)))
   fail_leads flight AnyPast settled fails =
       let passed = settled.passed in

@@ -32,7 +32,7 @@ use Rattle.gptp_theorem.specs.PlayedLaws.{IsPlayable}
 use Rattle.gptp_theorem.specs.Reached.{channel_wire}
 use Rattle.gptp_theorem.proofs.CalmLemmas.{quiet_stands}
 use Rattle.gptp_theorem.proofs.SyncPathLemmas.{paths_stand}
-use Rattle.gptp_settling_time.specs.EventKinds.{ClearsBy, ClearsFarEnd, ClearsTraces, CutsCalm, FailsCalm, FailsNow, FlightIsGone, LeavesStanding, LowersCalm, TurnsCalm, nearer_echo_span}
+use Rattle.gptp_settling_time.specs.EventKinds.{ClearsBy, ClearsFarEnd, ClearsTraces, CutsCalm, FailsCalm, FailsNow, FlightIsGone, LeavesStanding, LowersCalm, TurnsCalm, nearer_echo_span, FlightIsGoneFrom}
 use Rattle.gptp_settling_time.specs.Leads.{TurnsNow}
 use Rattle.gptp_settling_time.proofs.GainLemmas.{lives_so, up_so}
 use Rattle.gptp_settling_time.proofs.FailedAloneLemmas.{all_but, failed_left, less as failed_reduced, none_joined, ready_on as failed_ready}
@@ -41,7 +41,7 @@ use Rattle.gptp_settling_time.proofs.AgesByWorldLemmas.{WorldAgesBy, aging_by}
 use Rattle.gptp_settling_time.proofs.AgingToLemmas.{IsAgingTo}
 use Rattle.gptp_settling_time.proofs.FailedAgesLemmas.{failed_ages_by}
 use Rattle.gptp_settling_time.proofs.FailedHeardLemmas.{failed_aging}
-use Rattle.gptp_settling_time.proofs.GoesToLemmas.{echo_to, goes_to}
+use Rattle.gptp_settling_time.proofs.GoesToLemmas.{echo_to, goes_to, due_to}
 use Rattle.gptp_settling_time.proofs.HoldSpanLemmas.{ages_over}
 use Rattle.gptp_settling_time.proofs.KeptToLemmas.{KeepsTo}
 use Rattle.gptp_settling_time.proofs.LeftToLemmas.{IsLeftTo, less_way, up_in_use}
@@ -178,8 +178,8 @@ module _ (d : DocumentState) (playable : IsPlayable d) (made : List Timed) (even
 
       -- it cuts off a far end
       module _ (lost gone old : ℕ) (far : IsFarEnd (snapshot_of then) lost) (cut : IsCutOff (snapshot_of w') lost)
-          (lost_end : (came.1.channel.a.clock ≡ lost) ⊎ (came.1.channel.b.clock ≡ lost)) (goes : GoesBy p gone w')
-          (is : old ≡ event.at + gone) where
+          (lost_end : (came.1.channel.a.clock ≡ lost) ⊎ (came.1.channel.b.clock ≡ lost))
+          (goes : FlightIsGoneFrom n more gone) (is : old ≡ event.at + gone) where
         cut_since : IsCleared p (snapshot_of then) start start 0 old w'
         cut_since =
             clears p start start old then w' after.claim.world lowered_seen lowered_near rest.sound lowered_less
@@ -190,13 +190,18 @@ module _ (d : DocumentState) (playable : IsPlayable d) (made : List Timed) (even
             (cut_joins_none (snapshot_of w') lost cut)
             (λ quiet off.
             subst (λ t. AreDueBy t w') (omega (arith, is, time))
-            (goes_due p gone w' after.claim.world
-            (left_seen p (snapshot_of then) start w' lowered_since quiet off) goes))
+            (elim goes [
+              | inl flight ↦ goes_due p gone w' after.claim.world
+                  (left_seen p (snapshot_of then) start w' lowered_since quiet off)
+                  (goes_to d playable more w' after gone flight)
+              | inr (slower, never, delay) ↦
+                  subst (λ t. AreDueBy (w'.time + t) w') (sym delay) (due_to d playable more w' after slower never)
+            ]))
 
     abbrev lowers_by : CutsCalm n made event → LowersCalm n made event
     lowers_by cuts = record { lowers = cuts.cuts.lowers; calm = cuts.calm; off = cuts.off }
 
-    cut_to : (gone old : ℕ) → CutsCalm n made event → GoesBy p gone w' → old ≡ event.at + gone
+    cut_to : (gone old : ℕ) → CutsCalm n made event → FlightIsGoneFrom n more gone → old ≡ event.at + gone
         → IsClearedTo d made more start start 0 old w'
     cut_to gone old calm goes by =
         let lowers = lowers_by calm in
@@ -284,13 +289,15 @@ module _ (d : DocumentState) (playable : IsPlayable d) (made : List Timed) (even
         (subst (λ t. IsClearedTo d made more start at_silent t old w') (sym zero) so))
 
     -- what is in flight is gone by then
-    gone_by : (gone : ℕ) → IsCalm n made → NothingLapses n.params → FlightIsGone n made gone
+    gone_by : (gone : ℕ) → IsCalm n made → NothingLapses n.params → FlightIsGoneFrom n made gone
         → AreDueBy (event.at + gone) then
-    gone_by gone calm off (inl (used, is)) =
+    gone_by gone calm off (inr (slower, never, is)) =
+        subst (λ t. AreDueBy t then) (omega (arith, is, at_time)) (due_to d playable made then keeps slower never)
+    gone_by gone calm off (inl (inl (used, is))) =
         let delay = ap (λ (u : SyncPaths). u.delay) paths_then in
         subst (λ t. AreDueBy t then) (omega (arith, is, delay, at_time))
         (due_by_delay p then world_then (seen_then calm off) (up_in_use d made then keeps used))
-    gone_by gone calm off (inr is) =
+    gone_by gone calm off (inl (inr is)) =
         subst (λ t. AreDueBy t then) (omega (arith, is, at_time)) (due_by_interval p then world_then)
 
     -- links begin to tell right traces
@@ -321,7 +328,7 @@ module _ (d : DocumentState) (playable : IsPlayable d) (made : List Timed) (even
         → IsClearedTo d made more since silent right old w'
     ends_to since silent right old begun (inl (zero, inl (cuts, same, (gone, flight, is)))) =
         cleared_so start 0 since silent right old begun same zero
-        (cut_to gone old cuts (goes_to d playable more w' after gone flight) is)
+        (cut_to gone old cuts flight is)
     ends_to since silent right old begun (inl (zero, inr (fails, same, (gone, flight, is)))) =
         cleared_so silent 0 since silent right old begun refl zero
         (failed_cleared fails silent (omega (arith, same)) old

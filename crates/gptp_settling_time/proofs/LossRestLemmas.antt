@@ -13,7 +13,7 @@ use Rattle.gptp_scenario.specs.declared.sync_wait.SyncPaths.{SyncPaths}
 use Rattle.gptp_theorem.proofs.EventLemmas.{last_behind}
 use Rattle.gptp_settling_time.specs.HowSoon.{CutsOneEnd, EachEvent, FailsEndFirst, FailsHeardFirst, IsDownToo, LowersOneLink, RestsAfterOneLoss, RestsOnceTold, TurnsOneLink}
 use Rattle.gptp_settling_time.specs.Pasts.{Aging, Cleared, Heard, Past, Turned}
-use Rattle.gptp_settling_time.specs.EventKinds.{FailsNow, FlightIsGone, nearer_echo_span}
+use Rattle.gptp_settling_time.specs.EventKinds.{FailsNow, FlightIsGone, FlightIsGoneFrom, nearer_echo_span}
 use Rattle.gptp_settling_time.specs.Leads.{EventLeads}
 use Rattle.gptp_settling_time.specs.Rests.{turned_echo_span}
 use Rattle.gptp_settling_time.specs.InTurn.{LeadOn}
@@ -100,12 +100,12 @@ module _ (n : NetworkState) (network : IsNetwork n) (off : NothingLapses n.param
           (less_way (sync_paths n made).systems (sync_paths n (made ++ event ∷ [])).systems (sync_paths n made).delay
           (sync_paths n (made ++ event ∷ [])).delay fewer delay)
 
-    cut_led : CutsFarEnd n made event → others ≡ [] → (gone : ℕ) → FlightIsGone n (made ++ now) gone
+    cut_led : CutsFarEnd n made event → others ≡ [] → (gone : ℕ) → FlightIsGoneFrom n (made ++ now) gone
         → rest ≡ max (2 * way_span (sync_paths n (made ++ now))) gone → IsLed n made now past (suc (time + rest))
     cut_led cuts alone gone flight is =
         let one : made ++ now ≡ made ++ event ∷ [] =
         ap (λ es. made ++ es) (same ∙ ap (λ es. event ∷ es) alone) in
-        let x = cut_leads n made event gone (subst (λ es. FlightIsGone n es gone) one flight) past settled_then
+        let x = cut_leads n made event gone (subst (λ es. FlightIsGoneFrom n es gone) one flight) past settled_then
         (record { cuts = cuts; calm = calm_then; off = off }) in
         let l = cuts.lowers in
         let less = way_then (subst (EachEvent (IsDownToo n) (made ++ event ∷ [])) (sym alone) tt) l.delay l.paths in
@@ -159,8 +159,8 @@ module _ (n : NetworkState) (network : IsNetwork n) (off : NothingLapses n.param
         (omega (arith, early, before, less))
 
     fail_led : FailsFarEnd n made event → EachEvent (IsDownToo n) (made ++ event ∷ []) others
-        → (NoneSilent n made (made ++ now) × FlightIsGone n made rest)
-        ⊎ ((gone : ℕ) × FlightIsGone n made gone × (rest ≡ max (silence_span (pace_of n)) gone))
+        → (NoneSilent n made (made ++ now) × FlightIsGoneFrom n made rest)
+        ⊎ ((gone : ℕ) × FlightIsGoneFrom n made gone × (rest ≡ max (silence_span (pace_of n)) gone))
         → IsLed n made now past (suc (time + rest))
     fail_led fails lowers (inl (none, flight)) =
         let x = fail_leads n made event rest flight past settled_then
@@ -390,11 +390,11 @@ module _ (n : NetworkState) (network : IsNetwork n) (off : NothingLapses n.param
 
   lost_led : (es : List Timed) → now ≡ es
       → (CutsOneEnd n made es
-      × ((gone : ℕ) × FlightIsGone n (made ++ now) gone
+      × ((gone : ℕ) × FlightIsGoneFrom n (made ++ now) gone
       × (rest ≡ max (2 * way_span (sync_paths n (made ++ now))) gone)))
       ⊎ ((FailsEndFirst n made es
-      × ((NoneSilent n made (made ++ now) × FlightIsGone n made rest)
-      ⊎ ((gone : ℕ) × FlightIsGone n made gone × (rest ≡ max (silence_span (pace_of n)) gone))))
+      × ((NoneSilent n made (made ++ now) × FlightIsGoneFrom n made rest)
+      ⊎ ((gone : ℕ) × FlightIsGoneFrom n made gone × (rest ≡ max (silence_span (pace_of n)) gone))))
       ⊎ ((LowersOneLink n made es
       × ((gone : ℕ) × FlightIsGone n (made ++ now) gone
       × (rest ≡ max (echo_span (pace_of n) (sync_paths n (made ++ now))) gone)))

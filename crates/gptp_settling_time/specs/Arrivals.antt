@@ -32,6 +32,10 @@ after_set most (Some time) = time + most
 abbrev pub arrived_by : ℕ → List Timed → ℕ
 arrived_by most events = after_set most (last_set events)
 
+-- none of these events has set a link, and no link takes longer than some time
+abbrev pub IsNeverSet : NetworkState → List Timed → Type 0
+IsNeverSet n events = (last_set events ≡ None) × ((most : ℕ) × HasDelaysWithin n events most)
+
 -- What was sent over a link in use before a time has arrived by another, in ns. It has an announce interval later. It
 -- has the greatest delay of a link in use later, where what was in flight as a link was last set has before that time.
 abbrev pub HasArrivedBy : NetworkState → List Timed → ℕ → ℕ → Type 0

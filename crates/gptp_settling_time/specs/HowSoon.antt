@@ -57,7 +57,7 @@ use Rattle.gptp_network.specs.Document.{DocumentState}
 use Rattle.gptp_network.specs.Snapshot.{events_by}
 use Rattle.gptp_settling_time.specs.Arrivals.{HasArrivedBy}
 use Rattle.gptp_settling_time.specs.Gains.{ChangesNothing, EndHasFailed, LeavesCapable, Repeats, TakesNothing}
-use Rattle.gptp_settling_time.specs.EventKinds.{AddsHeard, BettersClock, FlightIsGone, MakesNothing, NoneUsed, TellsNothing, UsedVaryLittle, WidensLink}
+use Rattle.gptp_settling_time.specs.EventKinds.{AddsHeard, BettersClock, FlightIsGone, FlightIsGoneFrom, MakesNothing, NoneUsed, TellsNothing, UsedVaryLittle, WidensLink}
 use Rattle.gptp_settling_time.specs.Leads.{TakesAny}
 use Rattle.gptp_settling_time.specs.Rests.{turned_echo_span}
 use Rattle.gptp_settling_time.specs.Losses.{AgesWithin, CutsFarEnd, FailsFarEnd, FailsHeard, LeavesChoice, LosesAny, LowersLink, LowersUnused, MovesNoneInAll, NoneSilent, TurnsLink, UpIsUsed}
@@ -464,10 +464,11 @@ RestsOnceTold n made now rest =
 abbrev pub RestsAfterOneLoss : NetworkState → List Timed → List Timed → ℕ → Type 0
 RestsAfterOneLoss n made now rest =
     (CutsOneEnd n made now
-    × ((gone : ℕ) × FlightIsGone n (made ++ now) gone × (rest ≡ max (2 * way_span (sync_paths n (made ++ now))) gone)))
+    × ((gone : ℕ) × FlightIsGoneFrom n (made ++ now) gone
+    × (rest ≡ max (2 * way_span (sync_paths n (made ++ now))) gone)))
     ⊎ ((FailsEndFirst n made now
-    × ((NoneSilent n made (made ++ now) × FlightIsGone n made rest)
-    ⊎ ((gone : ℕ) × FlightIsGone n made gone × (rest ≡ max (silence_span (pace_of n)) gone))))
+    × ((NoneSilent n made (made ++ now) × FlightIsGoneFrom n made rest)
+    ⊎ ((gone : ℕ) × FlightIsGoneFrom n made gone × (rest ≡ max (silence_span (pace_of n)) gone))))
     ⊎ ((LowersOneLink n made now
     × ((gone : ℕ) × FlightIsGone n (made ++ now) gone
     × (rest ≡ max (echo_span (pace_of n) (sync_paths n (made ++ now))) gone)))

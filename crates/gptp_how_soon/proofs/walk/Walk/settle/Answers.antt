@@ -9,12 +9,17 @@ use Rattle.gptp_how_soon.proofs.walk.Walk.settle.Goals as goal
 pub returns-clause-is : goal.returns-clause-is
 returns-clause-is c =
     settled_so c.args.network.now c.args.self.now c.args.at c.is_none-first.result c.heard_at_once-followed.result
-    c.is_from_rest-from_rest.result c.is_calm.result c.sets_link.result c.up_is_used.result
+    c.is_from_rest-from_rest.result c.is_calm.result c.sets_link.result c.up_is_used-all_used.result
+    c.none_up_longer-none_longer.result c.comes_soon-soon.result c.comes_soon-soon_before.result
     c.any_silent.result c.in_ok-moves.moves
     c.args.paths
     c.as_slice-told.result.now c.as_slice-standings.result.now c.as_slice-used.result.now c.as_slice-new.result.now
-    c.ready-ready.result c.heard.result c.way_span.result c.arrived_by.result c.row_of.result c.times_by.result
-    c.times_by.ensures.is c.up_is_used.ensures c.any_silent.ensures c.row_of.ensures
+    c.ready-ready.result c.heard.result c.way_span.result c.arrived_by-arrived.result
+    c.arrived_before-arrived_before.result c.row_of.result c.times_by.result
+    c.times_by.ensures.is c.comes_soon-soon.ensures c.comes_soon-soon_before.ensures
+    c.none_up_longer-none_longer.ensures
+    c.arrived_before-arrived_before.ensures
+    c.up_is_used-all_used.ensures c.any_silent.ensures c.row_of.ensures
     (c.in_ok-moves.ensures.is
     ∙ ap (λ asked. if asked then moves_seen c.args.network.now c.args.self.now c.args.at else no_moves)
     c.asks_who_is_moved-asked.ensures)
@@ -24,4 +29,4 @@ returns-clause-is c =
     c.as_slice-told.ensures.value c.as_slice-standings.ensures.value c.as_slice-used.ensures.value
     c.requires.paths
     (turned (is_some c.args.self.now.before) c.is_none-first.result c.is_none-first.ensures)
-    c.arrived_by.ensures.is
+    c.arrived_by-arrived.ensures.is
