@@ -207,8 +207,18 @@ module _ (n : NetworkState) (off : NothingLapses n.params) (events more : List T
     calm = still_calm is.calm;
     off = is.off;
     since = is.since ∙ ap (λ t. suc (t + silence_span (pace_of n))) (sym last);
-    told = subst (λ (x : SyncPaths). gone + 2 * way_span x + pred (pred x.systems) * (largest_interval (pace_of n)
-        + x.delay) + largest_interval (pace_of n) ≤ time) (sym paths) is.told;
+    told = elim is.told [
+      | inl told ↦
+          inl (subst (λ (x : SyncPaths). gone + 2 * way_span x + pred (pred x.systems) * (largest_interval (pace_of n)
+          + x.delay) + largest_interval (pace_of n) ≤ time) (sym paths) told)
+      | inr (cuts, flight, is_gone, stand, arrived) ↦ inr (
+        λ g g' stands stands'. cuts g g' stands (stands_before n events more same g' stands'),
+        flight,
+        still_gone flight is_gone,
+        subst (λ x. gone + 2 * way_span x ≤ time) (sym paths) stand,
+        subst (λ x. gone + way_span x + flight ≤ time) (sym paths) arrived,
+      )
+    ];
     later = subst (λ x. gone + way_span x ≤ start) (sym paths) is.later;
     unlinked = still_dark ago silent time is.unlinked;
     over = still_over start time is.over;

@@ -77,16 +77,17 @@ abbrev pub NoneUpIsSlowerIn : WorldState → Type 0
 NoneUpIsSlowerIn w = (link : ℕ) (channel : Channel) → slice_get w.net.channels link ≡ Some channel → channel.up ≡ true
     → channel.bounds.max ≤ delay_in w
 
--- then all that is in flight is due within the greatest delay, where none was set
-pub due_unset : (w : WorldState) → IsSound w → NoneUpIsSlowerIn w → AreLimitedBy 0 w → AreDueBy (w.time + delay_in w) w
-due_unset w sound slower limited j l f a there member said =
+-- then all that is in flight is due within the greatest delay, once that is gone which was in flight as a link was set
+pub due_limited : (gone old : ℕ) (w : WorldState) → IsSound w → NoneUpIsSlowerIn w → AreLimitedBy gone w → gone ≤ old
+    → w.time + delay_in w ≤ old → AreDueBy old w
+due_limited gone old w sound slower limited arrived later j l f a there member said =
     let at = frame_from w j l f there member in
     let up = frames_on_links w sound at.link at.direction at.channel at.frame at.here at.among in
     let short : at.channel.bounds.max ≤ delay_in w = slower at.link at.channel at.here up in
-    let soon : at.frame.due ≤ max (w.time + at.channel.bounds.max) 0 =
-    in_queue (arrive_limit 0 w.time) w.time at.direction at.channel (limited at.link at.channel at.here) at.frame
+    let soon : at.frame.due ≤ max (w.time + at.channel.bounds.max) gone =
+    in_queue (arrive_limit gone w.time) w.time at.direction at.channel (limited at.link at.channel at.here) at.frame
     at.among in
-    subst (λ (x : AnnounceFrame). x.due ≤ w.time + delay_in w) (sym at.is) (omega (arith, soon, short))
+    subst (λ (x : AnnounceFrame). x.due ≤ old) (sym at.is) (omega (arith, soon, short, arrived, later))
 
 -- it stays so as long as the network stays
 pub use_kept : (w w' : WorldState) → KeepsNetwork w w' → UpIsInUse w → UpIsInUse w'

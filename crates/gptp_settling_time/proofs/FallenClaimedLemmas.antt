@@ -38,6 +38,18 @@ way_fits zero most flight start time short gone late = omega (arith, short, gone
 way_fits (suc zero) most flight start time short gone late = omega (arith, short, gone)
 way_fits (suc (suc reach)) most flight start time short gone late = omega (arith, late)
 
+-- what was in flight at a time is gone by now
+pub goes_gone : (p : SettlingParams) (start flight : ℕ) (w : WorldState) → GoesBy p flight w → start + flight < w.time
+    → IsGoneBy p start (pred w.time) w
+goes_gone p start flight w goes gone = elim goes [
+  | inl (used, delay) ↦ inr (used, before w.time delay gone)
+  | inr interval ↦ inl (before w.time interval gone)
+]
+  where
+    before : (now : ℕ) {span : ℕ} → flight ≡ span → start + flight < now → start + span ≤ pred now
+    before zero is less = absurd (omega (arith, less))
+    before (suc now) is less = omega (arith, is, less)
+
 module _ (p : SettlingParams) (g : Snapshot) (silent start flight : ℕ) (w : WorldState)
     (is : IsFallenAlways p g silent start w) (quiet : HaveQuietLinks p.params w) (off : NothingLapses p.params)
     (late : start + 1 + 2 * (pred (path_bound (snapshot_of w)) * delay_in w) ≤ w.time) (goes : GoesBy p flight w)
@@ -66,14 +78,7 @@ module _ (p : SettlingParams) (g : Snapshot) (silent start flight : ℕ) (w : Wo
       (way_fits (path_bound (snapshot_of w)) (delay_in w) flight start w.time short gone late)
 
   gone_by : IsGoneBy p start (pred w.time) w
-  gone_by = elim goes [
-    | inl (used, delay) ↦ inr (used, before w.time delay gone)
-    | inr interval ↦ inl (before w.time interval gone)
-  ]
-    where
-      before : (now : ℕ) {span : ℕ} → flight ≡ span → start + flight < now → start + span ≤ pred now
-      before zero is less = absurd (omega (arith, less))
-      before (suc now) is less = omega (arith, is, less)
+  gone_by = goes_gone p start flight w goes gone
 
   sound : IsSoundWorld w
   sound =

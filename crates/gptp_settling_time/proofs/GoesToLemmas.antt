@@ -1,5 +1,5 @@
 -- What is in flight in a world of a document is gone as its links say.
-use Rattle.std.proofs.Common.{◌≡◌, ◌*◌, ◌+◌, ◌∙◌, ℕ, List, ap, inl, inr, pred, ◌≤◌, slice_get, subst, sym, true, arith, max}
+use Rattle.std.proofs.Common.{◌≡◌, ◌*◌, ◌+◌, ◌∙◌, ℕ, List, ap, inl, inr, pred, ◌≤◌, sym, arith}
 use Rattle.gptp_scenario.specs.Network.{pace_of}
 use Rattle.gptp_scenario.specs.SyncWait.{sync_paths}
 use Rattle.gptp_scenario.specs.declared.change.Timed.{Timed}
@@ -18,10 +18,9 @@ use Rattle.gptp_lists.proofs.MappedLemmas.{alike}
 use Rattle.gptp_scenario.specs.Change.{link_after}
 use Rattle.gptp_scenario.specs.declared.network.LinkSpec.{LinkSpec}
 use Rattle.gptp_theorem.specs.Reached.{channel_wire}
-use Rattle.gptp_settling_time.specs.Arrivals.{IsNeverSet, after_set}
+use Rattle.gptp_settling_time.specs.Arrivals.{HasArrivedSinceSet, arrived_by}
 use Rattle.gptp_settling_time.specs.Losses.{NoneUpIsSlower}
-use Rattle.gptp_settling_time.proofs.DueLemmas.{AreDueBy, NoneUpIsSlowerIn, due_unset}
-use Rattle.gptp_settling_time.proofs.SinceSetLemmas.{AreLimitedBy}
+use Rattle.gptp_settling_time.proofs.DueLemmas.{AreDueBy, NoneUpIsSlowerIn, due_limited}
 
 module _ (d : DocumentState) (playable : IsPlayable d) (events : List Timed) (w : WorldState)
     (keeps : KeepsTo d events w) where
@@ -48,14 +47,10 @@ module _ (d : DocumentState) (playable : IsPlayable d) (events : List Timed) (w 
       let delay : (sync_paths d.network events).delay ≡ delay_in w = ap (λ (u : SyncPaths). u.delay) paths_to in
       omega (arith, short, longest, delay)
 
-  -- where none was set each frame in flight arrives within the greatest delay of its link
-  pub limited_to : IsNeverSet d.network events → AreLimitedBy 0 w
-  limited_to (never, (most, within)) =
-      subst (λ gone. AreLimitedBy gone w) (ap (after_set most) never) (keeps.limited most within)
-
   -- so what is in flight is gone by then
-  pub due_to : NoneUpIsSlower d.network events → IsNeverSet d.network events
-      → AreDueBy (w.time + (sync_paths d.network events).delay) w
-  due_to slower never =
-      subst (λ t. AreDueBy (w.time + t) w) (sym (ap (λ (u : SyncPaths). u.delay) paths_to))
-      (due_unset w keeps.claim.world.sound (slower_to slower) (limited_to never))
+  pub due_to : (old : ℕ) → NoneUpIsSlower d.network events → HasArrivedSinceSet d.network events old
+      → w.time + (sync_paths d.network events).delay ≤ old → AreDueBy old w
+  due_to old slower (most, (within, arrived)) later =
+      let delay : (sync_paths d.network events).delay ≡ delay_in w = ap (λ (u : SyncPaths). u.delay) paths_to in
+      due_limited (arrived_by most events) old w keeps.claim.world.sound (slower_to slower) (keeps.limited most within)
+      arrived (omega (arith, later, delay))

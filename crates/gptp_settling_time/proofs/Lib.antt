@@ -218,6 +218,8 @@ pub mod OffForGoodLemmas
 pub mod SplitLemmas
 pub mod SplitAlwaysLemmas
 pub mod SplitDownLemmas
+pub mod SplitTracesLemmas
+pub mod SplitSoundLemmas
 pub mod TopsDeepLemmas
 pub mod TopsRestLemmas
 pub mod SplitLinksLemmas

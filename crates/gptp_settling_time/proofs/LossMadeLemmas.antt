@@ -57,7 +57,7 @@ use Rattle.gptp_settling_time.proofs.WorldMovesLemmas.{cut_off_so, far_end_so, n
 use Rattle.gptp_bmca_machine.specs.SoundLaws.{AllAreNear}
 use Rattle.gptp_invariants.specs.ChoiceView.{says_announce, view}
 use Rattle.gptp_settling_time.specs.Losses.{AgesWithin, FailsFarEnd, IsCutOff, IsFarEnd, LowersLink}
-use Rattle.gptp_settling_time.proofs.BecomesSoundLemmas.{GoesBy, goes_due, nearer_echo}
+use Rattle.gptp_settling_time.proofs.BecomesSoundLemmas.{goes_due, nearer_echo}
 use Rattle.gptp_settling_time.proofs.ClearedLemmas.{IsCleared}
 use Rattle.gptp_settling_time.proofs.ClearedToLemmas.{IsClearedTo}
 use Rattle.gptp_settling_time.proofs.ClearsLemmas.{all_but_cut, clears, cut_joins_none, ready_asked, rights, was_best}
@@ -179,7 +179,7 @@ module _ (d : DocumentState) (playable : IsPlayable d) (made : List Timed) (even
       -- it cuts off a far end
       module _ (lost gone old : ℕ) (far : IsFarEnd (snapshot_of then) lost) (cut : IsCutOff (snapshot_of w') lost)
           (lost_end : (came.1.channel.a.clock ≡ lost) ⊎ (came.1.channel.b.clock ≡ lost))
-          (goes : FlightIsGoneFrom n more gone) (is : old ≡ event.at + gone) where
+          (goes : FlightIsGoneFrom n more event.at gone) (is : old ≡ event.at + gone) where
         cut_since : IsCleared p (snapshot_of then) start start 0 old w'
         cut_since =
             clears p start start old then w' after.claim.world lowered_seen lowered_near rest.sound lowered_less
@@ -188,20 +188,19 @@ module _ (d : DocumentState) (playable : IsPlayable d) (made : List Timed) (even
             (ends p start x.clock x.port then draws done w' keeps.claim.pace world_then after.claim.world
             keeps.claim.measured after.claim.measured came was_up) lowered_seen lowered_near lost lost_end)
             (cut_joins_none (snapshot_of w') lost cut)
-            (λ quiet off.
-            subst (λ t. AreDueBy t w') (omega (arith, is, time))
-            (elim goes [
-              | inl flight ↦ goes_due p gone w' after.claim.world
+            (λ quiet off. elim goes [
+              | inl flight ↦ subst (λ t. AreDueBy t w') (omega (arith, is, time))
+                  (goes_due p gone w' after.claim.world
                   (left_seen p (snapshot_of then) start w' lowered_since quiet off)
-                  (goes_to d playable more w' after gone flight)
-              | inr (slower, never, delay) ↦
-                  subst (λ t. AreDueBy (w'.time + t) w') (sym delay) (due_to d playable more w' after slower never)
-            ]))
+                  (goes_to d playable more w' after gone flight))
+              | inr (slower, arrived, delay) ↦ subst (λ t. AreDueBy t w') (sym is)
+                  (due_to d playable more w' after (event.at + gone) slower arrived (omega (arith, delay, time)))
+            ])
 
     abbrev lowers_by : CutsCalm n made event → LowersCalm n made event
     lowers_by cuts = record { lowers = cuts.cuts.lowers; calm = cuts.calm; off = cuts.off }
 
-    cut_to : (gone old : ℕ) → CutsCalm n made event → FlightIsGoneFrom n more gone → old ≡ event.at + gone
+    cut_to : (gone old : ℕ) → CutsCalm n made event → FlightIsGoneFrom n more event.at gone → old ≡ event.at + gone
         → IsClearedTo d made more start start 0 old w'
     cut_to gone old calm goes by =
         let lowers = lowers_by calm in
@@ -289,10 +288,10 @@ module _ (d : DocumentState) (playable : IsPlayable d) (made : List Timed) (even
         (subst (λ t. IsClearedTo d made more start at_silent t old w') (sym zero) so))
 
     -- what is in flight is gone by then
-    gone_by : (gone : ℕ) → IsCalm n made → NothingLapses n.params → FlightIsGoneFrom n made gone
+    gone_by : (gone : ℕ) → IsCalm n made → NothingLapses n.params → FlightIsGoneFrom n made event.at gone
         → AreDueBy (event.at + gone) then
-    gone_by gone calm off (inr (slower, never, is)) =
-        subst (λ t. AreDueBy t then) (omega (arith, is, at_time)) (due_to d playable made then keeps slower never)
+    gone_by gone calm off (inr (slower, arrived, is)) =
+        due_to d playable made then keeps (event.at + gone) slower arrived (omega (arith, is, at_time))
     gone_by gone calm off (inl (inl (used, is))) =
         let delay = ap (λ (u : SyncPaths). u.delay) paths_then in
         subst (λ t. AreDueBy t then) (omega (arith, is, delay, at_time))

@@ -100,12 +100,19 @@ module _ (n : NetworkState) (network : IsNetwork n) (off : NothingLapses n.param
           (less_way (sync_paths n made).systems (sync_paths n (made ++ event ∷ [])).systems (sync_paths n made).delay
           (sync_paths n (made ++ event ∷ [])).delay fewer delay)
 
-    cut_led : CutsFarEnd n made event → others ≡ [] → (gone : ℕ) → FlightIsGoneFrom n (made ++ now) gone
+    -- the event comes at the time of the last
+    last_now : last_change (made ++ now) ≡ event.at
+    last_now =
+        ap (λ es. last_change (made ++ es)) same ∙ last_at made event others time (here, others_now) ∙ sym here
+
+    cut_led : CutsFarEnd n made event → others ≡ [] → (gone : ℕ)
+        → FlightIsGoneFrom n (made ++ now) (last_change (made ++ now)) gone
         → rest ≡ max (2 * way_span (sync_paths n (made ++ now))) gone → IsLed n made now past (suc (time + rest))
     cut_led cuts alone gone flight is =
         let one : made ++ now ≡ made ++ event ∷ [] =
         ap (λ es. made ++ es) (same ∙ ap (λ es. event ∷ es) alone) in
-        let x = cut_leads n made event gone (subst (λ es. FlightIsGoneFrom n es gone) one flight) past settled_then
+        let x = cut_leads n made event gone (subst (λ es. FlightIsGoneFrom n es event.at gone) one
+        (subst (λ t. FlightIsGoneFrom n (made ++ now) t gone) last_now flight)) past settled_then
         (record { cuts = cuts; calm = calm_then; off = off }) in
         let l = cuts.lowers in
         let less = way_then (subst (EachEvent (IsDownToo n) (made ++ event ∷ [])) (sym alone) tt) l.delay l.paths in
@@ -159,11 +166,13 @@ module _ (n : NetworkState) (network : IsNetwork n) (off : NothingLapses n.param
         (omega (arith, early, before, less))
 
     fail_led : FailsFarEnd n made event → EachEvent (IsDownToo n) (made ++ event ∷ []) others
-        → (NoneSilent n made (made ++ now) × FlightIsGoneFrom n made rest)
-        ⊎ ((gone : ℕ) × FlightIsGoneFrom n made gone × (rest ≡ max (silence_span (pace_of n)) gone))
+        → (NoneSilent n made (made ++ now) × FlightIsGoneFrom n made (last_change (made ++ now)) rest)
+        ⊎ ((gone : ℕ) × FlightIsGoneFrom n made (last_change (made ++ now)) gone
+        × (rest ≡ max (silence_span (pace_of n)) gone))
         → IsLed n made now past (suc (time + rest))
     fail_led fails lowers (inl (none, flight)) =
-        let x = fail_leads n made event rest flight past settled_then
+        let x = fail_leads n made event rest (subst (λ t. FlightIsGoneFrom n made t rest) last_now flight) past
+        settled_then
         (record { fails = fails; calm = calm_then; off = off }) in
         let less = way_then lowers fails.delay fails.paths in
         let before = here in
@@ -174,7 +183,8 @@ module _ (n : NetworkState) (network : IsNetwork n) (off : NothingLapses n.param
         (omega (arith, before)) (inr none)
         (omega (arith, early, before, less))
     fail_led fails lowers (inr (gone, flight, is)) =
-        let x = fail_leads n made event gone flight past settled_then
+        let x = fail_leads n made event gone (subst (λ t. FlightIsGoneFrom n made t gone) last_now flight) past
+        settled_then
         (record { fails = fails; calm = calm_then; off = off }) in
         let less = way_then lowers fails.delay fails.paths in
         let before = here in
@@ -390,11 +400,12 @@ module _ (n : NetworkState) (network : IsNetwork n) (off : NothingLapses n.param
 
   lost_led : (es : List Timed) → now ≡ es
       → (CutsOneEnd n made es
-      × ((gone : ℕ) × FlightIsGoneFrom n (made ++ now) gone
+      × ((gone : ℕ) × FlightIsGoneFrom n (made ++ now) (last_change (made ++ now)) gone
       × (rest ≡ max (2 * way_span (sync_paths n (made ++ now))) gone)))
       ⊎ ((FailsEndFirst n made es
-      × ((NoneSilent n made (made ++ now) × FlightIsGoneFrom n made rest)
-      ⊎ ((gone : ℕ) × FlightIsGoneFrom n made gone × (rest ≡ max (silence_span (pace_of n)) gone))))
+      × ((NoneSilent n made (made ++ now) × FlightIsGoneFrom n made (last_change (made ++ now)) rest)
+      ⊎ ((gone : ℕ) × FlightIsGoneFrom n made (last_change (made ++ now)) gone
+      × (rest ≡ max (silence_span (pace_of n)) gone))))
       ⊎ ((LowersOneLink n made es
       × ((gone : ℕ) × FlightIsGone n (made ++ now) gone
       × (rest ≡ max (echo_span (pace_of n) (sync_paths n (made ++ now))) gone)))

@@ -211,6 +211,7 @@ module _ (d : DocumentState) (playable : IsPlayable d) (made : List Timed) (even
   split_repeated ago gone silent so = record {
     keeps = after;
     before = so.before;
+    stood = so.stood;
     failed = so.failed;
     since = subst (IsSplitAnew p so.before (GoesOver n so.before ago more so.failed gone silent) so.failed gone silent)
         (sym same)
@@ -219,9 +220,9 @@ module _ (d : DocumentState) (playable : IsPlayable d) (made : List Timed) (even
         (λ quiet.
         by_map says_announce (snapshot_of then) (stay_of p) (GoesOver n so.before ago made so.failed gone silent)
         (GoesOver n so.before ago more so.failed gone silent) (view then)
-        (λ port until unlinked (over, soon).
-        (over_same n so.before ago made more alike so.failed port until over, soon)) (so.since.split.by quiet))
-        (over_gone n so.before ago more so.failed gone silent));
+        (λ port until unlinked (over, linked, soon).
+        (over_same n so.before ago made more alike so.failed port until over, linked, soon)) (so.since.split.by quiet))
+        (λ port until is. is.1) (over_gone n so.before ago more so.failed gone silent));
     were = subst (WereSilent n ago) (sym same) so.were;
     unanswered = so.unanswered;
   }

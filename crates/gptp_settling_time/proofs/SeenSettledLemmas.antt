@@ -1,6 +1,6 @@
 -- A world whose systems are seen to have settled has settled; and its choice stands where they are seen to follow the
 -- best.
-use Rattle.std.proofs.Common.{◌≡◌, ◌≤◌, ℕ, zero, suc, true, Some, slice_get, subst, tt, arith}
+use Rattle.std.proofs.Common.{◌≡◌, ◌≤◌, ℕ, zero, suc, true, Some, slice_get, subst, arith}
 use Rattle.std.specs.Bool.{⊤}
 use Rattle.gptp_lists.proofs.PlaceLemmas.{member_there}
 use Rattle.gptp_graph.specs.Distance.{IsNear}

@@ -131,13 +131,16 @@ taken_later n events past seen time later less (inr (start, same, rests)) = inr 
           over = omega (arith, over, less);
         }
     by (Split ago gone silent) is =
-        let told = is.told in
         let over = is.over in
         record {
           calm = is.calm;
           off = is.off;
           since = is.since;
-          told = omega (arith, told, less);
+          told = elim is.told [
+            | inl told ↦ inl (omega (arith, told, less))
+            | inr (cuts, flight, is_gone, stand, arrived) ↦
+                inr (cuts, flight, is_gone, omega (arith, stand, less), omega (arith, arrived, less))
+          ];
           later = is.later;
           unlinked = elim is.unlinked [ inl past ↦ inl (omega (arith, past, less)) | inr none ↦ inr none ];
           over = omega (arith, over, less);

@@ -111,6 +111,17 @@ module _ (n : NetworkState) (made : List Timed) (event : Timed) (number : ℕ)
             (alike_distance before (snapshot_of w) back end.clock far end_far);
       }
 
+  -- the port at which something ages so was at the link
+  pub over_linked : (time : ℕ) (port : PortIdentity) (until : ℕ) → AgesOver n (snapshot_of w) made more time port until
+      → IsLinked (snapshot_of w) port
+  over_linked time port until (place, v, failed, there, silent, (end, is_end, port_is), far, over) =
+      let (channel, here, same) = alike channel_wire (link_after made) w.net.channels n.links stands.links place v there
+      in
+      subst (IsLinked (snapshot_of w)) (sym port_is)
+      (end_linked w place channel here
+      (used_so n made w stands sound channel (subst (IsUsed n.systems made) (sym same) silent.0)) end
+      (subst (IsEnd end) (link_stays v ∙ sym same) is_end))
+
   -- what a port tells is held no longer than it may be
   module _ (Stays : PortIdentity → ℕ → Type 0)
       (short : (port : PortId) (span held : ℕ) → Stays (port_identity_number port) span

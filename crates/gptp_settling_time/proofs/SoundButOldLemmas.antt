@@ -35,16 +35,17 @@ use Rattle.gptp_settling_time.proofs.UnlinkedLemmas.{IsFarther, far_holds_none}
 
 -- ---- what a live system says
 
--- what is said by who may say it, and holds what is sound, is sound
-pub says_sound : (g : Snapshot) (s : Station) (n : ℕ) (a : Announce) → IsWellFormed g → MaySay g s → StationIsSound g s
+-- what is said by who may say it, and follows what is sound, is sound
+pub says_followed : (g : Snapshot) (s : Station) (n : ℕ) (a : Announce) → IsWellFormed g → MaySay g s
+    → ((port : FollowsPort s) → CameSound g s.clock (suc port.place) port.r)
     → IsOwn s n a → IsSoundSent g (port_of s.clock n) a
-says_sound g s n a well is sound own = record {
+says_followed g s n a well is followed own = record {
   sender = here;
   source = own.source;
   sound = elim is.follows [
     | inl itself ↦ inr (whole_own g (station_system s) a is.known (own.root ∙ itself.root)
         (own.steps ∙ itself.steps) (own.path ∙ itself.trace))
-    | inr port ↦ on port (sound port.place port.r port.holds)
+    | inr port ↦ on port (followed port)
   ];
 }
   where
@@ -62,6 +63,11 @@ says_sound g s n a well is sound own = record {
           | inr whole ↦ inr (whole_on g s.clock came.from.clock p.r.said a whole here joined
               (is.no_loop p.place p.r p.holds) (own.root ∙ p.root) (own.steps ∙ p.steps) (own.path ∙ p.trace))
         ]
+
+-- so is what is said by who holds what is sound
+pub says_sound : (g : Snapshot) (s : Station) (n : ℕ) (a : Announce) → IsWellFormed g → MaySay g s → StationIsSound g s
+    → IsOwn s n a → IsSoundSent g (port_of s.clock n) a
+says_sound g s n a well is sound = says_followed g s n a well is (λ port. sound port.place port.r port.holds)
 
 -- ---- what is claimed
 

@@ -1,6 +1,7 @@
 -- A world since a system failed that others hear, and so moved trees. What they hold of it goes until a time, and then
 -- each tree has left its old choice within a way. They settle once each distance has had its time.
-use Rattle.std.proofs.Common.{◌≡◌, ◌⊎◌, ◌<◌, ◌≤◌, ℕ, suc, List, Some, slice_get, refl, sym, ap, subst, ◌∙◌, inl, inr, arith}
+use Rattle.std.proofs.Common.{◌≡◌, ◌⊎◌, ◌<◌, ◌≤◌, ◌+◌, ℕ, zero, suc, pred, List, Some, slice_get, refl, sym, ap, subst, ◌∙◌, inl, inr, arith}
+use native.Mathlib.Decide.{dec_lt}
 use Rattle.gptp_lists.specs.Members.{In}
 use Rattle.gptp_graph.specs.Snapshot.{IsLinked, Joins, PortIdentity, Snapshot, clocks, port_of}
 use Rattle.gptp_graph.proofs.DistanceLemmas.{IsDistance-clock, IsDistance-unique}
@@ -34,22 +35,33 @@ use Rattle.gptp_invariants.proofs.ChoiceSeenActLemmas.{acts_seen}
 use Rattle.gptp_invariants.proofs.ChoiceSettlesAsMachineLemmas.{kept_back}
 use Rattle.gptp_invariants.proofs.WorldNewsCourseLemmas.{later_keeps}
 use Rattle.gptp_invariants.proofs.WorldOutlineLemmas.{acts_time}
+use Rattle.gptp_settling_time.specs.TreeLosses.{CutsAllBeyond}
 use Rattle.gptp_settling_time.proofs.AgesByLemmas.{UnlinkedAgeBy, by_all, by_kept}
 use Rattle.gptp_settling_time.proofs.AgesByWorldLemmas.{WorldAgesBy}
 use Rattle.gptp_settling_time.proofs.AgingLemmas.{HeardNearer, HearersHoldNothing, aged_gone}
 use Rattle.gptp_settling_time.proofs.AgingClaimedLemmas.{aging_after, aging_facts, aging_network, named_in, off_none, same_aging, stay_of}
 use Rattle.gptp_settling_time.proofs.AlwaysClaimedLemmas.{IsStanding}
+use Rattle.gptp_settling_time.proofs.BecomesSoundLemmas.{same_time}
+use Rattle.gptp_settling_time.proofs.DueLemmas.{AreDueBy, due_by_interval, in_use_joins, use_kept}
 use Rattle.gptp_settling_time.proofs.EmptiedLemmas.{older_after}
+use Rattle.gptp_settling_time.proofs.FallAlwaysLemmas.{IsGoneBy, fallen_by}
 use Rattle.gptp_settling_time.proofs.FitsLemmas.{UnlinkedHoldNothing}
 use Rattle.gptp_settling_time.proofs.LeftClaimedLemmas.{HaveAskedBy, HaveAskedLong, asked_acts, asked_later, standing_acts, standing_later}
 use Rattle.gptp_settling_time.proofs.NearEndLemmas.{near_ends_hold_none, near_ends_stay}
 use Rattle.gptp_settling_time.proofs.LinkBetweenLemmas.{IsLinkBetween, SameSenders, between_kept, lane_between, senders_kept}
 use Rattle.gptp_settling_time.proofs.OffForGoodLemmas.{AreOffForGood, GoOnOff, good_acts, good_later, stays_disabled}
-use Rattle.gptp_settling_time.proofs.SplitLemmas.{IsSplit, SplitSettles, SplitState, SplitStaysOff, SplitsBack, split_settles_on, splits_on}
+use Rattle.gptp_settling_time.proofs.SplitLemmas.{IsCut, IsSplit, IsTurned, IsTwice, SplitSettles, SplitState, SplitStaysOff, SplitsBack, split_settles_on, splits_on}
+use Rattle.gptp_settling_time.proofs.SplitSoundLemmas.{AllSayStill, HeldWereLinked, all_tell, still_kept}
+use Rattle.gptp_settling_time.proofs.ToldAnewLemmas.{FlightsAreSound, flights_kept}
 
 -- a request is answered before the next one, so that an interval between them is some time
 pub some_pdelay : (p : SettlingParams) → KeepPace p → 0 < interval_of p.params.pdelay
 some_pdelay p pace = let answered = pace.params.answered in omega (arith, answered)
+
+-- what is later than some time is 1 ns later than another
+pub one_before : (gone failed : ℕ) → failed < gone → suc (pred gone) ≡ gone
+one_before zero failed less = absurd (omega (arith, less))
+one_before (suc now) failed less = refl
 
 -- trees may be taken to fall back from this time on: then what was held is gone, or no time has passed yet
 abbrev pub MayStart : ℕ → ℕ → ℕ → WorldState → Type 0
@@ -64,8 +76,14 @@ GoesUntil before By gone = (port : PortIdentity) (until : ℕ) → HeardNearer b
 abbrev pub split_network : SettlingParams → ℕ → WorldState → Network
 split_network p silent w = record (aging_network p silent w) { gone = 0 }
 
+-- each tree has left its old choice by then
+abbrev pub left_by : (p : SettlingParams) (g : Snapshot) → IsSplit p g → ℕ → ℕ
+left_by p g s gone = fallen_by s.n (pred gone)
+
 -- What is claimed of a world since such a failure: what is received at ports without a link that heard a nearer system
--- goes until a time, since it ages by then, or those ports aren't capable from then on.
+-- goes until a time, since it ages by then, or those ports aren't capable from then on. Where all beyond the failed
+-- system is cut off, what unmoved systems say stays sound. So is what is in flight once each tree has left its old
+-- choice and what was told before is gone, if nothing has changed since.
 pub record IsSplitAlways (p : SettlingParams) (g : Snapshot) (By : PortIdentity → ℕ → Type 0) (failed gone silent : ℕ)
     (w : WorldState) : Type 0 where
   pub standing : IsStanding p silent w
@@ -73,14 +91,21 @@ pub record IsSplitAlways (p : SettlingParams) (g : Snapshot) (By : PortIdentity 
   pub good : AreOffForGood w
   pub split : IsSplit p g
   pub at : split.since ≡ failed
+  pub some : failed < gone
   pub same : split_network p silent w ≡ split.n
   pub by : WorldAgesBy p By w
+  pub linked : (port : PortIdentity) (until : ℕ) → By port until → IsLinked g port
   pub is_gone : GoesUntil g By gone ⊎ (silent ≤ gone)
   pub begun : split.since ≤ w.time
   pub late : delay_in w ≤ w.time
   pub links : (a b : PortIdentity) → Joins g a b → IsLinkBetween w a b
   pub seen : HaveQuietLinks p.params w → NothingLapses p.params → (start : ℕ) → MayStart gone split.since start w
       → SplitsBack p g split start (view w) × SplitSettles p g split start (view w)
+  pub says : CutsAllBeyond g split.n.graph → HaveQuietLinks p.params w → NothingLapses p.params
+      → AllSayStill says_announce g split.n (view w)
+  pub flights : CutsAllBeyond g split.n.graph → w.last_change ≡ failed → (old : ℕ)
+      → IsGoneBy p (left_by p g split gone) old w → HaveQuietLinks p.params w → NothingLapses p.params
+      → left_by p g split gone < w.time → FlightsAreSound says_announce split.n.graph old (view w)
 
 -- ---- what is known of the world's machine
 
@@ -118,6 +143,15 @@ module _ (p : SettlingParams) (silent : ℕ) (w : WorldState) (standing : IsStan
       graph : snapshot_of w ≡ s.n.graph
       graph = ap (λ (z : Network). z.graph) same
 
+-- what is held at ports without a link came over one of before, where what ages there does
+linked_by : (p : SettlingParams) (g : Snapshot) (By : PortIdentity → ℕ → Type 0) (w : WorldState) → WorldAgesBy p By w
+    → ((port : PortIdentity) (until : ℕ) → By port until → IsLinked g port) → (n : Network)
+    → snapshot_of w ≡ n.graph → HaveQuietLinks p.params w → HeldWereLinked g n (view w)
+linked_by p g By w by linked n graph quiet i s place r at live none holds =
+    let (until, is_by, over) = (by quiet).held i s place r at live holds
+    (λ link. none (subst (λ h. IsLinked h (port_of s.clock (suc place))) graph link)) in
+    linked (port_of s.clock (suc place)) until is_by
+
 -- so it is of a world of which that is claimed
 module _ (p : SettlingParams) (g : Snapshot) (By : PortIdentity → ℕ → Type 0) (failed gone silent : ℕ) (w : WorldState)
     (is : IsSplitAlways p g By failed gone silent w) (quiet : HaveQuietLinks p.params w) (start : ℕ)
@@ -126,6 +160,13 @@ module _ (p : SettlingParams) (g : Snapshot) (By : PortIdentity → ℕ → Type
   none_now =
       none_held p silent w is.standing is.asked quiet g is.split is.same start splits
       (hearers_none p silent w is.standing is.asked quiet g By gone is.by is.is_gone now)
+
+-- what is held at ports without a link came over one of before
+pub linked_now : (p : SettlingParams) (g : Snapshot) (By : PortIdentity → ℕ → Type 0) (failed gone silent : ℕ)
+    (w : WorldState) (is : IsSplitAlways p g By failed gone silent w) → HaveQuietLinks p.params w
+    → HeldWereLinked g is.split.n (view w)
+linked_now p g By failed gone silent w is quiet = linked_by p g By w is.by is.linked is.split.n
+    (ap (λ (z : Network). z.graph) is.same) quiet
 
 -- ---- what comes of it
 
@@ -144,6 +185,9 @@ module _ (p : SettlingParams) (g : Snapshot) (By : PortIdentity → ℕ → Type
   graph' : snapshot_of w' ≡ n.graph
   graph' = ap (λ (z : Network). z.graph) same'
 
+  linked' : HaveQuietLinks p.params w' → HeldWereLinked g n (view w')
+  linked' = linked_by p g By w' by' is.linked n graph'
+
   pub may_before : (start : ℕ) → MayStart gone s.since start w' → MayStart gone s.since start w
   may_before start may = elim may [
     | inl soon ↦ inl soon
@@ -152,20 +196,29 @@ module _ (p : SettlingParams) (g : Snapshot) (By : PortIdentity → ℕ → Type
 
   pub split_then : (HaveQuietLinks p.params w' → NothingLapses p.params → (start : ℕ) → MayStart gone s.since start w'
       → SplitsBack p g s start (view w') × SplitSettles p g s start (view w'))
+      → (CutsAllBeyond g n.graph → HaveQuietLinks p.params w' → NothingLapses p.params
+      → AllSayStill says_announce g n (view w'))
+      → (CutsAllBeyond g n.graph → w'.last_change ≡ failed → (old : ℕ) → IsGoneBy p (left_by p g s gone) old w'
+      → HaveQuietLinks p.params w' → NothingLapses p.params → left_by p g s gone < w'.time
+      → FlightsAreSound says_announce n.graph old (view w'))
       → IsSplitAlways p g By failed gone silent w'
-  split_then seen = record {
+  split_then seen says flights = record {
     standing = standing';
     asked = asked';
     good = λ at stands. (goes at stands).0;
     split = s;
     at = is.at;
+    some = is.some;
     same = same';
     by = by';
+    linked = is.linked;
     is_gone = is.is_gone;
     begun = let begun = is.begun in omega (arith, begun, on);
     late = late';
     links = links';
     seen = seen;
+    says = says;
+    flights = flights;
   }
 
   -- a step leads to it from the machine of the world before, whose lanes may be emptied
@@ -249,6 +302,19 @@ module _ (p : SettlingParams) (g : Snapshot) (By : PortIdentity → ℕ → Type
     pub seen_then : SplitsBack p g s start (view w') × SplitSettles p g s start (view w')
     seen_then = (back', split_settles_on p g s start x (view w') was.0 kept' state' stays_off none' step was.1)
 
+    module _ (cuts : CutsAllBeyond g n.graph) where
+      pub says_then : AllSayStill says_announce g n x → AllSayStill says_announce g n (view w')
+      says_then =
+          still_kept says_announce g n s.lost s.best (IsCut p g s start) (IsTurned p g s start) (IsTwice p g s start)
+          s.moves start s.near cuts (λ t is. is) x (view w') was.0.back back'.back (linked' quiet') step
+
+      pub flights_then : AllSayStill says_announce g n (view w') → fallen_by n start < w'.time → (old : ℕ)
+          → FlightsAreSound says_announce n.graph old x → FlightsAreSound says_announce n.graph old (view w')
+      flights_then says' late old =
+          flights_kept says_announce n.graph old x (view w')
+          (all_tell says_announce g n s.lost s.best (IsCut p g s start) (IsTurned p g s start) (IsTwice p g s start)
+          s.moves start s.near cuts (λ t is. is) (view w') back'.back (linked' quiet') says' late) step
+
 -- ---- every step keeps it
 
 module _ (p : SettlingParams) (g : Snapshot) (By : PortIdentity → ℕ → Type 0) (failed gone silent : ℕ)
@@ -290,10 +356,74 @@ module _ (p : SettlingParams) (g : Snapshot) (By : PortIdentity → ℕ → Type
       seen_then p g By failed gone silent w w' is standing' asked' goes (senders_kept w w' keeps) same_then links_then
       by_then late_then on quiet quiet' off start may (view w).lanes (is.seen quiet off start before) step
 
+  abbrev made : IsSplit p g
+  made = is.split
+
+  now : gone ≤ suc (pred gone)
+  now = let one = one_before gone failed is.some in omega (arith, one)
+
+  says' : CutsAllBeyond g made.n.graph → HaveQuietLinks p.params w' → NothingLapses p.params
+      → AllSayStill says_announce g made.n (view w')
+  says' cuts quiet' off =
+      let quiet = quiet_before quiet' in
+      says_then p g By failed gone silent w w' is standing' asked' goes (senders_kept w w' keeps) same_then links_then
+      by_then late_then on quiet quiet' off (pred gone) (inl now) (view w).lanes
+      (is.seen quiet off (pred gone) (inl now)) step cuts (is.says cuts quiet off)
+
+  -- what is in flight before that is due by then
+  due_before : (old : ℕ) → IsGoneBy p (left_by p g made gone) old w → HaveQuietLinks p.params w → NothingLapses p.params
+      → w.time ≤ left_by p g made gone → AreDueBy old w
+  due_before old (inl interval) quiet off early j l f a at among said =
+      let due = due_by_interval p w is.standing.world j l f a at among said in omega (arith, interval, early, due)
+  due_before old (inr (used, delay)) quiet off early j l f a at among said = elim (kept.calm.facts.fresh j l f at among
+      (subst (λ (z : Network). Joins z.graph l.from l.to) is.same
+      (in_use_joins w is.standing.world.sound used j l f at among))) [
+        | inl due ↦
+            let most = ap (λ (z : Network). z.most) is.same in omega (arith, delay, early, due, most)
+        | inr old_one ↦
+            let left = kept.calm.left j l f at among in
+            let begun = kept.begun in
+            absurd (omega (arith, old_one, left, begun))
+      ]
+    where
+      kept : IsAfterLoss made.n (view w)
+      kept = (is.seen quiet off (pred gone) (inl now)).0.back.after.kept
+
+  flights' : CutsAllBeyond g made.n.graph → w'.last_change ≡ failed → (old : ℕ) → IsGoneBy p (left_by p g made gone) old w'
+      → HaveQuietLinks p.params w' → NothingLapses p.params → left_by p g made gone < w'.time
+      → FlightsAreSound says_announce made.n.graph old (view w')
+  flights' cuts since old is_old quiet' off late' = elim (dec_lt (left_by p g made gone) w.time) [
+    | yes late ↦
+        flights_then p g By failed gone silent w w' is standing' asked' goes (senders_kept w w' keeps) same_then
+        links_then by_then late_then on quiet quiet' off (pred gone) (inl now) (view w).lanes
+        (is.seen quiet off (pred gone) (inl now)) step cuts (says' cuts quiet' off) late' old
+        (is.flights cuts (sym keeps.change ∙ since) old (old_before is_old) quiet off late)
+    | no not ↦ by (omega (arith, not)) step
+  ]
+    where
+      quiet : HaveQuietLinks p.params w
+      quiet = quiet_before quiet'
+
+      old_before : IsGoneBy p (left_by p g made gone) old w' → IsGoneBy p (left_by p g made gone) old w
+      old_before (inl interval) = inl interval
+      old_before (inr (used, delay)) =
+          inr (
+            use_kept w' w (kept_back w w' keeps) used,
+            subst (λ most. left_by p g made gone + most ≤ old) (delay_kept w w' keeps) delay,
+          )
+
+      by : w.time ≤ left_by p g made gone → MachineSteps says_announce (view w) (view w')
+          → FlightsAreSound says_announce made.n.graph old (view w')
+      by early (inl wait) = λ j l f a at among said.
+          inr (due_before old (old_before is_old) quiet off early j l f a
+          (subst (λ (y : MachineState). slice_get y.lanes j ≡ Some l) wait.is at) among said)
+      by early (inr act) =
+          let time = same_time says_announce (view w) (view w') act in absurd (omega (arith, early, late', time))
+
   split_step : IsSplitAlways p g By failed gone silent w'
   split_step =
       split_then p g By failed gone silent w w' is standing' asked' goes (senders_kept w w' keeps) same_then links_then
-      by_then late_then on seen'
+      by_then late_then on seen' says' flights'
 
 pub split_later : (p : SettlingParams) (g : Snapshot) (By : PortIdentity → ℕ → Type 0) (failed gone silent time : ℕ)
     (w : WorldState) → w.time ≤ time → NothingBefore time w.net.pending → IsSplitAlways p g By failed gone silent w

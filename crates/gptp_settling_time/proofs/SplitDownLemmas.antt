@@ -1,6 +1,6 @@
 -- Where a failure has moved trees a link goes down that is up, and of which an end has failed: they fall back as they
 -- did.
-use Rattle.std.proofs.Common.{◌≡◌, ◌≤◌, ℕ, suc, true, false, List, Some, slice_get, refl, sym, ap, subst, ◌∙◌, inl, inr, arith}
+use Rattle.std.proofs.Common.{◌≡◌, ◌≤◌, ◌<◌, ℕ, suc, pred, true, false, List, Some, slice_get, refl, sym, ap, subst, ◌∙◌, inl, inr, arith}
 use Rattle.std.proofs.lemmas.Option.{same_Some}
 use Rattle.gptp_lists.specs.Members.{In}
 use Rattle.gptp_lists.proofs.PlaceLemmas.{get-set_other, get-set_same, same_place}
@@ -29,21 +29,24 @@ use Rattle.gptp_invariants.specs.DelayMeasured.{LinkIsMeasured}
 use Rattle.gptp_invariants.specs.WorldStanding.{channel_is_used, live_stations, snapshot_of}
 use Rattle.gptp_invariants.proofs.ChoiceCalmKeptLemmas.{KeepsNetwork}
 use Rattle.gptp_invariants.proofs.ChoiceSeenLaneLemmas.{IsLaneAt, lane_from, lane_there}
+use Rattle.gptp_settling_time.specs.TreeLosses.{CutsAllBeyond}
 use Rattle.gptp_settling_time.proofs.AgesByLemmas.{UnlinkedAgeBy, by_kept, by_reduced}
 use Rattle.gptp_settling_time.proofs.AgesByWorldLemmas.{WorldAgesBy}
 use Rattle.gptp_settling_time.proofs.AgingClaimedLemmas.{aging_facts, aging_network, named_in, same_aging, stay_of}
 use Rattle.gptp_settling_time.proofs.AgingStillLemmas.{IsEmptied, emptied_reduced}
 use Rattle.gptp_settling_time.proofs.AlwaysClaimedLemmas.{IsStanding}
 use Rattle.gptp_settling_time.proofs.EmptiedLemmas.{AreEmptied, IsAlike, emptied_after, lanes_emptied, older_facts}
-use Rattle.gptp_settling_time.proofs.FallAlwaysLemmas.{fallen_by, settles_by}
+use Rattle.gptp_settling_time.proofs.FallAlwaysLemmas.{IsGoneBy, fallen_by, settles_by}
 use Rattle.gptp_settling_time.proofs.LeftClaimedLemmas.{HaveAskedLong}
 use Rattle.gptp_settling_time.proofs.LinkBetweenLemmas.{IsLinkBetween, SameSenders, between_down, between_kept, senders_kept}
 use Rattle.gptp_settling_time.proofs.LinkUpLemmas.{lane_set}
 use Rattle.gptp_settling_time.proofs.NamesItselfLemmas.{AllNameAlone, alone_kept}
 use Rattle.gptp_settling_time.proofs.OffForGoodLemmas.{GoOnOff, all_down}
-use Rattle.gptp_settling_time.proofs.SplitAlwaysLemmas.{IsSplitAlways, MayStart, may_before, seen_then, split_after, split_network, split_then}
-use Rattle.gptp_settling_time.proofs.SplitLemmas.{IsCut, IsSplit, IsTurned, SplitSettles, SplitState, SplitsBack, cut_times, turned_times}
+use Rattle.gptp_settling_time.proofs.SplitAlwaysLemmas.{IsSplitAlways, MayStart, left_by, may_before, one_before, says_then, seen_then, split_after, split_network, split_then}
+use Rattle.gptp_settling_time.proofs.SplitLemmas.{IsCut, IsSplit, IsTurned, IsTwice, SplitSettles, SplitState, SplitsBack, cut_times, tops_times, turned_times}
 use Rattle.gptp_settling_time.proofs.SplitRestLemmas.{SplitNamesAlone}
+use Rattle.gptp_settling_time.proofs.SplitSoundLemmas.{AllSayStill}
+use Rattle.gptp_settling_time.proofs.ToldAnewLemmas.{FlightsAreSound}
 use Rattle.gptp_settling_time.proofs.UnusedDownLemmas.{asked', delay_taken, either, emptied, keeps, late_then, snapshot_taken, standing', tells, time}
 
 module _ (p : SettlingParams) (g : Snapshot) (By : PortIdentity → ℕ → Type 0) (failed gone silent owner port : ℕ)
@@ -296,11 +299,47 @@ module _ (p : SettlingParams) (g : Snapshot) (By : PortIdentity → ℕ → Type
         (λ step. seen_then p g By failed gone silent w w' split standing_then asked_then goes sends same' links' by'
         late' on quiet quiet' off start may (view taken).lanes (seen_taken start may) step)
 
+    one : suc (pred gone) ≡ gone
+    one = one_before gone failed split.some
+
+    soon : gone ≤ suc (pred gone)
+    soon = let same = one in omega (arith, same)
+
+    -- what unmoved systems say stays sound
+    says' : CutsAllBeyond g n.graph → HaveQuietLinks p.params w' → NothingLapses p.params
+        → AllSayStill says_announce g n (view w')
+    says' cuts quiet' lapses =
+        either p silent owner port w draws done w' is' measured' acts split.standing split.asked up dead
+        (λ v. AllSayStill says_announce g n (view v)) says_taken
+        (λ step. says_then p g By failed gone silent w w' split standing_then asked_then goes sends same' links' by'
+        late' on quiet quiet' off (pred gone) (inl soon) (view taken).lanes (seen_taken (pred gone) (inl soon)) step
+        cuts says_taken)
+      where
+        says_taken : AllSayStill says_announce g n (view taken)
+        says_taken = record {
+          lanes = λ j l f a at among said known. elim (is_emptied.lanes j l at) [
+            | inl stood ↦ (split.says cuts quiet off).lanes j l f a stood among said known
+            | inr (none, down) ↦ absurd (subst (In f) none among)
+          ];
+          stations = λ i s at live. (split.says cuts quiet off).stations i s (is_emptied.stations i s at live) live;
+        }
+
+    -- something has changed, or it is too early
+    flights' : CutsAllBeyond g n.graph → w'.last_change ≡ failed → (old : ℕ) → IsGoneBy p (left_by p g s gone) old w'
+        → HaveQuietLinks p.params w' → NothingLapses p.params → left_by p g s gone < w'.time
+        → FlightsAreSound says_announce n.graph old (view w')
+    flights' cuts since old is_old quiet' lapses late =
+        let change = keeps'.change in
+        let same = now in
+        let before = one in
+        let some = split.some in
+        absurd (omega (arith, since, change, same, before, some, late))
+
     -- so it is claimed of the world since
     pub down_splits : IsSplitAlways p g By failed gone silent w'
     down_splits =
         split_then p g By failed gone silent w w' split standing_then asked_then goes sends same' links' by' late' on
-        seen'
+        seen' says' flights'
 
   -- what has no steps still names its sender alone
   pub alone_down : SplitNamesAlone p silent w → SplitNamesAlone p silent w'

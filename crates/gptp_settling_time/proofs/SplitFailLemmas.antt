@@ -2,7 +2,7 @@
 use Rattle.std.proofs.Common.{◌≡◌, ◌⊎◌, ◌<◌, ◌≤◌, ◌+◌, ◌*◌, ℕ, suc, pred, true, List, Some, slice_get, refl, sym, ap, subst, ◌∙◌, inl, inr, arith}
 use Rattle.gptp_lists.specs.Members.{In}
 use Rattle.gptp_graph.specs.PathBound.{path_bound}
-use Rattle.gptp_graph.specs.Snapshot.{Adjacent, IsWellFormed, Joins, PortIdentity, Snapshot, System, clocks, port_of}
+use Rattle.gptp_graph.specs.Snapshot.{Adjacent, IsLinked, IsWellFormed, Joins, PortIdentity, Snapshot, System, clocks, port_of}
 use Rattle.gptp_graph.proofs.DistanceLemmas.{IsDistance-clock, IsDistance-unique}
 use Rattle.gptp_graph.proofs.ExistenceLemmas.{best_exists}
 use Rattle.gptp_graph.proofs.LinkLemmas.{Adjacent-clock, Joins-clock}
@@ -18,7 +18,7 @@ use Rattle.gptp_model.specs.Acts.{Acts}
 use Rattle.gptp_model.specs.World.{WorldState}
 use Rattle.gptp_model.specs.declared.done.Done.{Done}
 use Rattle.gptp_bmca_machine.specs.Calm.{Calm}
-use Rattle.gptp_bmca_machine.specs.Clean.{Whole}
+use Rattle.gptp_bmca_machine.specs.Clean.{IsWorse, Whole}
 use Rattle.gptp_bmca_machine.specs.CutTree.{CutsOff, LosesSystem, Tree}
 use Rattle.gptp_bmca_machine.specs.Facts.{station_system}
 use Rattle.gptp_bmca_machine.specs.FailureTrees.{FailureMoves, Turning}
@@ -59,7 +59,7 @@ use Rattle.gptp_invariants.proofs.WorldLogLemmas.{linked_log}
 use Rattle.gptp_invariants.proofs.WorldStandsLemmas.{stands_well}
 use Rattle.gptp_invariants.proofs.WorldWayLemmas.{way_of}
 use Rattle.gptp_settling_time.specs.Losses.{IsUnmoved}
-use Rattle.gptp_settling_time.specs.TreeLosses.{IsTreeCutOff, IsTreeTurned, IsUnmovedOrInTree, IsTreeCutTwice}
+use Rattle.gptp_settling_time.specs.TreeLosses.{CutsAllBeyond, IsTreeCutOff, IsTreeCutTwice, IsTreeTurned, IsUnmovedOrInTree}
 use Rattle.gptp_settling_time.proofs.AgesByWorldLemmas.{WorldAgesBy}
 use Rattle.gptp_settling_time.proofs.AgingClaimedLemmas.{named_in, stay_of}
 use Rattle.gptp_settling_time.proofs.AlwaysClaimedLemmas.{IsStanding, start_calm, start_net, start_network}
@@ -73,10 +73,12 @@ use Rattle.gptp_settling_time.proofs.LinkBetweenLemmas.{IsLinkBetween, between_a
 use Rattle.gptp_settling_time.proofs.NamesItselfLemmas.{whole_alone}
 use Rattle.gptp_settling_time.proofs.OffForGoodLemmas.{good_fails}
 use Rattle.gptp_settling_time.proofs.SettledSeenLemmas.{IsSettledSeen, always_seen, sound_fits}
-use Rattle.gptp_settling_time.proofs.SplitAlwaysLemmas.{GoesUntil, IsSplitAlways, MayStart, split_after, split_network}
+use Rattle.gptp_settling_time.proofs.SplitAlwaysLemmas.{GoesUntil, IsSplitAlways, MayStart, one_before, split_after, split_network}
 use Rattle.gptp_settling_time.proofs.TopsDeepLemmas.{tops_deep}
 use Rattle.gptp_settling_time.proofs.SplitLemmas.{IsSplit, SplitSettles, SplitState, SplitsBack, turned_times, tops_times}
 use Rattle.gptp_settling_time.proofs.SplitRestLemmas.{IsSplitAnew, SplitNamesAlone, split_anew_begins}
+use Rattle.gptp_settling_time.proofs.SplitSoundLemmas.{AllSayStill}
+use Rattle.gptp_settling_time.proofs.SplitTracesLemmas.{still_sound}
 
 module _ (p : SettlingParams) (number : ℕ) (w : WorldState) (draws : List Draw) (done : Done) (w' : WorldState)
     (is : IsWorld p w) (is' : IsWorld p w') (acts : Acts (Changing (Fail number)) w draws done w')
@@ -229,6 +231,21 @@ module _ (p : SettlingParams) (number : ℕ) (w : WorldState) (draws : List Draw
           whole_alone g came.from r.said came.source came.whole;
     }
 
+    -- where all beyond it is cut off, what unmoved systems say is sound
+    says_still : CutsAllBeyond g g' → AllSayStill says_announce g n' (view w')
+    says_still cuts = record {
+      lanes = λ j l f a at among said known stays.
+          let is_sound = sound.lanes j l (lane_still j l at) f a among said in
+          still_sound g n' well' left' number loses cuts a.source.clock a stays
+          (subst (λ (q : PortIdentity). IsWorse g q.clock a ⊎ Whole g q.clock a) (sym is_sound.source) is_sound.sound);
+      stations = λ i s at live place r holds stays.
+          let came = sound.stations i s (alone.stood_seen p number w draws done w' is is' acts lives i s at live) live
+          place r holds in
+          still_sound g n' well' left' number loses cuts r.said.source.clock r.said stays
+          (subst (λ (q : PortIdentity). IsWorse g q.clock r.said ⊎ Whole g q.clock r.said) (sym came.source)
+          came.sound);
+    }
+
     -- what it told is held for longer than an interval and a delay
     stays_long : (a b : PortIdentity) → Joins g a b → n'.interval_of a + n0.most < stay_of p (n'.log_of a)
     stays_long a b joins =
@@ -377,6 +394,7 @@ module _ (p : SettlingParams) (number : ℕ) (w : WorldState) (draws : List Draw
 
       module _ (By : PortIdentity → ℕ → Type 0) (gone : ℕ) (measured' : LinkIsMeasured w')
           (long : w.time + silence_span p < silent) (by : WorldAgesBy p By w')
+          (linked : (port : PortIdentity) (until : ℕ) → By port until → IsLinked g port)
           (is_gone : GoesUntil g By gone ⊎ (silent ≤ gone)) (later : w.time < gone) (late' : delay_in w' ≤ w'.time)
         where
           standing' : IsStanding p silent w'
@@ -492,8 +510,10 @@ module _ (p : SettlingParams) (number : ℕ) (w : WorldState) (draws : List Draw
             good = good_fails p number w draws done w' is is' acts lives next past ready quiet silent_before;
             split = split;
             at = refl;
+            some = later;
             same = refl;
             by = by;
+            linked = linked;
             is_gone = is_gone;
             begun = let time = time_now in omega (arith, time);
             late = late';
@@ -501,8 +521,13 @@ module _ (p : SettlingParams) (number : ℕ) (w : WorldState) (draws : List Draw
             seen = λ quiet' off start may.
                 let now = started start may in
                 (back' quiet' off start now, settles' quiet' off start now);
+            says = λ cuts quiet' off. says_still cuts;
+            flights = λ cuts since old is_old quiet' off late.
+                let time = time_now in
+                let one = one_before gone w.time later in
+                absurd (omega (arith, time, one, later, late));
           }
 
           -- and traces are told anew later
           pub anew_begins : w'.last_change ≡ w'.time → IsSplitAnew p g By w.time gone silent w'
-          anew_begins = split_anew_begins p g By w.time gone silent w' split_begins later names_alone
+          anew_begins = split_anew_begins p g By w.time gone silent w' split_begins names_alone

@@ -1,6 +1,6 @@
 -- After a system has failed and so moved trees a network comes to rest, once right traces are told since the trees
 -- settled.
-use Rattle.std.proofs.Common.{List, [], arith, inl, inr, max, min, refl, subst, suc, sym, ℕ, ◌++◌, ◌+◌, ◌<◌, ◌∙◌, ◌∷◌, ◌≡◌, ◌≤◌, ◌⊎◌}
+use Rattle.std.proofs.Common.{List, [], arith, inl, inr, max, min, refl, subst, suc, sym, ℕ, ◌*◌, ◌++◌, ◌+◌, ◌<◌, ◌∙◌, ◌∷◌, ◌≡◌, ◌≤◌, ◌⊎◌}
 use Rattle.std.specs.List.{AllByRecursion}
 use Rattle.std.proofs.Math.Nat.{le-max_left, le-max_right}
 use Rattle.gptp_setup.specs.SettlingParams.{largest_interval}
@@ -14,6 +14,7 @@ use Rattle.gptp_settling_time.specs.HowSoon.{BoundsAging, FailsTreesFirst, Rests
 use Rattle.gptp_settling_time.specs.Pasts.{Heard, Past, Split}
 use Rattle.gptp_settling_time.specs.EventKinds.{nearer_echo_span}
 use Rattle.gptp_settling_time.specs.Losses.{AgesWithin, NoneSilent}
+use Rattle.gptp_settling_time.specs.Rests.{IsToldApart}
 use Rattle.gptp_settling_time.proofs.BesideIdleLemmas.{LeadsTo}
 use Rattle.gptp_settling_time.proofs.SettledPastLemmas.{HasRested, HasSettled}
 use Rattle.gptp_settling_time.proofs.LossLeadLemmas.{splits_lead}
@@ -51,22 +52,38 @@ module _ (n : NetworkState) (network : IsNetwork n) (off : NothingLapses n.param
       hop : ℕ
       hop = largest_interval (pace_of n) + (sync_paths n (made ++ event ∷ now)).delay
 
-      -- so roles stand by then
-      stands : roles ≤ rest
-      stands =
-          let most = le-max_left roles
-          (choice + max (echo_span (pace_of n) (sync_paths n (made ++ event ∷ now))) (largest_interval (pace_of n))) in
-          omega (arith, most, enough)
+      echo : ℕ
+      echo = max (echo_span (pace_of n) (sync_paths n (made ++ event ∷ now))) (largest_interval (pace_of n))
 
-      -- and right traces are told, and what was in flight is gone
-      told : choice + (nearer_echo_span n (made ++ event ∷ now) + largest_interval (pace_of n)) ≤ rest
-      told =
-          let most = le-max_right roles
-          (choice + max (echo_span (pace_of n) (sync_paths n (made ++ event ∷ now))) (largest_interval (pace_of n))) in
-          let nearer : nearer_echo_span n (made ++ event ∷ now) + largest_interval (pace_of n)
-          ≤ max (echo_span (pace_of n) (sync_paths n (made ++ event ∷ now))) (largest_interval (pace_of n)) =
-          nearer_within (sync_paths n (made ++ event ∷ now)).systems hop (largest_interval (pace_of n)) (omega arith) in
-          omega (arith, most, nearer, enough)
+      -- so the choice and roles stand by then
+      choice_stands : choice ≤ rest
+      choice_stands = elim enough [
+        | inl over ↦ let most = le-max_right roles (choice + echo) in omega (arith, most, over)
+        | inr (cuts, flight, is_gone, over) ↦
+            let most = le-max_right roles (choice + flight) in omega (arith, most, over)
+      ]
+
+      stands : roles ≤ rest
+      stands = elim enough [
+        | inl over ↦ let most = le-max_left roles (choice + echo) in omega (arith, most, over)
+        | inr (cuts, flight, is_gone, over) ↦
+            let most = le-max_left roles (choice + flight) in omega (arith, most, over)
+      ]
+
+      -- and what is held and in flight is right
+      told : (gone : ℕ) → gone + 2 * way ≤ suc (time + choice)
+          → IsToldApart n made (made ++ event ∷ now) gone (suc (time + rest))
+      told gone soon = elim enough [
+        | inl over ↦
+            let most = le-max_right roles (choice + echo) in
+            let nearer : nearer_echo_span n (made ++ event ∷ now) + largest_interval (pace_of n) ≤ echo =
+            nearer_within (sync_paths n (made ++ event ∷ now)).systems hop (largest_interval (pace_of n)) (omega arith)
+            in
+            inl (omega (arith, most, nearer, over, soon))
+        | inr (cuts, flight, is_gone, over) ↦
+            let most = le-max_right roles (choice + flight) in
+            inr (cuts, flight, is_gone, omega (arith, most, over, soon), omega (arith, most, over, soon))
+      ]
 
       rested : (span : ℕ) → AgesWithin n made (made ++ event ∷ now) event.at span → min span silence ≤ held
           → (silence ≤ quiet) ⊎ NoneSilent n made (made ++ event ∷ now) → IsRestedTo made (event ∷ now) past
@@ -76,8 +93,9 @@ module _ (n : NetworkState) (network : IsNetwork n) (off : NothingLapses n.param
           let start : ℕ = gone + way in
           let asked = le-max_right choice quiet in
           let all_stand = stands in
-          let over : start + way ≤ suc (time + rest) =
-          let anew = told in omega (arith, here, is_choice, less, anew) in
+          let by_then = choice_stands in
+          let soon : gone + 2 * way ≤ suc (time + choice) = omega (arith, here, is_choice, less) in
+          let over : start + way ≤ suc (time + rest) = omega (arith, soon, by_then) in
           record {
             last = Split made gone silent;
             lead = splits_lead n network off made event now past stood arrived span calm has later arrives
@@ -91,7 +109,7 @@ module _ (n : NetworkState) (network : IsNetwork n) (off : NothingLapses n.param
                   calm = calm_now;
                   off = off;
                   since = omega (arith, here, last);
-                  told = let anew = told in omega (arith, here, is_choice, less, anew);
+                  told = told gone soon;
                   later = omega arith;
                   unlinked = elim dark [
                     | inl soon_dark ↦ inl (omega (arith, here, soon_dark, is_roles, asked, all_stand))

@@ -5,7 +5,7 @@ use native.Mathlib.Decide.{dec_le}
 use Rattle.gptp_lists.specs.Members.{In}
 use Rattle.gptp_graph.specs.Best.{IsBest}
 use Rattle.gptp_graph.specs.PathBound.{path_bound}
-use Rattle.gptp_graph.specs.Snapshot.{PortIdentity, Snapshot, System, clocks, port_of}
+use Rattle.gptp_graph.specs.Snapshot.{IsLinked, PortIdentity, Snapshot, System, clocks, port_of}
 use Rattle.gptp_links.specs.Fate.{Draw}
 use Rattle.gptp_setup.specs.SettlingParams.{SettlingParams, largest_interval}
 use Rattle.gptp_scenario.specs.Network.{NetworkState, pace_of}
@@ -21,7 +21,6 @@ use Rattle.gptp_model.specs.World.{WorldState, port_id}
 use Rattle.gptp_model.specs.declared.done.Done.{Done}
 use Rattle.gptp_network.specs.Document.{DocumentState}
 use Rattle.gptp_network.proofs.ExistenceLemmas.{stands_after}
-use Rattle.gptp_bmca_machine.specs.CutTree.{Tree}
 use Rattle.gptp_bmca_machine.specs.FailureTrees.{Turning}
 use Rattle.gptp_bmca_machine.specs.TwoTops.{First, Second, TopsTree}
 use Rattle.gptp_invariants.specs.ChoiceCalm.{HaveQuietLinks, delay_in, sync_paths_of}
@@ -29,6 +28,7 @@ use Rattle.gptp_invariants.specs.ChoiceSettlesAsMachine.{IsWorld}
 use Rattle.gptp_invariants.specs.ChoiceView.{says_announce, view}
 use Rattle.gptp_invariants.specs.WorldStanding.{snapshot_of}
 use Rattle.gptp_invariants.proofs.WorldGreatestDelayLemmas.{delay_short}
+use Rattle.gptp_invariants.proofs.WorldStandsLemmas.{stands_well}
 use Rattle.gptp_theorem.specs.AlikeLaws.{AreAlike}
 use Rattle.gptp_theorem.specs.PlayedLaws.{IsPlayable}
 use Rattle.gptp_theorem.proofs.AlikeLemmas.{best as alike_best, clock_among, distance as alike_distance, turned}
@@ -38,7 +38,7 @@ use Rattle.gptp_settling_time.specs.Arrivals.{HasArrivedBy}
 use Rattle.gptp_settling_time.specs.EventKinds.{LowersUnusedCalm}
 use Rattle.gptp_settling_time.specs.Leads.{IsGoneBy, SplitsNow}
 use Rattle.gptp_settling_time.specs.Losses.{LowersUnused}
-use Rattle.gptp_settling_time.specs.TreeLosses.{FailsTrees, IsTreeCutOff, IsTreeTurned, IsUnmovedOrInTree, IsTreeCutTwice}
+use Rattle.gptp_settling_time.specs.TreeLosses.{FailsTrees, IsTreeTurned, IsUnmovedOrInTree, IsTreeCutTwice}
 use Rattle.gptp_settling_time.proofs.AgesByLemmas.{by_map}
 use Rattle.gptp_settling_time.proofs.AgesByWorldLemmas.{WorldAgesBy}
 use Rattle.gptp_settling_time.proofs.AgingClaimedLemmas.{stay_of}
@@ -51,7 +51,7 @@ use Rattle.gptp_settling_time.proofs.LossMadeLemmas.{HasRestedSo}
 use Rattle.gptp_settling_time.proofs.NamedLemmas.{IsNamedFrom}
 use Rattle.gptp_settling_time.proofs.SettledSeenLemmas.{IsSettledSeen}
 use Rattle.gptp_settling_time.proofs.SilentDownLemmas.{over_down}
-use Rattle.gptp_settling_time.proofs.SilentLinksLemmas.{AgesOver, over_within}
+use Rattle.gptp_settling_time.proofs.SilentLinksLemmas.{AgesOver, over_linked, over_within}
 use Rattle.gptp_settling_time.proofs.SplitAlwaysLemmas.{IsSplitAlways}
 use Rattle.gptp_settling_time.proofs.SplitDownLemmas.{alone_down, down_splits}
 use Rattle.gptp_settling_time.proofs.SplitFailLemmas.{anew_begins}
@@ -59,35 +59,11 @@ use Rattle.gptp_settling_time.proofs.SplitRestLemmas.{SplitNamesAlone, split_ane
 use Rattle.gptp_settling_time.proofs.SplitToLemmas.{GoesOver, IsSplitTo, over_gone, split_by}
 use Rattle.gptp_settling_time.proofs.UpPortsLemmas.{IsUpAt, by_up}
 use Rattle.gptp_settling_time.proofs.WereSilentLemmas.{WereSilent, were_down, were_failed}
-use Rattle.gptp_settling_time.proofs.WorldMovesLemmas.{adjacent_alike, alike_so, joins_alike, near_so, unmoved_alike}
+use Rattle.gptp_settling_time.proofs.WorldMovesLemmas.{adjacent_alike, alike_so, cut_off_alike, joins_alike, near_so, unmoved_alike}
 use Rattle.gptp_settling_time.proofs.OnwardLemmas.{IsOnwardFrom}
 use Rattle.gptp_bmca_machine.proofs.TwoTopsBeginLemmas.{FlightLeads}
 
--- a tree is so cut off between two snapshots where it is between others of the same systems and links
-cut_off_alike : (g h g' h' : Snapshot) → AreAlike g h → AreAlike g' h' → (best : System) (t : Tree)
-    → IsTreeCutOff h h' best t → IsTreeCutOff g g' best t
-cut_off_alike g h g' h' before now best t cut = record {
-  in_top = alike_best h' g' (turned g' h' now) t.top t.next cut.in_top;
-  worse = cut.worse;
-  was_best = λ v in_v. alike_best h g back v best (cut.was_best v (to_h v in_v));
-  was = λ v in_v. alike_distance h g back v (t.base + t.depth v) (cut.was v (to_h v in_v));
-  first = cut.first;
-  lost = λ v u in_v joined. elim (cut.lost v u (to_h v in_v) (adjacent_alike g h before v u joined)) [
-    | inl left ↦ inl (adjacent_alike h' g' (turned g' h' now) v u left)
-    | inr is_top ↦ inr is_top
-  ];
-  steps = λ v u in_v joined. cut.steps v u (to_h v in_v) (adjacent_alike g' h' now v u joined);
-  single = λ v p q a b one two.
-      cut.single v p q a b (joins_alike g' h' now (port_of v p) a one) (joins_alike g' h' now (port_of v q) b two);
-}
-  where
-    back : AreAlike h g
-    back = turned g h before
-
-    to_h : (v : ℕ) → IsBest g' v t.next → IsBest h' v t.next
-    to_h v is = alike_best g' h' now v t.next is
-
--- so is one with two tops
+-- a tree with two tops is so cut off between two snapshots where it is between others of the same systems and links
 twice_alike : (g h g' h' : Snapshot) → AreAlike g h → AreAlike g' h' → (best : System) (t : TopsTree)
     → IsTreeCutTwice h h' best t → IsTreeCutTwice g g' best t
 twice_alike g h g' h' before now best t cut = record {
@@ -166,10 +142,11 @@ in_tree_alike g h g' h' before now best v (inr (inr (inr (t, cut, in_v)))) =
 -- what is gone by then has aged, or ports without a link aren't capable from then on
 goes_over : (n : NetworkState) (before : Snapshot) (ago events : List Timed) (failed gone silent : ℕ)
     → IsGoneBy n ago events failed gone → silent ≡ suc (failed + silence_span (pace_of n)) → (port : PortIdentity)
-    (until : ℕ) → AgesOver n before ago events failed port until
+    (until : ℕ) → AgesOver n before ago events failed port until → IsLinked before port
     → GoesOver n before ago events failed gone silent port until
-goes_over n before ago events failed gone silent (span, within, is) unanswered port until over = (
+goes_over n before ago events failed gone silent (span, within, is) unanswered port until over linked = (
   over,
+  linked,
   (λ heard. elim (dec_le span (silence_span (pace_of n))) [
     | yes short ↦
         let less = over_within n before ago events failed span within port until heard over in
@@ -302,6 +279,7 @@ module _ (d : DocumentState) (playable : IsPlayable d) (made : List Timed) (even
         record {
           keeps = after;
           before = before;
+          stood = λ g stands. alike_so d playable made then keeps g stands;
           failed = then.time;
           since = anew_begins p x.clock then draws done w' world_then after.claim.world came lived seen_then rest.sound
               start keeps.claim.pace keeps.claim.measured past rest.ready quiet rest.silent
@@ -312,7 +290,10 @@ module _ (d : DocumentState) (playable : IsPlayable d) (made : List Timed) (even
               (λ links. by_map says_announce (snapshot_of w') (stay_of p) (AgesOver n before made more then.time)
               (GoesOver n before made more then.time gone silent) (view w')
               (λ port until unlinked over_it.
-              goes_over n before made more then.time gone silent is_gone silent_is port until over_it) (by links))
+              goes_over n before made more then.time gone silent is_gone silent_is port until over_it
+              (over_linked n made event x.clock x.act then w' playable.network keeps.stands world_then.sound
+              (stands_well then world_then.sound world_then.between world_then.encodable) after.stands
+              after.claim.world.sound then.time port until over_it)) (by links)) (λ port until is. is.1)
               (over_gone n before made more then.time gone silent) some late_then last;
           were = were_failed n made x.clock then draws done w' world_then after.claim.world came lived keeps.stands
               quiet start past rest.silent;
@@ -367,6 +348,7 @@ module _ (d : DocumentState) (playable : IsPlayable d) (made : List Timed) (even
           over_down n ago made event y w' after.stands after.claim.world.sound after.claim.world.encodable so.before
               so.failed port until is_over.0 is_up,
           is_over.1,
+          is_over.2,
         ))
         (by_up p w' after.claim.world (Over made gone) down.by links)
 
@@ -374,10 +356,12 @@ module _ (d : DocumentState) (playable : IsPlayable d) (made : List Timed) (even
     split_on = record {
       keeps = after;
       before = so.before;
+      stood = so.stood;
       failed = so.failed;
       since = split_anew_begins p so.before (Over more gone) so.failed gone silent w'
           (split_by p so.before (Over made gone) so.failed gone silent w' down (Over more gone) gone over_more
-          (over_gone n so.before ago more so.failed gone silent) (inl (omega arith))) so.since.some names_down last;
+          (λ port until is. is.1) (over_gone n so.before ago more so.failed gone silent) (inl (omega arith))) names_down
+          last;
       were = more_were;
       unanswered = so.unanswered;
     }
@@ -394,6 +378,7 @@ module _ (d : DocumentState) (playable : IsPlayable d) (made : List Timed) (even
       record {
         keeps = after;
         before = so.before;
+        stood = so.stood;
         failed = so.failed;
         since = split_anew_begins p so.before (GoesOver n so.before ago more so.failed sooner silent) so.failed sooner
             silent w'
@@ -403,9 +388,9 @@ module _ (d : DocumentState) (playable : IsPlayable d) (made : List Timed) (even
             (GoesOver n so.before ago more so.failed gone silent)
             (GoesOver n so.before ago more so.failed sooner silent) (view w')
             (λ port until unlinked is_over.
-            goes_over n so.before ago more so.failed sooner silent gone_then unanswered port until is_over.0)
-            (so.since.split.by links))
-            (over_gone n so.before ago more so.failed sooner silent) (inr (some, omega (arith, time, failed)))) some
+            goes_over n so.before ago more so.failed sooner silent gone_then unanswered port until is_over.0 is_over.1)
+            (so.since.split.by links)) (λ port until is. is.1)
+            (over_gone n so.before ago more so.failed sooner silent) (inr (some, omega (arith, time, failed))))
             so.since.alone last;
         were = so.were;
         unanswered = so.unanswered;

@@ -1,7 +1,7 @@
 -- A world since a failure that moved trees: once it has settled, two ways after what was held is gone, traces are
 -- told anew. So claims are made of it as of one since news.
-use Rattle.std.proofs.Common.{◌≡◌, ◌<◌, ◌≤◌, ◌+◌, ◌*◌, ℕ, suc, pred, zero, List, refl, sym, ap, subst, ◌∙◌, inl, inr, arith}
-use Rattle.gptp_graph.specs.Snapshot.{PortIdentity, Snapshot}
+use Rattle.std.proofs.Common.{◌≡◌, ◌<◌, ◌≤◌, ◌+◌, ◌*◌, ℕ, suc, pred, true, List, Some, slice_get, refl, sym, ap, subst, ◌∙◌, inl, inr, arith}
+use Rattle.gptp_graph.specs.Snapshot.{Joins, PortIdentity, Snapshot, port_of}
 use Rattle.gptp_graph.proofs.ExistenceLemmas.{distance_exists}
 use Rattle.gptp_graph.proofs.PathBoundLemmas.{IsDistance-within}
 use Rattle.gptp_links.specs.Fate.{Draw}
@@ -15,32 +15,36 @@ use Rattle.gptp_model.specs.declared.done.Done.{Done}
 use Rattle.gptp_bmca_machine.specs.Acts.{MachineSteps}
 use Rattle.gptp_bmca_machine.specs.Calm.{Calm}
 use Rattle.gptp_bmca_machine.specs.Network.{Network}
+use Rattle.gptp_bmca_machine.specs.SoundEverywhere.{IsSoundEverywhere}
 use Rattle.gptp_bmca_machine.specs.SoundLaws.{AllAreNear}
+use Rattle.gptp_bmca_machine.specs.Station.{HoldsAt, Reception, Station as SeenStation}
 use Rattle.gptp_invariants.specs.ChoiceCalm.{HaveQuietLinks}
 use Rattle.gptp_invariants.specs.ChoiceSeenLaws.{IsNoChange}
 use Rattle.gptp_invariants.specs.ChoiceView.{says_announce, view}
 use Rattle.gptp_invariants.specs.WorldEncodableLaws.{SetsAnOctet}
 use Rattle.gptp_invariants.specs.WorldNews.{AreSilentBy}
+use Rattle.gptp_invariants.specs.WorldSound.{IsSoundWorld}
 use Rattle.gptp_invariants.specs.WorldStanding.{snapshot_of}
 use Rattle.gptp_invariants.proofs.ChoiceCalmKeptLemmas.{KeepsNetwork, acts_keep, links_quiet}
 use Rattle.gptp_invariants.proofs.ChoiceSeenActLemmas.{acts_seen}
 use Rattle.gptp_invariants.proofs.ChoiceSettlesAsMachineLemmas.{kept_back}
 use Rattle.gptp_invariants.proofs.WorldNewsCourseLemmas.{later_keeps}
+use Rattle.gptp_settling_time.specs.TreeLosses.{CutsAllBeyond}
 use Rattle.gptp_settling_time.proofs.AgingClaimedLemmas.{same_aging}
 use Rattle.gptp_settling_time.proofs.AlwaysClaimedLemmas.{IsClaimedAlways}
+use Rattle.gptp_settling_time.proofs.AtRestLemmas.{TellsSettled, held_settled}
+use Rattle.gptp_settling_time.proofs.BecomesSoundLemmas.{GoesBy}
+use Rattle.gptp_settling_time.proofs.FallAlwaysLemmas.{IsGoneBy, fallen_by}
+use Rattle.gptp_settling_time.proofs.FallenClaimedLemmas.{goes_gone}
 use Rattle.gptp_settling_time.proofs.LeftClaimedLemmas.{left_net, left_network}
 use Rattle.gptp_settling_time.proofs.NamesItselfLemmas.{AllNameAlone, alone_kept}
 use Rattle.gptp_settling_time.proofs.RightBeginLemmas.{alone_right}
-use Rattle.gptp_settling_time.proofs.SplitAlwaysLemmas.{IsSplitAlways, split_acts, split_after, split_later, split_network}
-use Rattle.gptp_settling_time.proofs.SplitLemmas.{IsSplit}
+use Rattle.gptp_settling_time.proofs.SplitAlwaysLemmas.{IsSplitAlways, left_by, linked_now, one_before, split_acts, split_after, split_later, split_network}
+use Rattle.gptp_settling_time.proofs.SplitLemmas.{IsCut, IsSplit, IsTurned, IsTwice, SplitsBack}
 use Rattle.gptp_settling_time.proofs.SplitSettlesLemmas.{split_state}
+use Rattle.gptp_settling_time.proofs.SplitSoundLemmas.{all_hold}
 use Rattle.gptp_settling_time.proofs.TellsRightLemmas.{IsSettledState, LevelTellsRight}
-use Rattle.gptp_settling_time.proofs.ToldAnewLemmas.{SettlesOnce, TellsOnce, once_claimed, same_way, tells_begins, tells_on, told_by, way_in}
-
--- what is later than some time is 1 ns later than another
-pub one_before : (gone failed : ℕ) → failed < gone → suc (pred gone) ≡ gone
-one_before zero failed less = absurd (omega (arith, less))
-one_before (suc now) failed less = refl
+use Rattle.gptp_settling_time.proofs.ToldAnewLemmas.{SettlesOnce, TellsOnce, once_claimed, rest_claimed, same_way, tells_begins, tells_on, told_by, way_in}
 
 -- all that has no steps names its sender alone
 abbrev pub SplitNamesAlone : SettlingParams → ℕ → WorldState → Type 0
@@ -56,7 +60,6 @@ settles_at gone w = pred gone + 2 * way_in w
 pub record IsSplitAnew (p : SettlingParams) (g : Snapshot) (By : PortIdentity → ℕ → Type 0) (failed gone silent : ℕ)
     (w : WorldState) : Type 0 where
   pub split : IsSplitAlways p g By failed gone silent w
-  pub some : failed < gone
   pub alone : SplitNamesAlone p silent w
   pub tells : w.last_change ≡ failed → TellsOnce p silent (settles_at gone w) w
 
@@ -69,15 +72,14 @@ split_near p g s v known =
     (d, here, omega (arith, within, few))
 
 module _ (p : SettlingParams) (g : Snapshot) (By : PortIdentity → ℕ → Type 0) (failed gone silent : ℕ)
-    (w : WorldState) (split : IsSplitAlways p g By failed gone silent w) (some : failed < gone)
-    (alone : SplitNamesAlone p silent w) where
+    (w : WorldState) (split : IsSplitAlways p g By failed gone silent w) (alone : SplitNamesAlone p silent w) where
   near : AllAreNear (snapshot_of w)
   near = subst (λ (z : Network). AllAreNear z.graph) (sym split.same) (split_near p g split.split)
 
   state : HaveQuietLinks p.params w → NothingLapses p.params → settles_at gone w < w.time
       → IsSettledState says_announce (left_network p silent w) (view w)
   state quiet off late =
-      let one = one_before gone failed some in
+      let one = one_before gone failed split.some in
       split_state p g By failed gone silent w split quiet off (pred gone) (omega (arith, one)) (omega (arith, late))
 
   -- so what a best tells is right
@@ -102,9 +104,9 @@ module _ (p : SettlingParams) (g : Snapshot) (By : PortIdentity → ℕ → Type
   pub split_anew_begins : w.last_change ≡ w.time → IsSplitAnew p g By failed gone silent w
   split_anew_begins last = record {
     split = split;
-    some = some;
     alone = alone;
     tells = λ since.
+        let some = split.some in
         let one = one_before gone failed some in
         tells_begins p silent (settles_at gone w) w (omega (arith, last, since, some, one));
   }
@@ -129,14 +131,13 @@ module _ (p : SettlingParams) (g : Snapshot) (By : PortIdentity → ℕ → Type
   anew_step : IsSplitAnew p g By failed gone silent w'
   anew_step = record {
     split = split';
-    some = is.some;
     alone = alone';
     tells = λ since.
         let same = same_way w w' keeps in
         tells_on p silent (settles_at gone w') w w'
         (subst (λ way. SettlesOnce p silent (pred gone + 2 * way) w) (sym same)
-        (split_once p g By failed gone silent w is.split is.some is.alone))
-        (split_once p g By failed gone silent w' split' is.some alone')
+        (split_once p g By failed gone silent w is.split is.alone))
+        (split_once p g By failed gone silent w' split' alone')
         (subst (λ way. TellsOnce p silent (pred gone + 2 * way) w) (sym same) (is.tells (sym keeps.change ∙ since)))
         keeps step;
   }
@@ -169,4 +170,61 @@ pub split_anew_claimed : (p : SettlingParams) (g : Snapshot) (By : PortIdentity 
     → (begin : ℕ) → w.last_change ≤ begin → AreSilentBy p begin w → IsClaimedAlways p begin w
 split_anew_claimed p g By failed gone silent w is quiet off since =
     once_claimed p silent w.last_change (settles_at gone w) w
-    (split_once p g By failed gone silent w is.split is.some is.alone) is.split.asked (is.tells since) quiet off
+    (split_once p g By failed gone silent w is.split is.alone) is.split.asked (is.tells since) quiet off
+
+-- Where all beyond the failed system is cut off traces needn't be told anew. Once trees have settled, and what was in
+-- flight as they left their old choices is gone, claims are made of all links always.
+module _ (p : SettlingParams) (g : Snapshot) (By : PortIdentity → ℕ → Type 0) (failed gone silent flight : ℕ)
+    (w : WorldState) (is : IsSplitAnew p g By failed gone silent w) (quiet : HaveQuietLinks p.params w)
+    (off : NothingLapses p.params) (since : w.last_change ≡ failed) (cuts : CutsAllBeyond g is.split.split.n.graph)
+    (late : settles_at gone w < w.time) (goes : GoesBy p flight w)
+    (gone_by : pred gone + way_in w + flight < w.time) where
+  abbrev n : Network
+  n = is.split.split.n
+
+  once : SettlesOnce p silent (settles_at gone w) w
+  once = split_once p g By failed gone silent w is.split is.alone
+
+  x : IsSettledState says_announce (left_network p silent w) (view w)
+  x = once.state quiet off late
+
+  back : SplitsBack p g is.split.split (pred gone) (view w)
+  back =
+      let some = is.split.some in
+      let one = one_before gone failed some in
+      (is.split.seen quiet off (pred gone) (inl (omega (arith, one)))).0
+
+  left_now : left_by p g is.split.split gone < w.time
+  left_now =
+      subst (λ (z : Network). fallen_by z (pred gone) < w.time) is.split.same (omega (arith, gone_by))
+
+  is_old : IsGoneBy p (left_by p g is.split.split gone) (pred w.time) w
+  is_old =
+      subst (λ (z : Network). IsGoneBy p (fallen_by z (pred gone)) (pred w.time) w) is.split.same
+      (goes_gone p (pred gone + way_in w) flight w goes gone_by)
+
+  sound : IsSoundWorld w
+  sound = subst (λ (z : Network). IsSoundEverywhere says_announce z.graph (view w)) (sym is.split.same) (record {
+    lanes = λ j l at f a among said. elim (is.split.flights cuts since (pred w.time) is_old quiet off left_now j l f a at
+        among said) [
+          | inl sent ↦ sent
+          | inr due ↦
+              let left = x.calm.left j l f at among in
+              absurd (omega (arith, due, left, gone_by))
+        ];
+    stations = all_hold says_announce g n is.split.split.lost is.split.split.best
+        (IsCut p g is.split.split (pred gone)) (IsTurned p g is.split.split (pred gone))
+        (IsTwice p g is.split.split (pred gone)) is.split.split.moves (pred gone) is.split.split.near cuts (λ t cut. cut)
+        (view w) back.back (linked_now p g By failed gone silent w is.split quiet)
+        (is.split.says cuts quiet off) left_now
+        (subst (λ (z : Network). (i : ℕ) (s : SeenStation) (place : ℕ) (r : Reception) (from : PortIdentity)
+        → slice_get (view w).stations i ≡ Some s → s.live ≡ true → HoldsAt s place r
+        → Joins z.graph from (port_of s.clock (suc place))
+        → (far : ℕ) × TellsSettled z.graph from.clock far r.said) is.split.same
+        (held_settled says_announce (left_network p silent w) (left_net p silent w is.split.standing.world) once.near
+        (view w) x.calm x.rest));
+  })
+
+  pub split_apart_claimed : (begin : ℕ) → w.last_change ≤ begin → AreSilentBy p begin w → IsClaimedAlways p begin w
+  split_apart_claimed =
+      rest_claimed p silent w.last_change (settles_at gone w) w once is.split.asked quiet off late sound

@@ -35,7 +35,7 @@ use Rattle.gptp_settling_time.proofs.LeftClaimedLemmas.{asked_ready, left_calm, 
 use Rattle.gptp_settling_time.proofs.NewsMeasuredLemmas.{ready_measures}
 use Rattle.gptp_settling_time.proofs.SeenSettledLemmas.{near_choose, near_settle}
 use Rattle.gptp_settling_time.proofs.SplitAlwaysLemmas.{IsSplitAlways, none_now, split_after, split_network}
-use Rattle.gptp_settling_time.proofs.SplitLemmas.{IsCut, IsTurned, SplitSettles, SplitsBack, cut_times, turned_times}
+use Rattle.gptp_settling_time.proofs.SplitLemmas.{IsCut, IsTurned, IsTwice, SplitSettles, SplitsBack, cut_times, tops_times, turned_times}
 use Rattle.gptp_settling_time.proofs.SplitLinksLemmas.{failure_rests}
 use Rattle.gptp_settling_time.proofs.TellsRightLemmas.{IsSettledState}
 

@@ -2,12 +2,13 @@
 use Rattle.std.proofs.Common.{◌≡◌, ◌⊎◌, ◌<◌, ◌≤◌, ◌+◌, ◌*◌, ℕ, pred, suc, Option, List, subst, inl, inr, arith}
 use native.Mathlib.Decide.{dec_le}
 use Rattle.gptp_graph.specs.PathBound.{path_bound}
-use Rattle.gptp_graph.specs.Snapshot.{PortIdentity, Snapshot}
+use Rattle.gptp_graph.specs.Snapshot.{IsLinked, PortIdentity, Snapshot}
 use Rattle.gptp_links.specs.declared.bounds.Bounds.{Bounds}
 use Rattle.gptp_setup.specs.SettlingParams.{SettlingParams, largest_interval}
 use Rattle.gptp_scenario.specs.Calm.{IsCalm, NothingLapses}
 use Rattle.gptp_scenario.specs.Network.{NetworkState, pace_of}
 use Rattle.gptp_scenario.specs.SettlingTime.{silence_span, way_span}
+use Rattle.gptp_scenario.specs.SyncWait.{sync_paths}
 use Rattle.gptp_scenario.specs.declared.change.Timed.{Timed}
 use Rattle.gptp_scenario.specs.declared.sync_wait.SyncPaths.{SyncPaths}
 use Rattle.gptp_model.specs.Acts.{at}
@@ -18,66 +19,102 @@ use Rattle.gptp_model.specs.World.{WorldState}
 use Rattle.gptp_world.specs.Transitions.{ActTrace}
 use Rattle.gptp_world.proofs.SettlingInvariantLemmas.{next_octet}
 use Rattle.gptp_network.specs.Document.{DocumentState}
-use Rattle.gptp_invariants.specs.ChoiceCalm.{HaveQuietLinks, delay_in}
+use Rattle.gptp_network.specs.Snapshot.{StandsAfter}
+use Rattle.gptp_network.proofs.ExistenceLemmas.{stands_after}
+use Rattle.gptp_bmca_machine.specs.Network.{Network}
+use Rattle.gptp_invariants.specs.ChoiceCalm.{HaveQuietLinks, delay_in, sync_paths_of}
 use Rattle.gptp_invariants.specs.ChoiceSettled.{ChoiceStands, Settled}
+use Rattle.gptp_invariants.specs.ChoiceView.{says_announce, view}
 use Rattle.gptp_invariants.specs.WorldBounded.{IsBoundedWorld}
 use Rattle.gptp_invariants.specs.WorldNews.{AreSilentBy}
 use Rattle.gptp_invariants.specs.WorldStanding.{snapshot_of}
 use Rattle.gptp_invariants.proofs.WorldNewsLemmas.{silent_from_now}
+use Rattle.gptp_theorem.specs.AlikeLaws.{AreAlike}
 use Rattle.gptp_theorem.specs.PlayedLaws.{IsPlayable}
 use Rattle.gptp_theorem.proofs.CalmLemmas.{quiet_stands}
 use Rattle.gptp_theorem.proofs.CalmKeptLemmas.{no_change}
-use Rattle.gptp_settling_time.specs.Rests.{HasToldApart}
+use Rattle.gptp_settling_time.specs.Rests.{HasToldApart, IsToldApart}
 use Rattle.gptp_settling_time.specs.Losses.{NoneSilent}
+use Rattle.gptp_settling_time.specs.TreeLosses.{CutsAllBeyond}
 use Rattle.gptp_settling_time.proofs.AgesByWorldLemmas.{WorldAgesBy}
 use Rattle.gptp_settling_time.proofs.AgingLemmas.{HeardNearer}
+use Rattle.gptp_settling_time.proofs.AlwaysClaimedLemmas.{IsClaimedAlways}
 use Rattle.gptp_settling_time.proofs.BecomesSoundLemmas.{nearer_echo}
 use Rattle.gptp_settling_time.proofs.ClaimedToLemmas.{IsClaimedTo}
-use Rattle.gptp_settling_time.proofs.GoesToLemmas.{paths_to}
+use Rattle.gptp_settling_time.proofs.FallAlwaysLemmas.{IsGoneBy}
+use Rattle.gptp_settling_time.proofs.GoesToLemmas.{goes_to, paths_to}
 use Rattle.gptp_settling_time.proofs.KeptToLemmas.{KeepsTo, keeps_act, keeps_later}
 use Rattle.gptp_settling_time.proofs.WereSilentLemmas.{WereSilent, none_silent_from, were_act, were_later}
 use Rattle.gptp_settling_time.proofs.SilentLinksLemmas.{AgesOver}
-use Rattle.gptp_settling_time.proofs.SplitAlwaysLemmas.{GoesUntil, IsSplitAlways, MayStart}
-use Rattle.gptp_settling_time.proofs.SplitRestLemmas.{IsSplitAnew, anew_acts, anew_later, one_before, settles_at, split_anew_claimed}
+use Rattle.gptp_settling_time.proofs.SplitAlwaysLemmas.{GoesUntil, IsSplitAlways, MayStart, left_by, one_before}
+use Rattle.gptp_settling_time.proofs.SplitRestLemmas.{IsSplitAnew, anew_acts, anew_later, settles_at, split_anew_claimed, split_apart_claimed}
 use Rattle.gptp_settling_time.proofs.SplitSettlesLemmas.{split_chooses, split_settles}
-use Rattle.gptp_settling_time.proofs.ToldAnewLemmas.{told_by, way_in}
+use Rattle.gptp_settling_time.proofs.ToldAnewLemmas.{FlightsAreSound, told_by, way_in}
+use Rattle.gptp_settling_time.proofs.WorldMovesLemmas.{alike_so, beyond_alike}
 
--- What came over a silent link ages so. At ports that heard a nearer system it has aged by the time from which on it is
--- gone, or ports without a link aren't capable from then on.
+-- What came over a silent link ages so; its port was at a link. At ports that heard a nearer system it has aged by the
+-- time from which on it is gone, or ports without a link aren't capable from then on.
 abbrev pub GoesOver : NetworkState → Snapshot → List Timed → List Timed → ℕ → ℕ → ℕ → PortIdentity → ℕ → Type 0
 GoesOver n before ago events failed gone silent port until =
-    AgesOver n before ago events failed port until × (HeardNearer before port → (until ≤ gone) ⊎ (silent ≤ gone))
+    AgesOver n before ago events failed port until × IsLinked before port
+    × (HeardNearer before port → (until ≤ gone) ⊎ (silent ≤ gone))
 
 -- so it is gone by then
 pub over_gone : (n : NetworkState) (before : Snapshot) (ago events : List Timed) (failed gone silent : ℕ)
     → GoesUntil before (GoesOver n before ago events failed gone silent) gone ⊎ (silent ≤ gone)
 over_gone n before ago events failed gone silent = elim (dec_le silent gone) [
   | yes soon ↦ inr soon
-  | no later ↦ inl (λ port until heard is. elim (is.1 heard) [ inl less ↦ less | inr soon ↦ absurd (later soon) ])
+  | no later ↦ inl (λ port until heard is. elim (is.2 heard) [ inl less ↦ less | inr soon ↦ absurd (later soon) ])
 ]
 
 -- A world may be taken as one in which what is held goes by other times of ports: if it isn't gone sooner, or if no
 -- time has passed since the system failed.
 pub split_by : (p : SettlingParams) (g : Snapshot) (By : PortIdentity → ℕ → Type 0) (failed gone silent : ℕ)
     (w : WorldState) → IsSplitAlways p g By failed gone silent w → (By' : PortIdentity → ℕ → Type 0) (gone' : ℕ)
-    → WorldAgesBy p By' w
+    → WorldAgesBy p By' w → ((port : PortIdentity) (until : ℕ) → By' port until → IsLinked g port)
     → GoesUntil g By' gone' ⊎ (silent ≤ gone') → (gone ≤ gone') ⊎ ((failed < gone') × (w.time ≤ failed))
     → IsSplitAlways p g By' failed gone' silent w
-split_by p g By failed gone silent w is By' gone' by' is_gone' which = record {
+split_by p g By failed gone silent w is By' gone' by' linked' is_gone' which = record {
   standing = is.standing;
   asked = is.asked;
   good = is.good;
   split = is.split;
   at = is.at;
+  some = some';
   same = is.same;
   by = by';
+  linked = linked';
   is_gone = is_gone';
   begun = is.begun;
   late = is.late;
   links = is.links;
   seen = λ quiet off start may. is.seen quiet off start (may_so start may);
+  says = is.says;
+  flights = flights';
 }
   where
+    some' : failed < gone'
+    some' = elim which [
+      | inl later ↦ let some = is.some in omega (arith, some, later)
+      | inr (some, now) ↦ some
+    ]
+
+    flights' : CutsAllBeyond g is.split.n.graph → w.last_change ≡ failed → (old : ℕ)
+        → IsGoneBy p (left_by p g is.split gone') old w → HaveQuietLinks p.params w → NothingLapses p.params
+        → left_by p g is.split gone' < w.time → FlightsAreSound says_announce is.split.n.graph old (view w)
+    flights' cuts since old is_old quiet off late = elim which [
+      | inr (some, now) ↦
+          let one = one_before gone' failed some' in absurd (omega (arith, one, some, now, late))
+      | inl later ↦
+          let one = one_before gone' failed some' in
+          let before = one_before gone failed is.some in
+          is.flights cuts since old
+          (elim is_old [
+            | inl interval ↦ inl (omega (arith, interval, later, one, before))
+            | inr (used, delay) ↦ inr (used, omega (arith, delay, later, one, before))
+          ]) quiet off (omega (arith, late, later, one, before))
+    ]
+
     may_so : (start : ℕ) → MayStart gone' is.split.since start w → MayStart gone is.split.since start w
     may_so start (inr now) = inr now
     may_so start (inl soon) = elim which [
@@ -89,10 +126,10 @@ split_by p g By failed gone silent w is By' gone' by' is_gone' which = record {
 -- so it is where traces are told anew later, if the time from which on it is gone is the same
 pub anew_by : (p : SettlingParams) (g : Snapshot) (By : PortIdentity → ℕ → Type 0) (failed gone silent : ℕ)
     (w : WorldState) → IsSplitAnew p g By failed gone silent w → (By' : PortIdentity → ℕ → Type 0) → WorldAgesBy p By' w
+    → ((port : PortIdentity) (until : ℕ) → By' port until → IsLinked g port)
     → GoesUntil g By' gone ⊎ (silent ≤ gone) → IsSplitAnew p g By' failed gone silent w
-anew_by p g By failed gone silent w is By' by' is_gone' = record {
-  split = split_by p g By failed gone silent w is.split By' gone by' is_gone' (inl (omega arith));
-  some = is.some;
+anew_by p g By failed gone silent w is By' by' linked' is_gone' = record {
+  split = split_by p g By failed gone silent w is.split By' gone by' linked' is_gone' (inl (omega arith));
   alone = is.alone;
   tells = is.tells;
 }
@@ -102,6 +139,7 @@ anew_by p g By failed gone silent w is By' by' is_gone' = record {
 pub record IsSplitTo (d : DocumentState) (ago events : List Timed) (gone silent : ℕ) (w : WorldState) : Type 0 where
   pub keeps : KeepsTo d events w
   pub before : Snapshot
+  pub stood : (g : Snapshot) → StandsAfter d.network ago g → AreAlike before g
   pub failed : ℕ
   pub since : IsSplitAnew (pace_of d.network) before (GoesOver d.network before ago events failed gone silent) failed
       gone silent w
@@ -114,6 +152,7 @@ module _ (d : DocumentState) (ago events : List Timed) (gone silent : ℕ) where
   split_to_later w time later first so = record {
     keeps = keeps_later d events w time later first so.keeps;
     before = so.before;
+    stood = so.stood;
     failed = so.failed;
     since = anew_later (pace_of d.network) so.before (GoesOver d.network so.before ago events so.failed gone silent)
         so.failed gone silent time w later first so.since;
@@ -133,6 +172,7 @@ module _ (d : DocumentState) (ago events : List Timed) (gone silent : ℕ) where
       record {
         keeps = keeps_act d events answers t fate drawn w next was so.keeps;
         before = so.before;
+        stood = so.stood;
         failed = so.failed;
         since = anew_acts p so.before By so.failed gone silent timed.act (at timed.at w) was.draws t.told.done t.after
             (no_change next.item timed.act w next.act) (next_octet next.item timed.act w next.act) was.acts then;
@@ -156,7 +196,7 @@ module _ (d : DocumentState) (ago events : List Timed) (gone silent : ℕ) where
     start = pred gone
 
     one : suc start ≡ gone
-    one = one_before gone so.failed so.since.some
+    one = one_before gone so.failed so.since.split.some
 
     may : gone ≤ suc start
     may = let same = one in omega (arith, same)
@@ -182,10 +222,7 @@ module _ (d : DocumentState) (ago events : List Timed) (gone silent : ℕ) where
       → HasToldApart d.network ago events gone silent start w.time → IsClaimedTo d events start w
   split_to_claimed w start so playable rest = record {
     keeps = so.keeps;
-    since = split_anew_claimed q so.before (GoesOver d.network so.before ago events so.failed gone silent) so.failed
-        gone silent w so.since
-        (quiet_stands d.network events w playable.network so.keeps.stands so.keeps.claim.world.sound rest.calm).links
-        rest.off changed told start later dark;
+    since = by rest.told;
   }
     where
       q : SettlingParams
@@ -199,18 +236,10 @@ module _ (d : DocumentState) (ago events : List Timed) (gone silent : ℕ) where
           let unanswered = so.unanswered in
           omega (arith, last, since, unanswered)
 
-      told : told_by q (settles_at gone w) w + largest_interval q < w.time
-      told =
-          let same = one_before gone so.failed so.since.some in
-          let over : gone + 2 * way_in w + nearer_echo q w + largest_interval q ≤ w.time =
-          subst (λ (u : SyncPaths). gone + 2 * way_span u + pred (pred u.systems) * (largest_interval q + u.delay)
-          + largest_interval q ≤ w.time) (paths_to d playable events w so.keeps) rest.told in
-          omega (arith, same, over)
-
       later : w.last_change ≤ start
       later =
           let same = changed in
-          let some = so.since.some in
+          let some = so.since.split.some in
           let over = rest.later in
           omega (arith, same, some, over)
 
@@ -220,3 +249,50 @@ module _ (d : DocumentState) (ago events : List Timed) (gone silent : ℕ) where
             silent_from_now q start silent w so.keeps.claim.world so.since.split.standing.silent now
         | inr none ↦ none_silent_from d ago events w so.keeps so.were none start
       ]
+
+      links : HaveQuietLinks q.params w
+      links =
+          (quiet_stands d.network events w playable.network so.keeps.stands so.keeps.claim.world.sound rest.calm).links
+
+      -- where all beyond the failed system is cut off what was in flight is gone, else traces are told anew
+      by : IsToldApart d.network ago events gone w.time → IsClaimedAlways q start w
+      by (inl over) =
+          split_anew_claimed q so.before (GoesOver d.network so.before ago events so.failed gone silent) so.failed gone
+          silent w so.since links rest.off changed told start later dark
+        where
+          told : told_by q (settles_at gone w) w + largest_interval q < w.time
+          told =
+              let same = one_before gone so.failed so.since.split.some in
+              let by_then : gone + 2 * way_in w + nearer_echo q w + largest_interval q ≤ w.time =
+              subst (λ (u : SyncPaths). gone + 2 * way_span u + pred (pred u.systems) * (largest_interval q + u.delay)
+              + largest_interval q ≤ w.time) (paths_to d playable events w so.keeps) over in
+              omega (arith, same, by_then)
+      by (inr (cuts, flight, is_gone, settled, arrived)) =
+          split_apart_claimed q so.before (GoesOver d.network so.before ago events so.failed gone silent) so.failed gone
+          silent flight w so.since links rest.off changed cuts_so late
+          (goes_to d playable events w so.keeps flight is_gone) gone_by start later dark
+        where
+          paths : sync_paths d.network events ≡ sync_paths_of w
+          paths = paths_to d playable events w so.keeps
+
+          late : settles_at gone w < w.time
+          late =
+              let same = one_before gone so.failed so.since.split.some in
+              let by_then : gone + 2 * way_in w ≤ w.time =
+              subst (λ (u : SyncPaths). gone + 2 * way_span u ≤ w.time) paths settled in
+              omega (arith, same, by_then)
+
+          gone_by : pred gone + way_in w + flight < w.time
+          gone_by =
+              let same = one_before gone so.failed so.since.split.some in
+              let by_then : gone + way_in w + flight ≤ w.time =
+              subst (λ (u : SyncPaths). gone + way_span u + flight ≤ w.time) paths arrived in
+              omega (arith, same, by_then)
+
+          cuts_so : CutsAllBeyond so.before so.since.split.split.n.graph
+          cuts_so =
+              let (g, stands) = stands_after d.network ago playable.network in
+              let (g', stands') = stands_after d.network events playable.network in
+              subst (λ (z : Network). CutsAllBeyond so.before z.graph) so.since.split.same
+              (beyond_alike so.before g (snapshot_of w) g' (so.stood g stands)
+              (alike_so d playable events w so.keeps g' stands') (cuts g g' stands stands'))

@@ -55,14 +55,17 @@ abbrev pub FlightsAreSound : Spelling → Snapshot → ℕ → MachineState → 
 FlightsAreSound says g old w = (j : ℕ) (l : Lane) (f : AnnounceFrame) (a : Announce) → slice_get w.lanes j ≡ Some l
     → In f l.frames → says f.octets a → IsSoundSent g l.from a ⊎ (f.due ≤ old)
 
--- Once each system tells what is right every step keeps that.
-module _ (says : Spelling) (n : Network) (net : IsSettlingNetwork n) (near : AllAreNear n.graph) (base old : ℕ)
-    (w w' : MachineState) (x' : IsSettledState says n w')
+-- what each live system tells is sound
+abbrev pub AllTellSound : Snapshot → MachineState → Type 0
+AllTellSound g w = (s : Station) (i port : ℕ) (a : Announce) → slice_get w.stations i ≡ Some s → s.live ≡ true
+    → IsOwn s port a → IsSoundSent g (port_of s.clock port) a
+
+-- So it is once each system tells what is right.
+module _ (says : Spelling) (n : Network) (net : IsSettlingNetwork n) (near : AllAreNear n.graph) (base : ℕ)
+    (w' : MachineState) (x' : IsSettledState says n w')
     (levels' : (d : ℕ) → LevelTellsRight says n base w' d)
     (right : tells_right_from n base (pred n.reach) ≤ w'.time) where
-  -- what a system tells is sound
-  told_sound : (s : Station) (i port : ℕ) (a : Announce) → slice_get w'.stations i ≡ Some s → s.live ≡ true
-      → IsOwn s port a → IsSoundSent n.graph (port_of s.clock port) a
+  told_sound : AllTellSound n.graph w'
   told_sound s i port a at live own =
       let known = In-clocks n.graph (station_system s) (x'.calm.facts.stations i s at live).known in
       let (d, here) = distance_exists n.graph s.clock net.graph known in
@@ -78,35 +81,37 @@ module _ (says : Spelling) (n : Network) (net : IsSettlingNetwork n) (near : All
       below zero d h = absurd (omega (arith, h))
       below (suc m) d h = omega (arith, h)
 
+-- Then every step keeps that what is in flight is sound.
+module _ (says : Spelling) (g : Snapshot) (old : ℕ) (w w' : MachineState) (tell : AllTellSound g w') where
   called : (touch : StationTouch) (mid : MachineState) → StationAnswers says touch mid w'
-      → FlightsAreSound says n.graph old mid → FlightsAreSound says n.graph old w'
+      → FlightsAreSound says g old mid → FlightsAreSound says g old w'
   called touch mid call all j l' f a at among said = by (call.lanes j l' at)
     where
       by : ((l : Lane) × (slice_get mid.lanes j ≡ Some l) × LaneStep call.s.clock call.sends l l')
-          → IsSoundSent n.graph l'.from a ⊎ (f.due ≤ old)
+          → IsSoundSent g l'.from a ⊎ (f.due ≤ old)
       by (l, stood, step) = elim (In-parts f l.frames step.news (subst (In f) step.behind among)) [
         | inl before ↦
-            subst (λ k. IsSoundSent n.graph k a ⊎ (f.due ≤ old)) (sym step.from) (all j l f a stood before said)
+            subst (λ k. IsSoundSent g k a ⊎ (f.due ≤ old)) (sym step.from) (all j l f a stood before said)
         | inr new ↦
             let (y, sent, from, octets) = step.sent f new in
             let own = (call.reacts.tells y a sent (subst (λ (o : List ℕ). says o a) octets said)).0 in
             let leaves : port_of call.s'.clock y.port ≡ l'.from =
             (λ i. port_of (call.reacts.clock i) y.port) ∙ sym (step.from ∙ from) in
-            inl (subst (λ k. IsSoundSent n.graph k a) leaves
-            (told_sound call.s' call.place y.port a call.there (call.reacts.live ∙ call.live) own))
+            inl (subst (λ k. IsSoundSent g k a) leaves
+            (tell call.s' call.place y.port a call.there (call.reacts.live ∙ call.live) own))
       ]
 
   popped : (j : ℕ) (l : Lane) (f : AnnounceFrame) (fs : List AnnounceFrame) (mid : MachineState) → Pops j l f fs w mid
-      → FlightsAreSound says n.graph old w → FlightsAreSound says n.graph old mid
+      → FlightsAreSound says g old w → FlightsAreSound says g old mid
   popped j l f fs mid pops all i l' h a at among said = elim (pops.lanes i l' at) [
     | inl (same, is) ↦
-        subst (λ (y : Lane). IsSoundSent n.graph y.from a ⊎ (h.due ≤ old)) (sym is)
+        subst (λ (y : Lane). IsSoundSent g y.from a ⊎ (h.due ≤ old)) (sym is)
         (all j l h a pops.here
         (subst (In h) (sym pops.frames) (inr (subst (λ (y : Lane). In h y.frames) is among))) said)
     | inr (other, stood) ↦ all i l' h a stood among said
   ]
 
-  pub flights_kept : MachineSteps says w w' → FlightsAreSound says n.graph old w → FlightsAreSound says n.graph old w'
+  pub flights_kept : MachineSteps says w w' → FlightsAreSound says g old w → FlightsAreSound says g old w'
   flights_kept (inl wait) all =
       λ j l f a at. all j l f a (subst (λ (z : MachineState). slice_get z.lanes j ≡ Some l) wait.is at)
   flights_kept (inr (inl act)) all =
@@ -236,8 +241,9 @@ module _ (p : SettlingParams) (silent settled : ℕ) (w w' : WorldState)
         → FlightsAreSound says_announce (snapshot_of w') (told_by p settled w' + largest_interval p) (view w')
     flights' told' = elim (dec_lt (told_by p settled w) w.time) [
       | yes told ↦
-          flights_kept says_announce n' net once'.near base (told_by p settled w' + largest_interval p) (view w)
-          (view w') (x' late') (levels' late') (right_by p silent settled w' told') step
+          flights_kept says_announce (snapshot_of w') (told_by p settled w' + largest_interval p) (view w) (view w')
+          (told_sound says_announce n' net once'.near base (view w') (x' late') (levels' late')
+          (right_by p silent settled w' told')) step
           (subst (λ t. FlightsAreSound says_announce (snapshot_of w') (t + largest_interval p) (view w)) (sym same_told)
           (subst (λ (z : Network). FlightsAreSound says_announce z.graph (told_by p settled w + largest_interval p)
           (view w)) (sym same) (tells.flights quiet off told)))
@@ -279,37 +285,19 @@ told_over p settled w several over =
     (omega arith) in
     omega (arith, over, less)
 
+-- Claims are made of all links always once links are at rest and all that is held and in flight is sound.
 module _ (p : SettlingParams) (silent start settled : ℕ) (w : WorldState)
-    (once : SettlesOnce p silent settled w) (asked : HaveAskedBy start w) (tells : TellsOnce p silent settled w)
-    (quiet : HaveQuietLinks p.params w) (off : NothingLapses p.params)
-    (gone_by : told_by p settled w + largest_interval p < w.time) where
+    (once : SettlesOnce p silent settled w) (asked : HaveAskedBy start w)
+    (quiet : HaveQuietLinks p.params w) (off : NothingLapses p.params) (late : settled < w.time)
+    (sound : IsSoundWorld w) where
   abbrev n : Network
   n = left_network p silent w
 
   net_w : IsSettlingNetwork n
   net_w = left_net p silent w once.standing.world
 
-  late : settled < w.time
-  late = omega (arith, gone_by)
-
-  told : told_by p settled w < w.time
-  told = omega (arith, gone_by)
-
   x : IsSettledState says_announce n (view w)
   x = once.state quiet off late
-
-  -- all that is held and in flight is sound
-  sound : IsSoundWorld w
-  sound = record {
-    lanes = λ j l at f a among said. elim (tells.flights quiet off told j l f a at among said) [
-      | inl is ↦ is
-      | inr old ↦
-          let left = x.calm.left j l f at among in
-          absurd (omega (arith, old, left, gone_by))
-    ];
-    stations = all_held_right says_announce n net_w once.near (suc settled) (view w) x (tells.levels quiet off late)
-        (right_by p silent settled w told);
-  }
 
   invariant : Invariant says_announce n (view w)
   invariant = record {
@@ -324,7 +312,36 @@ module _ (p : SettlingParams) (silent start settled : ℕ) (w : WorldState)
   seen =
       let long = once.long in settled_in p w n refl net_w x.calm invariant (omega (arith, long, late))
 
-  -- claims are made of all links always
-  pub once_claimed : (begin : ℕ) → start ≤ begin → AreSilentBy p begin w → IsClaimedAlways p begin w
-  once_claimed begin later =
+  pub rest_claimed : (begin : ℕ) → start ≤ begin → AreSilentBy p begin w → IsClaimedAlways p begin w
+  rest_claimed begin later =
       sound_claimed p start silent w once.standing once.asked asked sound seen off begin later
+
+-- So it is once traces are told anew.
+module _ (p : SettlingParams) (silent start settled : ℕ) (w : WorldState)
+    (once : SettlesOnce p silent settled w) (asked : HaveAskedBy start w) (tells : TellsOnce p silent settled w)
+    (quiet : HaveQuietLinks p.params w) (off : NothingLapses p.params)
+    (gone_by : told_by p settled w + largest_interval p < w.time) where
+  late_then : settled < w.time
+  late_then = omega (arith, gone_by)
+
+  told : told_by p settled w < w.time
+  told = omega (arith, gone_by)
+
+  state : IsSettledState says_announce (left_network p silent w) (view w)
+  state = once.state quiet off late_then
+
+  -- all that is held and in flight is sound
+  anew_sound : IsSoundWorld w
+  anew_sound = record {
+    lanes = λ j l at f a among said. elim (tells.flights quiet off told j l f a at among said) [
+      | inl is ↦ is
+      | inr old ↦
+          let left = state.calm.left j l f at among in
+          absurd (omega (arith, old, left, gone_by))
+    ];
+    stations = all_held_right says_announce (left_network p silent w) (left_net p silent w once.standing.world)
+        once.near (suc settled) (view w) state (tells.levels quiet off late_then) (right_by p silent settled w told);
+  }
+
+  pub once_claimed : (begin : ℕ) → start ≤ begin → AreSilentBy p begin w → IsClaimedAlways p begin w
+  once_claimed = rest_claimed p silent start settled w once asked quiet off late_then anew_sound

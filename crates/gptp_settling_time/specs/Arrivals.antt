@@ -1,5 +1,5 @@
 -- When what was in flight has arrived: as a link was last set, and as a choice came to stand.
-use Rattle.std.specs.Prelude.{◌≡◌, ◌<◌, ◌⊎◌, ◌+◌, ℕ, Bool, true, false, List, [], ◌∷◌, Option, Some, None, filter}
+use Rattle.std.specs.Prelude.{◌≡◌, ◌<◌, ◌≤◌, ◌⊎◌, ◌+◌, ℕ, Bool, true, false, List, [], ◌∷◌, Option, Some, None, filter}
 use Rattle.gptp_setup.specs.SettlingParams.{largest_interval}
 use Rattle.gptp_scenario.specs.Calm.{last_change}
 use Rattle.gptp_scenario.specs.Network.{NetworkState, pace_of}
@@ -32,9 +32,9 @@ after_set most (Some time) = time + most
 abbrev pub arrived_by : ℕ → List Timed → ℕ
 arrived_by most events = after_set most (last_set events)
 
--- none of these events has set a link, and no link takes longer than some time
-abbrev pub IsNeverSet : NetworkState → List Timed → Type 0
-IsNeverSet n events = (last_set events ≡ None) × ((most : ℕ) × HasDelaysWithin n events most)
+-- what was in flight as the last of these events set a link has arrived by this time
+abbrev pub HasArrivedSinceSet : NetworkState → List Timed → ℕ → Type 0
+HasArrivedSinceSet n events time = (most : ℕ) × HasDelaysWithin n events most × (arrived_by most events ≤ time)
 
 -- What was sent over a link in use before a time has arrived by another, in ns. It has an announce interval later. It
 -- has the greatest delay of a link in use later, where what was in flight as a link was last set has before that time.

@@ -14,7 +14,7 @@ use Rattle.gptp_scenario.specs.declared.change.Change.TheVariants.{Fail, LinkDow
 use Rattle.gptp_scenario.specs.declared.change.Timed.{Timed}
 use Rattle.gptp_scenario.specs.declared.network.LinkSpec.{LinkSpec}
 use Rattle.gptp_model.specs.World.{port_id}
-use Rattle.gptp_settling_time.specs.Arrivals.{IsNeverSet}
+use Rattle.gptp_settling_time.specs.Arrivals.{HasArrivedSinceSet}
 use Rattle.gptp_settling_time.specs.Gains.{ChangesNothing, EndHasFailed, IsDownAfter, IsNoWorse, JoinsLive, LeavesCapable, RepeatsNow, UsesNoLink, exchanged_from}
 use Rattle.gptp_settling_time.specs.Losses.{AgesWithin, CutsFarEnd, FailsFarEnd, FailsHeard, LeavesChoice, LowersLink, LowersUnused, NoneUpIsSlower, TurnsLink, UpIsUsed}
 use Rattle.gptp_settling_time.specs.TreeLosses.{FallsTree, TurnsTreeLink}
@@ -202,16 +202,16 @@ abbrev pub FlightIsGone : NetworkState → List Timed → ℕ → Type 0
 FlightIsGone n events gone =
     (UpIsUsed n events × (gone ≡ (sync_paths n events).delay)) ⊎ (gone ≡ largest_interval (pace_of n))
 
--- So it is from the time of the last of them on. By the greatest delay of a link in use it is, too, where no link that is
--- up takes longer, and none of these events has set a link.
-abbrev pub FlightIsGoneFrom : NetworkState → List Timed → ℕ → Type 0
-FlightIsGoneFrom n events gone =
+-- From this time on it is gone so much later: as above, or by the greatest delay of a link in use, where no link that is
+-- up takes longer, and what was in flight as a link was last set has arrived as soon.
+abbrev pub FlightIsGoneFrom : NetworkState → List Timed → ℕ → ℕ → Type 0
+FlightIsGoneFrom n events time gone =
     FlightIsGone n events gone
-    ⊎ (NoneUpIsSlower n events × IsNeverSet n events × (gone ≡ (sync_paths n events).delay))
+    ⊎ (NoneUpIsSlower n events × HasArrivedSinceSet n events (time + gone) × (gone ≡ (sync_paths n events).delay))
 
 -- what is in flight at this time is gone by another
 abbrev pub FlightIsGoneBy : NetworkState → List Timed → ℕ → ℕ → Type 0
-FlightIsGoneBy n events time old = (gone : ℕ) × FlightIsGoneFrom n events gone × (old ≡ time + gone)
+FlightIsGoneBy n events time old = (gone : ℕ) × FlightIsGoneFrom n events time gone × (old ≡ time + gone)
 
 -- A far end is cut off, or it fails. Nothing that is held names what is gone, nor does anything that is still taken.
 -- What is in flight over a link that goes down is lost. What a system that fails has sent still comes.

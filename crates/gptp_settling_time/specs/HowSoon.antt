@@ -61,7 +61,7 @@ use Rattle.gptp_settling_time.specs.EventKinds.{AddsHeard, BettersClock, FlightI
 use Rattle.gptp_settling_time.specs.Leads.{TakesAny}
 use Rattle.gptp_settling_time.specs.Rests.{turned_echo_span}
 use Rattle.gptp_settling_time.specs.Losses.{AgesWithin, CutsFarEnd, FailsFarEnd, FailsHeard, LeavesChoice, LosesAny, LowersLink, LowersUnused, MovesNoneInAll, NoneSilent, TurnsLink, UpIsUsed}
-use Rattle.gptp_settling_time.specs.TreeLosses.{FailsTrees, FallsTree, TurnsTreeLink}
+use Rattle.gptp_settling_time.specs.TreeLosses.{CutsAllBeyondFrom, FailsTrees, FallsTree, TurnsTreeLink}
 
 -- ---- times
 
@@ -464,11 +464,12 @@ RestsOnceTold n made now rest =
 abbrev pub RestsAfterOneLoss : NetworkState → List Timed → List Timed → ℕ → Type 0
 RestsAfterOneLoss n made now rest =
     (CutsOneEnd n made now
-    × ((gone : ℕ) × FlightIsGoneFrom n (made ++ now) gone
+    × ((gone : ℕ) × FlightIsGoneFrom n (made ++ now) (last_change (made ++ now)) gone
     × (rest ≡ max (2 * way_span (sync_paths n (made ++ now))) gone)))
     ⊎ ((FailsEndFirst n made now
-    × ((NoneSilent n made (made ++ now) × FlightIsGoneFrom n made rest)
-    ⊎ ((gone : ℕ) × FlightIsGoneFrom n made gone × (rest ≡ max (silence_span (pace_of n)) gone))))
+    × ((NoneSilent n made (made ++ now) × FlightIsGoneFrom n made (last_change (made ++ now)) rest)
+    ⊎ ((gone : ℕ) × FlightIsGoneFrom n made (last_change (made ++ now)) gone
+    × (rest ≡ max (silence_span (pace_of n)) gone))))
     ⊎ ((LowersOneLink n made now
     × ((gone : ℕ) × FlightIsGone n (made ++ now) gone
     × (rest ≡ max (echo_span (pace_of n) (sync_paths n (made ++ now))) gone)))
@@ -498,13 +499,16 @@ abbrev pub RestsTree : NetworkState → ℕ → List Timed → Type 0
 RestsTree n rest events =
     (gone : ℕ) × FlightIsGone n events gone × (rest ≡ max (2 * way_span (sync_paths n events)) gone)
 
--- After trees were cut off, as a system failed, it has come to rest once right traces have been told by distance since
--- they settled, and what was in flight is gone. Roles have to stand too.
+-- After trees were moved, as a system failed, it has come to rest once right traces have been told by distance since
+-- they settled, and what was in flight is gone. Where all beyond that system was cut off they needn't be told anew.
+-- Roles have to stand too.
 abbrev pub RestsSplit : NetworkState → ℕ → List Timed → List Timed → Type 0
 RestsSplit n rest made now =
     (choice : ℕ) × (roles : ℕ) × BoundsSplit n choice roles made now
-    × (max roles (choice + max (echo_span (pace_of n) (sync_paths n (made ++ now))) (largest_interval (pace_of n)))
+    × ((max roles (choice + max (echo_span (pace_of n) (sync_paths n (made ++ now))) (largest_interval (pace_of n)))
     ≤ rest)
+    ⊎ (CutsAllBeyondFrom n made (made ++ now) × (flight : ℕ) × FlightIsGone n (made ++ now) flight
+    × (max roles (choice + flight) ≤ rest)))
 
 -- By so much later than a time the network has come to rest, by the times before it, the latest first: it has settled,
 -- and nothing that is held, or in flight, names what is gone. The first time of all is 0. After a tree has turned right

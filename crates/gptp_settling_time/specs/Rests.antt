@@ -7,6 +7,7 @@ use Rattle.gptp_scenario.specs.SettlingTime.{echo_span, loss_span, silence_span,
 use Rattle.gptp_scenario.specs.SyncWait.{sync_paths}
 use Rattle.gptp_scenario.specs.declared.change.Timed.{Timed}
 use Rattle.gptp_settling_time.specs.Losses.{NoneSilent}
+use Rattle.gptp_settling_time.specs.TreeLosses.{CutsAllBeyondFrom}
 use Rattle.gptp_settling_time.specs.Pasts.{Aging, Cleared, Fallen, Heard, Lost, Past, Split, Turned, TurnedTree}
 use Rattle.gptp_settling_time.specs.EventKinds.{FlightIsGone, HasSettledHeard, nearer_echo_span}
 
@@ -66,17 +67,25 @@ pub record HasFallenBack (n : NetworkState) (events : List Timed) (fallen start 
   pub gone : fallen + flight < time
   pub over : HasSettledHeard n events start time
 
+-- What is held and in flight in it is right. Right traces have been told by distance since trees settled, and what was
+-- in flight is gone. Or all beyond the failed system was cut off; then trees have settled, and what was in flight as
+-- they dropped what they chose before is gone.
+abbrev pub IsToldApart : NetworkState → List Timed → List Timed → ℕ → ℕ → Type 0
+IsToldApart n ago events gone time =
+    (gone + 2 * way_span (sync_paths n events) + nearer_echo_span n events + largest_interval (pace_of n) ≤ time)
+    ⊎ (CutsAllBeyondFrom n ago events × (flight : ℕ) × FlightIsGone n events flight
+    × (gone + 2 * way_span (sync_paths n events) ≤ time) × (gone + way_span (sync_paths n events) + flight ≤ time))
+
 -- A network in which trees were moved, as a system failed, has come to rest by a time, as one whose ports are capable
 -- from a start on. Nothing has changed since. What others held of it was gone by a moment, and a way later, by that
--- start, the trees had dropped what they chose before. They settled within another way. Right traces have been told by
--- distance since, and what was in flight is gone. Ports without a link aren't capable any more, or no lost link is
--- silent. And the greatest delay has passed since the start for each system of a path but one.
+-- start, the trees had dropped what they chose before. They settled within another way, and what is held and in flight
+-- is right. Ports without a link aren't capable any more, or no lost link is silent. And the greatest delay has passed
+-- since the start for each system of a path but one.
 pub record HasToldApart (n : NetworkState) (ago events : List Timed) (gone silent start time : ℕ) : Type 0 where
   pub calm : IsCalm n events
   pub off : NothingLapses n.params
   pub since : silent ≡ suc (last_change events + silence_span (pace_of n))
-  pub told : gone + 2 * way_span (sync_paths n events) + nearer_echo_span n events + largest_interval (pace_of n)
-      ≤ time
+  pub told : IsToldApart n ago events gone time
   pub later : gone + way_span (sync_paths n events) ≤ start
   pub unlinked : (silent ≤ time) ⊎ NoneSilent n ago events
   pub over : HasSettledHeard n events start time

@@ -4,7 +4,7 @@ use Rattle.std.specs.Prelude.{◌≡◌, ◌⊎◌, ◌<◌, ◌≤◌, ◌+◌,
 use Rattle.gptp_lists.specs.Members.{In}
 use Rattle.gptp_graph.specs.Best.{IsBest}
 use Rattle.gptp_graph.specs.Distance.{IsDistance}
-use Rattle.gptp_graph.specs.Snapshot.{Adjacent, Joins, PortIdentity, Snapshot, System, clocks, port_of}
+use Rattle.gptp_graph.specs.Snapshot.{Adjacent, IsLinked, Joins, PortIdentity, Snapshot, System, clocks, port_of}
 use Rattle.gptp_bmca_machine.specs.CutTree.{Tree}
 use Rattle.gptp_bmca_machine.specs.FailureTrees.{Turning}
 use Rattle.gptp_bmca_machine.specs.TwoTops.{First, Second, Side, TopsTree}
@@ -240,6 +240,20 @@ abbrev pub MovesTreesFrom : NetworkState → List Timed → Timed → Type 0
 MovesTreesFrom n before event = (g g' : Snapshot) → StandsAfter n before g
     → StandsAfter n (before ++ event ∷ []) g'
     → (best : System) × ((v : ℕ) → In v (clocks g') → IsUnmovedOrInTree g g' best v)
+
+-- From the first snapshot to the second each live system is unmoved, or one of a tree with one top that is cut off. None
+-- is unmoved that lost its link to one that was nearer to the best, or as near with the lower clock.
+pub record CutsAllBeyond (g g' : Snapshot) : Type 0 where
+  pub each : (v : ℕ) → In v (clocks g') → IsUnmoved g g' v
+      ⊎ ((best : System) × (t : Tree) × IsTreeCutOff g g' best t × IsBest g' v t.next)
+  pub beyond : (from to : PortIdentity) → Joins g from to → In to.clock (clocks g') → (IsLinked g' to → ⊥)
+      → ((near far : ℕ) → IsDistance g from.clock near → IsDistance g to.clock far
+      → (near < far) ⊎ ((near ≡ far) × (from.clock < to.clock))) → IsUnmoved g g' to.clock → ⊥
+
+-- so it is from after the first of these events to after the second
+abbrev pub CutsAllBeyondFrom : NetworkState → List Timed → List Timed → Type 0
+CutsAllBeyondFrom n before events = (g g' : Snapshot) → StandsAfter n before g → StandsAfter n events g'
+    → CutsAllBeyond g g'
 
 -- After these events this one lets a live system fail, and so moves trees: they are cut off, or turn to their way out.
 -- The greatest delay of a link in use gets no greater, and no path longer. None had more than 255 systems.
