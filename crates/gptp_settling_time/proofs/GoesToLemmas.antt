@@ -50,7 +50,7 @@ module _ (d : DocumentState) (playable : IsPlayable d) (events : List Timed) (w 
   -- so what is in flight is gone by then
   pub due_to : (old : ℕ) → NoneUpIsSlower d.network events → HasArrivedSinceSet d.network events old
       → w.time + (sync_paths d.network events).delay ≤ old → AreDueBy old w
-  due_to old slower (most, (within, arrived)) later =
+  due_to old slower (most, within, arrived) later =
       let delay : (sync_paths d.network events).delay ≡ delay_in w = ap (λ (u : SyncPaths). u.delay) paths_to in
       due_limited (arrived_by most events) old w keeps.claim.world.sound (slower_to slower) (keeps.limited most within)
       arrived (omega (arith, later, delay))

@@ -29,7 +29,8 @@ module _ (n : NetworkState) (made : List Timed) (event : Timed) (gone : ℕ) whe
     pub over : silent ≤ by
 
   -- by a link that cuts it off, as ports without a link were off
-  pub cut_leads : FlightIsGoneFrom n (made ++ event ∷ []) event.at gone → (past : Past) → HasSettled n made past event.at
+  pub cut_leads : FlightIsGoneFrom n (made ++ event ∷ []) event.at gone → (past : Past) → HasSettled n made past
+      event.at
       → CutsCalm n made event → IsClearedBy past event.at
   cut_leads flight AnyPast settled cuts =
       let passed = settled.passed in
@@ -68,7 +69,8 @@ module _ (n : NetworkState) (made : List Timed) (event : Timed) (gone : ℕ) whe
   cut_leads flight (Fewer ago since most silent) settled cuts = absurd settled
 
   -- or as it fails, once the ports beside it have been unanswered for long enough
-  pub fail_leads : FlightIsGoneFrom n made event.at gone → (past : Past) → HasSettled n made past event.at → FailsCalm n made event
+  pub fail_leads : FlightIsGoneFrom n made event.at gone → (past : Past) → HasSettled n made past event.at → FailsCalm n
+      made event
       → IsClearedBy past (suc (event.at + silence_span (pace_of n)))
   fail_leads flight AnyPast settled fails =
       let passed = settled.passed in

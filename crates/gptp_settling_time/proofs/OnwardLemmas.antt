@@ -144,32 +144,32 @@ module _ (time late : ℕ) where
 
   module _ (w w' : WorldState) (p : SettlingParams) (is' : IsWorld p w') (keeps : KeepsNetwork w w')
       (near : AllAreNear (snapshot_of w')) (since : ComesSince time late w') (stands : time ≤ w'.time → ChoiceStands w')
-      where
-    wf : IsWellFormed (snapshot_of w')
-    wf = stands_well w' is'.sound is'.between is'.encodable
+    where
+      wf : IsWellFormed (snapshot_of w')
+      wf = stands_well w' is'.sound is'.between is'.encodable
 
-    masters : MastersLead says_announce (snapshot_of w') late (view w')
-    masters j l f a at among said joins on i number s at_s live master from =
-        let x = station_from w'.stations i s at_s in
-        let lives = sym (ap (λ (z : Station). z.live) x.is) ∙ live in
-        let clock_is = ap (λ (z : Station). z.clock) x.is in
-        let from_is : l.from ≡ port_of (clock x.station.system) number =
-        from ∙ ap (λ c. port_of c number) clock_is in
-        let known = Joins-clock (snapshot_of w') l.from l.to wf joins in
-        let near_x : IsNear (snapshot_of w') (clock x.station.system) =
-        near (clock x.station.system) (subst (λ (q : PortIdentity). In q.clock (clocks (snapshot_of w'))) from_is known)
-        in
-        let settled = stands (since j l f a at among said joins on) i x.station x.here lives near_x in
-        let places = (is'.sound.on_time.stations i x.station x.here).steady.shown.places in
-        master_leads (snapshot_of w') l.from l.to wf
-        (subst (IsMasterPort (snapshot_of w')) (sym from_is)
-        (master_at (snapshot_of w') x.station settled places number
-        (subst (λ (z : Station). IsMasterAt z number) x.is master)
-        (l.to, subst (λ q. Joins (snapshot_of w') q l.to) from_is joins)))
-        joins
+      masters : MastersLead says_announce (snapshot_of w') late (view w')
+      masters j l f a at among said joins on i number s at_s live master from =
+          let x = station_from w'.stations i s at_s in
+          let lives = sym (ap (λ (z : Station). z.live) x.is) ∙ live in
+          let clock_is = ap (λ (z : Station). z.clock) x.is in
+          let from_is : l.from ≡ port_of (clock x.station.system) number =
+          from ∙ ap (λ c. port_of c number) clock_is in
+          let known = Joins-clock (snapshot_of w') l.from l.to wf joins in
+          let near_x : IsNear (snapshot_of w') (clock x.station.system) =
+          near (clock x.station.system) (subst (λ (q : PortIdentity). In q.clock (clocks (snapshot_of w'))) from_is known)
+          in
+          let settled = stands (since j l f a at among said joins on) i x.station x.here lives near_x in
+          let places = (is'.sound.on_time.stations i x.station x.here).steady.shown.places in
+          master_leads (snapshot_of w') l.from l.to wf
+          (subst (IsMasterPort (snapshot_of w')) (sym from_is)
+          (master_at (snapshot_of w') x.station settled places number
+          (subst (λ (z : Station). IsMasterAt z number) x.is master)
+          (l.to, subst (λ q. Joins (snapshot_of w') q l.to) from_is joins)))
+          joins
 
-    -- every step keeps that, where the choice stands from that time on
-    pub onward_step : MachineSteps says_announce (view w) (view w') → IsOnwardFrom late w → IsOnwardFrom late w'
-    onward_step step onward =
-        onward_kept says_announce (snapshot_of w') late (view w) (view w') step masters
-        (subst (λ h. FliesOnward says_announce h late (view w)) (sym (same_snapshot w w' keeps)) onward)
+      -- every step keeps that, where the choice stands from that time on
+      pub onward_step : MachineSteps says_announce (view w) (view w') → IsOnwardFrom late w → IsOnwardFrom late w'
+      onward_step step onward =
+          onward_kept says_announce (snapshot_of w') late (view w) (view w') step masters
+          (subst (λ h. FliesOnward says_announce h late (view w)) (sym (same_snapshot w w' keeps)) onward)

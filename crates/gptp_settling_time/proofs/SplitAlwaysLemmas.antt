@@ -389,7 +389,8 @@ module _ (p : SettlingParams) (g : Snapshot) (By : PortIdentity → ℕ → Type
       kept : IsAfterLoss made.n (view w)
       kept = (is.seen quiet off (pred gone) (inl now)).0.back.after.kept
 
-  flights' : CutsAllBeyond g made.n.graph → w'.last_change ≡ failed → (old : ℕ) → IsGoneBy p (left_by p g made gone) old w'
+  flights' : CutsAllBeyond g made.n.graph → w'.last_change ≡ failed → (old : ℕ) → IsGoneBy p (left_by p g made gone) old
+      w'
       → HaveQuietLinks p.params w' → NothingLapses p.params → left_by p g made gone < w'.time
       → FlightsAreSound says_announce made.n.graph old (view w')
   flights' cuts since old is_old quiet' off late' = elim (dec_lt (left_by p g made gone) w.time) [

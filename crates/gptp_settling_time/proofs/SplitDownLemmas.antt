@@ -283,10 +283,10 @@ module _ (p : SettlingParams) (g : Snapshot) (By : PortIdentity → ℕ → Type
       seen_taken : SplitsBack p g s start (view taken) × SplitSettles p g s start (view taken)
       seen_taken = (
         fails_emptied says_announce g n s.lost s.best (IsCut p g s start) (IsTurned p g s start) (IsTwice p g s start)
-        s.moves start (view w)
+            s.moves start (view w)
             (view taken) machine_emptied kept_taken (stay_of p) s.since s.delay s.shorter s.long state_taken was.0,
         settles_emptied says_announce g n s.lost s.best (IsCut p g s start) (IsTurned p g s start) (IsTwice p g s start)
-        s.moves start
+            s.moves start
             (view w) (view taken) machine_emptied kept_taken was.0.back (fallen_by n start) (settles_by n start)
             (cut_times p g s start) (turned_times p g s start) (tops_times p g s start) was.1,
       )

@@ -443,7 +443,7 @@ module _ (p : SettlingParams) (number : ℕ) (w : WorldState) (draws : List Draw
             stood_lane c q i joins l at = lane_still (n'.lane (port_of number (suc q))) l at
 
             tops' : TopsHold says_announce g n' number best (IsTreeCutOff g g' best) (IsTreeTurned g g' best)
-            (IsTreeCutTwice g g' best) moves
+                (IsTreeCutTwice g g' best) moves
                 start (stay_of p) w.time n0.most shorter split.long (view w')
             tops' = record {
               cut = λ t cut.
@@ -466,7 +466,7 @@ module _ (p : SettlingParams) (number : ℕ) (w : WorldState) (draws : List Draw
               kept = kept';
               fits = fits';
               dark = dark_by says_announce g n' number best (IsTreeCutOff g g' best) (IsTreeTurned g g' best)
-              (IsTreeCutTwice g g' best) moves
+                  (IsTreeCutTwice g g' best) moves
                   start (stay_of p) w.time n0.most shorter split.long (view w') kept' fits' state' tops';
             }
 
@@ -491,8 +491,9 @@ module _ (p : SettlingParams) (number : ℕ) (w : WorldState) (draws : List Draw
                   falls_begins says_announce n0 n' net0 (view w) (view w') loss kept' onward t.top best t.next t.base
                   t.depth (twice_so t cut)
                   (base_some g n' t.top best t.next t.base t.depth (twice_so t cut) number loses First
-                  (cut.in_top First)) start now (fallen_by n' start) (settles_by n' start 0) times.begun (times.soon 0)
-                  times.reached (settles_by n' start) times.soon times.grows
+                  (cut.in_top First)) start
+                  now (fallen_by n' start) (settles_by n' start 0) times.begun (times.soon 0) times.reached
+                  (settles_by n' start) times.soon times.grows
                   (bare_stale says_announce g n' t.top best t.next t.base t.depth (twice_so t cut) (view w') after');
             }
               where

@@ -54,17 +54,20 @@ module _ (p : SettlingParams) (g : Snapshot) (s : IsSplit p g) (start : ℕ) whe
   abbrev pub SplitsBack : MachineState → Type 0
   SplitsBack =
       FailsBack says_announce g s.n s.lost s.best IsCut IsTurned IsTwice s.moves start (stay_of p) s.since s.delay
-      s.shorter s.long
+      s.shorter
+      s.long
 
   abbrev pub SplitState : MachineState → Type 0
   SplitState =
       IsFailedState says_announce g s.n s.lost s.best IsCut IsTurned IsTwice s.moves start (stay_of p) s.since s.delay
-      s.shorter s.long
+      s.shorter
+      s.long
 
   abbrev pub SplitStaysOff : MachineState → MachineState → Type 0
   SplitStaysOff =
       LostStayOff says_announce g s.n s.lost s.best IsCut IsTurned IsTwice s.moves start (stay_of p) s.since s.delay
-      s.shorter s.long
+      s.shorter
+      s.long
 
   -- each system of a tree has left its old choice by then, and those at each distance have settled from a time on
   pub cut_times : (t : Tree) → (is : IsCut t)
@@ -106,12 +109,15 @@ module _ (p : SettlingParams) (g : Snapshot) (s : IsSplit p g) (start : ℕ) (x 
   pub splits_on : SplitsBack p g s start x'
   splits_on =
       fails_on says_announce g s.n s.lost s.best (IsCut p g s start) (IsTurned p g s start) (IsTwice p g s start)
-      s.moves start (stay_of p) s.since s.delay s.shorter s.long x x' was kept' state' stays_off step none'
+      s.moves start (stay_of p)
+      s.since s.delay s.shorter s.long x x' was kept' state' stays_off step none'
 
   pub split_settles_on : SplitSettles p g s start x → SplitSettles p g s start x'
   split_settles_on =
       settle_on says_announce g s.n s.lost s.best (IsCut p g s start) (IsTurned p g s start) (IsTwice p g s start)
       s.moves start (fallen_by s.n start) (settles_by s.n start) (cut_times p g s start) (turned_times p g s start)
-      (tops_times p g s start) x x' was.back splits_on.back step
+      (tops_times p g s start) x x' was.back
+      splits_on.back step
       (drops says_announce g s.n s.lost s.best (IsCut p g s start) (IsTurned p g s start) (IsTwice p g s start) s.moves
-      start (stay_of p) s.since s.delay s.shorter s.long x x' was kept' state' stays_off step)
+      start (stay_of p)
+      s.since s.delay s.shorter s.long x x' was kept' state' stays_off step)

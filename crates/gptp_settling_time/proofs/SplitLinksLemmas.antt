@@ -37,7 +37,8 @@ module _ (says : Spelling) (g : Snapshot) (n : Network) (lost : ℕ) (best : Sys
     start over before) (tops_times : TopsTimes n start over before) (w : MachineState)
     (back : FallBack says g n lost best IsCut IsTurned IsTwice moves start w)
     (settles : FailureSettles says g n lost best IsCut IsTurned IsTwice moves start over before cut_times turned_times
-    tops_times w) (late : (e : ℕ) → suc (suc e) ≤ n.reach → before e ≤ w.time) (past : over < w.time) where
+    tops_times w)
+    (late : (e : ℕ) → suc (suc e) ≤ n.reach → before e ≤ w.time) (past : over < w.time) where
   module _ (d : ℕ) (c : System) (v p u q : ℕ) (close : d < 255) (leads : LeadsFarther n.graph d c v p u q) where
     abbrev Rests : Type 0
     Rests = LinkAtRest says (wiring n d c v p u q) w
@@ -121,4 +122,5 @@ module _ (says : Spelling) (g : Snapshot) (n : Network) (lost : ℕ) (best : Sys
       all_rest says n moves.well w back.after.kept.calm
       (λ i s at live d here close.
       system_follows says g n lost best IsCut IsTurned IsTwice moves start over before cut_times turned_times tops_times
-      w back settles late past i s at live d here close) failure_link
+      w back settles
+      late past i s at live d here close) failure_link

@@ -284,7 +284,8 @@ module _ (d : DocumentState) (playable : IsPlayable d) (made : List Timed) (even
           since = anew_begins p x.clock then draws done w' world_then after.claim.world came lived seen_then rest.sound
               start keeps.claim.pace keeps.claim.measured past rest.ready quiet rest.silent
               (near_so d playable made then keeps x.few) (omega (arith, over, at_time)) names_now onward_now silent best
-              each few_before few_then shorter_then (GoesOver n before made more then.time gone silent) gone
+              each
+              few_before few_then shorter_then (GoesOver n before made more then.time gone silent) gone
               after.claim.measured
               (omega (arith, silent_is))
               (λ links. by_map says_announce (snapshot_of w') (stay_of p) (AgesOver n before made more then.time)

@@ -205,8 +205,8 @@ module _ (p : SettlingParams) (g : Snapshot) (By : PortIdentity → ℕ → Type
 
   sound : IsSoundWorld w
   sound = subst (λ (z : Network). IsSoundEverywhere says_announce z.graph (view w)) (sym is.split.same) (record {
-    lanes = λ j l at f a among said. elim (is.split.flights cuts since (pred w.time) is_old quiet off left_now j l f a at
-        among said) [
+    lanes = λ j l at f a among said.
+        elim (is.split.flights cuts since (pred w.time) is_old quiet off left_now j l f a at among said) [
           | inl sent ↦ sent
           | inr due ↦
               let left = x.calm.left j l f at among in
@@ -214,7 +214,8 @@ module _ (p : SettlingParams) (g : Snapshot) (By : PortIdentity → ℕ → Type
         ];
     stations = all_hold says_announce g n is.split.split.lost is.split.split.best
         (IsCut p g is.split.split (pred gone)) (IsTurned p g is.split.split (pred gone))
-        (IsTwice p g is.split.split (pred gone)) is.split.split.moves (pred gone) is.split.split.near cuts (λ t cut. cut)
+        (IsTwice p g is.split.split (pred gone)) is.split.split.moves (pred gone) is.split.split.near cuts
+        (λ t cut. cut)
         (view w) back.back (linked_now p g By failed gone silent w is.split quiet)
         (is.split.says cuts quiet off) left_now
         (subst (λ (z : Network). (i : ℕ) (s : SeenStation) (place : ℕ) (r : Reception) (from : PortIdentity)

@@ -109,7 +109,8 @@ module _ (p : SettlingParams) (g : Snapshot) (By : PortIdentity → ℕ → Type
         (λ kept. near_have_settled says_announce g is.split.n is.split.lost is.split.best (IsCut p g is.split start)
         (IsTurned p g is.split start) (IsTwice p g is.split start) is.split.moves start (fallen_by is.split.n start)
         (settles_by is.split.n start) (cut_times p g is.split start) (turned_times p g is.split start)
-        (tops_times p g is.split start) (view w) seen.0.back seen.1 by_now over 0 from kept (omega arith)) dark_after
+        (tops_times p g is.split start) (view w) seen.0.back seen.1 by_now over 0 from
+        kept (omega arith)) dark_after
 
   -- each link that leads farther is at rest
   rest : LinksAreAtRest says_announce (split_network p silent w) (view w)

@@ -165,7 +165,8 @@ module _ (says : Spelling) (g : Snapshot) (n : Network) (lost : ℕ) (best : Sys
             | inl sound ↦ sound
             | inr long ↦
                 let chosen = chooses_still says g n moves.well moves.left w back.after.kept
-                back.after.fits.stations d (λ e less. back.still e) close s.clock here.best s at_place stays here.is_best
+                back.after.fits.stations d (λ e less. back.still e) close s.clock here.best s at_place stays
+                here.is_best
                 here in
                 let steps = chosen.steps in
                 let told = port.steps in

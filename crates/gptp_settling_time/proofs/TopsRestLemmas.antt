@@ -1,5 +1,5 @@
 -- Once a tree with one or two tops that a failure cut off has settled each of its links that leads farther is at rest.
-use Rattle.std.proofs.Common.{◌≡◌, ◌<◌, ◌≤◌, ◌+◌, ℕ, suc, Some, slice_get, sym, ap, subst, ◌∙◌, inl, inr, arith}
+use Rattle.std.proofs.Common.{◌≡◌, ◌<◌, ◌≤◌, ℕ, suc, Some, slice_get, sym, subst, arith}
 use Rattle.gptp_graph.specs.Best.{IsBest}
 use Rattle.gptp_graph.specs.Distance.{IsDistance}
 use Rattle.gptp_graph.specs.Snapshot.{Joins, Snapshot, System, port_of}
@@ -9,7 +9,7 @@ use Rattle.gptp_graph.proofs.PathBoundLemmas.{IsDistance-within}
 use Rattle.gptp_bmca_machine.specs.Frame.{Spelling}
 use Rattle.gptp_bmca_machine.specs.Levels.{LeadsFarther}
 use Rattle.gptp_bmca_machine.specs.Network.{Network, wiring}
-use Rattle.gptp_bmca_machine.specs.Station.{MachineState, Port, Station}
+use Rattle.gptp_bmca_machine.specs.Station.{MachineState, Station}
 use Rattle.gptp_bmca_machine.specs.TwoTops.{Side, CutsOffTwice}
 use Rattle.gptp_bmca_machine.proofs.FailureEndLemmas.{TopsTimes}
 use Rattle.gptp_bmca_machine.proofs.FallLemmas.{IsAftermath}

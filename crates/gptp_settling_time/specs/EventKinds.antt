@@ -202,8 +202,8 @@ abbrev pub FlightIsGone : NetworkState → List Timed → ℕ → Type 0
 FlightIsGone n events gone =
     (UpIsUsed n events × (gone ≡ (sync_paths n events).delay)) ⊎ (gone ≡ largest_interval (pace_of n))
 
--- From this time on it is gone so much later: as above, or by the greatest delay of a link in use, where no link that is
--- up takes longer, and what was in flight as a link was last set has arrived as soon.
+-- From this time on it is gone so much later: as above, or by the greatest delay of a link in use, where no link that
+-- is up takes longer, and what was in flight as a link was last set has arrived as soon.
 abbrev pub FlightIsGoneFrom : NetworkState → List Timed → ℕ → ℕ → Type 0
 FlightIsGoneFrom n events time gone =
     FlightIsGone n events gone

@@ -241,8 +241,8 @@ MovesTreesFrom n before event = (g g' : Snapshot) → StandsAfter n before g
     → StandsAfter n (before ++ event ∷ []) g'
     → (best : System) × ((v : ℕ) → In v (clocks g') → IsUnmovedOrInTree g g' best v)
 
--- From the first snapshot to the second each live system is unmoved, or one of a tree with one top that is cut off. None
--- is unmoved that lost its link to one that was nearer to the best, or as near with the lower clock.
+-- From the first snapshot to the second each live system is unmoved, or one of a tree with one top that is cut off.
+-- None is unmoved that lost its link to one that was nearer to the best, or as near with the lower clock.
 pub record CutsAllBeyond (g g' : Snapshot) : Type 0 where
   pub each : (v : ℕ) → In v (clocks g') → IsUnmoved g g' v
       ⊎ ((best : System) × (t : Tree) × IsTreeCutOff g g' best t × IsBest g' v t.next)
