@@ -16,6 +16,7 @@ mod LivesOnLemmas
 mod LostLinkLemmas
 mod OneLostLemmas
 mod TreeTestLemmas
+mod TreeByLemmas
 mod TreeBelowLemmas
 mod FallsBelowLemmas
 mod TreeLemmas
@@ -24,7 +25,10 @@ mod TurnedTreeTestLemmas
 mod TurnsBelowLemmas
 mod TurnedTreeLemmas
 mod MovedTreesTestLemmas
+mod MovedOnLemmas
 mod MovedTreesLemmas
+mod TwoTopsTestLemmas
+mod TwoTopsLemmas
 mod TreeEventLemmas
 mod TurnedLemmas
 mod LiveEndsLemmas
