@@ -197,7 +197,8 @@ module _ (says : Spelling) (n0 n : Network) (net0 : IsSettlingNetwork n0) (w w' 
     -- ---- all trees
 
     pub failure_begins : (lost : ℕ) (best : System) (IsCut : Tree → Type 0) (IsTurned : Turning → Type 0)
-        (IsTwice : TopsTree → Type 0) (moves : FailureMoves g n lost best IsCut IsTurned IsTwice) → IsSoundOnLinks says g w' → (start : ℕ) → w'.time ≤ start
+        (IsTwice : TopsTree → Type 0) (moves : FailureMoves g n lost best IsCut IsTurned IsTwice) → IsSoundOnLinks says
+        g w' → (start : ℕ) → w'.time ≤ start
         → FallBack says g n lost best IsCut IsTurned IsTwice moves start w'
     failure_begins lost best IsCut IsTurned IsTwice moves sound' start now = record {
       after = m';

@@ -410,7 +410,8 @@ module _ (says : Spelling) (g : Snapshot) (n : Network) (lost : ℕ) (best : Sys
             (none_left t.base x p i pu.held has.lane.frames
             (holds.last x p i in_x joins bare s pu has.lane (stood_x x in_x.reached.1.begins s at) there has.there))
 
-    pub fails_emptied : IsFailedState says g n lost best IsCut IsTurned IsTwice moves start stay since delay shorter long w'
+    pub fails_emptied : IsFailedState says g n lost best IsCut IsTurned IsTwice moves start stay
+        since delay shorter long w'
         → FailsBack says g n lost best IsCut IsTurned IsTwice moves start stay since delay shorter long w
         → FailsBack says g n lost best IsCut IsTurned IsTwice moves start stay since delay shorter long w'
     fails_emptied state' is = record {

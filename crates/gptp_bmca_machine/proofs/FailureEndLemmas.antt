@@ -90,7 +90,8 @@ module _ (says : Spelling) (g : Snapshot) (n : Network) (lost : ℕ) (best : Sys
         settles_on says g n t.tree t.top lost t.last t.out best t.base t.depth (moves.turned t is)
         start over before (turned_times t is) w w'
         (turns_back says g n lost best IsCut IsTurned IsTwice moves start w back t is)
-        (turns_back says g n lost best IsCut IsTurned IsTwice moves start w' back' t is) step drops (settles.turned t is);
+        (turns_back says g n lost best IsCut IsTurned IsTwice moves start w' back' t is) step
+        drops (settles.turned t is);
     twice = λ t is.
         falls_from_tops_on says n t.next t.top t.depth (moves.twice t is).tree best.identity t.base
         (moves.twice t is).worse (moves.twice t is).near start over (before 0) tops_times.begun (tops_times.soon 0)
@@ -136,7 +137,8 @@ module _ (says : Spelling) (g : Snapshot) (n : Network) (lost : ℕ) (best : Sys
     beyond v c i k (inr (inr (t, is, in_v))) u joins e d here there = absurd (twice_apart t is v c i k in_v u joins)
     beyond v c i k (inr (inl (t, is, in_v))) u joins e d here there =
         beyond_tree says g n t.tree t.top lost t.last t.out best t.base t.depth (moves.turned t is)
-        start over before (turned_times t is) w (turns_back says g n lost best IsCut IsTurned IsTwice moves start w back t is)
+        start over before (turned_times t is) w (turns_back says g n lost best IsCut IsTurned
+        IsTwice moves start w back t is)
         (settles.turned t is) late v c i k in_v (λ in_c. none_moved c u (inr (inl (t, is, in_c)))) joins e d here there
 
     holds_none : (v i c place : ℕ) → Moved v → Unmoved g n c → Joins n.graph (port_of v i) (port_of c (suc place))
@@ -146,8 +148,10 @@ module _ (says : Spelling) (g : Snapshot) (n : Network) (lost : ℕ) (best : Sys
         twice_apart t is v c i (suc place) in_v u joins
     holds_none v i c place (inr (inl (t, is, in_v))) u joins s r at holds =
         holds_none_of says g n t.tree t.top lost t.last t.out best t.base t.depth (moves.turned t is)
-        start over before (turned_times t is) w (turns_back says g n lost best IsCut IsTurned IsTwice moves start w back t is)
-        (settles.turned t is) late v i c place in_v (λ in_c. none_moved c u (inr (inl (t, is, in_c)))) joins s r at holds
+        start over before (turned_times t is) w (turns_back says g n lost best IsCut IsTurned
+        IsTwice moves start w back t is)
+        (settles.turned t is) late v i c place in_v (λ in_c. none_moved c u
+        (inr (inl (t, is, in_c)))) joins s r at holds
 
     module _ (i : ℕ) (s : Station) (at : slice_get w.stations i ≡ Some s) (live : s.live ≡ true) (d : ℕ)
         (here : IsDistance n.graph s.clock d) (near : d < 255) where
@@ -172,7 +176,8 @@ module _ (says : Spelling) (g : Snapshot) (n : Network) (lost : ℕ) (best : Sys
         | inr (inr (inl (t, is, in_s))) ↦
             turned_follows says g n t.tree t.top lost t.last t.out best t.base t.depth (moves.turned t is)
             start over before (turned_times t is) w
-            (turns_back says g n lost best IsCut IsTurned IsTwice moves start w back t is) (settles.turned t is) late i s at
+            (turns_back says g n lost best IsCut IsTurned IsTwice moves start w back t is)
+            (settles.turned t is) late i s at
             live d here near in_s
       ]
 

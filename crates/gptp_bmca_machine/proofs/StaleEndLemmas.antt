@@ -227,7 +227,8 @@ module _ (says : Spelling) (n : Network) (next : System) (top : Side → ℕ) (d
         → Tree n next top depth t x → (s : Station) → slice_get w.stations (n.place x) ≡ Some s → (i : ℕ)
         (r : Reception) → HoldsAt s i r → CameFits n.graph s.clock (suc i) r
     received_then d within over_now x in_x s at i r holds =
-        elim (held_over says n next top depth t old base worse w m.kept m.dark x in_x (λ a b i. over x a b i in_x) s at i
+        elim (held_over says n next top depth t old base worse w m.kept m.dark x in_x
+        (λ a b i. over x a b i in_x) s at i
         r holds) [
           | inr bare ↦ absurd (m.gone (omega (arith, over_now)) x s i r in_x at holds bare.bare)
           | inl h ↦

@@ -104,7 +104,8 @@ module _ (says : Spelling) (n : Network) (next : System) (top : Side → ℕ) (d
                 (subst (λ (z : Station). pv.held ≡ Mine z.root z.steps) same mine),
           ))
 
-      pub new_said : SaysSo says n next top depth t old base worse w w' kept kept' dark' step mixed v p u q in_v joins New
+      pub new_said : SaysSo says n next top depth t old base worse w w' kept kept' dark' step
+          mixed v p u q in_v joins New
       new_said touch mid call z a sent from said =
           let (own, master) = call.reacts.tells z a sent said in
           let at = said_at says n next top depth t old base worse w w' kept kept' dark' step mixed v p u q in_v joins
@@ -131,7 +132,11 @@ module _ (says : Spelling) (n : Network) (next : System) (top : Side → ℕ) (d
               flight = all_more says (λ a. Whole n.graph v a ⊎ In u a.path) fs news is.flight (λ f a among said.
                   inl (entered f a among said).whole);
             };
-            misses = λ held f fs silent is. record { hears = is.hears; flight = λ h a among. is.flight h a (inr among) };
+            misses = λ held f fs silent is. record {
+              hears = is.hears;
+              flight = λ h a among.
+                  is.flight h a (inr among);
+            };
             answers = λ touch now root steps pu pu' sends fs end end' time left answer deaf aged is.
                 free_answers says n.graph v u q touch now root steps pu pu' sends answer fs deaf is;
             hears = λ now root steps pu pu' sends l f fs a end end' time at frames said answer is.

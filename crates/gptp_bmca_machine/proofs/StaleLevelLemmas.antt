@@ -149,7 +149,8 @@ module _ (says : Spelling) (n : Network) (next : System) (top : Side → ℕ) (d
           }
 
       -- each link that leads farther is at its stage
-      pub settles_now : (f v p u q : ℕ) → f < bound → f < 255 → Tree n next top depth t v → LeadsFarther n.graph f next v p u q
+      pub settles_now : (f v p u q : ℕ) → f < bound → f < 255 → Tree n next top depth t v →
+          LeadsFarther n.graph f next v p u q
           → LinkSettles says (telling n (before f) f next v p u q) w
       settles_now f v p u q known close in_v leads = elim (settles f known v p u q close in_v leads) [
         | inl link ↦ link
@@ -327,7 +328,8 @@ module _ (says : Spelling) (n : Network) (next : System) (top : Side → ℕ) (d
       in_time : (e v p u q : ℕ) (b : System) → LeadsFarther n.graph e b v p u q → before e ≤ w.time
       in_time e v p u q b leads = late e (elim leads.farther [
         | inl less ↦
-            let within = IsDistance-within n.graph n.reach u leads.far t.paths leads.there in omega (arith, less, within)
+            let within = IsDistance-within n.graph n.reach u leads.far t.paths leads.there in
+            omega (arith, less, within)
         | inr (same, lower) ↦
             equal_within n.graph n.reach v u e t.well t.paths (suc p, suc q, leads.joins)
             (t.well.apart (port_of v (suc p)) (port_of u (suc q)) leads.joins) leads.here

@@ -201,7 +201,8 @@ module _ (says : Spelling) (n : Network) (next : System) (top : Side → ℕ) (d
     old_telling v p u q in_v joins strong s at pv there a b root mine =
         let stale = follows v in_v s at root in
         let down = stale_down says n next top depth t old base worse w kept dark v in_v
-        (λ x y i. over_all says n next top depth t old base worse near w mixed v x y i in_v) s at p u q joins pv there a b
+        (λ x y i. over_all says n next top depth t old base worse near w mixed v x y i in_v) s
+        at p u q joins pv there a b
         mine stale in
         let same = only_down depth v u strong stale.side down in
         (root, stale.steps ∙ ap (λ (x : Side). base + depth x v) same)
@@ -416,7 +417,8 @@ module _ (says : Spelling) (n : Network) (next : System) (top : Side → ℕ) (d
 
               up : IsDeeper depth stale.side u v
               up = stale_down says n next top depth t old base worse w kept dark u in_u
-                  (λ x y i. over_all says n next top depth t old base worse near w mixed u x y i in_u) s at q v p back pu
+                  (λ x y i. over_all says n next top depth t old base worse near w mixed u x y i
+                  in_u) s at q v p back pu
                   there old steps mine stale
 
               steps_u : steps ≡ base + depth strong.other u
@@ -433,7 +435,8 @@ module _ (says : Spelling) (n : Network) (next : System) (top : Side → ℕ) (d
       -- the weaker end, once the stronger has left what is stale, and all that it told has come
       pub unhindered_weak : (side : Side) (deeper : IsDeeper depth side v u) (strong : IsStronger depth u v)
           → HasLeft n w u root_then (base + depth strong.side u) → IsFreeAt says n.graph n u q v p w
-          → IsUnhindered says n next top depth t old base worse near v p u q in_v joins side deeper before in_time w kept
+          → IsUnhindered says n next top depth t old base worse near v p u q in_v joins side
+          deeper before in_time w kept
           dark mixed
       unhindered_weak side deeper strong left free = record {
         held = λ s pv r at there holds root steps.

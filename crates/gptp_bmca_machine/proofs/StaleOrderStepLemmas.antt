@@ -235,7 +235,8 @@ module _ (says : Spelling) (n : Network) (next : System) (top : Side → ℕ) (d
 
               by_stage : HoldsOldTold says n next top depth t old base worse near start w m.kept m.dark m.mixed h.v h.p
                   v stale.i h.in_v h.joins first port.0
-                  ⊎ (HasLeft n w h.v root_then (base + depth first.side h.v) × IsFreeAt says n.graph n h.v h.p v stale.i w) → ⊥
+                  ⊎ (HasLeft n w h.v root_then (base + depth first.side h.v) × IsFreeAt says
+                  n.graph n h.v h.p v stale.i w) → ⊥
               by_stage (inl held) =
                   let far = held.steps in
                   none stale.i held.r (port.0, port.1, held.holds) held.root (omega (arith, far, down_side))
@@ -304,7 +305,8 @@ module _ (says : Spelling) (n : Network) (next : System) (top : Side → ℕ) (d
               where
                 by_port : ((pv : Port) × (slice_get z.s.ports p ≡ Some pv)
                     × PortStep says z.s.clock (suc p) w.time z.touch z.s'.root z.s'.steps pv pv' z.sends)
-                    → HoldsTold says (still n d root_then v p u q) (IsNewTold n.graph (port_of v (suc p)) u) last pu.held
+                    → HoldsTold says (still n d root_then v p u q) (IsNewTold n.graph
+                    (port_of v (suc p)) u) last pu.held
                     l'.frames
                 by_port (pv, has_pv, answer) =
                     let (f, among, said, soon, all) = laid_now says n next top depth t old base worse w w' m.kept kept'

@@ -122,7 +122,8 @@ module _ (says : Spelling) (n : Network) (next : System) (top : Side → ℕ) (d
           → slice_get s.ports p ≡ Some pv → TellerIsReady k s pv → w.time ≤ over
       in_time s pv at there ready =
           let deep = t.deep side u in_u in
-          let by_then = tells_in_time says n next top depth t old base worse start w m (pred (pred n.reach)) v p u q in_v
+          let by_then = tells_in_time says n next top depth t old base worse start w m
+          (pred (pred n.reach)) v p u q in_v
           joins limit tells in
           let most = reached (pred (pred n.reach)) (two_more n.reach (depth side v) (omega (arith, deep, deeper))) in
           omega (arith, by_then, most)
@@ -132,7 +133,8 @@ module _ (says : Spelling) (n : Network) (next : System) (top : Side → ℕ) (d
               let same = same_there w.stations (n.place v) s s2 at at2 in
               let root = subst (λ (z : Station). z.root ≡ old) same ready.0.0 in
               let steps = subst (λ (z : Station). z.steps ≡ base + depth side v) same ready.0.1 in
-              let mine = (tells_it says n next top depth t old base worse near v p u q in_v joins side deeper long delay w
+              let mine = (tells_it says n next top depth t old base worse near v p u q in_v
+              joins side deeper long delay w
               m.kept m.dark m.mixed (clear w m done) s2 q2 at2 there2 root steps).mine in
               (root, mine ∙ (λ i. Mine (sym root i) (sym steps i)))
 
@@ -206,9 +208,11 @@ module _ (says : Spelling) (n : Network) (next : System) (top : Side → ℕ) (d
                         (subst (In f) (sym laid.behind) (In-right f l0.frames laid.news among)) in
                         subst (LinkStage says k pv.announce pu.held) (sym laid.behind)
                         (begins says k pv.announce pu.held l0.frames laid.news f
-                        (news_final says n t.well long (base + depth side v) root_then v p u q joins delay w' m'.kept z.s'
+                        (news_final says n t.well long (base + depth side v) root_then v p u q
+                        joins delay w' m'.kept z.s'
                         z.there pv there' (subst (λ (x : Station). TellerIsReady k x pv) one ready)
-                        (tells_it says n next top depth t old base worse near v p u q in_v joins side deeper long delay w'
+                        (tells_it says n next top depth t old base worse near v p u q in_v joins
+                        side deeper long delay w'
                         m'.kept m'.dark m'.mixed (clear w' m' done') z.s' pv z.there there'
                         (subst (λ (x : Station). x.root ≡ old) one ready.0.0)
                         (subst (λ (x : Station). x.steps ≡ base + depth side v) one ready.0.1)) z.sends z.reacts.tells
@@ -313,7 +317,8 @@ module _ (says : Spelling) (n : Network) (next : System) (top : Side → ℕ) (d
 
               down : IsDeeper depth stale.side v u
               down = stale_down says n next top depth t old base worse w m.kept m.dark v in_v
-                  (λ a b i. over_all says n next top depth t old base worse near w m.mixed v a b i in_v) s at p u q joins pv
+                  (λ a b i. over_all says n next top depth t old base worse near w m.mixed v a b
+                  i in_v) s at p u q joins pv
                   there s.root s.steps mine stale
 
               tell : (IsStronger depth v u → ⊥) → IsDone v p u q w

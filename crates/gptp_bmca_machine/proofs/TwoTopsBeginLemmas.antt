@@ -349,7 +349,8 @@ module _ (says : Spelling) (n0 n : Network) (net0 : IsSettlingNetwork n0) (w w' 
       (reached : (d : ℕ) → suc (suc d) ≤ n.reach → falls_by n start (suc d) ≤ over) (before_f : ℕ → ℕ)
       (soon : (e : ℕ) → over + n.most < before_f e) (grows : (e : ℕ) → before_f e + n.most ≤ before_f (suc e)) where
     tell_begins : AllTell says n next top depth c.tree best.identity base c.worse c.near start over long room reached w'
-    tell_begins v p u q side in_v joins deeper weak done = elim (back_dec says n next top depth c.tree best.identity base
+    tell_begins v p u q side in_v joins deeper weak done = elim (back_dec says n next top depth
+        c.tree best.identity base
         c.worse c.near start over long room reached v u in_v (suc p, suc q, joins)) [
           | inr none ↦ by (down_leads g n top best next base depth c v u in_v (suc p, suc q, joins) none)
           | inl (y, up) ↦ elim (stronger_one depth v u side y
@@ -386,7 +387,8 @@ module _ (says : Spelling) (n0 n : Network) (net0 : IsSettlingNetwork n0) (w w' 
             })))))
 
     pub falls_begins : BareHoldStale says n next top depth c.tree best.identity base c.worse w'
-        → FallsFromTops says n next top depth c.tree best.identity base c.worse c.near start over long begun room reached
+        → FallsFromTops says n next top depth c.tree best.identity base c.worse c.near start
+        over long begun room reached
         before_f soon grows w'
     falls_begins dark' = record {
       stale = stale_begins dark';

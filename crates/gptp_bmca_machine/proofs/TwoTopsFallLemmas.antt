@@ -28,7 +28,8 @@ module _ (says : Spelling) (n : Network) (next : System) (top : Side → ℕ) (d
       → IsAfterLoss n w' → BareHoldStale says n next top depth t old base worse w'
       → BareHoldNone says n next top depth t old base worse start w'
       → BareDrop says n next top depth t old base worse w w' → MachineSteps says w w'
-      → FallsFromTops says n next top depth t old base worse near start over long begun room reached before soon grows w'
+      → FallsFromTops says n next top depth t old base worse near start over long begun room
+      reached before soon grows w'
   falls_from_tops_on w w' is kept' dark' gone' drops step = record {
     stale = stale';
     strong = strong';

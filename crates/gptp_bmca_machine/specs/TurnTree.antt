@@ -9,8 +9,9 @@ use Rattle.gptp_bmca_machine.specs.Network.{Network}
 use Rattle.gptp_bmca_machine.specs.LossLaws.{IsWhatIsLeft, Unmoved}
 
 -- What is told since a loss has its ways in this snapshot: it has all that is left, nothing that wasn't there before,
--- each system as it was, and of links at systems of the tree those alone that are left. Where a link was lost alone it is what is left. Where
--- a system failed it has that too, with its links to systems that aren't of the tree: what it told last is told on.
+-- each system as it was, and of links at systems of the tree those alone that are left. Where a link was lost alone it
+-- is what is left. Where a system failed it has that too, with its links to systems that aren't of the tree: what it
+-- told last is told on.
 pub record HasWays (g : Snapshot) (n : Network) (tree : List ℕ) (ways : Snapshot) : Type 0 where
   pub well : IsWellFormed ways
   pub left : IsWhatIsLeft ways n
