@@ -6,6 +6,7 @@ pub mod Turned
 pub mod Tree
 pub mod TurnedTree
 pub mod MovedTrees
+pub mod TwoTops
 pub mod Silent
 pub mod Bounds
 pub mod Rest

@@ -21,6 +21,7 @@ use Rattle.gptp_how_soon.specs.Times.{View, settling_time}
 use Rattle.gptp_how_soon.specs.Tree.{cuts_tree, worsens_best}
 use Rattle.gptp_how_soon.specs.Turned.{turns_one}
 use Rattle.gptp_how_soon.specs.TurnedTree.{turns_tree}
+use Rattle.gptp_how_soon.specs.TwoTops.{trees_move}
 use Rattle.gptp_how_soon.specs.declared.bounds.SettlingTime.{SettlingTime}
 use Rattle.gptp_how_soon.specs.declared.chosen.Chosen.{Chosen}
 use Rattle.gptp_how_soon.specs.declared.chosen.Ends.{Ends}
@@ -126,11 +127,13 @@ moves_seen n w at = record {
       && turns_tree (systems_in w.tables.nodes.items) (lost_seen w) (ends_in_use w.ends.items (used_now w))
       (chosen_before w) (chosen_now w);
   trees_move = has_come_seen n w at
-      && moves_trees (systems_in w.tables.nodes.items) (lost_seen w) (ends_in_use w.ends.items (used_now w))
+      && trees_move (systems_in w.tables.nodes.items) (lost_seen w) (ends_in_use w.ends.items (used_now w))
       (chosen_before w) (chosen_now w);
   taken = not (any_moved (systems_in w.tables.nodes.items) (chosen_before w) (chosen_now w))
       && not (any_silent w.used_before.items w.tables.standings.items);
-  cuts_all = has_come_seen n w at
+  cuts_all = (has_come_seen n w at
+      && moves_trees (systems_in w.tables.nodes.items) (lost_seen w) (ends_in_use w.ends.items (used_now w))
+      (chosen_before w) (chosen_now w))
       && cuts_all (systems_in w.tables.nodes.items) (lost_seen w) (chosen_before w) (chosen_now w);
   far = are_far w.systems_before.items (chosen_before w) (ends_in_use w.ends.items w.used_before.items) w.told.items;
   held = held_among n (own_intervals n w.before at) (heard_seen w) w.tables.standings.items;

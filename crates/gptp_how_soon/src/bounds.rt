@@ -397,13 +397,14 @@ fn sound_by(network: &Network, loss: Loss, paths: SyncPaths, row: Row, gained: u
         Row::Unchanged => 0,
         Row::Lowered => echo_span(network, paths).max(gone_by(network, paths, loss.used_before)),
         Row::TakenAway => taken_echo_span(network, loss, paths),
-        Row::CutOff | Row::TreeFalls => (2 * way_span(paths)).max(gone),
+        Row::CutOff => (2 * way_span(paths)).max(gone),
+        Row::TreeFalls => (2 * way_span(paths)).max(gone_by(network, paths, loss.used_before)),
         Row::FailedEnd => quiet_by(network, loss, gone_before),
         Row::FailedHeard => aged_echo_span(network, loss, paths),
         Row::FailureCutsOff => {
             let aged = aged_by(loss) + 2 * way_span(paths);
             if loss.cuts_all {
-                quiet_by(network, loss, aged + gone)
+                quiet_by(network, loss, aged + gone_by(network, paths, loss.used))
             } else {
                 aged.max(aged_echo_span(network, loss, paths))
             }
@@ -412,7 +413,8 @@ fn sound_by(network: &Network, loss: Loss, paths: SyncPaths, row: Row, gained: u
         Row::FailureMovesTrees => {
             network.well_formed();
             let told = echo_span(network, paths).max(interval_of(network.largest()));
-            let later = if loss.cuts_all { gone } else { told };
+            let flight = gone_by(network, paths, loss.used);
+            let later = if loss.cuts_all { flight } else { told };
             quiet_by(network, loss, aged_by(loss) + 2 * way_span(paths) + later)
         }
         Row::AnyLosses => quiet_by(network, loss, any_loss_span(network, loss, paths)),

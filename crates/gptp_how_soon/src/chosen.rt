@@ -233,7 +233,7 @@ pub(crate) fn is_joined(links: &[Ends], place: usize) -> bool
 }
 
 /// Whether one of these links ends at the place of a system that lives and has another choice.
-fn is_joined_moved_at(
+pub(crate) fn is_joined_moved_at(
     systems: &[System],
     links: &[Ends],
     before: &[Chosen],

@@ -26,6 +26,7 @@ mod times;
 mod tree;
 mod turned;
 mod turned_tree;
+mod two_tops;
 mod walk;
 
 pub use bounds::{Loss, Row, Settling, SettlingTime};

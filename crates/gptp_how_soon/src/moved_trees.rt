@@ -284,12 +284,17 @@ fn far_end_moves(systems: &[System], before: &[Chosen], now: &[Chosen], ends: &E
         && is_moved_if_far(systems, before, now, ends.b, ends.a)
 }
 
+/// Whether it is so of each of these links.
+fn all_far_ends_move(systems: &[System], lost: &[Ends], before: &[Chosen], now: &[Chosen]) -> bool
+    ensures { result ≡ list_all (far_end_moves systems.now before.now now.now) lost.now }
+{
+    lost.iter()
+        .all(|ends| far_end_moves(systems, before, now, ends))
+}
+
 /// Whether each system that is moved gets a worse root, and each live far end of these links, which are lost, is moved.
 pub(crate) fn cuts_all(systems: &[System], lost: &[Ends], before: &[Chosen], now: &[Chosen]) -> bool
     ensures { result ≡ cuts_all systems.now lost.now before.now now.now }
 {
-    all_stay_or_get_worse(systems, before, now)
-        && lost
-            .iter()
-            .all(|ends| far_end_moves(systems, before, now, ends))
+    all_stay_or_get_worse(systems, before, now) && all_far_ends_move(systems, lost, before, now)
 }

@@ -34,7 +34,7 @@ pub struct Moves {
     pub trees_move: bool,
     /// Whether they move none, also none that is cut off, and leave no link silent.
     pub taken: bool,
-    /// Whether then each system that they move gets a worse root, and so does each live far end of a link that is lost.
+    /// Whether then each system of these trees gets a worse root, and each live far end of a link that is lost is moved.
     pub cuts_all: bool,
     /// Whether those that they name were far ends.
     pub far: bool,

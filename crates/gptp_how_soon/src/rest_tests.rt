@@ -70,9 +70,16 @@ fn events_come_from_rest_soon_after_a_loss(rt: HostRuntime) -> Result<(), Fail> 
         (
             "d loses its power, and cuts c off",
             "[[event]]\nat = 100000000000\nkind = \"fail\"\nclock = \"000000000000000d\"\n[[event]]\nat = 100000000000\nkind = \"link_down\"\nclock = \"000000000000000d\"\nport = 1\n[[event]]\nat = 100000000000\nkind = \"link_down\"\nclock = \"000000000000000d\"\nport = 2\n[[event]]\nat = 102000000000\nkind = \"recover\"\nclock = \"000000000000000d\"\n",
-            1_000_001_640,
+            1_230,
             102_000_000_000,
             410,
+        ),
+        (
+            "d hangs, and cuts c off",
+            "[[event]]\nat = 100000000000\nkind = \"fail\"\nclock = \"000000000000000d\"\n[[event]]\nat = 101375000821\nkind = \"recover\"\nclock = \"000000000000000d\"\n[network]\npdelay = -3\nlost = 1\n",
+            1_375_000_820,
+            101_375_000_821,
+            1_250_003_050,
         ),
         (
             "b hangs",
@@ -147,6 +154,29 @@ fn events_come_from_rest_soon_after_several_losses(rt: HostRuntime) -> Result<()
         assert_eq!(rt;
             rests(&times, 30_000_000_000, next),
             Some((2_000_001_230, choice)),
+            "{case}"
+        );
+    }
+    Ok(())
+}
+
+#[test]
+fn events_come_from_rest_soon_beside_links_that_a_failure_left_up(
+    rt: HostRuntime,
+) -> Result<(), Fail> {
+    // c hangs, and its links stay up: as slow as the one that is in use once b is cut off, or one is slower.
+    const SLOWER: &str =
+        "[[event]]\nat = 10000000000\nkind = \"link_set\"\nclock = \"000000000000000b\"\nport = 2\nmin = 380\nmax = 500\nloss = 0\n";
+    for (case, before, rest) in [("as slow", "", 1_230), ("slower", SLOWER, 1_000_000_000)] {
+        let mut text = String::new(rt.alloc());
+        text.push_str(before)?;
+        text.push_str(
+            "[[event]]\nat = 30000000000\nkind = \"fail\"\nclock = \"000000000000000c\"\n[[event]]\nat = 100000000000\nkind = \"link_down\"\nclock = \"000000000000000b\"\nport = 1\n",
+        )?;
+        let times = ring(rt.alloc(), text.as_str())?;
+        assert_eq!(rt;
+            rests(&times, 100_000_000_000, 100_000_000_000),
+            Some((rest, 820)),
             "{case}"
         );
     }

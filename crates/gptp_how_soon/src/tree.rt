@@ -190,7 +190,7 @@ pub(crate) fn cuts_tree(
 }
 
 /// Whether the system at a place had chosen itself.
-fn chose_itself(chosen: &[Chosen], place: usize) -> bool
+pub(crate) fn chose_itself(chosen: &[Chosen], place: usize) -> bool
     ensures { result ≡ chose_itself (slice_get chosen.now place) }
 {
     match chosen.get(place) {

@@ -10,7 +10,7 @@ use gptp_topology::System;
 use std::alloc::{AllocError, Global};
 
 /// Puts a place after others, where it is wanted.
-fn push_if(places: &mut Vec<usize>, place: usize, wanted: bool) -> Result<(), AllocError>
+pub(crate) fn push_if(places: &mut Vec<usize>, place: usize, wanted: bool) -> Result<(), AllocError>
     ensures { OnOk result (places.new.items ≡ places.old.items ++ (if wanted then place ∷ [] else [])) }
 {
     if wanted {

@@ -25,6 +25,7 @@ use crate::silent::{any_silent, heard_links, held_among, own_intervals};
 use crate::tree::{cuts_tree, worsens_best};
 use crate::turned::turns_one;
 use crate::turned_tree::turns_tree;
+use crate::two_tops::or_falls_twice;
 use gptp_scenario::{Act, Network, SyncPaths};
 use gptp_topology::{System, Tables, cables_of};
 use std::alloc::{AllocError, Global};
@@ -154,6 +155,8 @@ impl Walk {
         let heard = heard_links(alloc, &systems, &before, &self.used_before, &self.ends)?;
         let any_moved = any_moved(&systems, &before, &now);
         let silent = any_silent(&self.used_before, &self.tables.standings);
+        let moves = moves_trees(&systems, &lost, &links, &before, &now);
+        let trees = or_falls_twice(alloc, moves, &systems, &lost, &links, &before, &now)?;
         Ok(Moves {
             moved: any_counted(joined, &systems, &links, &before, &now),
             any_moved,
@@ -165,9 +168,9 @@ impl Walk {
                 worsens_best(&systems, &links, &before, &now, &self.told),
             ),
             tree_turns: both(come, turns_tree(&systems, &lost, &links, &before, &now)),
-            trees_move: both(come, moves_trees(&systems, &lost, &links, &before, &now)),
+            trees_move: both(come, trees),
             taken: both(!any_moved, !silent),
-            cuts_all: both(come, cuts_all(&systems, &lost, &before, &now)),
+            cuts_all: both(both(come, moves), cuts_all(&systems, &lost, &before, &now)),
             far: are_far(&self.systems_before, &before, &links_before, &self.told),
             held: held_among(network, own, &heard, &self.tables.standings),
         })

@@ -1,14 +1,13 @@
 -- What is told of each time of a document is so: its choice and roles are choice bounds or loss bounds. The network has
 -- come to rest by a rest bound.
 use Rattle.std.proofs.Common.{◌≡◌, ◌<◌, ◌≤◌, ◌⊎◌, inl, inr, ◌+◌, ◌*◌, max, ℕ, Bool, true, false, cond, List, [], ◌∷◌, ◌++◌, Some, None, refl, sym, ap, subst, ◌∙◌, arith}
-use Rattle.std.specs.Prelude.{◌==◌, if◌then◌else◌, min, nat_le, nat_lt}
-use Rattle.std.specs.List.{AllByRecursion}
+use Rattle.std.specs.Prelude.{◌==◌, if◌then◌else◌, nat_le}
 use Rattle.std.proofs.lemmas.Bool.{eqb-false, eqb-true}
 use Rattle.std.proofs.lemmas.Bool.Decides.{nat_tests}
 use Rattle.gptp_lists.specs.Members.{In}
-use Rattle.gptp_lists.proofs.SystemSpecLemmas.{In-left, In-parts, slice_get-In}
-use Rattle.gptp_setup.specs.SettlingParams.{largest_interval, longest_span}
-use Rattle.gptp_scenario.specs.Calm.{IsCalm, NothingLapses, last_change}
+use Rattle.gptp_lists.proofs.SystemSpecLemmas.{In-left, In-parts}
+use Rattle.gptp_setup.specs.SettlingParams.{largest_interval}
+use Rattle.gptp_scenario.specs.Calm.{IsCalm, NothingLapses}
 use Rattle.gptp_scenario.specs.Network.{NetworkState, pace_of}
 use Rattle.gptp_scenario.specs.SettlingTime.{echo_span, silence_span, way_span, window_span}
 use Rattle.gptp_scenario.specs.SyncWait.{sync_paths}
@@ -17,37 +16,38 @@ use Rattle.gptp_scenario.specs.declared.sync_wait.SyncPaths.{SyncPaths}
 use Rattle.gptp_network.specs.Document.{DocumentState}
 use Rattle.gptp_network.specs.Snapshot.{events_by}
 use Rattle.gptp_network.proofs.SnapshotLemmas.{from_filter}
-use Rattle.gptp_invariants.specs.WorldEncodableLaws.{SetsAnOctet}
 use Rattle.gptp_theorem.specs.PlayedLaws.{IsPlayable}
 use Rattle.gptp_how_soon.specs.Bounds.{aged_by, aged_echo_span, any_loss_span, arrived_by, choice_by, choice_of_row, gone_by, quiet_by, roles_of_row, sound_by}
 use Rattle.gptp_how_soon.specs.Kinds.{is_lowering}
 use Rattle.gptp_how_soon.specs.Links.{longest_delay}
-use Rattle.gptp_how_soon.specs.Silent.{own_intervals}
 use Rattle.gptp_how_soon.specs.Times.{View, events_at, gained_at, last_set, loss_at, ready_at, row_at, settling_time, settling_times, settling_times_from, time_at, view_at}
 use Rattle.gptp_how_soon.specs.declared.bounds.Loss.{Loss}
 use Rattle.gptp_how_soon.specs.declared.bounds.Row.{Row}
-use Rattle.gptp_how_soon.specs.declared.bounds.Row.TheVariants.{AnyLosses, AnyPast, CutOff, FailedEnd, FailedHeard, FailureCutsOff, FailureMovesTrees, Gained, Lowered, SystemTurned, TakenAway, TreeTurned, Unchanged, TreeFalls}
+use Rattle.gptp_how_soon.specs.declared.bounds.Row.TheVariants.{AnyLosses, AnyPast, CutOff, FailedEnd, FailedHeard, FailureCutsOff, FailureMovesTrees, Gained, Lowered, SystemTurned, TakenAway, TreeFalls, TreeTurned, Unchanged}
 use Rattle.gptp_how_soon.specs.declared.bounds.Settling.{Settling}
 use Rattle.gptp_how_soon.specs.declared.bounds.SettlingTime.{SettlingTime}
-use Rattle.gptp_settling_time.specs.HowSoon.{BeforeRepeats, BesideIdle, BoundsAging, BoundsAnyLoss, BoundsChoice, BoundsEvents, BoundsLoss, BoundsSplit, BoundsStart, BoundsTree, CutsOneEnd, FailsEndFirst, FailsHeardFirst, FailsTreesFirst, HeldFor, IsChoiceBoundAfter, IsLossBoundAfter, IsRestBoundAfter, LosesEvents, LowersOneLink, NoneBetween, RestsAfterLoss, RestsOnceTold, RestsSplit, RestsTree, RolesAfterFailure, TakesSeveral, TreeNext, TurnsOneLink}
+use Rattle.gptp_settling_time.specs.HowSoon.{BeforeRepeats, BoundsAnyLoss, BoundsChoice, BoundsEvents, BoundsLoss, BoundsSplit, BoundsStart, BoundsTree, FailsTreesFirst, IsChoiceBoundAfter, IsLossBoundAfter, IsRestBoundAfter, NoneBetween, RestsAfterAnyLoss, RestsAfterLoss, RestsOnceTold, RestsSplit, RestsTaken, RestsTree, RolesAfterFailure, TreeNext}
 use Rattle.gptp_settling_time.specs.EventKinds.{FlightIsGone}
 use Rattle.gptp_settling_time.specs.Rests.{turned_echo_span}
 use Rattle.gptp_settling_time.specs.Losses.{NoneSilent}
 use Rattle.gptp_settling_time.specs.TreeLosses.{FallsTree, TurnsTreeLink}
 use Rattle.gptp_settling_time.proofs.BesideIdleLemmas.{before_none}
-use Rattle.gptp_settling_time.proofs.MomentLemmas.{all_at, last_by, parted}
+use Rattle.gptp_settling_time.proofs.MomentLemmas.{parted}
 use Rattle.gptp_settling_time.proofs.WellFormedLemmas.{after_well}
 use Rattle.gptp_how_soon_laws.specs.Choice.{SettlingsAreChoiceBounds}
 use Rattle.gptp_how_soon_laws.proofs.FailedLemmas.{used_up}
 use Rattle.gptp_how_soon_laws.proofs.RowBoundLemmas.{HasOwnBounds, IsSoundSooner, IsTelling, bounds_choice, choice_or_own, past_row, sound_or_sooner, tells}
-use Rattle.gptp_how_soon_laws.proofs.RowLemmas.{ComesLate, FailsLate, GoesFirst, TakesAway, cut_off, failed, failure_cuts, gained, heard, losses, lowered, none_left, same_paths, taken, tree_turned, turned, unchanged, FallsLate, tree_falls}
+use Rattle.gptp_how_soon_laws.proofs.RowLemmas.{gained, unchanged}
+use Rattle.gptp_how_soon_laws.proofs.RowLossLemmas.{ComesLate, FallsLate, FailsLate, GoesFirst, TakesSome, cut_off, failed, failure_cuts, heard, losses, lowered, none_left, same_paths, taken, tree_falls, tree_turned, turned}
+use Rattle.gptp_how_soon_laws.proofs.AgedLemmas.{aged, aging, quiet_later}
+use Rattle.gptp_how_soon_laws.proofs.LossBoundLemmas.{beside, greater, no_later, some_before, some_heard, some_lost, some_rested, some_trees}
 use Rattle.gptp_how_soon_laws.proofs.RepeatLemmas.{before_repeats}
 use Rattle.gptp_how_soon_laws.proofs.RowTestLemmas.{HasComeToRest}
-use Rattle.gptp_how_soon_laws.proofs.SilentLemmas.{held_for, last_now, none_ages}
-use Rattle.gptp_how_soon_laws.proofs.TakenAwayLemmas.{several_lost}
 use Rattle.gptp_how_soon_laws.proofs.StartRowLemmas.{first_past, first_roles, first_sound, never_unchanged, started}
 use Rattle.gptp_how_soon_laws.proofs.UnmovedLemmas.{AreWell}
+use Rattle.gptp_how_soon_laws.proofs.TreeWorsenedLemmas.{octets_at}
 use Rattle.gptp_how_soon_laws.proofs.TimesLemmas.{AreTimes, later_times, times_after, times_parts}
+use Rattle.gptp_how_soon_laws.proofs.TakenAwayLemmas.{several_lost}
 
 -- the events up to time 0 are those at it
 begin_at : (events : List Timed) → events_by 0 events ≡ events_at 0 events
@@ -71,15 +71,6 @@ begin_at (event ∷ events) = by (nat_le event.at 0) (event.at == 0) refl refl (
 rested_late : (aged ways echo quiet sound : ℕ) → sound ≡ max (aged + (ways + echo)) quiet
     → max (max (aged + ways) quiet) (aged + ways + echo) ≤ sound
 rested_late aged ways echo quiet sound is = omega (arith, is)
-
-lesser : (choice roles a b : ℕ) → choice ≡ min a b → roles ≡ b → choice ≤ roles
-lesser choice roles a b is same = omega (arith, is, same)
-
-below : (a b : ℕ) → nat_lt a b ≡ true → a < b
-below a b is = grind (arith, nat_tests)
-
-greater : (choice roles a : ℕ) → roles ≡ max choice a → choice ≤ roles
-greater choice roles a same = omega (arith, same)
 
 module _ (d : DocumentState) (playable : IsPlayable d) where
   abbrev n : NetworkState
@@ -178,12 +169,6 @@ module _ (d : DocumentState) (playable : IsPlayable d) where
         after_well d playable events
         (λ t member. made_or_now t (subst (In t) are (In-left t events left member)))
 
-    -- each priority1 that is set is an octet
-    octets : (t : Timed) → In t now → SetsAnOctet t.act
-    octets t member =
-        let (place, there) = slice_get-In t all (from_filter (λ (u : Timed). u.at == at) t all member).0 in
-        playable.octets place t there
-
     -- it settles by this, whatever it loses
     abbrev settled_by : ℕ
     settled_by = choice_by n (loss_at v) v.paths (past_row (row_at v)) (gained_at n v)
@@ -203,119 +188,6 @@ module _ (d : DocumentState) (playable : IsPlayable d) where
           subst (λ es. BoundsChoice n (Sharp settled_by) es settled_by)
               (sym (parted all b.at at playable.events.in_order late between)) bound,
         )
-
-    -- what others hold of a system that fails has aged so much later
-    held : (now ≡ [] → ⊥) → HeldFor n made now v.moves.held
-    held some =
-        held_for n playable.network made now (own_intervals n (Some b) at) (late_so now some (all_at at all))
-        (well made now refl)
-      where
-        late_so : (events : List Timed) → (events ≡ [] → ⊥)
-            → AllByRecursion (λ (t : Timed). t.at ≡ at) events → own_intervals n (Some b) at ≡ true
-            → last_change made + largest_interval (pace_of n) + longest_span (pace_of n)
-            < last_change (made ++ events)
-        late_so [] none at_all own = absurd (none refl)
-        late_so (event ∷ events) some at_all own =
-            let last = last_by b.at all in
-            let moment = last_now at made event events at_all in
-            let passed = below (b.at + largest_interval (pace_of n) + longest_span (pace_of n)) at own in
-            omega (arith, last, moment, passed)
-
-    -- it has an event where this isn't so of none
-    some_now : (Are : List Timed → Type 0) → (Are [] → ⊥) → Are now → now ≡ [] → ⊥
-    some_now Are none are same = none (subst Are same are)
-
-    -- nothing has to age where no lost link is silent
-    aged : (now ≡ [] → ⊥) → HeldFor n made now (aged_by loss)
-    aged some = by v.silent refl
-      where
-        by : (silent : Bool) → v.silent ≡ silent → HeldFor n made now (if silent then v.moves.held else 0)
-        by true is = held some
-        by false is =
-            let none = none_left n playable.network all b at late is in
-            (0, none_ages n made (made ++ now) (last_change (made ++ now)) none, omega arith)
-
-    -- and roles stand then, or once ports at silent links are off
-    aging : (now ≡ [] → ⊥) → BoundsAging n made now (aged_by loss) (quiet_by n loss (aged_by loss))
-    aging some = by v.silent refl
-      where
-        by : (silent : Bool) → v.silent ≡ silent
-            → BoundsAging n made now (if silent then v.moves.held else 0)
-            (if silent then max (if silent then v.moves.held else 0) (silence_span (pace_of n))
-            else if silent then v.moves.held else 0)
-        by true is =
-            let (span, ages, least) = held some in
-            inr ((span, ages, least), omega (arith, least))
-        by false is = inl (none_left n playable.network all b at late is, refl, refl)
-
-    -- so they do where the choice stands later
-    quiet_later : (more : ℕ)
-        → quiet_by n loss (aged_by loss + more) ≡ max (aged_by loss + more) (quiet_by n loss (aged_by loss))
-    quiet_later more = by v.silent
-      where
-        by : (silent : Bool)
-            → (if silent then max ((if silent then v.moves.held else 0) + more) (silence_span (pace_of n))
-            else (if silent then v.moves.held else 0) + more)
-            ≡ max ((if silent then v.moves.held else 0) + more)
-            (if silent then max (if silent then v.moves.held else 0) (silence_span (pace_of n))
-            else if silent then v.moves.held else 0)
-        by true = omega arith
-        by false = omega arith
-
-    some_heard : FailsHeardFirst n made now → now ≡ [] → ⊥
-    some_heard = some_now (FailsHeardFirst n made) (λ none. none)
-
-    some_trees : FailsTreesFirst n made now → now ≡ [] → ⊥
-    some_trees = some_now (FailsTreesFirst n made) (λ none. none)
-
-    -- no other event stands beside what is lost but such as repeat what stands
-    beside : (settled : ℕ) (Are : List Timed → List Timed → Type 0) → (now ≡ [] → ⊥) → BeforeRepeats n Are made now
-        → BesideIdle n settled at Are made now
-    beside settled Are some is = by now refl
-      where
-        by : (events : List Timed) → now ≡ events → BesideIdle n settled at Are made events
-        by [] none = absurd (some none)
-        by (event ∷ events) same = inl (inl (subst (BeforeRepeats n Are made) same is))
-
-    -- some event comes by which something is taken away
-    some_before : (Are : List Timed → List Timed → Type 0) → ((events : List Timed) → Are made events → events ≡ [] → ⊥)
-        → BeforeRepeats n Are made now → now ≡ [] → ⊥
-    some_before Are some (first, others, split, each, are) none = by first refl
-      where
-        by : (events : List Timed) → first ≡ events → ⊥
-        by [] is = some first are is
-        by (event ∷ events) is = let no = sym none ∙ split ∙ ap (λ es. es ++ others) is in absurd cc
-
-    some_of : (Are : List Timed → Type 0) → (Are [] → ⊥) → (events : List Timed) → Are events → events ≡ [] → ⊥
-    some_of Are none events are same = none (subst Are same are)
-
-    some_lost : (choice roles : ℕ) (events : List Timed) → BoundsLoss n made events choice roles → events ≡ [] → ⊥
-    some_lost choice roles events (inl (lowers, same, which)) =
-        some_of (LowersOneLink n made) (λ none. none) events lowers
-    some_lost choice roles events (inr (inl (fails, none, which))) =
-        some_of (FailsEndFirst n made) (λ none. none) events fails
-    some_lost choice roles events (inr (inr (inl (turns, is, same)))) =
-        some_of (TurnsOneLink n made) (λ none. none) events turns
-    some_lost choice roles events (inr (inr (inr (inl (fails, aging))))) =
-        some_of (FailsHeardFirst n made) (λ none. none) events fails
-    some_lost choice roles events (inr (inr (inr (inr (inl (loses, is, later)))))) =
-        some_of (LosesEvents n made) (λ none. none) events loses
-    some_lost choice roles events (inr (inr (inr (inr (inr (takes, moves, none, is, same)))))) =
-        some_of (TakesSeveral n made) (λ none. none) events takes
-
-    some_rested : (sound : ℕ) (events : List Timed) → RestsAfterLoss n made events sound → events ≡ [] → ⊥
-    some_rested sound events (inl (inl (cuts, gone))) = some_of (CutsOneEnd n made) (λ none. none) events cuts
-    some_rested sound events (inl (inr (inl (fails, gone)))) =
-        some_of (FailsEndFirst n made) (λ none. none) events fails
-    some_rested sound events (inl (inr (inr (inl (lowers, gone))))) =
-        some_of (LowersOneLink n made) (λ none. none) events lowers
-    some_rested sound events (inl (inr (inr (inr (inl (turns, is)))))) =
-        some_of (TurnsOneLink n made) (λ none. none) events turns
-    some_rested sound events (inl (inr (inr (inr (inr (fails, told)))))) =
-        some_of (FailsHeardFirst n made) (λ none. none) events fails
-    some_rested sound events (inr (inl (choice, bounds))) = some_of (LosesEvents n made) (λ none. none) events bounds.0
-    some_rested sound events (inr (inr (takes, leaves, few, used, long))) =
-        some_of (TakesSeveral n made) (λ none. none) events takes
 
     -- what is so of all events, or of the first, before such that repeat what stands
     alone : (Are : List Timed → List Timed → Type 0) → Are made now → BeforeRepeats n Are made now
@@ -369,7 +241,8 @@ module _ (d : DocumentState) (playable : IsPlayable d) where
             rest.settling.sound,
             bound,
             past,
-            beside (b.at + rest.settling.sound) (Resting sound) (some_before (Resting sound) (some_rested sound) loses)
+            beside n made now (b.at + rest.settling.sound) at (Resting sound)
+                (some_before n made now (Resting sound) (some_rested n made now sound) loses)
                 loses,
           ),
         ))
@@ -398,15 +271,19 @@ module _ (d : DocumentState) (playable : IsPlayable d) where
         inl (rest, alone (Resting sound) (inl (inr (inl (fails, by v.silent refl flight (told ∙ is))))))
       where
         gone : ℕ
-        gone = gone_by n v.paths_before v.used_before
+        gone = gone_by n v.paths_before loss.soon_before
 
-        by : (silent : Bool) → v.silent ≡ silent → FlightIsGone n made gone
+        by : (silent : Bool) → v.silent ≡ silent → FlightIsGoneFrom n made (last_change (made ++ now)) gone
             → sound ≡ (if silent then max gone (silence_span (pace_of n)) else gone)
-            → (NoneSilent n made (made ++ now) × FlightIsGone n made sound)
-            ⊎ ((time : ℕ) × FlightIsGone n made time × (sound ≡ max (silence_span (pace_of n)) time))
+            → (NoneSilent n made (made ++ now) × FlightIsGoneFrom n made (last_change (made ++ now)) sound)
+            ⊎ ((time : ℕ) × FlightIsGoneFrom n made (last_change (made ++ now)) time
+            × (sound ≡ max (silence_span (pace_of n)) time))
         by true silent flight same = inr (gone, flight, omega (arith, same))
         by false silent flight same =
-            inl (none_left n playable.network all b at late silent, subst (FlightIsGone n made) (sym same) flight)
+            inl (
+              none_left n playable.network all b at late silent,
+              subst (FlightIsGoneFrom n made (last_change (made ++ now))) (sym same) flight,
+            )
     rests_by sound told (inr (inl (row, is))) =
         let (rest, (l, flight)) = lowered n playable.network all b at late well row in
         let same = same_paths n playable.network all b at late is_lowering l.first in
@@ -433,7 +310,8 @@ module _ (d : DocumentState) (playable : IsPlayable d) where
           rest,
           alone (Resting sound) (inl (inr (inr (inr (inr (
             fails,
-            by (some_heard fails) v.used refl (subst (λ t. aged_echo_span n loss v.paths ≤ t) (sym told) long),
+            by (some_heard n made now fails) v.used refl
+                (subst (λ t. aged_echo_span n loss v.paths ≤ t) (sym told) long),
           )))))),
         )
       where
@@ -445,7 +323,8 @@ module _ (d : DocumentState) (playable : IsPlayable d) where
             → RestsOnceTold n made now sound
         by some true used late_then = inl (used_up n playable.network (made ++ now) used, late_then)
         by some false used late_then =
-            inr (largest_interval (pace_of n), inr refl, (aged_by loss, aged some, late_then))
+            let is_aged = aged n playable.network all b at late well some in
+            inr (largest_interval (pace_of n), inr refl, (aged_by loss, is_aged, late_then))
     rests_by sound told (inr (inr (inr (inr (inr (inl (row, is))))))) =
         let (rest, loses, roles) = losses n playable.network all b at late row in
         inl (
@@ -457,21 +336,7 @@ module _ (d : DocumentState) (playable : IsPlayable d) where
           ))),
         )
     rests_by sound told (inr (inr (inr (inr (inr (inr (inl (row, is)))))))) =
-        let (rest, tree) = tree_falls n playable.network all b at late well octets row in inr (inl (rest, tree, told ∙ is))
-    rests_by sound told (inr (inr (inr (inr (inr (inr (inr (inr (row, is))))))))) =
-        let x = taken n playable.network all b at late well row in
-        inl (x.rested, alone (Resting sound) (by x v.used refl (told ∙ is)))
-      where
-        by : TakesAway n playable.network all b at late → (used : Bool) → v.used ≡ used
-            → sound ≡ (if used then max (echo_span (pace_of n) v.paths) v.paths.delay else any_loss_span n loss v.paths)
-            → RestsAfterLoss n made now sound
-        by x true used same =
-            inr (inr (x.takes, x.leaves, x.few, used_up n playable.network (made ++ now) used, omega (arith, same)))
-        by x false used same =
-            inr (inl (
-              any_loss_span n loss v.paths,
-              (several_lost n playable.network made now x.takes, refl, inl (x.none, same)),
-            ))
+        let (rest, tree) = tree_falls n playable.network all b at late well (octets_at d playable at) row in inr (inl (rest, tree, told ∙ is))
     rests_by sound told (inr (inr (inr (inr (inr (inr (inr (inl (row, is))))))))) =
         let x = failure_cuts n playable.network all b at late well row in
         let echo : ℕ = max (echo_span (pace_of n) v.paths) (largest_interval (pace_of n)) in
@@ -480,11 +345,31 @@ module _ (d : DocumentState) (playable : IsPlayable d) where
           (
             aged_by loss + 2 * way_span v.paths,
             max (aged_by loss + 2 * way_span v.paths) (quiet_by n loss (aged_by loss)),
-            (aged_by loss, quiet_by n loss (aged_by loss), aging (some_trees x.fails), refl, refl),
+            (
+              aged_by loss,
+              quiet_by n loss (aged_by loss),
+              aging n playable.network all b at late well (some_trees n made now x.fails),
+              refl,
+              refl,
+            ),
             rested_late (aged_by loss) (2 * way_span v.paths) echo (quiet_by n loss (aged_by loss)) sound
-                (told ∙ is ∙ quiet_later (2 * way_span v.paths + echo)),
+                (told ∙ is ∙ quiet_later n playable.network all b at late well (2 * way_span v.paths + echo)),
           ),
         )))
+    rests_by sound told (inr (inr (inr (inr (inr (inr (inr (inr (row, is))))))))) =
+        let x = taken n playable.network all b at late well row in
+        inl (x.rested, alone (Resting sound) (inr (by x v.used refl (told ∙ is))))
+      where
+        span : ℕ
+        span = any_loss_span n loss v.paths
+
+        by : TakesSome n playable.network all b at late → (used : Bool) → v.used ≡ used
+            → sound ≡ (if used then max (echo_span (pace_of n) v.paths) v.paths.delay else span)
+            → RestsAfterAnyLoss n made now sound ⊎ RestsTaken n made now sound
+        by x true used same =
+            inr (x.takes, x.moves, x.few, used_up n playable.network (made ++ now) used, omega (arith, same))
+        by x false used same =
+            inl (span, (several_lost n playable.network made now x.takes, refl, inl (x.none, same)))
 
     -- it has come to rest as soon as it settles from any past, or sooner after a loss
     rest_so : (s : Settling) → IsTelling n v s → IsChoiceBoundAfter n all (b.at ∷ earlier) at settled_by
@@ -527,8 +412,8 @@ module _ (d : DocumentState) (playable : IsPlayable d) where
             rest.settling.sound,
             bound,
             past,
-            beside (b.at + rest.settling.sound) (Losing s.choice s.roles)
-                (some_before (Losing s.choice s.roles) (some_lost s.choice s.roles) loses) loses,
+            beside n made now (b.at + rest.settling.sound) at (Losing s.choice s.roles)
+                (some_before n made now (Losing s.choice s.roles) (some_lost n made now s.choice s.roles) loses) loses,
           ),
         )
     lost s settles off (inr (inl ((rest, inl tree), choice, roles))) =
@@ -548,29 +433,11 @@ module _ (d : DocumentState) (playable : IsPlayable d) where
               (x.fails, splits),
         )))
 
-    -- what ages does no later than ports beside a failed system are off
-    ages_first : (aged quiet : ℕ) (events : List Timed) → BoundsAging n made events aged quiet → aged ≤ quiet
-    ages_first aged quiet events (inl (used, none, no_roles)) = omega (arith, none)
-    ages_first aged quiet events (inr ((span, within, is), is_roles)) =
-        lesser aged quiet span (silence_span (pace_of n)) is is_roles
-
-    no_later : (choice roles : ℕ) (events : List Timed) → BoundsLoss n made events choice roles → choice ≤ roles
-    no_later choice roles events (inl (lowers, same, which)) = omega (arith, same)
-    no_later choice roles events (inr (inl (fails, none, which))) = omega (arith, none)
-    no_later choice roles events (inr (inr (inl (turns, is, same)))) = omega (arith, same)
-    no_later choice roles events (inr (inr (inr (inl (fails, (aged, quiet, aging, inl (same, roles_same))))))) =
-        let first = ages_first aged quiet events aging in omega (arith, same, roles_same, first)
-    no_later choice roles events (inr (inr (inr (inl (fails, (aged, quiet, aging, inr (is, later))))))) =
-        greater choice roles quiet later
-    no_later choice roles events (inr (inr (inr (inr (inl (loses, is, inl (quiet, same))))))) = omega (arith, same)
-    no_later choice roles events (inr (inr (inr (inr (inl (loses, is, inr later)))))) =
-        greater choice roles (silence_span (pace_of n)) later
-    no_later choice roles events (inr (inr (inr (inr (inr (takes, moves, none, is, same)))))) = omega (arith, is)
-
     asked_later : (choice roles : ℕ) → Asks choice roles → choice ≤ roles
-    asked_later choice roles (inl (rest, (first, others, split, each, loses))) = no_later choice roles first loses
+    asked_later choice roles (inl (rest, (first, others, split, each, loses))) =
+        no_later n made now choice roles first loses
     asked_later choice roles (inr (inl (tree, is, same))) = omega (arith, same)
-    asked_later choice roles (inr (inr (x, (aged, quiet, aging, is, later)))) = greater choice roles quiet later
+    asked_later choice roles (inr (inr (x, (age, quiet, ages, is, later)))) = greater choice roles quiet later
 
     -- what is lost at this time asks for what its row says
     asks_by : (r : Row) → row_at v ≡ r → HasOwnBounds r
@@ -608,7 +475,7 @@ module _ (d : DocumentState) (playable : IsPlayable d) where
           behind g (Losing way way) (inr (inr (inl (turns, ap (λ (p : SyncPaths). 2 * way_span p) same, refl)))),
         )
     asks_by TreeFalls row own =
-        let (rest, tree) = tree_falls n playable.network all b at late well octets row in
+        let (rest, tree) = tree_falls n playable.network all b at late well (octets_at d playable at) row in
         inr (inl ((rest, inl tree), refl, refl))
     asks_by TreeTurned row own =
         let (rest, tree) = tree_turned n playable.network all b at late well row in
@@ -619,7 +486,12 @@ module _ (d : DocumentState) (playable : IsPlayable d) where
           rest,
           alone (Losing (aged_by loss) (quiet_by n loss (aged_by loss))) (inr (inr (inr (inl (
             fails,
-            (aged_by loss, quiet_by n loss (aged_by loss), aging (some_heard fails), inl (refl, refl)),
+            (
+              aged_by loss,
+              quiet_by n loss (aged_by loss),
+              aging n playable.network all b at late well (some_heard n made now fails),
+              inl (refl, refl),
+            ),
           ))))),
         )
     asks_by FailureCutsOff row own =
@@ -632,8 +504,8 @@ module _ (d : DocumentState) (playable : IsPlayable d) where
                 (
                   aged_by loss,
                   quiet_by n loss (aged_by loss),
-                  aging (some_heard fails),
-                  inr (refl, quiet_later (2 * way_span v.paths)),
+                  aging n playable.network all b at late well (some_heard n made now fails),
+                  inr (refl, quiet_later n playable.network all b at late well (2 * way_span v.paths)),
                 ),
               ))))),
         )
@@ -644,14 +516,14 @@ module _ (d : DocumentState) (playable : IsPlayable d) where
           (
             aged_by loss,
             quiet_by n loss (aged_by loss),
-            aging (some_trees x.fails),
+            aging n playable.network all b at late well (some_trees n made now x.fails),
             refl,
-            quiet_later (2 * way_span v.paths),
+            quiet_later n playable.network all b at late well (2 * way_span v.paths),
           ),
         ))
     asks_by TakenAway row own =
         let x = taken n playable.network all b at late well row in
-        inl (x.rested, alone (Losing 0 0) (inr (inr (inr (inr (inr (x.takes, x.leaves, x.none, refl, refl)))))))
+        inl (x.rested, alone (Losing 0 0) (inr (inr (inr (inr (inr (x.takes, x.moves, x.none, refl, refl)))))))
     asks_by AnyLosses row own =
         let (rest, loses, roles) = losses n playable.network all b at late row in
         let span : ℕ = any_loss_span n loss v.paths in

@@ -33,7 +33,7 @@ use Rattle.gptp_how_soon.specs.Times.{told_at, told_of}
 use Rattle.gptp_how_soon.specs.declared.chosen.Chosen.{Chosen}
 use Rattle.gptp_how_soon.proofs.ChosenLemmas.{IsAt, at_clock, chosen_there, place_is, settled_choice, touched}
 use Rattle.gptp_how_soon.proofs.RoundsLemmas.{Touches}
-use Rattle.gptp_settling_time.specs.HowSoon.{EachEvent, FailsEndFirst, FailsHeardFirst, IsDownToo, TurnsUnused}
+use Rattle.gptp_settling_time.specs.HowSoon.{EachEvent, FailsEndFirst, FailsHeardFirst, IsDownToo, IsIdleBeside, TurnsUnused}
 use Rattle.gptp_settling_time.specs.Losses.{FailsFarEnd, FailsHeard, IsCutOff, IsFarEnd, IsUnmoved, IsUnmovedOrCutOff, LowersUnused, MovesNoneJoined, UpIsUsed}
 use Rattle.gptp_vector.specs.declared.port.PortId.{PortId}
 use Rattle.gptp_scenario.specs.Calm.{IsLive}
@@ -391,19 +391,31 @@ module _ (n : NetworkState) (network : IsNetwork n) where
       ∙ paths_all (made ++ event ∷ []) now others
       ∙ paths_too made event down
 
+  -- so it is told
+  pub is_down_so : (made : List Timed) (event : Timed) → is_down_too (told_at n made event.act) ≡ true
+      → IsDownToo n made event
+  is_down_so made event is =
+      elim (or_cases (lowers_unused (told_at n made event.act)) (repeats (told_at n made event.act)) is) [
+        | inl lowers ↦ inl (unused_lowers n network made event lowers)
+        | inr same ↦ inr (repeats_by n network made event same)
+      ]
+
   down_each : (made now : List Timed) → list_all is_down_too (told_of n made now) ≡ true
       → EachEvent (IsDownToo n) made now
   down_each made [] all = tt
   down_each made (event ∷ now) all =
-      let t = told_at n made event.act in
       let (first, others) =
-      and_parts (is_down_too t) (list_all is_down_too (told_of n (made ++ event ∷ []) now)) all in (
-        elim (or_cases (lowers_unused t) (repeats t) first) [
-          | inl lowers ↦ inl (unused_lowers n network made event lowers)
-          | inr same ↦ inr (repeats_by n network made event same)
-        ],
-        down_each (made ++ event ∷ []) now others,
-      )
+      and_parts (is_down_too (told_at n made event.act))
+      (list_all is_down_too (told_of n (made ++ event ∷ []) now)) all in
+      (is_down_so made event first, down_each (made ++ event ∷ []) now others)
+
+  -- so they change nothing
+  beside_each : (made now : List Timed) → EachEvent (IsDownToo n) made now → EachEvent (IsIdleBeside n) made now
+  beside_each made [] each = tt
+  beside_each made (event ∷ now) (one, each) = (
+    elim one [ inl lowers ↦ inl lowers | inr same ↦ inr same.0 ],
+    beside_each (made ++ event ∷ []) now each,
+  )
 
   -- each link that is up is in use where it is seen so
   pub used_up : (all : List Timed) → up_is_used (standings_after n all) ≡ true → UpIsUsed n all
@@ -468,7 +480,7 @@ module _ (n : NetworkState) (network : IsNetwork n) (made : List Timed) (event :
 
   pub end_first : AreWell n (made ++ event ∷ events) → moves_joined n made (made ++ event ∷ events) ≡ false
       → are_far_after n made (told_of n made (event ∷ events)) ≡ true
-      → FailsFarEnd n made event × EachEvent (IsDownToo n) first_behind events
+      → FailsFarEnd n made event × EachEvent (IsIdleBeside n) first_behind events
   end_first well unmoved far =
       let far_test : Bool = is_far_end (systems_after n made) (chosen_after n made) (used_ends n made)
       (place_of (systems_after n made) t.clock) in
@@ -482,7 +494,7 @@ module _ (n : NetworkState) (network : IsNetwork n) (made : List Timed) (event :
         fails_far_end n network made event (made ++ event ∷ events) well
             (λ g stands. well made (event ∷ events) refl g stands) stands_on unmoved first_delay first_paths few
             parts.0 far_end,
-        others,
+        beside_each n network first_behind events others,
       )
 
 pub fails_heard_first : (n : NetworkState) (network : IsNetwork n) (made now : List Timed) → AreWell n (made ++ now)

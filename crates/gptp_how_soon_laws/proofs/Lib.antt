@@ -21,6 +21,8 @@ mod TreeBelowLemmas
 mod FallsBelowLemmas
 mod TreeLemmas
 mod TreeWorsenedLemmas
+mod TreeByLemmas
+mod TwoTopsLemmas
 mod TurnedTreeTestLemmas
 mod TurnsBelowLemmas
 mod TurnedTreeLemmas
@@ -38,9 +40,13 @@ mod RowReasonLemmas
 mod StartRowLemmas
 mod RowTestLemmas
 mod ArrivedLemmas
+mod FlightLemmas
 mod RowLemmas
-mod AnyLossLemmas
 mod TakenAwayLemmas
+mod RowLossLemmas
+mod AnyLossLemmas
+mod AgedLemmas
+mod LossBoundLemmas
 pub mod ChoiceLemmas
 pub mod StepLemmas
 mod SettledLemmas

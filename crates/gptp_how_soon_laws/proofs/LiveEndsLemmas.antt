@@ -85,14 +85,14 @@ module _ (n : NetworkState) (network : IsNetwork n) (made events : List Timed) (
       ∙ live.live
 
   -- the one system was nearer than the other, or as near with the lower clock
-  nearer_at : (i v j w : ℕ) → IsAt n i v → IsAt n j w → IsLive n.systems made v → IsLive n.systems made w
+  pub nearer_at : (i v j w : ℕ) → IsAt n i v → IsAt n j w → In v (clocks g) → In w (clocks g)
       → ((near far : ℕ) → IsDistance g v near → IsDistance g w far → (near < far) ⊎ ((near ≡ far) × (v < w)))
       → is_nearer_at systems before i j ≡ true
-  nearer_at i v j w at_v at_w live_v live_w order =
+  nearer_at i v j w at_v at_w known_v known_w order =
       let (c, c_there) = chosen_there n network made g stands well i v at_v in
       let (e, e_there) = chosen_there n network made g stands well j w at_w in
-      let chose_v = settled_choice n network made g stands well i v at_v (known v live_v) c c_there in
-      let chose_w = settled_choice n network made g stands well j w at_w (known w live_w) e e_there in
+      let chose_v = settled_choice n network made g stands well i v at_v known_v c c_there in
+      let chose_w = settled_choice n network made g stands well j w at_w known_w e e_there in
       let o_v = mapped_there (system_then events) n.systems i at_v.system at_v.there in
       let o_w = mapped_there (system_then events) n.systems j at_w.system at_w.there in
       let lower : (c.steps < e.steps)
@@ -133,7 +133,7 @@ module _ (n : NetworkState) (network : IsNetwork n) (made events : List Timed) (
     hears_so i v j u at_v at_u live_v live_u v_is u_is =
         and_from (is_live (slice_get systems i)) (is_nearer_at systems before j i)
         (lives_at i v at_v (subst (IsLive n.systems events) (sym v_is) lives_then))
-        (nearer_at j u i v at_u at_v live_u live_v
+        (nearer_at j u i v at_u at_v (known u live_u) (known v live_v)
         (subst (λ y. (near far : ℕ) → IsDistance g y near → IsDistance g v far
         → (near < far) ⊎ ((near ≡ far) × (y < v))) (sym u_is)
         (subst (λ x. (near far : ℕ) → IsDistance g failed.clock near → IsDistance g x far

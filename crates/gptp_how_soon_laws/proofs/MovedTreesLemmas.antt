@@ -2,7 +2,7 @@
 use Rattle.std.proofs.Common.{◌≡◌, ◌≤◌, ◌⊎◌, inl, inr, ℕ, Bool, true, false, List, [], ◌∷◌, ◌++◌, filter, Some, length, slice_get, refl, sym, ap, subst, ◌∙◌, append-nil, arith}
 use Rattle.std.specs.Prelude.{◌==◌, ◌&&◌, not}
 use Rattle.std.specs.List.{range_with_len}
-use Rattle.std.proofs.lemmas.Bool.{and_from, and_parts, eq-eqb}
+use Rattle.std.proofs.lemmas.Bool.{and_from, and_parts, eq-eqb, or_cases}
 use Rattle.gptp_lists.specs.Members.{In}
 use Rattle.gptp_lists.proofs.MappedLemmas.{mapped_there}
 use Rattle.gptp_lists.proofs.SystemSpecLemmas.{In-slice_get, from_map, slice_get-In}
@@ -26,13 +26,14 @@ use Rattle.gptp_scenario.specs.declared.change.Timed.{Timed}
 use Rattle.gptp_scenario.specs.declared.network.SystemSpec.{SystemSpec}
 use Rattle.gptp_topology.specs.After.{system_then, systems_after}
 use Rattle.gptp_topology.specs.declared.nodes.System as ours
-use Rattle.gptp_how_soon.specs.Chosen.{chosen_after, differs, ends_of, is_moved, is_moved_at, used_ends}
+use Rattle.gptp_how_soon.specs.Chosen.{chosen_after, differs, ends_of, is_moved, is_moved_at, lost_ends, used_ends}
 use Rattle.gptp_how_soon.specs.Kinds.{fails_first}
 use Rattle.gptp_how_soon.specs.Links.{is_lost}
 use Rattle.gptp_how_soon.specs.MovedTrees.{falls_at, moves_trees_after}
 use Rattle.gptp_how_soon.specs.Times.{told_of}
 use Rattle.gptp_how_soon.specs.Tree.{has_better_root, has_same_root, is_below}
 use Rattle.gptp_how_soon.specs.TurnedTree.{is_turned_at}
+use Rattle.gptp_how_soon.specs.TwoTops.{falls_twice, trees_move_after}
 use Rattle.gptp_how_soon.specs.declared.chosen.Chosen.{Chosen}
 use Rattle.gptp_how_soon.specs.declared.chosen.Ends.{Ends}
 use Rattle.gptp_how_soon.proofs.ChosenLemmas.{IsAt, at_clock, at_port, chosen_there, one_clock}
@@ -48,6 +49,7 @@ use Rattle.gptp_how_soon_laws.proofs.MovedTreesTestLemmas as tests
 use Rattle.gptp_how_soon_laws.proofs.ReadyLemmas.{none_any}
 use Rattle.gptp_how_soon_laws.proofs.TreeTestLemmas.{better_so, same_back, same_so}
 use Rattle.gptp_how_soon_laws.proofs.TurnedTreeTestLemmas.{TurnsAt, turned_moves, turns_at}
+use Rattle.gptp_how_soon_laws.proofs.TwoTopsLemmas.{twice, twice_so}
 use Rattle.gptp_how_soon_laws.proofs.TurnsBelowLemmas.{HasTurned, has_turned, turning}
 use Rattle.gptp_how_soon_laws.proofs.UnmovedLemmas.{AreWell, asked_of, unmoved_at}
 use Rattle.gptp_how_soon_laws.proofs.WorseningLemmas.{same_system}
@@ -249,6 +251,14 @@ module _ (n : NetworkState) (network : IsNetwork n) (made events : List Timed) w
                 (below_same n network made events g h stands stands' well well' lived own.top i u.below),
           )
 
+      -- so is one that falls
+      pub cut_there : (i v : ℕ) → IsAt n i v → In v (clocks h) → falls_there i ≡ true
+          → (b : System) × (s : Tree) × IsTreeCutOff g h b s × IsBest h v s.next
+      cut_there i v at known falls =
+          let b : System = best_of (top_at i v at falls) in
+          let (s, cut, best) = in_tree i v at known falls b refl in
+          (b, s, cut, best)
+
       -- some top is known, or no system falls
       first_top : (vs : List ℕ) → ((v : ℕ) → In v vs → In v (clocks h))
           → TopOf ⊎ ((v : ℕ) → In v vs → (i : ℕ) → IsAt n i v → falls_there i ≡ false)
@@ -432,7 +442,7 @@ module _ (n : NetworkState) (network : IsNetwork n) (made events : List Timed) w
               inl (unmoved_at n network made events g h stands stands' well well' v (lived v known) known i s.at none)
           by i s true moves true turns (inl none) =
               let no : true ≡ false = sym turns ∙ none i v s.at in absurd cc
-          by i s true moves true turns (inr (x, same)) = inr (inr (in_turned x i v s.at known turns b same))
+          by i s true moves true turns (inr (x, same)) = inr (inr (inl (in_turned x i v s.at known turns b same)))
           by i s true moves false none may =
               let falls = and_from (is_moved_there i) (not (turns_there i)) moves (ap not none) in
               inr (inl (in_tree i v s.at known falls b (tops (top_at i v s.at falls))))
@@ -463,14 +473,14 @@ module _ (n : NetworkState) (network : IsNetwork n) (made events : List Timed) w
 -- ---- the events of a time
 
 pub fails_trees_first : (n : NetworkState) (network : IsNetwork n) (made now : List Timed) → AreWell n (made ++ now)
-    → moves_trees_after n made (made ++ now) ≡ true
+    → trees_move_after n made (made ++ now) ≡ true
     → (sync_paths n (made ++ now)).delay ≤ (sync_paths n made).delay
     → (sync_paths n (made ++ now)).systems ≤ (sync_paths n made).systems
     → (sync_paths n made).systems ≤ 255
     → fails_first (told_of n made now) ≡ true
     → FailsTreesFirst n made now
-fails_trees_first n network made [] well splits delay paths few is = absurd cc
-fails_trees_first n network made (event ∷ events) well splits delay paths few is =
+fails_trees_first n network made [] well moves delay paths few is = absurd cc
+fails_trees_first n network made (event ∷ events) well moves delay paths few is =
     let failing = (parts n network made event events delay paths few is).0 in
     let x : Fails n network made event = fails n network made event failing in (
       record {
@@ -490,7 +500,13 @@ fails_trees_first n network made (event ∷ events) well splits delay paths few 
         let failing = (parts n network made event events delay paths few is).0 in
         let x : Fails n network made event = fails n network made event failing in
         let last = stands_on n network made event events delay paths few is h stands' in
-        split_so n network made (made ++ event ∷ events) splits g h stands last
-        (well made (event ∷ events) refl g stands)
-        (well (made ++ event ∷ events) [] (append-nil (made ++ event ∷ events)) h last)
-        (clock_before n network made event x g h stands stands')
+        let all : List Timed = made ++ event ∷ events in
+        let well_g = well made (event ∷ events) refl g stands in
+        let well_h = well all [] (append-nil all) h last in
+        let lived = clock_before n network made event x g h stands stands' in
+        elim (or_cases (moves_trees_after n made all) (falls_twice (systems_after n all) (lost_ends n made all)
+        (used_ends n all) (chosen_after n made) (chosen_after n all)) moves) [
+          | inl splits ↦ split_so n network made all splits g h stands last well_g well_h lived
+          | inr falls ↦
+              twice_so n network made all (twice n network made all falls) g h stands last well_g well_h lived
+        ]

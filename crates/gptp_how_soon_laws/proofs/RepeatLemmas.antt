@@ -182,7 +182,7 @@ begins n network is_kind made (event ∷ others) is =
 
 module _ (n : NetworkState) (network : IsNetwork n) (is_kind : Told → Bool) (made now : List Timed)
     (x : Begins n is_kind made now) where
-  whole : (made ++ x.event ∷ []) ++ x.others ≡ made ++ now
+  pub whole : (made ++ x.event ∷ []) ++ x.others ≡ made ++ now
   whole = append_assoc made (x.event ∷ []) x.others ∙ ap (λ es. made ++ es) (sym x.split)
 
   pub first_same : StandSame n (made ++ x.event ∷ []) (made ++ now)

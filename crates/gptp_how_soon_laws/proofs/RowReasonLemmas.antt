@@ -23,7 +23,7 @@ pub record Tests : Type 0 where
   pub far : Bool
   pub moved : Bool
   pub trees : Bool
-  -- several are taken away, and move nobody
+  -- or several are taken away, and move nobody
   pub taken : Bool
   -- an event is a loss, and none brings anything
   pub loss : Bool

@@ -18,16 +18,15 @@ use Rattle.gptp_scenario.specs.declared.network.SystemSpec.{SystemSpec}
 use Rattle.gptp_network.specs.Snapshot.{StandsAfter}
 use Rattle.gptp_theorem.proofs.EventLemmas.{system_behind}
 use Rattle.gptp_how_soon.specs.Chosen.{moves_some}
-use Rattle.gptp_how_soon.specs.Kinds.{is_down_too, is_loss, is_priority1, lowers_unused, repeats, taken_too, takes_any, takes_several}
+use Rattle.gptp_how_soon.specs.Kinds.{is_down_too, is_loss, is_priority1, taken_too, takes_any, takes_several}
 use Rattle.gptp_how_soon.specs.Times.{told_at, told_of}
-use Rattle.gptp_settling_time.specs.HowSoon.{EachEvent, IsDownToo, IsLossToo, IsTakenToo, LosesEvents, TakesSeveral, TurnsUnused}
+use Rattle.gptp_settling_time.specs.HowSoon.{EachEvent, IsLossToo, IsTakenToo, LosesEvents, TakesSeveral, TurnsUnused}
 use Rattle.gptp_settling_time.specs.Leads.{TakesAny}
 use Rattle.gptp_settling_time.specs.Losses.{IsUnmoved, LosesAny, MovesNoneInAll}
 use Rattle.gptp_settling_time.proofs.SamePathsLemmas.{idle_same}
 use Rattle.gptp_how_soon_laws.proofs.AnyLossLemmas.{loses}
+use Rattle.gptp_how_soon_laws.proofs.FailedLemmas.{is_down_so}
 use Rattle.gptp_how_soon_laws.proofs.LivesOnLemmas.{clock_lived}
-use Rattle.gptp_how_soon_laws.proofs.RepeatLemmas.{repeats_by}
-use Rattle.gptp_how_soon_laws.proofs.ToldLemmas.{unused_lowers}
 use Rattle.gptp_how_soon_laws.proofs.UnmovedLemmas.{AreWell, unmoved_all}
 
 module _ (n : NetworkState) (network : IsNetwork n) where
@@ -43,18 +42,12 @@ module _ (n : NetworkState) (network : IsNetwork n) where
             let no : true ≡ false = ap (λ a. is_priority1 (told_at n made a)) (sym act) ∙ none in absurd cc,
       )
 
-  down_too : (made : List Timed) (event : Timed) → is_down_too (told_at n made event.act) ≡ true → IsDownToo n made event
-  down_too made event is =
-      elim (or_cases (lowers_unused (told_at n made event.act)) (repeats (told_at n made event.act)) is) [
-        | inl lowers ↦ inl (unused_lowers n network made event lowers)
-        | inr same ↦ inr (repeats_by n network made event same)
-      ]
-
-  one_taken : (made : List Timed) (event : Timed) → taken_too (told_at n made event.act) ≡ true → IsTakenToo n made event
+  one_taken : (made : List Timed) (event : Timed) → taken_too (told_at n made event.act) ≡ true
+      → IsTakenToo n made event
   one_taken made event is =
       elim (or_cases (takes_any (told_at n made event.act)) (is_down_too (told_at n made event.act)) is) [
         | inl any ↦ inl (any_taken made event any)
-        | inr down ↦ inr (down_too made event down)
+        | inr down ↦ inr (is_down_so n network made event down)
       ]
 
   -- ---- the events of a time

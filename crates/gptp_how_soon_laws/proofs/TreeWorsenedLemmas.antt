@@ -1,12 +1,13 @@
 -- A priority1 by which the best of a tree gets worse does so as its event is told.
-use Rattle.std.proofs.Common.{◌≡◌, ◌≤◌, ◌⊎◌, ◌+◌, ℕ, true, false, List, [], ◌∷◌, ◌++◌, filter, slice_get, refl, sym, ap, subst, ◌∙◌, append-nil}
-use Rattle.std.specs.Prelude.{not}
+use Rattle.std.proofs.Common.{◌≡◌, ◌≤◌, ◌⊎◌, ◌+◌, ℕ, true, false, List, [], ◌∷◌, ◌++◌, filter, slice_get, refl, sym, ap, subst, ◌∙◌, append-nil, arith}
+use Rattle.std.specs.Prelude.{◌==◌, not}
 use Rattle.std.proofs.lemmas.Bool.{and_parts, eqb-true}
 use Rattle.gptp_lists.specs.Members.{In}
-use Rattle.gptp_lists.proofs.SystemSpecLemmas.{In-slice_get, from_map}
+use Rattle.gptp_lists.proofs.SystemSpecLemmas.{In-slice_get, from_map, slice_get-In}
 use Rattle.gptp_graph.specs.Distance.{IsDistance}
 use Rattle.gptp_graph.specs.Snapshot.{IsWellFormed, Snapshot, System, clocks}
 use Rattle.gptp_graph.proofs.SystemLemmas.{In-clocks}
+use Rattle.gptp_network.specs.Document.{DocumentState}
 use Rattle.gptp_network.specs.Snapshot.{StandsAfter}
 use Rattle.gptp_network.proofs.InUseLemmas.{live_there}
 use Rattle.gptp_network.proofs.SnapshotLemmas.{from_filter, with_clock}
@@ -16,6 +17,7 @@ use Rattle.gptp_scenario.specs.Network.{IsNetwork, NetworkState}
 use Rattle.gptp_scenario.specs.SyncWait.{sync_paths}
 use Rattle.gptp_scenario.specs.declared.change.Timed.{Timed}
 use Rattle.gptp_scenario.specs.declared.network.LinkSpec.{LinkSpec}
+use Rattle.gptp_theorem.specs.PlayedLaws.{IsPlayable}
 use Rattle.gptp_theorem.proofs.EventLemmas.{link_behind}
 use Rattle.gptp_invariants.specs.WorldEncodableLaws.{SetsAnOctet}
 use Rattle.gptp_topology.specs.After.{systems_after}
@@ -24,7 +26,7 @@ use Rattle.gptp_topology.proofs.RestLemmas.{lives_from}
 use Rattle.gptp_how_soon.specs.Chosen.{chosen_after, ends_of, is_used_then, lost_ends, place_of, used_ends}
 use Rattle.gptp_how_soon.specs.Kinds.{is_worsening}
 use Rattle.gptp_how_soon.specs.Links.{is_lost}
-use Rattle.gptp_how_soon.specs.Times.{told_at}
+use Rattle.gptp_how_soon.specs.Times.{events_at, told_at}
 use Rattle.gptp_how_soon.specs.Tree.{chose_itself, falls_below, worsens_best_after}
 use Rattle.gptp_how_soon.specs.declared.chosen.Chosen.{Chosen}
 use Rattle.gptp_how_soon.specs.declared.chosen.Ends.{Ends}
@@ -154,13 +156,19 @@ module _ (n : NetworkState) (network : IsNetwork n) (made : List Timed) (event :
     base_none : base n network made later g h stands stands' well well' lived_so top x.number tops ≡ 0
     base_none =
         let is_top : LivesOn n network made later g h stands stands' well well' lived_so top x.number =
-        on_at n network made later g h stands stands' well well' lived_so top x.number at known in
+        on_at n network made later g h stands stands' well well' lived_so top x.number tops.at tops.known in
         eqb-true is_top.was.steps 0 ((λ k. chose_itself (sym is_top.was_there k)) ∙ t.itself)
+
+    abbrev deep : ℕ → ℕ
+    deep = depth n network made later g h stands stands' well well' lived_so top x.number tops
+
+    deep_so : (v : ℕ) → base n network made later g h stands stands' well well' lived_so top x.number tops + deep v
+        ≡ deep v
+    deep_so v = let none = base_none in omega (arith, none)
 
     worsened_so : (best : System) × (next : System) × (depth : ℕ → ℕ) × IsWorsenedTree g h x.number best next depth
     worsened_so =
-        let c = cut_off n network made later g h stands stands' well well' lived_so top x.number tops in
-        let deep : ℕ → ℕ = depth n network made later g h stands stands' well well' lived_so top x.number tops in (
+        let c = cut_off n network made later g h stands stands' well well' lived_so top x.number tops in (
           best n network made later g h stands stands' well well' lived_so top x.number tops,
           next n network made later g h stands stands' well well' lived_so top x.number tops,
           deep,
@@ -170,7 +178,7 @@ module _ (n : NetworkState) (network : IsNetwork n) (made : List Timed) (event :
                 only_top;
             worse = c.worse;
             was_best = c.was_best;
-            was = λ v in_v. subst (λ b. IsDistance g v (b + deep v)) base_none (c.was v in_v);
+            was = λ v in_v. subst (IsDistance g v) (deep_so v) (c.was v in_v);
             first = c.first;
             steps = c.steps;
             single = c.single;
@@ -202,3 +210,10 @@ worsens_tree n network made event well octet delay paths few is best =
       paths = paths;
       few = few;
     }
+
+-- each priority1 that a document sets at a time is an octet
+pub octets_at : (d : DocumentState) → IsPlayable d → (time : ℕ) (t : Timed) → In t (events_at time d.events)
+    → SetsAnOctet t.act
+octets_at d playable time t member =
+    let (place, there) = slice_get-In t d.events (from_filter (λ (u : Timed). u.at == time) t d.events member).0 in
+    playable.octets place t there

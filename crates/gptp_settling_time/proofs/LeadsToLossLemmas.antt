@@ -47,7 +47,8 @@ use Rattle.gptp_settling_time.proofs.ClearedLemmas.{IsCleared}
 use Rattle.gptp_settling_time.proofs.ClearedToLemmas.{IsClearedTo}
 use Rattle.gptp_settling_time.proofs.ClearsLemmas.{cleared_reduced}
 use Rattle.gptp_settling_time.proofs.LeftClaimedLemmas.{IsLeftAlways}
-use Rattle.gptp_settling_time.proofs.RepeatedLemmas.{aging_repeated, cleared_repeated, left_repeated, lost_repeated, taken_repeated, turned_repeated}
+use Rattle.gptp_settling_time.proofs.IdleBesideLemmas.{cleared_beside, left_beside}
+use Rattle.gptp_settling_time.proofs.RepeatedLemmas.{aging_repeated, lost_repeated, taken_repeated, turned_repeated}
 use Rattle.gptp_settling_time.proofs.RestedSoLemmas.{rested_any, rested_gained, rested_heard}
 use Rattle.gptp_settling_time.proofs.TakenClearedLemmas.{taken_anew}
 use Rattle.gptp_settling_time.proofs.TakenMadeLemmas.{taken_first, taken_more}
@@ -150,8 +151,7 @@ module _ (d : DocumentState) (playable : IsPlayable d) (made : List Timed) (even
           since = fallen_left so.before silent lowers so.since;
           were = fallen_were old lowers so.were;
         }
-        | inr repeats ↦ left_repeated d playable made event then draws done w' acts at_time keeps after repeats old
-            silent so
+        | inr idle ↦ left_beside d playable made event then draws done w' acts keeps after idle old silent so
       ]))
   leads_to_left (Turned silent now) ago next none so = absurd none
   leads_to_left (Fallen silent now) ago next none so = absurd none
@@ -413,8 +413,8 @@ module _ (d : DocumentState) (playable : IsPlayable d) (made : List Timed) (even
             is = fallen_cleared so.before dark lowers so.is.left start clean gone past so.is;
             were = fallen_were was lowers so.were;
           }
-          | inr repeats ↦ cleared_repeated d playable made event then draws done w' acts at_time keeps after repeats was
-              start dark clean gone so
+          | inr idle ↦ cleared_beside d playable made event then draws done w' acts keeps after idle was start dark clean
+              gone so
         ])))))
     leads_to_cleared (Aging was aged dark) ago since silent right old (falls, same_ago, same, anew) so =
         subst (λ es. IsClearedTo d es more since silent right old w') (sym same_ago)

@@ -87,6 +87,7 @@ pub mod BesideIdleLemmas
 pub mod FollowedLemmas
 pub mod LossFollowedLemmas
 pub mod RepeatedLemmas
+pub mod IdleBesideLemmas
 pub mod BoundSettlesLemmas
 pub mod ChoiceBoundLemmas
 pub mod ReactsLemmas

@@ -9,9 +9,9 @@ use Rattle.gptp_scenario.specs.SettlingTime.{aging_span, capability_span, silenc
 use Rattle.gptp_scenario.specs.SyncWait.{sync_paths}
 use Rattle.gptp_scenario.specs.declared.change.Timed.{Timed}
 use Rattle.gptp_settling_time.specs.Arrivals.{HasArrivedBy}
-use Rattle.gptp_settling_time.specs.HowSoon.{EachEvent, IsDownToo, TurnsUnused}
+use Rattle.gptp_settling_time.specs.HowSoon.{EachEvent, IsDownToo, IsIdleBeside, TurnsUnused}
 use Rattle.gptp_settling_time.specs.Pasts.{Aging, AnyPast, Cleared, Fallen, Fewer, Gained, Heard, Left, Lost, Past, Split, Starting, Turned, TurnedTree}
-use Rattle.gptp_settling_time.specs.EventKinds.{FailsCalm, FailsNow, IsDownNow, LowersCalm, TurnsCalm}
+use Rattle.gptp_settling_time.specs.EventKinds.{FailsCalm, FailsNow, IsDownNow, IsDownOrIdle, LowersCalm, TurnsCalm}
 use Rattle.gptp_settling_time.specs.Leads.{AgesSooner, AreUsedSince, EventLeads, IsGoneBy, LeadsByTree, LosesNow, SplitsNow}
 use Rattle.gptp_settling_time.specs.InTurn.{ChoosesAfter, LeadOn, SettlesAfter}
 use Rattle.gptp_settling_time.specs.Losses.{AgesWithin, FailsHeard}
@@ -199,51 +199,67 @@ module _ (n : NetworkState) (network : IsNetwork n) (off : NothingLapses n.param
   down_calm made event (inl lowers) calm = lowers_calm n made event off calm lowers
   down_calm made event (inr repeats) calm = idle_calm n network off made event (inl repeats.0) calm
 
-  -- what is in use stays
-  down_paths : (made : List Timed) (event : Timed) → IsDownToo n made event
-      → sync_paths n (made ++ event ∷ []) ≡ sync_paths n made
-  down_paths made event (inl lowers) =
-      turned_paths n made event (subst (TurnsUnused n made) (sym lowers.act) lowers.failed)
-  down_paths made event (inr repeats) = idle_paths n network made event repeats.0
+  -- so it is beside such as change nothing
+  beside_now : (made : List Timed) (event : Timed) → IsCalm n made → last_change made ≡ time → event.at ≡ time
+      → IsIdleBeside n made event → IsDownOrIdle n made event
+  beside_now made event calm last here (inl lowers) = inl (record { lowers = lowers; calm = calm; off = off })
+  beside_now made event calm last here (inr idle) = inr (idle, here ∙ sym last)
 
-  pub dead_paths : (made now : List Timed) → EachEvent (IsDownToo n) made now
+  beside_calm : (made : List Timed) (event : Timed) → IsIdleBeside n made event → IsCalm n made
+      → IsCalm n (made ++ event ∷ [])
+  beside_calm made event (inl lowers) calm = lowers_calm n made event off calm lowers
+  beside_calm made event (inr idle) calm = idle_calm n network off made event (inl idle) calm
+
+  pub each_beside : (made now : List Timed) → EachEvent (IsDownToo n) made now → EachEvent (IsIdleBeside n) made now
+  each_beside made [] each = tt
+  each_beside made (event ∷ now) (inl lowers, others) = (inl lowers, each_beside (made ++ event ∷ []) now others)
+  each_beside made (event ∷ now) (inr repeats, others) = (inr repeats.0, each_beside (made ++ event ∷ []) now others)
+
+  -- what is in use stays
+  beside_paths : (made : List Timed) (event : Timed) → IsIdleBeside n made event
+      → sync_paths n (made ++ event ∷ []) ≡ sync_paths n made
+  beside_paths made event (inl lowers) =
+      turned_paths n made event (subst (TurnsUnused n made) (sym lowers.act) lowers.failed)
+  beside_paths made event (inr idle) = idle_paths n network made event idle
+
+  pub dead_paths : (made now : List Timed) → EachEvent (IsIdleBeside n) made now
       → sync_paths n (made ++ now) ≡ sync_paths n made
   dead_paths made [] each = ap (sync_paths n) (append-nil made)
-  dead_paths made (event ∷ now) (down, others) =
+  dead_paths made (event ∷ now) (beside, others) =
       ap (sync_paths n) (sym (append_assoc made (event ∷ []) now)) ∙ dead_paths (made ++ event ∷ []) now others
-      ∙ down_paths made event down
+      ∙ beside_paths made event beside
 
   -- a network that is left stays so
   pub dead_lead : (ago made now : List Timed) (silent : ℕ) → IsCalm n made → last_change made ≡ time → AllNow now
-      → EachEvent (IsDownToo n) made now → LeadOn n made (Left ago silent) now (Left ago silent)
+      → EachEvent (IsIdleBeside n) made now → LeadOn n made (Left ago silent) now (Left ago silent)
   dead_lead ago made [] silent calm last at each = refl
-  dead_lead ago made (event ∷ now) silent calm last (here, at) (down, others) = (
+  dead_lead ago made (event ∷ now) silent calm last (here, at) (beside, others) = (
     Left ago silent,
     inl refl,
     Left ago silent,
-    (down_now made event calm last here down, refl, refl),
-    dead_lead ago (made ++ event ∷ []) now silent (down_calm made event down calm) (last_behind made event ∙ here) at
-        others,
+    (beside_now made event calm last here beside, refl, refl),
+    dead_lead ago (made ++ event ∷ []) now silent (beside_calm made event beside calm)
+        (last_behind made event ∙ here) at others,
   )
 
   -- so does one that is cleared
   pub dead_clear : (ago made now : List Timed) (begun silent old : ℕ) → IsCalm n made → last_change made ≡ time
-      → AllNow now → EachEvent (IsDownToo n) made now
+      → AllNow now → EachEvent (IsIdleBeside n) made now
       → LeadOn n made (Cleared ago begun silent 0 old) now (Cleared ago begun silent 0 old)
   dead_clear ago made [] begun silent old calm last at each = refl
-  dead_clear ago made (event ∷ now) begun silent old calm last (here, at) (down, others) = (
+  dead_clear ago made (event ∷ now) begun silent old calm last (here, at) (beside, others) = (
     Cleared ago begun silent 0 old,
     inl refl,
     Cleared ago begun silent 0 old,
     (
-      elim (down_now made event calm last here down) [
+      elim (beside_now made event calm last here beside) [
         | inl lowers ↦ inl (lowers, omega arith)
-        | inr repeats ↦ inr repeats
+        | inr idle ↦ inr idle
       ],
       refl,
       (refl, refl, refl, refl),
     ),
-    dead_clear ago (made ++ event ∷ []) now begun silent old (down_calm made event down calm)
+    dead_clear ago (made ++ event ∷ []) now begun silent old (beside_calm made event beside calm)
         (last_behind made event ∙ here) at others,
   )
 

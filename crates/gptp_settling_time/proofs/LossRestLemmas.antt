@@ -11,7 +11,7 @@ use Rattle.gptp_scenario.specs.SyncWait.{sync_paths}
 use Rattle.gptp_scenario.specs.declared.change.Timed.{Timed}
 use Rattle.gptp_scenario.specs.declared.sync_wait.SyncPaths.{SyncPaths}
 use Rattle.gptp_theorem.proofs.EventLemmas.{last_behind}
-use Rattle.gptp_settling_time.specs.HowSoon.{CutsOneEnd, EachEvent, FailsEndFirst, FailsHeardFirst, IsDownToo, LowersOneLink, RestsAfterOneLoss, RestsOnceTold, TurnsOneLink}
+use Rattle.gptp_settling_time.specs.HowSoon.{CutsOneEnd, EachEvent, FailsEndFirst, FailsHeardFirst, IsDownToo, IsIdleBeside, LowersOneLink, RestsAfterOneLoss, RestsOnceTold, TurnsOneLink}
 use Rattle.gptp_settling_time.specs.Pasts.{Aging, Cleared, Heard, Past, Turned}
 use Rattle.gptp_settling_time.specs.EventKinds.{FailsNow, FlightIsGone, FlightIsGoneFrom, nearer_echo_span}
 use Rattle.gptp_settling_time.specs.Leads.{EventLeads}
@@ -23,7 +23,7 @@ use Rattle.gptp_settling_time.proofs.LeftToLemmas.{less_way}
 use Rattle.gptp_settling_time.proofs.LeadOnLemmas.{IsLed}
 use Rattle.gptp_settling_time.proofs.SettledPastLemmas.{HasSettled}
 use Rattle.gptp_settling_time.proofs.SilentSpanLemmas.{failure_within, up_none_silent}
-use Rattle.gptp_settling_time.proofs.LossLeadLemmas.{ages_leads, dead_clear, dead_paths, heard_lead, turn_leads}
+use Rattle.gptp_settling_time.proofs.LossLeadLemmas.{ages_leads, dead_clear, dead_paths, each_beside, heard_lead, turn_leads}
 use Rattle.gptp_settling_time.proofs.LeadsToClearedLemmas.{cut_leads, fail_leads, power_lead, power_leads, right_leads}
 
 -- the last of events of one time is of that time
@@ -87,7 +87,7 @@ module _ (n : NetworkState) (network : IsNetwork n) (off : NothingLapses n.param
     }
 
     -- the way that is left is no longer
-    module _ (others_lower : EachEvent (IsDownToo n) (made ++ event ∷ []) others)
+    module _ (others_lower : EachEvent (IsIdleBeside n) (made ++ event ∷ []) others)
         (delay : (sync_paths n (made ++ event ∷ [])).delay ≤ (sync_paths n made).delay)
         (fewer : (sync_paths n (made ++ event ∷ [])).systems ≤ (sync_paths n made).systems) where
       way_then : way_span (sync_paths n (made ++ now)) ≤ way_span (sync_paths n made)
@@ -115,7 +115,7 @@ module _ (n : NetworkState) (network : IsNetwork n) (off : NothingLapses n.param
         (subst (λ t. FlightIsGoneFrom n (made ++ now) t gone) last_now flight)) past settled_then
         (record { cuts = cuts; calm = calm_then; off = off }) in
         let l = cuts.lowers in
-        let less = way_then (subst (EachEvent (IsDownToo n) (made ++ event ∷ [])) (sym alone) tt) l.delay l.paths in
+        let less = way_then (subst (EachEvent (IsIdleBeside n) (made ++ event ∷ [])) (sym alone) tt) l.delay l.paths in
         let before = here in
         let early = x.early in
         let over = x.over in
@@ -150,7 +150,7 @@ module _ (n : NetworkState) (network : IsNetwork n) (off : NothingLapses n.param
         ap (λ es. made ++ es) (same ∙ ap (λ es. event ∷ es) alone) in
         let x = right_leads n made event gone (subst (λ es. FlightIsGone n es gone) one flight) past settled_then
         (record { lowers = lowers; calm = calm_then; off = off }) in
-        let less = way_then (subst (EachEvent (IsDownToo n) (made ++ event ∷ [])) (sym alone) tt) lowers.delay
+        let less = way_then (subst (EachEvent (IsIdleBeside n) (made ++ event ∷ [])) (sym alone) tt) lowers.delay
         lowers.paths in
         let last : Past = Cleared made x.since x.since (event.at + 1 + nearer_echo_span n (made ++ event ∷ []))
         (event.at + nearer_echo_span n (made ++ event ∷ []) + gone) in
@@ -165,7 +165,7 @@ module _ (n : NetworkState) (network : IsNetwork n) (off : NothingLapses n.param
         (omega (arith, before, is, within)) (inl (omega (arith, early, before)))
         (omega (arith, early, before, less))
 
-    fail_led : FailsFarEnd n made event → EachEvent (IsDownToo n) (made ++ event ∷ []) others
+    fail_led : FailsFarEnd n made event → EachEvent (IsIdleBeside n) (made ++ event ∷ []) others
         → (NoneSilent n made (made ++ now) × FlightIsGoneFrom n made (last_change (made ++ now)) rest)
         ⊎ ((gone : ℕ) × FlightIsGoneFrom n made (last_change (made ++ now)) gone
         × (rest ≡ max (silence_span (pace_of n)) gone))
@@ -254,7 +254,7 @@ module _ (n : NetworkState) (network : IsNetwork n) (off : NothingLapses n.param
         }
 
         less : way_span (sync_paths n (made ++ now)) ≤ way_span (sync_paths n made)
-        less = way_then lowers fails.delay fails.paths
+        less = way_then (each_beside n network off time (made ++ event ∷ []) others lowers) fails.delay fails.paths
 
         old : ℕ
         old = time + nearer_echo_span n (made ++ now) + (sync_paths n (made ++ now)).delay

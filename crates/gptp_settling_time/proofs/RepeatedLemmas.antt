@@ -25,15 +25,11 @@ use Rattle.gptp_settling_time.proofs.AgesByLemmas.{by_map}
 use Rattle.gptp_settling_time.proofs.AgesByWorldLemmas.{WorldAgesBy}
 use Rattle.gptp_settling_time.proofs.AgingClaimedLemmas.{IsAgingAlways, stay_of}
 use Rattle.gptp_settling_time.proofs.AgingToLemmas.{IsAgingTo}
-use Rattle.gptp_settling_time.proofs.ClearedLemmas.{IsCleared}
-use Rattle.gptp_settling_time.proofs.ClearedToLemmas.{IsClearedTo}
 use Rattle.gptp_settling_time.proofs.FallAlwaysLemmas.{IsFallenAlways}
 use Rattle.gptp_settling_time.proofs.FallenToLemmas.{IsFallenTo}
 use Rattle.gptp_settling_time.proofs.GainLemmas.{idle_so}
 use Rattle.gptp_settling_time.proofs.IdleLemmas.{idle_same as same_but_change}
 use Rattle.gptp_settling_time.proofs.KeptToLemmas.{KeepsTo}
-use Rattle.gptp_settling_time.proofs.LeftClaimedLemmas.{IsLeftAlways}
-use Rattle.gptp_settling_time.proofs.LeftToLemmas.{IsLeftTo}
 use Rattle.gptp_settling_time.proofs.LostClaimedLemmas.{IsLostAlways}
 use Rattle.gptp_settling_time.proofs.LostToLemmas.{IsLostTo}
 use Rattle.gptp_settling_time.proofs.SamePathsLemmas.{StandSame, idle_same, same_back, same_lives}
@@ -82,11 +78,11 @@ over_same n before ago events more same time port until
     )
 
 -- such an event is a change
-record IsChange (n : NetworkState) (made : List Timed) (event : Timed) : Type 0 where
-  change : Change
-  act : event.act ≡ Changing change
+pub record IsChange (n : NetworkState) (made : List Timed) (event : Timed) : Type 0 where
+  pub change : Change
+  pub act : event.act ≡ Changing change
 
-is_change : (n : NetworkState) (made : List Timed) (event : Timed) → ChangesNothing n made event.act
+pub is_change : (n : NetworkState) (made : List Timed) (event : Timed) → ChangesNothing n made event.act
     → IsChange n made event
 is_change n made event = by event.act refl
   where
@@ -129,14 +125,6 @@ module _ (d : DocumentState) (playable : IsPlayable d) (made : List Timed) (even
 
   -- ---- what is claimed of it
 
-  pub left_repeated : (ago : List Timed) (silent : ℕ) → IsLeftTo d ago made silent then → IsLeftTo d ago more silent w'
-  left_repeated ago silent so = record {
-    keeps = after;
-    before = so.before;
-    since = subst (IsLeftAlways p so.before silent) (sym same) so.since;
-    were = subst (WereSilent n ago) (sym same) so.were;
-  }
-
   pub turned_repeated : (silent time : ℕ) → IsTurnedTo d made silent time then → IsTurnedTo d more silent time w'
   turned_repeated silent time so = record {
     keeps = after;
@@ -157,15 +145,6 @@ module _ (d : DocumentState) (playable : IsPlayable d) (made : List Timed) (even
     keeps = after;
     before = so.before;
     since = subst (IsTurnedTreeAnew p so.before silent time) (sym same) so.since;
-  }
-
-  pub cleared_repeated : (ago : List Timed) (since silent right old : ℕ)
-      → IsClearedTo d ago made since silent right old then → IsClearedTo d ago more since silent right old w'
-  cleared_repeated ago since silent right old so = record {
-    keeps = after;
-    before = so.before;
-    is = subst (IsCleared p so.before since silent right old) (sym same) so.is;
-    were = subst (WereSilent n ago) (sym same) so.were;
   }
 
   pub lost_repeated : (ago : List Timed) (since most silent : ℕ) → IsLostTo d ago made since most silent then

@@ -47,7 +47,7 @@ watched_same gone calm at w w' x s = record {
   inv = goes_over at w w' x.link s (λ k least m. MeterInv k least reads_as_request reads_as_reply gone calm m) x.inv;
 }
 
-first_same : (first by : ℕ) (at : LinkPlace) (w w' : WorldState) (x : IsFirstBy first by at w)
+pub first_same : (first by : ℕ) (at : LinkPlace) (w w' : WorldState) (x : IsFirstBy first by at w)
     → IsSameLink at w w' x.0.link → IsFirstBy first by at w'
 first_same first by at w w' (x, soon) s = (
   record {

@@ -108,7 +108,7 @@ module _ (w w' : WorldState) (like : StandsLike w w') where
         (λ delay. wait_with p.params (record { systems = m; delay = delay }))
         (λ delay. step_with p (record { systems = m; delay = delay }))
 
-    start_like_network : start_network p m start w' ≡ record (start_network p m start w) { gone = gone' }
+    pub start_like_network : start_network p m start w' ≡ record (start_network p m start w) { gone = gone' }
     start_like_network =
         ap (λ (n : Network). record n {
           start = 0;

@@ -15,7 +15,7 @@ use Rattle.gptp_scenario.specs.declared.change.Timed.{Timed}
 use Rattle.gptp_scenario.specs.declared.network.LinkSpec.{LinkSpec}
 use Rattle.gptp_model.specs.World.{port_id}
 use Rattle.gptp_settling_time.specs.Arrivals.{HasArrivedSinceSet}
-use Rattle.gptp_settling_time.specs.Gains.{ChangesNothing, EndHasFailed, IsDownAfter, IsNoWorse, JoinsLive, LeavesCapable, RepeatsNow, UsesNoLink, exchanged_from}
+use Rattle.gptp_settling_time.specs.Gains.{ChangesNothing, EndHasFailed, IdleNow, IsDownAfter, IsNoWorse, JoinsLive, LeavesCapable, RepeatsNow, UsesNoLink, exchanged_from}
 use Rattle.gptp_settling_time.specs.Losses.{AgesWithin, CutsFarEnd, FailsFarEnd, FailsHeard, LeavesChoice, LowersLink, LowersUnused, NoneUpIsSlower, TurnsLink, UpIsUsed}
 use Rattle.gptp_settling_time.specs.TreeLosses.{FallsTree, TurnsTreeLink}
 
@@ -182,6 +182,10 @@ pub record LowersUnusedCalm (n : NetworkState) (before : List Timed) (event : Ti
 -- so it does, or all stays as it stands
 abbrev pub IsDownNow : NetworkState → List Timed → Timed → Type 0
 IsDownNow n before event = LowersUnusedCalm n before event ⊎ RepeatsNow n before event
+
+-- so it does, or the event changes nothing
+abbrev pub IsDownOrIdle : NetworkState → List Timed → Timed → Type 0
+IsDownOrIdle n before event = LowersUnusedCalm n before event ⊎ IdleNow n before event
 
 -- A link goes down, or a far end fails, and the choice stands. Ports without a link aren't capable from the next time
 -- on. After a link that is the time before. After a system that fails it is when too many of their requests are lost.

@@ -92,6 +92,10 @@ Repeats n before event =
 abbrev pub RepeatsNow : NetworkState → List Timed → Timed → Type 0
 RepeatsNow n before event = Repeats n before event × (event.at ≡ last_change before)
 
+-- and so does any that changes nothing
+abbrev pub IdleNow : NetworkState → List Timed → Timed → Type 0
+IdleNow n before event = ChangesNothing n before event.act × (event.at ≡ last_change before)
+
 -- each event of a list takes nothing away, one after another
 abbrev pub AllTakeNothing : NetworkState → List Timed → List Timed → Type 0
 AllTakeNothing n before [] = ⊤

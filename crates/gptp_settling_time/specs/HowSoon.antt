@@ -112,6 +112,11 @@ IsGainToo n next made event = IsGainEvent n next made event ⊎ MakesNothing n m
 abbrev pub IsDownToo : NetworkState → List Timed → Timed → Type 0
 IsDownToo n made event = LowersUnused n made event ⊎ Repeats n made event
 
+-- Behind a far end that fails, at the same time: a link goes down that is up, and of which an end has failed; or the
+-- event changes nothing.
+abbrev pub IsIdleBeside : NetworkState → List Timed → Timed → Type 0
+IsIdleBeside n made event = LowersUnused n made event ⊎ ChangesNothing n made event.act
+
 -- this is so of each of the events, by what stands just before it
 abbrev pub EachEvent : (List Timed → Timed → Type 0) → List Timed → List Timed → Type 0
 EachEvent Is made [] = ⊤
@@ -252,11 +257,11 @@ abbrev pub TurnsOneLink : NetworkState → List Timed → List Timed → Type 0
 TurnsOneLink n = OneEvent (TurnsLink n)
 
 -- By the first of them a system fails that is the far end of each of its links. By the others links go down that are
--- up, and of which an end has failed, or nothing is done.
+-- up, and of which an end has failed, or nothing is changed.
 abbrev pub FailsEndFirst : NetworkState → List Timed → List Timed → Type 0
 FailsEndFirst n made [] = ⊥
 FailsEndFirst n made (event ∷ events) =
-    FailsFarEnd n made event × EachEvent (IsDownToo n) (made ++ event ∷ []) events
+    FailsFarEnd n made event × EachEvent (IsIdleBeside n) (made ++ event ∷ []) events
 
 -- how soon the roles stand after them
 abbrev pub RolesAfterFailure : NetworkState → List Timed → List Timed → ℕ → Type 0
