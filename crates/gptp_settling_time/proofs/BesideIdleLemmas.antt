@@ -19,7 +19,8 @@ use Rattle.gptp_settling_time.specs.HowSoon.{AfterIdleEvents, BeforeRepeats, Bes
 use Rattle.gptp_settling_time.specs.Pasts.{Aging, AnyPast, Cleared, Fallen, Gained, Heard, Left, Fewer, Lost, Past, Split, Starting, Turned, TurnedTree}
 use Rattle.gptp_settling_time.specs.EventKinds.{FlightIsGone}
 use Rattle.gptp_settling_time.specs.Leads.{EventLeads}
-use Rattle.gptp_settling_time.specs.Rests.{HasToldAnew, RestsFrom}
+use Rattle.gptp_settling_time.specs.Arrivals.{arrived_by}
+use Rattle.gptp_settling_time.specs.Rests.{FlightIsGoneSince, HasToldAnew, RestsFrom}
 use Rattle.gptp_settling_time.specs.InTurn.{ChoosesAfter, LeadOn, SettlesAfter}
 use Rattle.gptp_settling_time.specs.Losses.{LowersUnused, MovesNoneInAll, NoneSilent, UpIsUsed}
 use Rattle.gptp_settling_time.proofs.CalmStillLemmas.{alike_calm, idle_calm}
@@ -152,6 +153,20 @@ module _ (n : NetworkState) (off : NothingLapses n.params) (events more : List T
       → start + pred (sync_paths n more).systems * (sync_paths n more).delay ≤ time
   still_over start time = subst (λ (x : SyncPaths). start + pred x.systems * x.delay ≤ time) (sym paths)
 
+  still_since : (ago : List Timed) (flight : ℕ) → FlightIsGoneSince n ago events flight
+      → FlightIsGoneSince n ago more flight
+  still_since ago flight (inl is_gone) = inl (still_gone flight is_gone)
+  still_since ago flight (inr (slower, (most, within, limit), is)) = inr (
+    λ place v there up.
+        let one = same.links v (In-slice_get v n.links place there) in
+        let short = slower place v there (subst (λ (u : LinkSpec). u.up ≡ true) one up) in
+        let longest = ap (λ (u : LinkSpec). u.bounds.max) one in
+        let delay = ap (λ (x : SyncPaths). x.delay) paths in
+        omega (arith, short, longest, delay),
+    (most, within, subst (λ t. arrived_by most ago ≤ t + flight) (sym last) limit),
+    is ∙ ap (λ (x : SyncPaths). x.delay) (sym paths),
+  )
+
   -- so much later traces are told anew
   still_anew : (turned start time : ℕ) → HasToldAnew n events turned start time → HasToldAnew n more turned start time
   still_anew turned start time is = record {
@@ -214,7 +229,7 @@ module _ (n : NetworkState) (off : NothingLapses n.params) (events more : List T
       | inr (cuts, flight, is_gone, stand, arrived) ↦ inr (
         λ g g' stands stands'. cuts g g' stands (stands_before n events more same g' stands'),
         flight,
-        still_gone flight is_gone,
+        still_since ago flight is_gone,
         subst (λ x. gone + 2 * way_span x ≤ time) (sym paths) stand,
         subst (λ x. gone + way_span x + flight ≤ time) (sym paths) arrived,
       )

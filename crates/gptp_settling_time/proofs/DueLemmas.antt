@@ -20,7 +20,7 @@ use Rattle.gptp_settling_time.proofs.ReducedLemmas.{IsReduced}
 use Rattle.gptp_settling_time.proofs.SinceSetLemmas.{AreLimitedBy, arrive_limit}
 use Rattle.gptp_lists.proofs.MappedLemmas.{alike}
 use Rattle.gptp_model.proofs.BareLemmas.{bare}
-use Rattle.gptp_invariants.proofs.ChoiceCalmKeptLemmas.{KeepsNetwork}
+use Rattle.gptp_invariants.proofs.ChoiceCalmKeptLemmas.{KeepsNetwork, delay_kept}
 
 -- each Announce in flight is due by this time
 abbrev pub AreDueBy : ℕ → WorldState → Type 0
@@ -88,6 +88,14 @@ due_limited gone old w sound slower limited arrived later j l f a there member s
     in_queue (arrive_limit gone w.time) w.time at.direction at.channel (limited at.link at.channel at.here) at.frame
     at.among in
     subst (λ (x : AnnounceFrame). x.due ≤ old) (sym at.is) (omega (arith, soon, short, arrived, later))
+
+pub slower_kept : (w w' : WorldState) → KeepsNetwork w w' → NoneUpIsSlowerIn w → NoneUpIsSlowerIn w'
+slower_kept w w' k slower link channel here up =
+    let (old, there, same) = alike bare bare w.net.channels w'.net.channels (sym k.links) link channel here in
+    let short = slower link old there (ap (λ (c : Channel). c.up) same ∙ up) in
+    let one : old.bounds.max ≡ channel.bounds.max = ap (λ (c : Channel). c.bounds.max) same in
+    let delay = delay_kept w w' k in
+    omega (arith, short, one, delay)
 
 -- it stays so as long as the network stays
 pub use_kept : (w w' : WorldState) → KeepsNetwork w w' → UpIsInUse w → UpIsInUse w'

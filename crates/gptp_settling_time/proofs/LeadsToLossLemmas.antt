@@ -413,8 +413,8 @@ module _ (d : DocumentState) (playable : IsPlayable d) (made : List Timed) (even
             is = fallen_cleared so.before dark lowers so.is.left start clean gone past so.is;
             were = fallen_were was lowers so.were;
           }
-          | inr idle ↦ cleared_beside d playable made event then draws done w' acts keeps after idle was start dark clean
-              gone so
+          | inr idle ↦
+              cleared_beside d playable made event then draws done w' acts keeps after idle was start dark clean gone so
         ])))))
     leads_to_cleared (Aging was aged dark) ago since silent right old (falls, same_ago, same, anew) so =
         subst (λ es. IsClearedTo d es more since silent right old w') (sym same_ago)

@@ -158,7 +158,7 @@ module _ (time late : ℕ) where
           let known = Joins-clock (snapshot_of w') l.from l.to wf joins in
           let near_x : IsNear (snapshot_of w') (clock x.station.system) =
           near (clock x.station.system) (subst (λ (q : PortIdentity). In q.clock
-              (clocks (snapshot_of w'))) from_is known)
+          (clocks (snapshot_of w'))) from_is known)
           in
           let settled = stands (since j l f a at among said joins on) i x.station x.here lives near_x in
           let places = (is'.sound.on_time.stations i x.station x.here).steady.shown.places in

@@ -76,10 +76,14 @@ sets_none (Deliver link direction) none = refl
 sets_none (Expire number timer) none = refl
 sets_none (Changing change) none = absurd none
 
+-- so does each other act
+pub limited_unset : (gone : ℕ) (act : Act) (w : WorldState) (draws : List Draw) (done : Done) (w' : WorldState)
+    → sets_link act ≡ false → Acts act w draws done w' → AreLimitedBy gone w → AreLimitedBy gone w'
+limited_unset gone act w draws done w' = acts_by (keeps gone) act w draws done w' (λ nothing. absurd nothing)
+
 pub limited_acts : (gone : ℕ) (act : Act) (w : WorldState) (draws : List Draw) (done : Done) (w' : WorldState)
     → IsNoChange act → Acts act w draws done w' → AreLimitedBy gone w → AreLimitedBy gone w'
-limited_acts gone act w draws done w' none k =
-    acts_by (keeps gone) act w draws done w' (λ nothing. absurd nothing) (sets_none act none) k
+limited_acts gone act w draws done w' none = limited_unset gone act w draws done w' (sets_none act none)
 
 -- so it is as a network begins
 pub limited_begins : {F : Type 0} (answers : Bounds → ℕ → F → Option ℕ → F → Type 0) (n : NetworkState)

@@ -42,13 +42,14 @@ use Rattle.gptp_settling_time.proofs.AgingLemmas.{HeardNearer, HearersHoldNothin
 use Rattle.gptp_settling_time.proofs.AgingClaimedLemmas.{aging_after, aging_facts, aging_network, named_in, off_none, same_aging, stay_of}
 use Rattle.gptp_settling_time.proofs.AlwaysClaimedLemmas.{IsStanding}
 use Rattle.gptp_settling_time.proofs.BecomesSoundLemmas.{same_time}
-use Rattle.gptp_settling_time.proofs.DueLemmas.{AreDueBy, due_by_interval, in_use_joins, use_kept}
+use Rattle.gptp_settling_time.proofs.DueLemmas.{AreDueBy, NoneUpIsSlowerIn, due_by_interval, due_limited, in_use_joins, slower_kept, use_kept}
 use Rattle.gptp_settling_time.proofs.EmptiedLemmas.{older_after}
 use Rattle.gptp_settling_time.proofs.FallAlwaysLemmas.{IsGoneBy, fallen_by}
 use Rattle.gptp_settling_time.proofs.FitsLemmas.{UnlinkedHoldNothing}
 use Rattle.gptp_settling_time.proofs.LeftClaimedLemmas.{HaveAskedBy, HaveAskedLong, asked_acts, asked_later, standing_acts, standing_later}
 use Rattle.gptp_settling_time.proofs.NearEndLemmas.{near_ends_hold_none, near_ends_stay}
 use Rattle.gptp_settling_time.proofs.LinkBetweenLemmas.{IsLinkBetween, SameSenders, between_kept, lane_between, senders_kept}
+use Rattle.gptp_settling_time.proofs.SinceSetLemmas.{AreLimitedBy, limited_acts, limited_later}
 use Rattle.gptp_settling_time.proofs.OffForGoodLemmas.{AreOffForGood, GoOnOff, good_acts, good_later, stays_disabled}
 use Rattle.gptp_settling_time.proofs.SplitLemmas.{IsCut, IsSplit, IsTurned, IsTwice, SplitSettles, SplitState, SplitStaysOff, SplitsBack, split_settles_on, splits_on}
 use Rattle.gptp_settling_time.proofs.SplitSoundLemmas.{AllSayStill, HeldWereLinked, all_tell, still_kept}
@@ -80,11 +81,18 @@ split_network p silent w = record (aging_network p silent w) { gone = 0 }
 abbrev pub left_by : (p : SettlingParams) (g : Snapshot) → IsSplit p g → ℕ → ℕ
 left_by p g s gone = fallen_by s.n (pred gone)
 
+-- What was in flight at a time is gone by another: an announce interval or the greatest delay later, or the latter
+-- where no link that is up is slower and what was in flight as a link was last set has arrived.
+abbrev pub IsDroppedBy : SettlingParams → (ℕ → Type 0) → ℕ → ℕ → WorldState → Type 0
+IsDroppedBy p Limits start old w = IsGoneBy p start old w
+    ⊎ (NoneUpIsSlowerIn w × (limit : ℕ) × Limits limit × (limit ≤ old) × (start + delay_in w ≤ old))
+
 -- What is claimed of a world since such a failure: what is received at ports without a link that heard a nearer system
 -- goes until a time, since it ages by then, or those ports aren't capable from then on. Where all beyond the failed
 -- system is cut off, what unmoved systems say stays sound. So is what is in flight once each tree has left its old
 -- choice and what was told before is gone, if nothing has changed since.
-pub record IsSplitAlways (p : SettlingParams) (g : Snapshot) (By : PortIdentity → ℕ → Type 0) (failed gone silent : ℕ)
+pub record IsSplitAlways (p : SettlingParams) (g : Snapshot) (By : PortIdentity → ℕ → Type 0) (Limits : ℕ → Type 0)
+    (failed gone silent : ℕ)
     (w : WorldState) : Type 0 where
   pub standing : IsStanding p silent w
   pub asked : HaveAskedLong w
@@ -95,6 +103,7 @@ pub record IsSplitAlways (p : SettlingParams) (g : Snapshot) (By : PortIdentity 
   pub same : split_network p silent w ≡ split.n
   pub by : WorldAgesBy p By w
   pub linked : (port : PortIdentity) (until : ℕ) → By port until → IsLinked g port
+  pub limited : (limit : ℕ) → Limits limit → AreLimitedBy limit w
   pub is_gone : GoesUntil g By gone ⊎ (silent ≤ gone)
   pub begun : split.since ≤ w.time
   pub late : delay_in w ≤ w.time
@@ -104,7 +113,7 @@ pub record IsSplitAlways (p : SettlingParams) (g : Snapshot) (By : PortIdentity 
   pub says : CutsAllBeyond g split.n.graph → HaveQuietLinks p.params w → NothingLapses p.params
       → AllSayStill says_announce g split.n (view w)
   pub flights : CutsAllBeyond g split.n.graph → w.last_change ≡ failed → (old : ℕ)
-      → IsGoneBy p (left_by p g split gone) old w → HaveQuietLinks p.params w → NothingLapses p.params
+      → IsDroppedBy p Limits (left_by p g split gone) old w → HaveQuietLinks p.params w → NothingLapses p.params
       → left_by p g split gone < w.time → FlightsAreSound says_announce split.n.graph old (view w)
 
 -- ---- what is known of the world's machine
@@ -153,8 +162,9 @@ linked_by p g By w by linked n graph quiet i s place r at live none holds =
     linked (port_of s.clock (suc place)) until is_by
 
 -- so it is of a world of which that is claimed
-module _ (p : SettlingParams) (g : Snapshot) (By : PortIdentity → ℕ → Type 0) (failed gone silent : ℕ) (w : WorldState)
-    (is : IsSplitAlways p g By failed gone silent w) (quiet : HaveQuietLinks p.params w) (start : ℕ)
+module _ (p : SettlingParams) (g : Snapshot) (By : PortIdentity → ℕ → Type 0) (Limits : ℕ → Type 0)
+    (failed gone silent : ℕ) (w : WorldState)
+    (is : IsSplitAlways p g By Limits failed gone silent w) (quiet : HaveQuietLinks p.params w) (start : ℕ)
     (splits : SplitsBack p g is.split start (view w)) (now : gone ≤ w.time) where
   pub none_now : UnlinkedHoldNothing (snapshot_of w) (view w)
   none_now =
@@ -162,20 +172,24 @@ module _ (p : SettlingParams) (g : Snapshot) (By : PortIdentity → ℕ → Type
       (hearers_none p silent w is.standing is.asked quiet g By gone is.by is.is_gone now)
 
 -- what is held at ports without a link came over one of before
-pub linked_now : (p : SettlingParams) (g : Snapshot) (By : PortIdentity → ℕ → Type 0) (failed gone silent : ℕ)
-    (w : WorldState) (is : IsSplitAlways p g By failed gone silent w) → HaveQuietLinks p.params w
+pub linked_now : (p : SettlingParams) (g : Snapshot) (By : PortIdentity → ℕ → Type 0)
+    (Limits : ℕ → Type 0) (failed gone silent : ℕ)
+    (w : WorldState) (is : IsSplitAlways p g By Limits failed gone silent w) → HaveQuietLinks p.params w
     → HeldWereLinked g is.split.n (view w)
-linked_now p g By failed gone silent w is quiet = linked_by p g By w is.by is.linked is.split.n
+linked_now p g By Limits failed gone silent w is quiet = linked_by p g By w is.by is.linked is.split.n
     (ap (λ (z : Network). z.graph) is.same) quiet
 
 -- ---- what comes of it
 
-module _ (p : SettlingParams) (g : Snapshot) (By : PortIdentity → ℕ → Type 0) (failed gone silent : ℕ)
+module _ (p : SettlingParams) (g : Snapshot) (By : PortIdentity → ℕ → Type 0)
+    (Limits : ℕ → Type 0) (failed gone silent : ℕ)
     (w w' : WorldState)
-    (is : IsSplitAlways p g By failed gone silent w) (standing' : IsStanding p silent w') (asked' : HaveAskedLong w')
+    (is : IsSplitAlways p g By Limits failed gone silent w) (standing' : IsStanding p silent w')
+    (asked' : HaveAskedLong w')
     (goes : GoOnOff w w') (same_sends : SameSenders w w') (same' : split_network p silent w' ≡ is.split.n)
     (links' : (a b : PortIdentity) → Joins g a b → IsLinkBetween w' a b) (by' : WorldAgesBy p By w')
-    (late' : delay_in w' ≤ w'.time) (on : w.time ≤ w'.time) where
+    (limited' : (limit : ℕ) → Limits limit → AreLimitedBy limit w') (late' : delay_in w' ≤ w'.time)
+    (on : w.time ≤ w'.time) where
   abbrev s : IsSplit p g
   s = is.split
 
@@ -198,10 +212,11 @@ module _ (p : SettlingParams) (g : Snapshot) (By : PortIdentity → ℕ → Type
       → SplitsBack p g s start (view w') × SplitSettles p g s start (view w'))
       → (CutsAllBeyond g n.graph → HaveQuietLinks p.params w' → NothingLapses p.params
       → AllSayStill says_announce g n (view w'))
-      → (CutsAllBeyond g n.graph → w'.last_change ≡ failed → (old : ℕ) → IsGoneBy p (left_by p g s gone) old w'
+      → (CutsAllBeyond g n.graph → w'.last_change ≡ failed → (old : ℕ) → IsDroppedBy p Limits
+      (left_by p g s gone) old w'
       → HaveQuietLinks p.params w' → NothingLapses p.params → left_by p g s gone < w'.time
       → FlightsAreSound says_announce n.graph old (view w'))
-      → IsSplitAlways p g By failed gone silent w'
+      → IsSplitAlways p g By Limits failed gone silent w'
   split_then seen says flights = record {
     standing = standing';
     asked = asked';
@@ -212,6 +227,7 @@ module _ (p : SettlingParams) (g : Snapshot) (By : PortIdentity → ℕ → Type
     same = same';
     by = by';
     linked = is.linked;
+    limited = limited';
     is_gone = is.is_gone;
     begun = let begun = is.begun in omega (arith, begun, on);
     late = late';
@@ -317,11 +333,16 @@ module _ (p : SettlingParams) (g : Snapshot) (By : PortIdentity → ℕ → Type
 
 -- ---- every step keeps it
 
-module _ (p : SettlingParams) (g : Snapshot) (By : PortIdentity → ℕ → Type 0) (failed gone silent : ℕ)
+module _ (p : SettlingParams) (g : Snapshot) (By : PortIdentity → ℕ → Type 0)
+    (Limits : ℕ → Type 0) (failed gone silent : ℕ)
     (w w' : WorldState)
-    (is : IsSplitAlways p g By failed gone silent w) (standing' : IsStanding p silent w') (asked' : HaveAskedLong w')
+    (is : IsSplitAlways p g By Limits failed gone silent w) (standing' : IsStanding p silent w')
+    (asked' : HaveAskedLong w')
     (goes : GoOnOff w w') (keeps : KeepsNetwork w w') (step : MachineSteps says_announce (view w) (view w'))
-    (on : w.time ≤ w'.time) where
+    (limits : (limit : ℕ) → AreLimitedBy limit w → AreLimitedBy limit w') (on : w.time ≤ w'.time) where
+  limited_then : (limit : ℕ) → Limits limit → AreLimitedBy limit w'
+  limited_then limit is_limit = limits limit (is.limited limit is_limit)
+
   same_then : split_network p silent w' ≡ is.split.n
   same_then = ap (λ (z : Network). record z { gone = 0 }) (same_aging p silent w w' keeps) ∙ is.same
 
@@ -351,10 +372,11 @@ module _ (p : SettlingParams) (g : Snapshot) (By : PortIdentity → ℕ → Type
       → SplitsBack p g is.split start (view w') × SplitSettles p g is.split start (view w')
   seen' quiet' off start may =
       let quiet = quiet_before quiet' in
-      let before = may_before p g By failed gone silent w w' is standing' asked' goes (senders_kept w w' keeps)
-      same_then links_then by_then late_then on start may in
-      seen_then p g By failed gone silent w w' is standing' asked' goes (senders_kept w w' keeps) same_then links_then
-      by_then late_then on quiet quiet' off start may (view w).lanes (is.seen quiet off start before) step
+      let before = may_before p g By Limits failed gone silent w w' is standing' asked' goes (senders_kept w w' keeps)
+      same_then links_then by_then limited_then late_then on start may in
+      seen_then p g By Limits failed gone silent w w' is standing' asked' goes
+      (senders_kept w w' keeps) same_then links_then
+      by_then limited_then late_then on quiet quiet' off start may (view w).lanes (is.seen quiet off start before) step
 
   abbrev made : IsSplit p g
   made = is.split
@@ -366,16 +388,22 @@ module _ (p : SettlingParams) (g : Snapshot) (By : PortIdentity → ℕ → Type
       → AllSayStill says_announce g made.n (view w')
   says' cuts quiet' off =
       let quiet = quiet_before quiet' in
-      says_then p g By failed gone silent w w' is standing' asked' goes (senders_kept w w' keeps) same_then links_then
-      by_then late_then on quiet quiet' off (pred gone) (inl now) (view w).lanes
+      says_then p g By Limits failed gone silent w w' is standing' asked' goes
+      (senders_kept w w' keeps) same_then links_then
+      by_then limited_then late_then on quiet quiet' off (pred gone) (inl now) (view w).lanes
       (is.seen quiet off (pred gone) (inl now)) step cuts (is.says cuts quiet off)
 
   -- what is in flight before that is due by then
-  due_before : (old : ℕ) → IsGoneBy p (left_by p g made gone) old w → HaveQuietLinks p.params w → NothingLapses p.params
+  due_before : (old : ℕ) → IsDroppedBy p Limits (left_by p g made gone) old w → HaveQuietLinks
+      p.params w → NothingLapses p.params
       → w.time ≤ left_by p g made gone → AreDueBy old w
-  due_before old (inl interval) quiet off early j l f a at among said =
+  due_before old (inl (inl interval)) quiet off early j l f a at among said =
       let due = due_by_interval p w is.standing.world j l f a at among said in omega (arith, interval, early, due)
-  due_before old (inr (used, delay)) quiet off early j l f a at among said = elim (kept.calm.facts.fresh j l f at among
+  due_before old (inr (slower, limit, is_limit, before, delay)) quiet off early j l f a at among said =
+      due_limited limit old w is.standing.world.sound slower (is.limited limit is_limit) before
+      (omega (arith, delay, early)) j l f a at among said
+  due_before old (inl (inr (used, delay))) quiet off early j l f a at among said = elim
+      (kept.calm.facts.fresh j l f at among
       (subst (λ (z : Network). Joins z.graph l.from l.to) is.same
       (in_use_joins w is.standing.world.sound used j l f at among))) [
         | inl due ↦
@@ -389,14 +417,15 @@ module _ (p : SettlingParams) (g : Snapshot) (By : PortIdentity → ℕ → Type
       kept : IsAfterLoss made.n (view w)
       kept = (is.seen quiet off (pred gone) (inl now)).0.back.after.kept
 
-  flights' : CutsAllBeyond g made.n.graph → w'.last_change ≡ failed → (old : ℕ) → IsGoneBy p (left_by p g made gone) old
+  flights' : CutsAllBeyond g made.n.graph → w'.last_change ≡ failed → (old : ℕ) → IsDroppedBy p
+      Limits (left_by p g made gone) old
       w'
       → HaveQuietLinks p.params w' → NothingLapses p.params → left_by p g made gone < w'.time
       → FlightsAreSound says_announce made.n.graph old (view w')
   flights' cuts since old is_old quiet' off late' = elim (dec_lt (left_by p g made gone) w.time) [
     | yes late ↦
-        flights_then p g By failed gone silent w w' is standing' asked' goes (senders_kept w w' keeps) same_then
-        links_then by_then late_then on quiet quiet' off (pred gone) (inl now) (view w).lanes
+        flights_then p g By Limits failed gone silent w w' is standing' asked' goes (senders_kept w w' keeps) same_then
+        links_then by_then limited_then late_then on quiet quiet' off (pred gone) (inl now) (view w).lanes
         (is.seen quiet off (pred gone) (inl now)) step cuts (says' cuts quiet' off) late' old
         (is.flights cuts (sym keeps.change ∙ since) old (old_before is_old) quiet off late)
     | no not ↦ by (omega (arith, not)) step
@@ -405,11 +434,20 @@ module _ (p : SettlingParams) (g : Snapshot) (By : PortIdentity → ℕ → Type
       quiet : HaveQuietLinks p.params w
       quiet = quiet_before quiet'
 
-      old_before : IsGoneBy p (left_by p g made gone) old w' → IsGoneBy p (left_by p g made gone) old w
-      old_before (inl interval) = inl interval
-      old_before (inr (used, delay)) =
-          inr (
+      old_before : IsDroppedBy p Limits (left_by p g made gone) old w' → IsDroppedBy p Limits
+          (left_by p g made gone) old w
+      old_before (inl (inl interval)) = inl (inl interval)
+      old_before (inl (inr (used, delay))) =
+          inl (inr (
             use_kept w' w (kept_back w w' keeps) used,
+            subst (λ most. left_by p g made gone + most ≤ old) (delay_kept w w' keeps) delay,
+          ))
+      old_before (inr (slower, limit, is_limit, before, delay)) =
+          inr (
+            slower_kept w' w (kept_back w w' keeps) slower,
+            limit,
+            is_limit,
+            before,
             subst (λ most. left_by p g made gone + most ≤ old) (delay_kept w w' keeps) delay,
           )
 
@@ -421,31 +459,38 @@ module _ (p : SettlingParams) (g : Snapshot) (By : PortIdentity → ℕ → Type
       by early (inr act) =
           let time = same_time says_announce (view w) (view w') act in absurd (omega (arith, early, late', time))
 
-  split_step : IsSplitAlways p g By failed gone silent w'
+  split_step : IsSplitAlways p g By Limits failed gone silent w'
   split_step =
-      split_then p g By failed gone silent w w' is standing' asked' goes (senders_kept w w' keeps) same_then links_then
-      by_then late_then on seen' says' flights'
+      split_then p g By Limits failed gone silent w w' is standing' asked' goes
+      (senders_kept w w' keeps) same_then links_then
+      by_then limited_then late_then on seen' says' flights'
 
-pub split_later : (p : SettlingParams) (g : Snapshot) (By : PortIdentity → ℕ → Type 0) (failed gone silent time : ℕ)
-    (w : WorldState) → w.time ≤ time → NothingBefore time w.net.pending → IsSplitAlways p g By failed gone silent w
-    → IsSplitAlways p g By failed gone silent (at_time time w)
-split_later p g By failed gone silent time w later first is =
-    split_step p g By failed gone silent w (at_time time w) is (standing_later p silent time w later first is.standing)
+pub split_later : (p : SettlingParams) (g : Snapshot) (By : PortIdentity → ℕ → Type 0) (Limits : ℕ → Type 0)
+    (failed gone silent time : ℕ)
+    (w : WorldState) → w.time ≤ time → NothingBefore time w.net.pending → IsSplitAlways p g By
+    Limits failed gone silent w
+    → IsSplitAlways p g By Limits failed gone silent (at_time time w)
+split_later p g By Limits failed gone silent time w later first is =
+    split_step p g By Limits failed gone silent w (at_time time w) is (standing_later p silent
+    time w later first is.standing)
     (asked_later p w.last_change time w is.standing.world later first is.asked) (good_later time w is.good)
-    (later_keeps time w) (inl (record { time = time; later = later; is = refl })) later
+    (later_keeps time w) (inl (record { time = time; later = later; is = refl }))
+    (λ limit. limited_later limit w time later) later
 
-pub split_acts : (p : SettlingParams) (g : Snapshot) (By : PortIdentity → ℕ → Type 0) (failed gone silent : ℕ)
+pub split_acts : (p : SettlingParams) (g : Snapshot) (By : PortIdentity → ℕ → Type 0)
+    (Limits : ℕ → Type 0) (failed gone silent : ℕ)
     (act : Act) (w : WorldState) (draws : List Draw) (done : Done) (w' : WorldState) → IsNoChange act → SetsAnOctet act
-    → Acts act w draws done w' → IsSplitAlways p g By failed gone silent w
-    → IsSplitAlways p g By failed gone silent w'
-split_acts p g By failed gone silent act w draws done w' none octet acts is =
+    → Acts act w draws done w' → IsSplitAlways p g By Limits failed gone silent w
+    → IsSplitAlways p g By Limits failed gone silent w'
+split_acts p g By Limits failed gone silent act w draws done w' none octet acts is =
     let world = is.standing.world in
     let standing' = standing_acts p silent act w draws done w' none octet acts is.standing in
     let keeps = acts_keep act w draws done w' none acts in
     let time = acts_time act w draws done w' acts in
-    split_step p g By failed gone silent w w' is standing'
+    split_step p g By Limits failed gone silent w w' is standing'
     (subst (λ t. HaveAskedBy t w') (sym keeps.change)
     (asked_acts p w.last_change silent act w draws done w' none acts is.standing standing'.world is.asked))
     (good_acts p act w draws done w' (some_pdelay p is.standing.pace) none acts world is.standing.measured is.good)
     keeps
-    (inr (acts_seen act w draws done w' none world.sound world.encodable acts)) (omega (arith, time))
+    (inr (acts_seen act w draws done w' none world.sound world.encodable acts))
+    (λ limit. limited_acts limit act w draws done w' none acts) (omega (arith, time))

@@ -36,23 +36,25 @@ use Rattle.gptp_settling_time.proofs.AgingClaimedLemmas.{aging_facts, aging_netw
 use Rattle.gptp_settling_time.proofs.AgingStillLemmas.{IsEmptied, emptied_reduced}
 use Rattle.gptp_settling_time.proofs.AlwaysClaimedLemmas.{IsStanding}
 use Rattle.gptp_settling_time.proofs.EmptiedLemmas.{AreEmptied, IsAlike, emptied_after, lanes_emptied, older_facts}
-use Rattle.gptp_settling_time.proofs.FallAlwaysLemmas.{IsGoneBy, fallen_by, settles_by}
+use Rattle.gptp_settling_time.proofs.FallAlwaysLemmas.{fallen_by, settles_by}
 use Rattle.gptp_settling_time.proofs.LeftClaimedLemmas.{HaveAskedLong}
 use Rattle.gptp_settling_time.proofs.LinkBetweenLemmas.{IsLinkBetween, SameSenders, between_down, between_kept, senders_kept}
 use Rattle.gptp_settling_time.proofs.LinkUpLemmas.{lane_set}
 use Rattle.gptp_settling_time.proofs.NamesItselfLemmas.{AllNameAlone, alone_kept}
 use Rattle.gptp_settling_time.proofs.OffForGoodLemmas.{GoOnOff, all_down}
-use Rattle.gptp_settling_time.proofs.SplitAlwaysLemmas.{IsSplitAlways, MayStart, left_by, may_before, one_before, says_then, seen_then, split_after, split_network, split_then}
+use Rattle.gptp_settling_time.proofs.SinceSetLemmas.{AreLimitedBy, limited_unset}
+use Rattle.gptp_settling_time.proofs.SplitAlwaysLemmas.{IsDroppedBy, IsSplitAlways, MayStart, left_by, may_before, one_before, says_then, seen_then, split_after, split_network, split_then}
 use Rattle.gptp_settling_time.proofs.SplitLemmas.{IsCut, IsSplit, IsTurned, IsTwice, SplitSettles, SplitState, SplitsBack, cut_times, tops_times, turned_times}
 use Rattle.gptp_settling_time.proofs.SplitRestLemmas.{SplitNamesAlone}
 use Rattle.gptp_settling_time.proofs.SplitSoundLemmas.{AllSayStill}
 use Rattle.gptp_settling_time.proofs.ToldAnewLemmas.{FlightsAreSound}
 use Rattle.gptp_settling_time.proofs.UnusedDownLemmas.{asked', delay_taken, either, emptied, keeps, late_then, snapshot_taken, standing', tells, time}
 
-module _ (p : SettlingParams) (g : Snapshot) (By : PortIdentity → ℕ → Type 0) (failed gone silent owner port : ℕ)
+module _ (p : SettlingParams) (g : Snapshot) (By : PortIdentity → ℕ → Type 0) (Limits : ℕ → Type 0)
+    (failed gone silent owner port : ℕ)
     (w : WorldState) (draws : List Draw) (done : Done) (w' : WorldState) (is' : IsWorld p w')
     (measured' : LinkIsMeasured w') (acts : Acts (Changing (LinkDown owner port)) w draws done w')
-    (split : IsSplitAlways p g By failed gone silent w) (quiet : HaveQuietLinks p.params w)
+    (split : IsSplitAlways p g By Limits failed gone silent w) (quiet : HaveQuietLinks p.params w)
     (up : acts.1.channel.up ≡ true)
     (dead : (place : ℕ) (channel : Channel) → IsChannel (port_id owner port) place w.net channel
     → channel_is_used (live_stations w.stations) (record channel { up = true }) ≡ false) where
@@ -150,6 +152,10 @@ module _ (p : SettlingParams) (g : Snapshot) (By : PortIdentity → ℕ → Type
   links' : (a b : PortIdentity) → Joins g a b → IsLinkBetween w' a b
   links' a b joins = between_kept taken w' a b keeps' (between_down w link w.time channel here a b (split.links a b
       joins))
+
+  limited' : (limit : ℕ) → Limits limit → AreLimitedBy limit w'
+  limited' limit is_limit =
+      limited_unset limit (Changing (LinkDown owner port)) w draws done w' refl acts (split.limited limit is_limit)
 
   late' : delay_in w' ≤ w'.time
   late' = late_then p silent owner port w draws done w' is' measured' acts split.standing split.asked up dead split.late
@@ -264,7 +270,8 @@ module _ (p : SettlingParams) (g : Snapshot) (By : PortIdentity → ℕ → Type
     module _ (start : ℕ) (may : MayStart gone s.since start w') where
       may_then : MayStart gone s.since start w
       may_then =
-          may_before p g By failed gone silent w w' split standing_then asked_then goes sends same' links' by' late' on
+          may_before p g By Limits failed gone silent w w' split standing_then asked_then goes sends same' links' by'
+          limited' late' on
           start may
 
       was : SplitsBack p g s start (view w) × SplitSettles p g s start (view w)
@@ -296,7 +303,8 @@ module _ (p : SettlingParams) (g : Snapshot) (By : PortIdentity → ℕ → Type
     seen' quiet' lapses start may =
         either p silent owner port w draws done w' is' measured' acts split.standing split.asked up dead
         (λ v. SplitsBack p g s start (view v) × SplitSettles p g s start (view v)) (seen_taken start may)
-        (λ step. seen_then p g By failed gone silent w w' split standing_then asked_then goes sends same' links' by'
+        (λ step. seen_then p g By Limits failed gone silent w w' split standing_then asked_then
+        goes sends same' links' by' limited'
         late' on quiet quiet' off start may (view taken).lanes (seen_taken start may) step)
 
     one : suc (pred gone) ≡ gone
@@ -311,7 +319,8 @@ module _ (p : SettlingParams) (g : Snapshot) (By : PortIdentity → ℕ → Type
     says' cuts quiet' lapses =
         either p silent owner port w draws done w' is' measured' acts split.standing split.asked up dead
         (λ v. AllSayStill says_announce g n (view v)) says_taken
-        (λ step. says_then p g By failed gone silent w w' split standing_then asked_then goes sends same' links' by'
+        (λ step. says_then p g By Limits failed gone silent w w' split standing_then asked_then
+        goes sends same' links' by' limited'
         late' on quiet quiet' off (pred gone) (inl soon) (view taken).lanes (seen_taken (pred gone) (inl soon)) step
         cuts says_taken)
       where
@@ -325,7 +334,8 @@ module _ (p : SettlingParams) (g : Snapshot) (By : PortIdentity → ℕ → Type
         }
 
     -- something has changed, or it is too early
-    flights' : CutsAllBeyond g n.graph → w'.last_change ≡ failed → (old : ℕ) → IsGoneBy p (left_by p g s gone) old w'
+    flights' : CutsAllBeyond g n.graph → w'.last_change ≡ failed → (old : ℕ) → IsDroppedBy p
+        Limits (left_by p g s gone) old w'
         → HaveQuietLinks p.params w' → NothingLapses p.params → left_by p g s gone < w'.time
         → FlightsAreSound says_announce n.graph old (view w')
     flights' cuts since old is_old quiet' lapses late =
@@ -336,9 +346,10 @@ module _ (p : SettlingParams) (g : Snapshot) (By : PortIdentity → ℕ → Type
         absurd (omega (arith, since, change, same, before, some, late))
 
     -- so it is claimed of the world since
-    pub down_splits : IsSplitAlways p g By failed gone silent w'
+    pub down_splits : IsSplitAlways p g By Limits failed gone silent w'
     down_splits =
-        split_then p g By failed gone silent w w' split standing_then asked_then goes sends same' links' by' late' on
+        split_then p g By Limits failed gone silent w w' split standing_then asked_then goes
+        sends same' links' by' limited' late' on
         seen' says' flights'
 
   -- what has no steps still names its sender alone

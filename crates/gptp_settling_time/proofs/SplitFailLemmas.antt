@@ -73,6 +73,7 @@ use Rattle.gptp_settling_time.proofs.LinkBetweenLemmas.{IsLinkBetween, between_a
 use Rattle.gptp_settling_time.proofs.NamesItselfLemmas.{whole_alone}
 use Rattle.gptp_settling_time.proofs.OffForGoodLemmas.{good_fails}
 use Rattle.gptp_settling_time.proofs.SettledSeenLemmas.{IsSettledSeen, always_seen, sound_fits}
+use Rattle.gptp_settling_time.proofs.SinceSetLemmas.{AreLimitedBy, limited_unset}
 use Rattle.gptp_settling_time.proofs.SplitAlwaysLemmas.{GoesUntil, IsSplitAlways, MayStart, one_before, split_after, split_network}
 use Rattle.gptp_settling_time.proofs.TopsDeepLemmas.{tops_deep}
 use Rattle.gptp_settling_time.proofs.SplitLemmas.{IsSplit, SplitSettles, SplitState, SplitsBack, turned_times, tops_times}
@@ -392,7 +393,8 @@ module _ (p : SettlingParams) (number : ℕ) (w : WorldState) (draws : List Draw
 
       -- ---- the claim
 
-      module _ (By : PortIdentity → ℕ → Type 0) (gone : ℕ) (measured' : LinkIsMeasured w')
+      module _ (By : PortIdentity → ℕ → Type 0) (Limits : ℕ → Type 0)
+          (limited : (limit : ℕ) → Limits limit → AreLimitedBy limit w) (gone : ℕ) (measured' : LinkIsMeasured w')
           (long : w.time + silence_span p < silent) (by : WorldAgesBy p By w')
           (linked : (port : PortIdentity) (until : ℕ) → By port until → IsLinked g port)
           (is_gone : GoesUntil g By gone ⊎ (silent ≤ gone)) (later : w.time < gone) (late' : delay_in w' ≤ w'.time)
@@ -504,7 +506,7 @@ module _ (p : SettlingParams) (number : ℕ) (w : WorldState) (draws : List Draw
           started start (inl soon) = let time = time_now in omega (arith, soon, later, time)
           started start (inr (since, now)) = let time = time_now in omega (arith, since, time)
 
-          pub split_begins : IsSplitAlways p g By w.time gone silent w'
+          pub split_begins : IsSplitAlways p g By Limits w.time gone silent w'
           split_begins = record {
             standing = standing';
             asked = asked';
@@ -515,6 +517,8 @@ module _ (p : SettlingParams) (number : ℕ) (w : WorldState) (draws : List Draw
             same = refl;
             by = by;
             linked = linked;
+            limited = λ limit is_limit.
+                limited_unset limit (Changing (Fail number)) w draws done w' refl acts (limited limit is_limit);
             is_gone = is_gone;
             begun = let time = time_now in omega (arith, time);
             late = late';
@@ -530,5 +534,5 @@ module _ (p : SettlingParams) (number : ℕ) (w : WorldState) (draws : List Draw
           }
 
           -- and traces are told anew later
-          pub anew_begins : w'.last_change ≡ w'.time → IsSplitAnew p g By w.time gone silent w'
-          anew_begins = split_anew_begins p g By w.time gone silent w' split_begins names_alone
+          pub anew_begins : w'.last_change ≡ w'.time → IsSplitAnew p g By Limits w.time gone silent w'
+          anew_begins = split_anew_begins p g By Limits w.time gone silent w' split_begins names_alone

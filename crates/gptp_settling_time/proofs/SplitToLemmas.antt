@@ -1,5 +1,5 @@
 -- Worlds of documents since a system failed that others hear, and so moved trees.
-use Rattle.std.proofs.Common.{◌≡◌, ◌⊎◌, ◌<◌, ◌≤◌, ◌+◌, ◌*◌, ℕ, pred, suc, Option, List, subst, inl, inr, arith}
+use Rattle.std.proofs.Common.{◌≡◌, ◌⊎◌, ◌<◌, ◌≤◌, ◌+◌, ◌*◌, ℕ, pred, zero, suc, Option, List, refl, ap, subst, inl, inr, arith}
 use native.Mathlib.Decide.{dec_le}
 use Rattle.gptp_graph.specs.PathBound.{path_bound}
 use Rattle.gptp_graph.specs.Snapshot.{IsLinked, PortIdentity, Snapshot}
@@ -33,7 +33,9 @@ use Rattle.gptp_theorem.specs.AlikeLaws.{AreAlike}
 use Rattle.gptp_theorem.specs.PlayedLaws.{IsPlayable}
 use Rattle.gptp_theorem.proofs.CalmLemmas.{quiet_stands}
 use Rattle.gptp_theorem.proofs.CalmKeptLemmas.{no_change}
-use Rattle.gptp_settling_time.specs.Rests.{HasToldApart, IsToldApart}
+use Rattle.gptp_settling_time.specs.Rests.{FlightIsGoneSince, HasToldApart, IsToldApart}
+use Rattle.gptp_settling_time.specs.Arrivals.{arrived_by}
+use Rattle.gptp_settling_time.specs.Gains.{HasDelaysWithin}
 use Rattle.gptp_settling_time.specs.Losses.{NoneSilent}
 use Rattle.gptp_settling_time.specs.TreeLosses.{CutsAllBeyond}
 use Rattle.gptp_settling_time.proofs.AgesByWorldLemmas.{WorldAgesBy}
@@ -41,12 +43,12 @@ use Rattle.gptp_settling_time.proofs.AgingLemmas.{HeardNearer}
 use Rattle.gptp_settling_time.proofs.AlwaysClaimedLemmas.{IsClaimedAlways}
 use Rattle.gptp_settling_time.proofs.BecomesSoundLemmas.{nearer_echo}
 use Rattle.gptp_settling_time.proofs.ClaimedToLemmas.{IsClaimedTo}
-use Rattle.gptp_settling_time.proofs.FallAlwaysLemmas.{IsGoneBy}
-use Rattle.gptp_settling_time.proofs.GoesToLemmas.{goes_to, paths_to}
+use Rattle.gptp_settling_time.proofs.FallenClaimedLemmas.{goes_gone}
+use Rattle.gptp_settling_time.proofs.GoesToLemmas.{goes_to, paths_to, slower_to}
 use Rattle.gptp_settling_time.proofs.KeptToLemmas.{KeepsTo, keeps_act, keeps_later}
 use Rattle.gptp_settling_time.proofs.WereSilentLemmas.{WereSilent, none_silent_from, were_act, were_later}
 use Rattle.gptp_settling_time.proofs.SilentLinksLemmas.{AgesOver}
-use Rattle.gptp_settling_time.proofs.SplitAlwaysLemmas.{GoesUntil, IsSplitAlways, MayStart, left_by, one_before}
+use Rattle.gptp_settling_time.proofs.SplitAlwaysLemmas.{GoesUntil, IsDroppedBy, IsSplitAlways, MayStart, left_by, one_before}
 use Rattle.gptp_settling_time.proofs.SplitRestLemmas.{IsSplitAnew, anew_acts, anew_later, settles_at, split_anew_claimed, split_apart_claimed}
 use Rattle.gptp_settling_time.proofs.SplitSettlesLemmas.{split_chooses, split_settles}
 use Rattle.gptp_settling_time.proofs.ToldAnewLemmas.{FlightsAreSound, told_by, way_in}
@@ -67,14 +69,19 @@ over_gone n before ago events failed gone silent = elim (dec_le silent gone) [
   | no later ↦ inl (λ port until heard is. elim (is.2 heard) [ inl less ↦ less | inr soon ↦ absurd (later soon) ])
 ]
 
+-- what was in flight as the last of these events set a link had arrived by this time
+abbrev pub SetLimits : NetworkState → List Timed → ℕ → Type 0
+SetLimits n ago limit = (most : ℕ) × HasDelaysWithin n ago most × (limit ≡ arrived_by most ago)
+
 -- A world may be taken as one in which what is held goes by other times of ports: if it isn't gone sooner, or if no
 -- time has passed since the system failed.
-pub split_by : (p : SettlingParams) (g : Snapshot) (By : PortIdentity → ℕ → Type 0) (failed gone silent : ℕ)
-    (w : WorldState) → IsSplitAlways p g By failed gone silent w → (By' : PortIdentity → ℕ → Type 0) (gone' : ℕ)
+pub split_by : (p : SettlingParams) (g : Snapshot) (By : PortIdentity → ℕ → Type 0)
+    (Limits : ℕ → Type 0) (failed gone silent : ℕ)
+    (w : WorldState) → IsSplitAlways p g By Limits failed gone silent w → (By' : PortIdentity → ℕ → Type 0) (gone' : ℕ)
     → WorldAgesBy p By' w → ((port : PortIdentity) (until : ℕ) → By' port until → IsLinked g port)
     → GoesUntil g By' gone' ⊎ (silent ≤ gone') → (gone ≤ gone') ⊎ ((failed < gone') × (w.time ≤ failed))
-    → IsSplitAlways p g By' failed gone' silent w
-split_by p g By failed gone silent w is By' gone' by' linked' is_gone' which = record {
+    → IsSplitAlways p g By' Limits failed gone' silent w
+split_by p g By Limits failed gone silent w is By' gone' by' linked' is_gone' which = record {
   standing = is.standing;
   asked = is.asked;
   good = is.good;
@@ -84,6 +91,7 @@ split_by p g By failed gone silent w is By' gone' by' linked' is_gone' which = r
   same = is.same;
   by = by';
   linked = linked';
+  limited = is.limited;
   is_gone = is_gone';
   begun = is.begun;
   late = is.late;
@@ -100,7 +108,7 @@ split_by p g By failed gone silent w is By' gone' by' linked' is_gone' which = r
     ]
 
     flights' : CutsAllBeyond g is.split.n.graph → w.last_change ≡ failed → (old : ℕ)
-        → IsGoneBy p (left_by p g is.split gone') old w → HaveQuietLinks p.params w → NothingLapses p.params
+        → IsDroppedBy p Limits (left_by p g is.split gone') old w → HaveQuietLinks p.params w → NothingLapses p.params
         → left_by p g is.split gone' < w.time → FlightsAreSound says_announce is.split.n.graph old (view w)
     flights' cuts since old is_old quiet off late = elim which [
       | inr (some, now) ↦
@@ -110,8 +118,10 @@ split_by p g By failed gone silent w is By' gone' by' linked' is_gone' which = r
           let before = one_before gone failed is.some in
           is.flights cuts since old
           (elim is_old [
-            | inl interval ↦ inl (omega (arith, interval, later, one, before))
-            | inr (used, delay) ↦ inr (used, omega (arith, delay, later, one, before))
+            | inl (inl interval) ↦ inl (inl (omega (arith, interval, later, one, before)))
+            | inl (inr (used, delay)) ↦ inl (inr (used, omega (arith, delay, later, one, before)))
+            | inr (slower, limit, is_limit, soon, delay) ↦
+                inr (slower, limit, is_limit, soon, omega (arith, delay, later, one, before))
           ]) quiet off (omega (arith, late, later, one, before))
     ]
 
@@ -124,12 +134,14 @@ split_by p g By failed gone silent w is By' gone' by' linked' is_gone' which = r
     ]
 
 -- so it is where traces are told anew later, if the time from which on it is gone is the same
-pub anew_by : (p : SettlingParams) (g : Snapshot) (By : PortIdentity → ℕ → Type 0) (failed gone silent : ℕ)
-    (w : WorldState) → IsSplitAnew p g By failed gone silent w → (By' : PortIdentity → ℕ → Type 0) → WorldAgesBy p By' w
+pub anew_by : (p : SettlingParams) (g : Snapshot) (By : PortIdentity → ℕ → Type 0)
+    (Limits : ℕ → Type 0) (failed gone silent : ℕ)
+    (w : WorldState) → IsSplitAnew p g By Limits failed gone silent w →
+    (By' : PortIdentity → ℕ → Type 0) → WorldAgesBy p By' w
     → ((port : PortIdentity) (until : ℕ) → By' port until → IsLinked g port)
-    → GoesUntil g By' gone ⊎ (silent ≤ gone) → IsSplitAnew p g By' failed gone silent w
-anew_by p g By failed gone silent w is By' by' linked' is_gone' = record {
-  split = split_by p g By failed gone silent w is.split By' gone by' linked' is_gone' (inl (omega arith));
+    → GoesUntil g By' gone ⊎ (silent ≤ gone) → IsSplitAnew p g By' Limits failed gone silent w
+anew_by p g By Limits failed gone silent w is By' by' linked' is_gone' = record {
+  split = split_by p g By Limits failed gone silent w is.split By' gone by' linked' is_gone' (inl (omega arith));
   alone = is.alone;
   tells = is.tells;
 }
@@ -141,8 +153,8 @@ pub record IsSplitTo (d : DocumentState) (ago events : List Timed) (gone silent 
   pub before : Snapshot
   pub stood : (g : Snapshot) → StandsAfter d.network ago g → AreAlike before g
   pub failed : ℕ
-  pub since : IsSplitAnew (pace_of d.network) before (GoesOver d.network before ago events failed gone silent) failed
-      gone silent w
+  pub since : IsSplitAnew (pace_of d.network) before (GoesOver d.network before ago events failed gone silent)
+      (SetLimits d.network ago) failed gone silent w
   pub were : WereSilent d.network ago w
   pub unanswered : silent ≡ suc (failed + silence_span (pace_of d.network))
 
@@ -155,7 +167,7 @@ module _ (d : DocumentState) (ago events : List Timed) (gone silent : ℕ) where
     stood = so.stood;
     failed = so.failed;
     since = anew_later (pace_of d.network) so.before (GoesOver d.network so.before ago events so.failed gone silent)
-        so.failed gone silent time w later first so.since;
+        (SetLimits d.network ago) so.failed gone silent time w later first so.since;
     were = were_later d.network ago w time later so.were;
     unanswered = so.unanswered;
   }
@@ -167,14 +179,16 @@ module _ (d : DocumentState) (ago events : List Timed) (gone silent : ℕ) where
       let timed = t.told.timed in
       let p = pace_of d.network in
       let By = GoesOver d.network so.before ago events so.failed gone silent in
-      let then = anew_later p so.before By so.failed gone silent timed.at w was.ready.timely.now was.ready.timely.first
+      let then = anew_later p so.before By (SetLimits d.network ago) so.failed gone silent timed.at w
+      was.ready.timely.now was.ready.timely.first
       so.since in
       record {
         keeps = keeps_act d events answers t fate drawn w next was so.keeps;
         before = so.before;
         stood = so.stood;
         failed = so.failed;
-        since = anew_acts p so.before By so.failed gone silent timed.act (at timed.at w) was.draws t.told.done t.after
+        since = anew_acts p so.before By (SetLimits d.network ago) so.failed gone silent timed.act (at timed.at w)
+            was.draws t.told.done t.after
             (no_change next.item timed.act w next.act) (next_octet next.item timed.act w next.act) was.acts then;
         were = were_act d ago events answers t fate drawn w next was so.keeps so.were;
         unanswered = so.unanswered;
@@ -206,15 +220,18 @@ module _ (d : DocumentState) (ago events : List Timed) (gone silent : ℕ) where
 
     -- its choice stands
     pub split_to_chooses : ChoiceStands w
-    split_to_chooses = split_chooses p so.before By so.failed gone silent w so.since.split quiet off start may late_now
+    split_to_chooses = split_chooses p so.before By (SetLimits d.network ago) so.failed gone silent w so.since.split
+        quiet off start may late_now
 
     -- it has settled
     pub split_to_settled : (silent ≤ w.time) ⊎ NoneSilent d.network ago events → Settled w × IsBoundedWorld w
     split_to_settled (inl now) =
-        split_settles p so.before By so.failed gone silent w so.since.split quiet off start may late_now silent
+        split_settles p so.before By (SetLimits d.network ago) so.failed gone silent w so.since.split quiet off start
+        may late_now silent
         so.since.split.standing.silent now
     split_to_settled (inr none) =
-        split_settles p so.before By so.failed gone silent w so.since.split quiet off start may late_now w.time
+        split_settles p so.before By (SetLimits d.network ago) so.failed gone silent w so.since.split quiet off start
+        may late_now w.time
         (none_silent_from d ago events w so.keeps so.were none w.time) (omega arith)
 
   -- once it has come to rest claims are made of all links always
@@ -257,7 +274,8 @@ module _ (d : DocumentState) (ago events : List Timed) (gone silent : ℕ) where
       -- where all beyond the failed system is cut off what was in flight is gone, else traces are told anew
       by : IsToldApart d.network ago events gone w.time → IsClaimedAlways q start w
       by (inl over) =
-          split_anew_claimed q so.before (GoesOver d.network so.before ago events so.failed gone silent) so.failed gone
+          split_anew_claimed q so.before (GoesOver d.network so.before ago events so.failed gone silent)
+          (SetLimits d.network ago) so.failed gone
           silent w so.since links rest.off changed told start later dark
         where
           told : told_by q (settles_at gone w) w + largest_interval q < w.time
@@ -268,9 +286,9 @@ module _ (d : DocumentState) (ago events : List Timed) (gone silent : ℕ) where
               + largest_interval q ≤ w.time) (paths_to d playable events w so.keeps) over in
               omega (arith, same, by_then)
       by (inr (cuts, flight, is_gone, settled, arrived)) =
-          split_apart_claimed q so.before (GoesOver d.network so.before ago events so.failed gone silent) so.failed gone
-          silent flight w so.since links rest.off changed cuts_so late
-          (goes_to d playable events w so.keeps flight is_gone) gone_by start later dark
+          split_apart_claimed q so.before (GoesOver d.network so.before ago events so.failed gone silent)
+          (SetLimits d.network ago) so.failed gone silent w so.since links rest.off changed cuts_so late
+          (dropped is_gone) start later dark
         where
           paths : sync_paths d.network events ≡ sync_paths_of w
           paths = paths_to d playable events w so.keeps
@@ -288,6 +306,27 @@ module _ (d : DocumentState) (ago events : List Timed) (gone silent : ℕ) where
               let by_then : gone + way_in w + flight ≤ w.time =
               subst (λ (u : SyncPaths). gone + way_span u + flight ≤ w.time) paths arrived in
               omega (arith, same, by_then)
+
+          dropped : FlightIsGoneSince d.network ago events flight
+              → IsDroppedBy q (SetLimits d.network ago) (pred gone + way_in w) (pred w.time) w
+          dropped (inl is_gone) =
+              inl (goes_gone q (pred gone + way_in w) flight w (goes_to d playable events w so.keeps flight is_gone)
+              gone_by)
+          dropped (inr (slower, (most, within, limit), is)) =
+              inr (
+                slower_to d playable events w so.keeps slower,
+                arrived_by most ago,
+                (most, within, refl),
+                before w.time gone_by (let same = changed in let last = so.keeps.stands.last in
+                    let one = one_before gone so.failed so.since.split.some in
+                    let some = so.since.split.some in omega (arith, limit, same, last, one, some)),
+                before w.time gone_by (let delay = ap (λ (u : SyncPaths). u.delay) paths in omega (arith, is, delay)),
+              )
+            where
+              before : (now : ℕ) → pred gone + way_in w + flight < now → {span : ℕ}
+                  → span ≤ pred gone + way_in w + flight → span ≤ pred now
+              before zero less most = absurd (omega (arith, less))
+              before (suc now) less most = omega (arith, less, most)
 
           cuts_so : CutsAllBeyond so.before so.since.split.split.n.graph
           cuts_so =

@@ -59,7 +59,7 @@ use Rattle.gptp_settling_time.specs.Arrivals.{HasArrivedBy}
 use Rattle.gptp_settling_time.specs.Gains.{ChangesNothing, EndHasFailed, LeavesCapable, Repeats, TakesNothing}
 use Rattle.gptp_settling_time.specs.EventKinds.{AddsHeard, BettersClock, FlightIsGone, FlightIsGoneFrom, MakesNothing, NoneUsed, TellsNothing, UsedVaryLittle, WidensLink}
 use Rattle.gptp_settling_time.specs.Leads.{TakesAny}
-use Rattle.gptp_settling_time.specs.Rests.{turned_echo_span}
+use Rattle.gptp_settling_time.specs.Rests.{FlightIsGoneSince, turned_echo_span}
 use Rattle.gptp_settling_time.specs.Losses.{AgesWithin, CutsFarEnd, FailsFarEnd, FailsHeard, LeavesChoice, LosesAny, LowersLink, LowersUnused, MovesNoneInAll, NoneSilent, TurnsLink, UpIsUsed}
 use Rattle.gptp_settling_time.specs.TreeLosses.{CutsAllBeyondFrom, FailsTrees, FallsTree, TurnsTreeLink}
 
@@ -512,7 +512,7 @@ RestsSplit n rest made now =
     (choice : ℕ) × (roles : ℕ) × BoundsSplit n choice roles made now
     × ((max roles (choice + max (echo_span (pace_of n) (sync_paths n (made ++ now))) (largest_interval (pace_of n)))
     ≤ rest)
-    ⊎ (CutsAllBeyondFrom n made (made ++ now) × (flight : ℕ) × FlightIsGone n (made ++ now) flight
+    ⊎ (CutsAllBeyondFrom n made (made ++ now) × (flight : ℕ) × FlightIsGoneSince n made (made ++ now) flight
     × (max roles (choice + flight) ≤ rest)))
 
 -- By so much later than a time the network has come to rest, by the times before it, the latest first: it has settled,
