@@ -148,7 +148,7 @@ sound_of_row n loss paths CutOff gained = max (2 * way_span paths) (gone_by n pa
 sound_of_row n loss paths FailedEnd gained = quiet_by n loss (gone_by n loss.paths_before loss.soon_before)
 sound_of_row n loss paths FailedHeard gained = aged_echo_span n loss paths
 sound_of_row n loss paths FailureCutsOff gained =
-    if loss.cuts_all then quiet_by n loss (aged_by loss + 2 * way_span paths + gone_by n paths loss.used)
+    if loss.cuts_all then quiet_by n loss (aged_by loss + 2 * way_span paths + gone_by n paths loss.soon)
     else max (aged_by loss + 2 * way_span paths) (aged_echo_span n loss paths)
 sound_of_row n loss paths SystemTurned gained = 2 * way_span paths + echo_span (pace_of n) paths
 sound_of_row n loss paths TreeFalls gained = max (2 * way_span paths) (gone_by n paths loss.used_before)
@@ -156,7 +156,7 @@ sound_of_row n loss paths TreeTurned gained = 2 * way_span paths + echo_span (pa
 sound_of_row n loss paths FailureMovesTrees gained =
     quiet_by n loss
     (aged_by loss + 2 * way_span paths
-    + (if loss.cuts_all then gone_by n paths loss.used
+    + (if loss.cuts_all then gone_by n paths loss.soon
     else max (echo_span (pace_of n) paths) (largest_interval (pace_of n))))
 sound_of_row n loss paths TakenAway gained = taken_echo_span n loss paths
 sound_of_row n loss paths AnyLosses gained = quiet_by n loss (any_loss_span n loss paths)

@@ -107,7 +107,8 @@ fn what_a_failure_cuts_off_or_turns_costs_two_ways(rt: HostRuntime) -> Result<()
     const DOWN: &str =
         "[[event]]\nat = 30000000000\nkind = \"link_down\"\nclock = \"000000000000000b\"\nport = ";
     // In each row b fails, or loses its power and so many links. The next three move others that keep their root and get
-    // it by one link; after them one gets it by two. The last moves two that are joined beside b.
+    // it by one link; after them one gets it by two. The last three cut off such as are joined beside b at two of them,
+    // the last one of all besides.
     for (case, ports, links, hang, power) in [
         (
             "one is cut off",
@@ -187,6 +188,31 @@ fn what_a_failure_cuts_off_or_turns_costs_two_ways(rt: HostRuntime) -> Result<()
             ] as &[(&str, &str, &str, &str)],
             (3_000_001_230, 11_000_000_000),
             (820, 820),
+        ),
+        (
+            "a triangle",
+            3,
+            &[
+                ("a", "1", "b", "1"),
+                ("b", "2", "c", "1"),
+                ("c", "2", "d", "1"),
+                ("b", "3", "d", "2"),
+            ] as &[(&str, &str, &str, &str)],
+            (3_000_001_230, 11_000_000_000),
+            (820, 820),
+        ),
+        (
+            "a ring behind it",
+            3,
+            &[
+                ("a", "1", "b", "1"),
+                ("b", "2", "c", "1"),
+                ("c", "2", "e", "1"),
+                ("e", "2", "d", "1"),
+                ("b", "3", "d", "2"),
+            ] as &[(&str, &str, &str, &str)],
+            (3_000_002_050, 11_000_000_000),
+            (1_640, 1_640),
         ),
         (
             "a triangle and an end station",
