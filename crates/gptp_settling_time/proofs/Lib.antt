@@ -222,6 +222,7 @@ pub mod SplitDownLemmas
 pub mod SplitTracesLemmas
 pub mod SplitSoundLemmas
 pub mod TopsDeepLemmas
+pub mod TopsSoundLemmas
 pub mod TopsRestLemmas
 pub mod SplitLinksLemmas
 pub mod SplitSettlesLemmas

@@ -315,21 +315,25 @@ module _ (p : SettlingParams) (g : Snapshot) (By : PortIdentity → ℕ → Type
     back' : SplitsBack p g s start (view w')
     back' = splits_on p g s start x (view w') was.0 kept' state' stays_off none' step
 
+    settles' : SplitSettles p g s start (view w')
+    settles' = split_settles_on p g s start x (view w') was.0 kept' state' stays_off none' step was.1
+
     pub seen_then : SplitsBack p g s start (view w') × SplitSettles p g s start (view w')
-    seen_then = (back', split_settles_on p g s start x (view w') was.0 kept' state' stays_off none' step was.1)
+    seen_then = (back', settles')
 
     module _ (cuts : CutsAllBeyond g n.graph) where
       pub says_then : AllSayStill says_announce g n x → AllSayStill says_announce g n (view w')
       says_then =
           still_kept says_announce g n s.lost s.best (IsCut p g s start) (IsTurned p g s start) (IsTwice p g s start)
-          s.moves start s.near cuts (λ t is. is) x (view w') was.0.back back'.back (linked' quiet') step
+          s.moves start s.near cuts (λ t is. is) (λ t is. is) x (view w') was.0.back back'.back (linked' quiet') step
 
       pub flights_then : AllSayStill says_announce g n (view w') → fallen_by n start < w'.time → (old : ℕ)
           → FlightsAreSound says_announce n.graph old x → FlightsAreSound says_announce n.graph old (view w')
       flights_then says' late old =
           flights_kept says_announce n.graph old x (view w')
           (all_tell says_announce g n s.lost s.best (IsCut p g s start) (IsTurned p g s start) (IsTwice p g s start)
-          s.moves start s.near cuts (λ t is. is) (view w') back'.back (linked' quiet') says' late) step
+          s.moves start s.near cuts (λ t is. is) (λ t is. is) (view w') back'.back (λ t is. (settles'.twice t is).stale)
+          (linked' quiet') says' late) step
 
 -- ---- every step keeps it
 
