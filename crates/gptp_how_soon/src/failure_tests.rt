@@ -424,19 +424,35 @@ fn losses_that_move_no_system_together_cost_nothing(rt: HostRuntime) -> Result<(
 }
 
 #[test]
-fn other_losses_cost_a_turn_for_each_system_of_a_path(rt: HostRuntime) -> Result<(), Fail> {
-    // Three announce intervals and a delay for each, an interval, and a way. The link from a to b is wider first.
+fn the_best_of_a_ring_that_fails_costs_two_ways(rt: HostRuntime) -> Result<(), Fail> {
+    // Both its neighbours lose it, and are joined by the other. Its link to b takes longer.
+    const SLOWER: &str =
+        "[[event]]\nat = 30000000000\nkind = \"link_set\"\nclock = \"000000000000000a\"\nport = 1\nmin = 380\nmax = 500\nloss = 0\n";
     for (case, events, bound) in [
         (
             "the root hangs",
             "[[event]]\nat = 60000000000\nkind = \"fail\"\nclock = \"000000000000000a\"\n",
-            (10_000_002_320, 11_000_000_000),
+            (3_000_002_140, 11_000_000_000),
         ),
         (
             "the root loses its power",
             "[[event]]\nat = 60000000000\nkind = \"fail\"\nclock = \"000000000000000a\"\n[[event]]\nat = 60000000000\nkind = \"link_down\"\nclock = \"000000000000000a\"\nport = 1\n[[event]]\nat = 60000000000\nkind = \"link_down\"\nclock = \"000000000000000a\"\nport = 2\n",
-            (10_000_002_320, 10_000_002_320),
+            (1_640, 1_640),
         ),
+    ] {
+        let mut text = String::new(rt.alloc());
+        text.push_str(SLOWER)?;
+        text.push_str(events)?;
+        let times = ring(rt.alloc(), text.as_str())?;
+        assert_eq!(rt; bounds(&times, 60_000_000_000), Some(bound), "{case}");
+    }
+    Ok(())
+}
+
+#[test]
+fn other_losses_cost_a_turn_for_each_system_of_a_path(rt: HostRuntime) -> Result<(), Fail> {
+    // Three announce intervals and a delay for each, an interval, and a way. The link from a to b is wider first.
+    for (case, events, bound) in [
         (
             "the root gets worse",
             "[[event]]\nat = 60000000000\nkind = \"priority1\"\nclock = \"000000000000000a\"\nvalue = 250\n",
