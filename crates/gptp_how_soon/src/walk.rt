@@ -170,7 +170,7 @@ impl Walk {
             tree_turns: both(come, turns_tree(&systems, &lost, &links, &before, &now)),
             trees_move: both(come, trees),
             taken: both(!any_moved, !silent),
-            cuts_all: both(both(come, moves), cuts_all(&systems, &lost, &before, &now)),
+            cuts_all: both(both(come, trees), cuts_all(&systems, &lost, &before, &now)),
             far: are_far(&self.systems_before, &before, &links_before, &self.told),
             held: held_among(network, own, &heard, &self.tables.standings),
         })
