@@ -371,7 +371,8 @@ module _ (d : DocumentState) (playable : IsPlayable d) where
           ))),
         )
     rests_by sound told (inr (inr (inr (inr (inr (inr (inl (row, is)))))))) =
-        let (rest, tree) = tree_falls n playable.network all b at late well (octets_at d playable at) row in inr (inl (rest, tree, told ∙ is))
+        let (rest, tree) = tree_falls n playable.network all b at late well (octets_at d playable at) row in inr
+        (inl (rest, tree, told ∙ is))
     rests_by sound told (inr (inr (inr (inr (inr (inr (inr (inl (row, is))))))))) =
         let x = failure_cuts n playable.network all b at late well row in
         let echo : ℕ = max (echo_span (pace_of n) v.paths) (largest_interval (pace_of n)) in

@@ -90,7 +90,8 @@ reason true false false true false turns falls branch fails far moved trees ends
 reason true false false false cut true falls branch fails far moved trees ends taken loss only = (refl, refl)
 reason true false false false cut false true branch fails far moved trees ends taken loss only = (refl, refl)
 reason true false false false cut false false true fails far moved trees ends taken loss only = (refl, refl)
-reason true false false false cut false false false true true moved trees ends taken loss only = (refl, inl (refl, refl))
+reason true false false false cut false false false true true moved trees ends taken loss only =
+    (refl, inl (refl, refl))
 reason true false false false cut false false false true false true trees ends taken loss only = (refl, refl)
 reason true false false false cut false false false true false false trees ends taken loss only = (refl, refl)
 reason true false false false cut false false false false far moved true ends taken loss only = (refl, refl)
