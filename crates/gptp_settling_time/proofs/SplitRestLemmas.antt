@@ -232,7 +232,8 @@ module _ (p : SettlingParams) (g : Snapshot) (By : PortIdentity → ℕ → Type
     stations = all_hold says_announce g n is.split.split.lost is.split.split.best
         (IsCut p g is.split.split (pred gone)) (IsTurned p g is.split.split (pred gone))
         (IsTwice p g is.split.split (pred gone)) is.split.split.moves (pred gone) is.split.split.near cuts
-        (λ t cut. cut) (λ t cut. cut) (view w) seen.0.back (λ t cut. (seen.1.twice t cut).stale) (linked_now p g By Limits failed gone silent w is.split quiet)
+        (λ t cut. cut) (λ t cut. cut) (view w) seen.0.back (λ t cut. (seen.1.twice t cut).stale)
+        (linked_now p g By Limits failed gone silent w is.split quiet)
         (is.split.says cuts quiet off) left_now
         (subst (λ (z : Network). (i : ℕ) (s : SeenStation) (place : ℕ) (r : Reception) (from : PortIdentity)
         → slice_get (view w).stations i ≡ Some s → s.live ≡ true → HoldsAt s place r
