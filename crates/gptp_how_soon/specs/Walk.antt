@@ -15,7 +15,7 @@ use Rattle.gptp_how_soon.specs.Chosen.{any_counted, any_moved, chosen_over, ends
 use Rattle.gptp_how_soon.specs.Far.{all_cut_far_ends, are_far, none_up_longer, up_is_used}
 use Rattle.gptp_how_soon.specs.Kinds.{sets_bounds, takes_one, told_by}
 use Rattle.gptp_how_soon.specs.Links.{delay_set, longest_among, lost_among, new_among}
-use Rattle.gptp_how_soon.specs.MovedTrees.{cuts_all, far_end_moves, moves_trees}
+use Rattle.gptp_how_soon.specs.MovedTrees.{cuts_all, far_end_moves}
 use Rattle.gptp_how_soon.specs.Rest.{has_come}
 use Rattle.gptp_how_soon.specs.Silent.{any_silent, heard_links, held_among, own_intervals}
 use Rattle.gptp_how_soon.specs.Times.{View, settling_time}
@@ -135,7 +135,7 @@ moves_seen n w at = record {
   apart = not (any_moved (systems_in w.tables.nodes.items) (chosen_before w) (chosen_now w))
       && list_all (far_end_moves (systems_in w.tables.nodes.items) (chosen_before w) (chosen_now w)) (lost_seen w);
   cuts_all = (has_come_seen n w at
-      && moves_trees (systems_in w.tables.nodes.items) (lost_seen w) (ends_in_use w.ends.items (used_now w))
+      && trees_move (systems_in w.tables.nodes.items) (lost_seen w) (ends_in_use w.ends.items (used_now w))
       (chosen_before w) (chosen_now w))
       && cuts_all (systems_in w.tables.nodes.items) (lost_seen w) (chosen_before w) (chosen_now w);
   alone = w.all_used_before

@@ -175,7 +175,7 @@ impl Walk {
                 !any_moved,
                 all_far_ends_move(&systems, &lost, &before, &now),
             ),
-            cuts_all: both(both(come, moves), cuts_all(&systems, &lost, &before, &now)),
+            cuts_all: both(both(come, trees), cuts_all(&systems, &lost, &before, &now)),
             alone: both(
                 self.all_used_before,
                 leaves_alone(&systems, &links_before, &links),

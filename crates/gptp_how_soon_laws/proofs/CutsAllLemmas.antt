@@ -8,6 +8,7 @@ use Rattle.gptp_lists.specs.Members.{In}
 use Rattle.gptp_lists.proofs.MappedLemmas.{mapped_there}
 use Rattle.gptp_lists.proofs.SystemSpecLemmas.{from_map}
 use Rattle.gptp_bmca_machine.specs.CutTree.{Tree}
+use Rattle.gptp_bmca_machine.specs.TwoTops.{TopsTree}
 use Rattle.gptp_graph.specs.Best.{IsBest}
 use Rattle.gptp_graph.specs.Distance.{IsDistance}
 use Rattle.gptp_graph.specs.Snapshot.{IsLinked, IsWellFormed, Joins, PortIdentity, Snapshot, System, clocks}
@@ -19,19 +20,20 @@ use Rattle.gptp_scenario.specs.Network.{IsNetwork, NetworkState}
 use Rattle.gptp_scenario.specs.declared.change.Timed.{Timed}
 use Rattle.gptp_topology.specs.After.{system_then, systems_after}
 use Rattle.gptp_topology.specs.declared.nodes.System as ours
-use Rattle.gptp_how_soon.specs.Chosen.{chosen_after, differs, ends_of, is_moved, is_moved_at, lost_ends, moves_some}
+use Rattle.gptp_how_soon.specs.Chosen.{chosen_after, differs, ends_of, is_moved, is_moved_at, lost_ends, moves_some, used_ends}
 use Rattle.gptp_how_soon.specs.Far.{is_nearer_at}
 use Rattle.gptp_how_soon.specs.MovedTrees.{cuts_all_after, far_end_moves, far_ends_move_after, is_moved_if_far, moves_trees_after, stays_or_gets_worse}
 use Rattle.gptp_how_soon.specs.Silent.{hears, is_live}
 use Rattle.gptp_how_soon.specs.Tree.{has_better_root}
 use Rattle.gptp_how_soon.specs.TurnedTree.{is_turned_at}
 use Rattle.gptp_how_soon.specs.Turned.{goes_farther}
+use Rattle.gptp_how_soon.specs.TwoTops.{falls_twice, trees_move_after}
 use Rattle.gptp_how_soon.specs.declared.chosen.Chosen.{Chosen}
 use Rattle.gptp_how_soon.specs.declared.chosen.Ends.{Ends}
 use Rattle.gptp_how_soon.proofs.ChosenLemmas.{IsAt, at_clock}
 use Rattle.gptp_settling_time.specs.HowSoon.{EachEvent, FailsTreesFirst, IsDownToo, IsTakenToo, TakesSeveral}
 use Rattle.gptp_settling_time.specs.Losses.{IsUnmoved, LosesAny}
-use Rattle.gptp_settling_time.specs.TreeLosses.{CutsAllBeyond, CutsAllBeyondFrom, IsTreeCutOff, LosesFarther, LosesFartherFrom}
+use Rattle.gptp_settling_time.specs.TreeLosses.{CutsAllBeyond, CutsAllBeyondFrom, IsTreeCutOff, IsTreeCutTwice, LosesFarther, LosesFartherFrom}
 use Rattle.gptp_how_soon_laws.proofs.FailedLemmas.{each_is}
 use Rattle.gptp_how_soon_laws.proofs.LiveEndsLemmas.{nearer_at}
 use Rattle.gptp_how_soon_laws.proofs.LivesOnLemmas.{LivesOn, clock_lived, on_of}
@@ -39,6 +41,7 @@ use Rattle.gptp_how_soon_laws.proofs.LostLinkLemmas.{ends_are, stands_or_lost}
 use Rattle.gptp_how_soon_laws.proofs.MovedTreesLemmas.{cut_there}
 use Rattle.gptp_how_soon_laws.proofs.TakenAwayLemmas.{all_lived}
 use Rattle.gptp_how_soon_laws.proofs.TreeTestLemmas.{better_so}
+use Rattle.gptp_how_soon_laws.proofs.TwoTopsLemmas.{Twice, twice, twice_each}
 use Rattle.gptp_how_soon_laws.proofs.UnmovedLemmas.{AreWell, asked_of, unmoved_all, unmoved_at}
 use Rattle.gptp_how_soon_laws.proofs.WorseningLemmas.{lives_of}
 
@@ -161,7 +164,7 @@ module _ (n : NetworkState) (network : IsNetwork n) (made events : List Timed) w
 
   -- ---- and each that is moved has a worse root
 
-  module _ (splits : moves_trees_after n made events ≡ true) (cuts : cuts_all_after n made events ≡ true)
+  module _ (trees : trees_move_after n made events ≡ true) (cuts : cuts_all_after n made events ≡ true)
       (g h : Snapshot) (stands : StandsAfter n made g) (stands' : StandsAfter n events h) (well : IsWellFormed g)
       (well' : IsWellFormed h) (lived : (v : ℕ) → In v (clocks h) → In v (clocks g)) where
     abbrev Standing : ℕ → ℕ → Type 0
@@ -196,24 +199,48 @@ module _ (n : NetworkState) (network : IsNetwork n) (made events : List Timed) w
         (and_parts (s.was.root == s.is.root) (nat_lt s.was.steps s.is.steps) told).0 in
         absurd (omega (arith, less, same))
 
-    pub cuts_beyond : CutsAllBeyond g h
-    cuts_beyond = record { each = each; beyond = beyond both.1 g h stands stands' well well' lived }
-      where
-        by : (i v : ℕ) (s : Standing i v) (moves : Bool) → moves_there i ≡ moves → (turns : Bool)
-            → is_turned_at systems before now i ≡ turns
-            → IsUnmoved g h v ⊎ ((best : System) × (t : Tree) × IsTreeCutOff g h best t × IsBest h v t.next)
-        by i v s false none turns is =
-            inl (unmoved_at n network made events g h stands stands' well well' v (lived v s.known) s.known i s.at none)
-        by i v s true moved true turns = absurd (turns_none i v s moved turns)
-        by i v s true moved false none =
-            inr (cut_there n network made events splits g h stands stands' well well' lived i v s.at s.known
-            (and_from (moves_there i) (not (is_turned_at systems before now i)) moved (ap not none)))
+    abbrev StaysOrIsCut : ℕ → Type 0
+    StaysOrIsCut v = IsUnmoved g h v
+        ⊎ (((best : System) × (t : Tree) × IsTreeCutOff g h best t × IsBest h v t.next)
+        ⊎ ((best : System) × (t : TopsTree) × IsTreeCutTwice g h best t × IsBest h v t.next))
 
-        each : (v : ℕ) → In v (clocks h)
-            → IsUnmoved g h v ⊎ ((best : System) × (t : Tree) × IsTreeCutOff g h best t × IsBest h v t.next)
-        each v known =
-            let (i, s) = on_of n network made events g h stands stands' well well' lived v known in
-            by i v s (moves_there i) refl (is_turned_at systems before now i) refl
+    -- where all that are moved are trees with one top
+    each_once : moves_trees_after n made events ≡ true → (v : ℕ) → In v (clocks h) → StaysOrIsCut v
+    each_once splits v known =
+        let (i, s) = on_of n network made events g h stands stands' well well' lived v known in
+        by i s (moves_there i) refl (is_turned_at systems before now i) refl
+      where
+        by : (i : ℕ) (s : Standing i v) (moves : Bool) → moves_there i ≡ moves → (turns : Bool)
+            → is_turned_at systems before now i ≡ turns → StaysOrIsCut v
+        by i s false none turns is =
+            inl (unmoved_at n network made events g h stands stands' well well' v (lived v s.known) s.known i s.at none)
+        by i s true moved true turns = absurd (turns_none i v s moved turns)
+        by i s true moved false none =
+            inr (inl (cut_there n network made events splits g h stands stands' well well' lived i v s.at s.known
+            (and_from (moves_there i) (not (is_turned_at systems before now i)) moved (ap not none))))
+
+    -- or one with two
+    each_twice : Twice n network made events → (v : ℕ) → In v (clocks h) → StaysOrIsCut v
+    each_twice falls v known =
+        by (twice_each n network made events falls g h stands stands' well well' lived)
+      where
+        by : ((b : System) × ((v : ℕ) → In v (clocks h)
+            → IsUnmoved g h v ⊎ ((t : TopsTree) × IsTreeCutTwice g h b t × IsBest h v t.next)))
+            → StaysOrIsCut v
+        by (b, each) = elim (each v known) [
+          | inl stays ↦ inl stays
+          | inr (t, cut, in_v) ↦ inr (inr (b, t, cut, in_v))
+        ]
+
+    pub cuts_beyond : CutsAllBeyond g h
+    cuts_beyond = record {
+      each = elim (or_cases (moves_trees_after n made events) (falls_twice systems lost (used_ends n events) before
+          now) trees) [
+            | inl splits ↦ each_once splits
+            | inr falls ↦ each_twice (twice n network made events falls)
+          ];
+      beyond = beyond both.1 g h stands stands' well well' lived;
+    }
 
 -- ---- the events of a time
 
@@ -234,10 +261,10 @@ module _ (n : NetworkState) (network : IsNetwork n) where
   )
 
   pub all_beyond : (made now : List Timed) → AreWell n (made ++ now) → FailsTreesFirst n made now
-      → moves_trees_after n made (made ++ now) ≡ true → cuts_all_after n made (made ++ now) ≡ true
+      → trees_move_after n made (made ++ now) ≡ true → cuts_all_after n made (made ++ now) ≡ true
       → CutsAllBeyondFrom n made (made ++ now)
-  all_beyond made now well fails splits cuts g h stands stands' =
-      cuts_beyond n network made (made ++ now) splits cuts g h stands stands' (well made now refl g stands)
+  all_beyond made now well fails trees cuts g h stands stands' =
+      cuts_beyond n network made (made ++ now) trees cuts g h stands stands' (well made now refl g stands)
       (well (made ++ now) [] (append-nil (made ++ now)) h stands')
       (clock_lived n network made (made ++ now) (all_lived n network made now (first_taken made now fails)) g h stands
       stands')

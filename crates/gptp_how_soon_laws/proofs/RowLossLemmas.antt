@@ -16,7 +16,7 @@ use Rattle.gptp_how_soon.specs.Bounds.{gone_by, quiet_by}
 use Rattle.gptp_how_soon.specs.Chosen.{moves_joined, moves_some}
 use Rattle.gptp_how_soon.specs.Kinds.{begins_with, brings_nothing, fails_beside_idle, fails_first, is_loss, is_lowering, is_worsening, lowers_one, takes_one, takes_several, worsens_first}
 use Rattle.gptp_how_soon.specs.Alone.{leaves_alone_after}
-use Rattle.gptp_how_soon.specs.MovedTrees.{cuts_all_after, moves_trees_after}
+use Rattle.gptp_how_soon.specs.MovedTrees.{cuts_all_after}
 use Rattle.gptp_how_soon.specs.Rest.{is_end_followed, is_failing_followed, is_from_rest, is_lowering_followed, is_taking_followed, is_worsening_followed, keeps_paths, rested}
 use Rattle.gptp_how_soon.specs.Times.{View, events_at, has_come_after, loss_at, row_at, told_at, told_of, view_at}
 use Rattle.gptp_how_soon.specs.Tree.{cuts_tree_after, worsens_best_after}
@@ -40,7 +40,7 @@ use Rattle.gptp_how_soon_laws.proofs.AnyLossLemmas.{all_losses}
 use Rattle.gptp_how_soon_laws.proofs.ArrivedLemmas.{all_within, has_come_so, longest_within}
 use Rattle.gptp_how_soon_laws.proofs.FailedLemmas.{fails_beside_first, fails_end_first, fails_heard_first, used_up}
 use Rattle.gptp_how_soon_laws.proofs.CutOffLemmas.{cuts_far}
-use Rattle.gptp_how_soon_laws.proofs.MovedTreesLemmas.{fails_trees_first, trees_move_so}
+use Rattle.gptp_how_soon_laws.proofs.MovedTreesLemmas.{fails_trees_first}
 use Rattle.gptp_how_soon_laws.proofs.LoweredLemmas.{lowers_link, used_on}
 use Rattle.gptp_how_soon_laws.proofs.RepeatLemmas.{Begins, before_repeats, begins, cut_seen, falls_seen, first_same, first_well, joined_seen, paths_seen, turned_seen, turns_seen, used_still, whole, worsens_seen}
 use Rattle.gptp_how_soon_laws.proofs.TreeEventLemmas.{lowers_one_tree, turns_tree_link}
@@ -448,11 +448,11 @@ module _ (n : NetworkState) (network : IsNetwork n) (events : List Timed) (b : S
       → v.moves.cuts_all ≡ true → CutsAll
   all_cut well which cuts =
       let come_test : Bool = has_come_after n made (Some b) at in
-      let moves_test : Bool = moves_trees_after n made (made ++ now) in
+      let moves_test : Bool = trees_move_after n made (made ++ now) in
       let (both, all) = and_parts (come_test && moves_test) (cuts_all_after n made (made ++ now)) cuts in
       let (come, splits) = and_parts come_test moves_test both in
       let (from, followed) = by which in
-      let trees = trees_late from well followed come (trees_move_so n made (made ++ now) splits) in
+      let trees = trees_late from well followed come splits in
       record { trees = trees; beyond = all_beyond n network made now well trees.fails splits all }
     where
       by : (row_at v ≡ FailureCutsOff) ⊎ (row_at v ≡ FailureMovesTrees)

@@ -475,15 +475,21 @@ module _ (n : NetworkState) (network : IsNetwork n) (made events : List Timed) w
       }
 
       -- each system is unmoved, or of the tree
-      each : (v : ℕ) → In v (clocks h) → IsUnmovedOrInTree g h best v
+      each : (v : ℕ) → In v (clocks h)
+          → IsUnmoved g h v ⊎ ((t : TopsTree) × IsTreeCutTwice g h best t × IsBest h v t.next)
       each v known = let (i, s) = on v known in by i s (is_moved_there i) refl
         where
-          by : (i : ℕ) (s : On i v) (moved : Bool) → is_moved_there i ≡ moved → IsUnmovedOrInTree g h best v
+          by : (i : ℕ) (s : On i v) (moved : Bool) → is_moved_there i ≡ moved
+              → IsUnmoved g h v ⊎ ((t : TopsTree) × IsTreeCutTwice g h best t × IsBest h v t.next)
           by i s true moved =
               let inside = below_inside i (told_by i v s.at true moved) in
-              inr (inr (inr (tree, cut_twice, best_so i v s inside)))
+              inr (tree, cut_twice, best_so i v s inside)
           by i s false moved =
               inl (unmoved_at n network made events g h stands stands' well well' v (lived v known) known i s.at moved)
 
+      pub twice_each : (b : System) × ((v : ℕ) → In v (clocks h)
+          → IsUnmoved g h v ⊎ ((t : TopsTree) × IsTreeCutTwice g h b t × IsBest h v t.next))
+      twice_each = (best, each)
+
       pub twice_so : (b : System) × ((v : ℕ) → In v (clocks h) → IsUnmovedOrInTree g h b v)
-      twice_so = (best, each)
+      twice_so = (best, λ v known. elim (each v known) [ inl stays ↦ inl stays | inr is ↦ inr (inr (inr is)) ])

@@ -223,6 +223,7 @@ pub mod SplitTracesLemmas
 pub mod StillSoundLemmas
 pub mod SplitSoundLemmas
 pub mod TopsDeepLemmas
+pub mod TopsSoundLemmas
 pub mod TopsRestLemmas
 pub mod LeftAloneLemmas
 pub mod UpJoinsLemmas

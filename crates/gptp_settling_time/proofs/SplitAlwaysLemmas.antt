@@ -325,8 +325,11 @@ module _ (p : SettlingParams) (g : Snapshot) (By : PortIdentity → ℕ → Type
     back' : SplitsBack p g s start (view w')
     back' = splits_on p g s start x (view w') was.0 kept' state' stays_off none' step
 
+    settles' : SplitSettles p g s start (view w')
+    settles' = split_settles_on p g s start x (view w') was.0 kept' state' stays_off none' step was.1
+
     pub seen_then : SplitsBack p g s start (view w') × SplitSettles p g s start (view w')
-    seen_then = (back', split_settles_on p g s start x (view w') was.0 kept' state' stays_off none' step was.1)
+    seen_then = (back', settles')
 
     pub alone_then : LeavesAlone g n.graph → (old : ℕ) → Were old → FlightsAreSound says_announce n.graph old x
         → FlightsAreSound says_announce n.graph old (view w')
@@ -347,7 +350,8 @@ module _ (p : SettlingParams) (g : Snapshot) (By : PortIdentity → ℕ → Type
       flights_then says' late old =
           flights_kept says_announce n.graph old x (view w')
           (all_tell says_announce g n s.lost s.best (IsCut p g s start) (IsTurned p g s start) (IsTwice p g s start)
-          s.moves start s.near cuts (λ t is. is) (view w') back'.back (linked' quiet') says' late) step
+          s.moves start s.near cuts (λ t is. is) (λ t is. is) (view w') back'.back (λ t is. (settles'.twice t is).stale)
+          (linked' quiet') says' late) step
 
 -- ---- every step keeps it
 

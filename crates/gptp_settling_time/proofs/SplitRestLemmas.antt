@@ -40,7 +40,7 @@ use Rattle.gptp_settling_time.proofs.LeftClaimedLemmas.{left_net, left_network}
 use Rattle.gptp_settling_time.proofs.NamesItselfLemmas.{AllNameAlone, alone_kept}
 use Rattle.gptp_settling_time.proofs.RightBeginLemmas.{alone_right}
 use Rattle.gptp_settling_time.proofs.SplitAlwaysLemmas.{IsDroppedBy, IsSplitAlways, left_by, linked_now, one_before, split_acts, split_after, split_later, split_network}
-use Rattle.gptp_settling_time.proofs.SplitLemmas.{IsCut, IsSplit, IsTurned, IsTwice, SplitsBack}
+use Rattle.gptp_settling_time.proofs.SplitLemmas.{IsCut, IsSplit, IsTurned, IsTwice, SplitsBack, SplitSettles}
 use Rattle.gptp_settling_time.proofs.SplitSettlesLemmas.{split_state}
 use Rattle.gptp_settling_time.proofs.SplitSoundLemmas.{all_hold}
 use Rattle.gptp_settling_time.proofs.TellsRightLemmas.{IsSettledState, LevelTellsRight}
@@ -200,11 +200,11 @@ module _ (p : SettlingParams) (g : Snapshot) (By : PortIdentity → ℕ → Type
   x : IsSettledState says_announce (left_network p silent w) (view w)
   x = once.state quiet off late
 
-  back : SplitsBack p g is.split.split (pred gone) (view w)
-  back =
+  seen : SplitsBack p g is.split.split (pred gone) (view w) × SplitSettles p g is.split.split (pred gone) (view w)
+  seen =
       let some = is.split.some in
       let one = one_before gone failed some in
-      (is.split.seen quiet off (pred gone) (inl (omega (arith, one)))).0
+      is.split.seen quiet off (pred gone) (inl (omega (arith, one)))
 
   left_now : left_by p g is.split.split gone < w.time
   left_now =
@@ -235,8 +235,8 @@ module _ (p : SettlingParams) (g : Snapshot) (By : PortIdentity → ℕ → Type
     stations = all_hold says_announce g n is.split.split.lost is.split.split.best
         (IsCut p g is.split.split (pred gone)) (IsTurned p g is.split.split (pred gone))
         (IsTwice p g is.split.split (pred gone)) is.split.split.moves (pred gone) is.split.split.near cuts
-        (λ t cut. cut)
-        (view w) back.back (linked_now p g By Limits Were failed gone silent w is.split quiet)
+        (λ t cut. cut) (λ t cut. cut) (view w) seen.0.back (λ t cut. (seen.1.twice t cut).stale)
+        (linked_now p g By Limits Were failed gone silent w is.split quiet)
         (is.split.says cuts quiet off) left_now
         (subst (λ (z : Network). (i : ℕ) (s : SeenStation) (place : ℕ) (r : Reception) (from : PortIdentity)
         → slice_get (view w).stations i ≡ Some s → s.live ≡ true → HoldsAt s place r

@@ -20,29 +20,38 @@ use Rattle.gptp_bmca_machine.proofs.FailureTreesLemmas.{FallBack}
 use Rattle.gptp_bmca_machine.proofs.FallHeldLemmas.{holds_in_tree, old_in_time}
 use Rattle.gptp_bmca_machine.proofs.FallLemmas.{HasChoice, HeldFree, free_holds, says_whole}
 use Rattle.gptp_bmca_machine.proofs.PlaceLemmas.{same_there}
-use Rattle.gptp_settling_time.specs.TreeLosses.{CutsAllBeyond, IsTreeCutOff}
+use Rattle.gptp_bmca_machine.proofs.StaleEndLemmas.{IsStaleState}
+use Rattle.gptp_settling_time.specs.TreeLosses.{CutsAllBeyond, IsTreeCutOff, IsTreeCutTwice}
 use Rattle.gptp_settling_time.proofs.AtRestLemmas.{TellsSettled}
 use Rattle.gptp_settling_time.proofs.FallAlwaysLemmas.{fallen_by, falls_within}
 use Rattle.gptp_settling_time.proofs.SplitTracesLemmas.{GetsWorse, SaysSoundOrLong, none_worse}
 use Rattle.gptp_settling_time.proofs.StillSoundLemmas.{AllSayStill, HeldWereLinked, at_place, came_still, known, tells_still}
 use Rattle.gptp_settling_time.proofs.ToldAnewLemmas.{AllTellSound}
+use Rattle.gptp_settling_time.proofs.TopsSoundLemmas.{holds_left, tells_left}
 
 module _ (says : Spelling) (g : Snapshot) (n : Network) (lost : ℕ) (best : System) (IsCut : Tree → Type 0)
     (IsTurned : Turning → Type 0) (IsTwice : TopsTree → Type 0)
     (moves : FailureMoves g n lost best IsCut IsTurned IsTwice) (start : ℕ) (near : AllAreNear g)
-    (cuts : CutsAllBeyond g n.graph) (cut_is : (t : Tree) → IsTreeCutOff g n.graph best t → IsCut t) where
+    (cuts : CutsAllBeyond g n.graph) (cut_is : (t : Tree) → IsTreeCutOff g n.graph best t → IsCut t)
+    (twice_is : (t : TopsTree) → IsTreeCutTwice g n.graph best t → IsTwice t) where
   abbrev Back : MachineState → Type 0
   Back = FallBack says g n lost best IsCut IsTurned IsTwice moves start
 
-  -- each live system is unmoved, or in a tree with one top
-  in_tree : (v : ℕ) → In v (clocks n.graph) → Unmoved g n v ⊎ ((t : Tree) × IsCut t × IsBest n.graph v t.next)
+  -- each live system is unmoved, or in a tree with one top, or two
+  in_tree : (v : ℕ) → In v (clocks n.graph) → Unmoved g n v
+      ⊎ (((t : Tree) × IsCut t × IsBest n.graph v t.next) ⊎ ((t : TopsTree) × IsTwice t × IsBest n.graph v t.next))
   in_tree v lives = elim (cuts.each v lives) [
     | inl stays ↦ inl (record { live = lives; best = stays.best; far = stays.far })
-    | inr (b, t, is, in_v) ↦
+    | inr (inl (b, t, is, in_v)) ↦
         let worse : GetsWorse g n.graph v =
         record { best = b; next = t.next; was = is.was_best v in_v; is = in_v; worse = is.worse } in
         let one : b ≡ best = IsBest-unique g v b best moves.left.graph (is.was_best v in_v) (was worse) in
-        inr (t, cut_is t (subst (λ c. IsTreeCutOff g n.graph c t) one is), in_v)
+        inr (inl (t, cut_is t (subst (λ c. IsTreeCutOff g n.graph c t) one is), in_v))
+    | inr (inr (b, t, is, in_v)) ↦
+        let worse : GetsWorse g n.graph v =
+        record { best = b; next = t.next; was = is.was_best v in_v; is = in_v; worse = is.worse } in
+        let one : b ≡ best = IsBest-unique g v b best moves.left.graph (is.was_best v in_v) (was worse) in
+        inr (inr (t, twice_is t (subst (λ c. IsTreeCutTwice g n.graph c t) one is), in_v))
   ]
     where
       was : GetsWorse g n.graph v → IsBest g v best
@@ -55,8 +64,14 @@ module _ (says : Spelling) (g : Snapshot) (n : Network) (lost : ℕ) (best : Sys
 
   -- ---- once trees have left their old choices
 
-  module _ (w : MachineState) (back : Back w) (linked : HeldWereLinked g n w) (all : AllSayStill says g n w)
-      (late : fallen_by n start < w.time) where
+  -- what is known of trees with two tops
+  abbrev pub StaleSince : MachineState → Type 0
+  StaleSince w = (t : TopsTree) → (is : IsTwice t)
+      → IsStaleState says n t.next t.top t.depth (moves.twice t is).tree best.identity t.base (moves.twice t is).worse
+      start w
+
+  module _ (w : MachineState) (back : Back w) (stale : StaleSince w) (linked : HeldWereLinked g n w)
+      (all : AllSayStill says g n w) (late : fallen_by n start < w.time) where
     -- so one of a tree has
     has_left : (t : Tree) → (is : IsCut t) → (s : Station) → slice_get w.stations (n.place s.clock) ≡ Some s
         → IsBest n.graph s.clock t.next → HasChoice s best (t.base + t.depth s.clock) → ⊥
@@ -74,7 +89,15 @@ module _ (says : Spelling) (g : Snapshot) (n : Network) (lost : ℕ) (best : Sys
     all_tell s i port a at live own master j l f at_l among from = elim (in_tree s.clock lives) [
       | inl stays ↦ tells_still says g n moves.well moves.left near cuts w back.after.kept back.after.fits.stations
           back.still linked i s at live stays (all.stations i s at live) port a own
-      | inr (t, is, in_s) ↦ record {
+      | inr (inr (t, is, in_s)) ↦ record {
+        sender = lives;
+        source = own.source;
+        sound = inr (tells_left says n t.next t.top t.depth (moves.twice t is).tree best.identity t.base
+            (moves.twice t is).worse (moves.twice t is).near start w (stale t is) late s.clock in_s s
+            (at_place says g n moves.well moves.left near cuts w back.after.kept back.after.fits.stations back.still
+            linked i s at live) port a own);
+      }
+      | inr (inl (t, is, in_s)) ↦ record {
         sender = lives;
         source = own.source;
         sound = inr (says_whole says g n (IsCutOff n t.next) LeadsNowhere t.top best t.next t.base t.depth
@@ -105,7 +128,17 @@ module _ (says : Spelling) (g : Snapshot) (n : Network) (lost : ℕ) (best : Sys
         (known says g n moves.well moves.left near cuts w back.after.kept back.after.fits.stations back.still linked i s
         at live)) [
           | inl stays ↦ unmoved stays
-          | inr (t, is, in_s) ↦ of_tree t is in_s
+          | inr (inl (t, is, in_s)) ↦ of_tree t is in_s
+          | inr (inr (t, is, in_s)) ↦
+              let h = holds_left says n t.next t.top t.depth (moves.twice t is).tree best.identity t.base
+              (moves.twice t is).worse (moves.twice t is).near start w (stale t is) late s.clock in_s s
+              there place r holds in
+              record {
+                from = port_of h.v (suc h.p);
+                joins = h.joins;
+                source = h.source;
+                sound = inr h.whole;
+              }
         ]
       where
         there : slice_get w.stations (n.place s.clock) ≡ Some s

@@ -44,7 +44,14 @@ pub stays_or_worse : (g g' : Snapshot) → CutsAllBeyond g g' → (v : ℕ) → 
     → IsUnmoved g g' v ⊎ GetsWorse g g' v
 stays_or_worse g g' cuts v known = elim (cuts.each v known) [
   | inl stays ↦ inl stays
-  | inr (best, t, is, in_v) ↦ inr (record {
+  | inr (inl (best, t, is, in_v)) ↦ inr (record {
+    best = best;
+    next = t.next;
+    was = is.was_best v in_v;
+    is = in_v;
+    worse = is.worse;
+  })
+  | inr (inr (best, t, is, in_v)) ↦ inr (record {
     best = best;
     next = t.next;
     was = is.was_best v in_v;

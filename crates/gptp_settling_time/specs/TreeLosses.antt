@@ -241,11 +241,13 @@ MovesTreesFrom n before event = (g g' : Snapshot) → StandsAfter n before g
     → StandsAfter n (before ++ event ∷ []) g'
     → (best : System) × ((v : ℕ) → In v (clocks g') → IsUnmovedOrInTree g g' best v)
 
--- From the first snapshot to the second each live system is unmoved, or one of a tree with one top that is cut off.
+-- From the first snapshot to the second each live system is unmoved, or one of a tree that is cut off, maybe with two
+-- tops.
 -- None is unmoved that lost its link to one that was nearer to the best, or as near with the lower clock.
 pub record CutsAllBeyond (g g' : Snapshot) : Type 0 where
   pub each : (v : ℕ) → In v (clocks g') → IsUnmoved g g' v
-      ⊎ ((best : System) × (t : Tree) × IsTreeCutOff g g' best t × IsBest g' v t.next)
+      ⊎ (((best : System) × (t : Tree) × IsTreeCutOff g g' best t × IsBest g' v t.next)
+      ⊎ ((best : System) × (t : TopsTree) × IsTreeCutTwice g g' best t × IsBest g' v t.next))
   pub beyond : (from to : PortIdentity) → Joins g from to → In to.clock (clocks g') → (IsLinked g' to → ⊥)
       → ((near far : ℕ) → IsDistance g from.clock near → IsDistance g to.clock far
       → (near < far) ⊎ ((near ≡ far) × (from.clock < to.clock))) → IsUnmoved g g' to.clock → ⊥
