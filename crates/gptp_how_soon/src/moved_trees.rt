@@ -1,4 +1,5 @@
-//! Whether events move trees of systems, each by links that its top loses, or its two tops: some are cut off, one may turn.
+//! Whether events move trees of systems, each by links that its top loses, or its two tops: some are cut off, one may
+//! turn.
 
 ghost use Rattle.std.specs.Prelude.{◌≡◌, IfOk, length};
 ghost use Rattle.std.specs.List.{list_all, list_any, range_with_len};

@@ -225,13 +225,15 @@ module _ (n : NetworkState) (network : IsNetwork n) (made events : List Timed) w
           let (is, same) = tests.of_tops n network made events place t.first
           (subst (In t.first) (sym t.tops) (inl refl)) in
           let u = top_of t.first is in
-          let first : On t.first (two_tops.top_clock n network made events place t g h stands stands' well well' lived
-          First) = two_tops.first_on n network made events place t g h stands stands' well well' lived in
+          let clock : ℕ =
+          two_tops.top_clock n network made events place t g h stands stands' well well' lived First in
+          let first : On t.first clock =
+          two_tops.first_on n network made events place t g h stands stands' well well' lived in
           let lost = (top_parts t.first is).0 in
           let moves = top_moves t.first is in
           let one : first.chose.best ≡ best_of u =
-          same_best t.first t.first (two_tops.top_clock n network made events place t g h stands stands' well well' lived
-          First) u.clock first (on_top_of u) (moved_agree t.first t.first lost lost moves moves).root in
+          same_best t.first t.first clock u.clock first (on_top_of u)
+          (moved_agree t.first t.first lost lost moves moves).root in
           two_tops.in_twice n network made events place t g h stands stands' well well' lived b (one ∙ tops u) i v s
           (root_back i place t.first own same)
 
@@ -348,7 +350,8 @@ module _ (n : NetworkState) (network : IsNetwork n) (made events : List Timed) w
                 → has_same_root (slice_get now t.top) (slice_get now i) ≡ true → ⊥
             apart t worse same =
                 let o = on_top_of t in
-                let less = better_so o.was o.is ((λ k. has_better_root (sym o.was_there k) (sym o.is_there k)) ∙ worse) in
+                let less = better_so o.was o.is
+                ((λ k. has_better_root (sym o.was_there k) (sym o.is_there k)) ∙ worse) in
                 let first = same_so before t.top x.top o.was x.on_top.was o.was_there x.on_top.was_there
                 (moved_agree t.top x.top (top_parts t.top t.is_top).0 x.lost_end (top_moves t.top t.is_top)
                 turn_moves).root in
