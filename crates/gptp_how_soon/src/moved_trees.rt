@@ -136,10 +136,7 @@ fn falls_below_tops(
 fn has_tops(tops: &[usize]) -> bool
     ensures { result ≡ has_tops tops.now }
 {
-    match *tops {
-        [] => false,
-        _ => true,
-    }
+    !tops.is_empty()
 }
 
 /// Whether the system at a place, if it is a top, is one of such a tree, and if it falls, has tops.
