@@ -5,8 +5,8 @@ pub mod Far
 pub mod Turned
 pub mod Tree
 pub mod TurnedTree
-pub mod MovedTrees
 pub mod TwoTops
+pub mod MovedTrees
 pub mod Silent
 pub mod Alone
 pub mod Bounds

@@ -1,58 +1,74 @@
--- Whether events move trees of systems, each by links that its top loses: some are cut off, one may turn (profile).
-use Rattle.std.specs.Prelude.{ℕ, ◌==◌, ◌&&◌, ◌||◌, not, Bool, if◌then◌else◌, List, length, slice_get}
+-- Whether events move trees of systems, each by links that its top loses, or its two tops: some are cut off, one may
+-- turn (profile).
+use Rattle.std.specs.Prelude.{ℕ, ◌==◌, ◌&&◌, ◌||◌, not, Bool, true, false, if◌then◌else◌, List, [], ◌∷◌, length, filter, slice_get}
 use Rattle.std.specs.List.{list_all, list_any, range_with_len}
 use Rattle.gptp_scenario.specs.Network.{NetworkState}
 use Rattle.gptp_scenario.specs.declared.change.Timed.{Timed}
 use Rattle.gptp_topology.specs.After.{systems_after}
 use Rattle.gptp_topology.specs.declared.nodes.System.{System}
-use Rattle.gptp_how_soon.specs.Chosen.{chosen_after, is_moved_at, lost_ends, used_ends}
+use Rattle.gptp_how_soon.specs.Chosen.{chosen_after, is_joined, is_moved_at, lost_ends, used_ends}
 use Rattle.gptp_how_soon.specs.Silent.{hears}
 use Rattle.gptp_how_soon.specs.Tree.{has_better_root, has_same_root, is_below}
-use Rattle.gptp_how_soon.specs.TurnedTree.{is_turned_at, tree_turns_at}
+use Rattle.gptp_how_soon.specs.TurnedTree.{falls_at, is_turned_at, tree_turns_at}
+use Rattle.gptp_how_soon.specs.TwoTops.{chosen_from, falls_below_both}
 use Rattle.gptp_how_soon.specs.declared.chosen.Chosen.{Chosen}
 use Rattle.gptp_how_soon.specs.declared.chosen.Ends.{Ends}
 
--- ---- a tree that is cut off
+-- ---- trees that are cut off
 
--- the system at a place is moved, and doesn't turn
-abbrev pub falls_at : List System → List Chosen → List Chosen → ℕ → Bool
-falls_at systems before now place = is_moved_at systems before now place && not (is_turned_at systems before now place)
+-- the system at a place falls, and lost a link: it is a top of a tree
+abbrev pub is_top_at : List System → List Ends → List Chosen → List Chosen → ℕ → Bool
+is_top_at systems lost before now place = is_joined lost place && falls_at systems before now place
 
--- it is one of the tree below the top, which so falls to a worse root
-abbrev pub is_under : List System → List Ends → List Chosen → List Chosen → ℕ → ℕ → Bool
-is_under systems links before now place top =
-    falls_at systems before now top
-    && has_better_root (slice_get before top) (slice_get now top)
-    && is_below links before now top place
+-- of that which has its root now
+abbrev pub is_top_with : List System → List Ends → List Chosen → List Chosen → ℕ → ℕ → Bool
+is_top_with systems lost before now place top =
+    is_top_at systems lost before now top && has_same_root (slice_get now place) (slice_get now top)
 
--- an end of a link is such a top
-abbrev pub is_under_end : List System → List Ends → List Chosen → List Chosen → ℕ → Ends → Bool
-is_under_end systems links before now place e =
-    is_under systems links before now place e.a || is_under systems links before now place e.b
+abbrev pub tops_with : List System → List Ends → List Chosen → List Chosen → ℕ → List ℕ
+tops_with systems lost before now place =
+    filter (is_top_with systems lost before now place) (range_with_len 0 (length systems))
 
--- an end of a link falls, and has the root of the system at a place
-abbrev pub shares_root : List System → List Chosen → List Chosen → ℕ → ℕ → Bool
-shares_root systems before now place top =
-    falls_at systems before now top && has_same_root (slice_get now top) (slice_get now place)
+-- it falls and so is below the top, or it has another root now
+abbrev pub is_below_or_apart : List System → List Ends → List Chosen → List Chosen → ℕ → ℕ → Bool
+is_below_or_apart systems links before now top place =
+    not (has_same_root (slice_get now top) (slice_get now place))
+    || (falls_at systems before now place && is_below links before now top place)
 
-abbrev pub shares_root_end : List System → List Chosen → List Chosen → ℕ → Ends → Bool
-shares_root_end systems before now place e =
-    shares_root systems before now place e.a || shares_root systems before now place e.b
+-- it is the one top of a tree, which falls to a worse root
+abbrev pub falls_below_one : List System → List Ends → List Chosen → List Chosen → ℕ → Bool
+falls_below_one systems links before now top =
+    has_better_root (slice_get before top) (slice_get now top)
+    && list_all (is_below_or_apart systems links before now top) (range_with_len 0 (length systems))
 
--- one that falls is in a tree, and no other has the root of one
-abbrev pub is_in_or_apart : List System → List Ends → List Ends → List Chosen → List Chosen → ℕ → Bool
-is_in_or_apart systems lost links before now place =
-    if falls_at systems before now place then list_any (is_under_end systems links before now place) lost
-    else not (list_any (shares_root_end systems before now place) lost)
+-- these are the tops of such a tree
+abbrev pub falls_below_tops : List System → List Ends → List Chosen → List Chosen → List ℕ → Bool
+falls_below_tops systems links before now [] = false
+falls_below_tops systems links before now (top ∷ []) = falls_below_one systems links before now top
+falls_below_tops systems links before now (first ∷ second ∷ []) =
+    falls_below_both systems links before now (chosen_from systems links first) (chosen_from systems links second)
+    first second
+falls_below_tops systems links before now (first ∷ second ∷ third ∷ others) = false
+
+abbrev pub has_tops : List ℕ → Bool
+has_tops [] = false
+has_tops (top ∷ others) = true
+
+-- where the system at a place is a top, with others of its tree or alone; else, if it falls, there are such
+abbrev pub is_in_tree : List System → List Ends → List Ends → List Chosen → List Chosen → ℕ → Bool
+is_in_tree systems lost links before now place =
+    if is_top_at systems lost before now place
+    then falls_below_tops systems links before now (tops_with systems lost before now place)
+    else not (falls_at systems before now place) || has_tops (tops_with systems lost before now place)
 
 -- ---- tops
 
--- Two systems that are moved had one root. They are the same system if they have one now.
+-- Two systems that are moved had one root. They are the same system if both turn.
 abbrev pub are_tops : List System → List Chosen → List Chosen → ℕ → ℕ → Bool
 are_tops systems before now one other =
     not (is_moved_at systems before now one && is_moved_at systems before now other)
     || (has_same_root (slice_get before one) (slice_get before other)
-    && (not (has_same_root (slice_get now one) (slice_get now other)) || (one == other)))
+    && (not (is_turned_at systems before now one && is_turned_at systems before now other) || (one == other)))
 
 -- so it is of the ends of two links
 abbrev pub ends_are_tops : List System → List Chosen → List Chosen → Ends → Ends → Bool
@@ -101,11 +117,12 @@ turns_none_or_one systems lost links before now =
     not (list_any (is_turned_at systems before now) (range_with_len 0 (length systems)))
     || list_any (turns_at_end systems links before now) lost
 
--- Each system that is moved is in a tree below an end of a link that is lost, which alone of the ends of such is in it.
+-- Each system that falls is in a tree below one end of a link that is lost, or two, and no other has the root of one.
+-- Those that turn are one tree.
 abbrev pub moves_trees : List System → List Ends → List Ends → List Chosen → List Chosen → Bool
 moves_trees systems lost links before now =
     list_all (agrees_with systems lost before now) lost
-    && list_all (is_in_or_apart systems lost links before now) (range_with_len 0 (length systems))
+    && list_all (is_in_tree systems lost links before now) (range_with_len 0 (length systems))
     && turns_none_or_one systems lost links before now
 
 -- between these events and more of them

@@ -19,6 +19,10 @@ abbrev pub is_turned_at : List System → List Chosen → List Chosen → ℕ �
 is_turned_at systems before now place =
     is_moved_at systems before now place && goes_farther (slice_get before place) (slice_get now place)
 
+-- it is moved, and doesn't turn
+abbrev pub falls_at : List System → List Chosen → List Chosen → ℕ → Bool
+falls_at systems before now place = is_moved_at systems before now place && not (is_turned_at systems before now place)
+
 -- it is so if it is moved
 abbrev pub stays_or_is_turned : List System → List Chosen → List Chosen → ℕ → Bool
 stays_or_is_turned systems before now place =

@@ -15,14 +15,13 @@ use Rattle.gptp_how_soon.specs.Chosen.{any_counted, any_moved, chosen_over, ends
 use Rattle.gptp_how_soon.specs.Far.{all_cut_far_ends, are_far, none_up_longer, up_is_used}
 use Rattle.gptp_how_soon.specs.Kinds.{sets_bounds, takes_one, told_by}
 use Rattle.gptp_how_soon.specs.Links.{delay_set, longest_among, lost_among, new_among}
-use Rattle.gptp_how_soon.specs.MovedTrees.{cuts_all, far_end_moves}
+use Rattle.gptp_how_soon.specs.MovedTrees.{cuts_all, far_end_moves, moves_trees}
 use Rattle.gptp_how_soon.specs.Rest.{has_come}
 use Rattle.gptp_how_soon.specs.Silent.{any_silent, heard_links, held_among, own_intervals}
 use Rattle.gptp_how_soon.specs.Times.{View, settling_time}
 use Rattle.gptp_how_soon.specs.Tree.{cuts_tree, worsens_best}
 use Rattle.gptp_how_soon.specs.Turned.{turns_one}
 use Rattle.gptp_how_soon.specs.TurnedTree.{turns_tree}
-use Rattle.gptp_how_soon.specs.TwoTops.{trees_move}
 use Rattle.gptp_how_soon.specs.declared.bounds.SettlingTime.{SettlingTime}
 use Rattle.gptp_how_soon.specs.declared.chosen.Chosen.{Chosen}
 use Rattle.gptp_how_soon.specs.declared.chosen.Ends.{Ends}
@@ -128,14 +127,14 @@ moves_seen n w at = record {
       && turns_tree (systems_in w.tables.nodes.items) (lost_seen w) (ends_in_use w.ends.items (used_now w))
       (chosen_before w) (chosen_now w);
   trees_move = has_come_seen n w at
-      && trees_move (systems_in w.tables.nodes.items) (lost_seen w) (ends_in_use w.ends.items (used_now w))
+      && moves_trees (systems_in w.tables.nodes.items) (lost_seen w) (ends_in_use w.ends.items (used_now w))
       (chosen_before w) (chosen_now w);
   taken = not (any_moved (systems_in w.tables.nodes.items) (chosen_before w) (chosen_now w))
       && not (any_silent w.used_before.items w.tables.standings.items);
   apart = not (any_moved (systems_in w.tables.nodes.items) (chosen_before w) (chosen_now w))
       && list_all (far_end_moves (systems_in w.tables.nodes.items) (chosen_before w) (chosen_now w)) (lost_seen w);
   cuts_all = (has_come_seen n w at
-      && trees_move (systems_in w.tables.nodes.items) (lost_seen w) (ends_in_use w.ends.items (used_now w))
+      && moves_trees (systems_in w.tables.nodes.items) (lost_seen w) (ends_in_use w.ends.items (used_now w))
       (chosen_before w) (chosen_now w))
       && cuts_all (systems_in w.tables.nodes.items) (lost_seen w) (chosen_before w) (chosen_now w);
   alone = w.all_used_before

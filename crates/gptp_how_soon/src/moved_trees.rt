@@ -1,149 +1,196 @@
-//! Whether events move trees of systems, each by links that its top loses: some are cut off, one may turn.
+//! Whether events move trees of systems, each by links that its top loses, or its two tops: some are cut off, one may
+//! turn.
 
-ghost use Rattle.std.specs.Prelude.{◌≡◌, length};
+ghost use Rattle.std.specs.Prelude.{◌≡◌, IfOk, length};
 ghost use Rattle.std.specs.List.{list_all, list_any, range_with_len};
-ghost use Rattle.gptp_how_soon.specs.MovedTrees.{agrees_with, are_tops, cuts_all, ends_are_tops, falls_at, far_end_moves, is_in_or_apart, is_moved_if_far, is_under, is_under_end, moves_trees, shares_root, shares_root_end, stays_or_gets_worse, turns_at_end, turns_none_or_one};
+ghost use Rattle.gptp_how_soon.specs.MovedTrees.{agrees_with, are_tops, cuts_all, ends_are_tops, falls_below_one, falls_below_tops, far_end_moves, has_tops, is_below_or_apart, is_in_tree, is_moved_if_far, is_top_at, is_top_with, moves_trees, stays_or_gets_worse, tops_with, turns_at_end, turns_none_or_one};
 ghost use Rattle.gptp_how_soon.specs.TurnedTree.{is_turned_at};
 
-use crate::chosen::{Chosen, Ends, is_moved_at};
+use crate::chosen::{Chosen, Ends, is_joined, is_moved_at};
 use crate::silent::hears;
 use crate::tree::{had_better_root, has_same_root, is_below};
-use crate::turned_tree::{is_turned_at, tree_turns_at};
+use crate::turned::push_if;
+use crate::turned_tree::{falls_at, is_turned_at, tree_turns_at};
+use crate::two_tops::{choose_from, falls_below_both};
 use gptp_topology::System;
+use std::alloc::{AllocError, Global};
 
-/// Whether the system at a place is moved, and doesn't turn.
-fn falls_at(systems: &[System], before: &[Chosen], now: &[Chosen], place: usize) -> bool
-    ensures { result ≡ falls_at systems.now before.now now.now place }
+/// Whether the system at a place falls, and lost a link: it is a top of a tree.
+fn is_top_at(
+    systems: &[System],
+    lost: &[Ends],
+    before: &[Chosen],
+    now: &[Chosen],
+    place: usize,
+) -> bool
+    ensures { result ≡ is_top_at systems.now lost.now before.now now.now place }
 {
-    is_moved_at(systems, before, now, place) && !is_turned_at(systems, before, now, place)
+    // few are moved, and a link is searched only for these
+    falls_at(systems, before, now, place) && is_joined(lost, place)
 }
 
-/// Whether it is one of the tree below the top, which so falls to a worse root.
-fn is_under(
+/// Whether the one system is a top, and has the root of that at a place.
+fn is_top_with(
     systems: &[System],
-    links: &[Ends],
+    lost: &[Ends],
     before: &[Chosen],
     now: &[Chosen],
     place: usize,
     top: usize,
 ) -> bool
-    ensures { result ≡ is_under systems.now links.now before.now now.now place top }
+    ensures { result ≡ is_top_with systems.now lost.now before.now now.now place top }
 {
-    falls_at(systems, before, now, top)
-        && had_better_root(before, now, top)
-        && is_below(links, before, now, top, place)
+    is_top_at(systems, lost, before, now, top) && has_same_root(now, place, top)
 }
 
-/// Whether an end of a link is such a top.
-fn is_under_end(
-    systems: &[System],
-    links: &[Ends],
-    before: &[Chosen],
-    now: &[Chosen],
-    place: usize,
-    ends: &Ends,
-) -> bool
-    ensures { result ≡ is_under_end systems.now links.now before.now now.now place ends.now }
-{
-    is_under(systems, links, before, now, place, ends.a)
-        || is_under(systems, links, before, now, place, ends.b)
-}
-
-/// Whether it is below an end of one of these links.
-fn is_under_any(
-    systems: &[System],
-    lost: &[Ends],
-    links: &[Ends],
-    before: &[Chosen],
-    now: &[Chosen],
-    place: usize,
-) -> bool
-    ensures { result
-        ≡ list_any (is_under_end systems.now links.now before.now now.now place) lost.now }
-{
-    lost.iter().any(|ends| is_under_end(systems, links, before, now, place, ends))
-}
-
-/// Whether the one system falls, and has the root of that at a place.
-fn shares_root(
-    systems: &[System],
-    before: &[Chosen],
-    now: &[Chosen],
-    place: usize,
-    top: usize,
-) -> bool
-    ensures { result ≡ shares_root systems.now before.now now.now place top }
-{
-    falls_at(systems, before, now, top) && has_same_root(now, top, place)
-}
-
-/// Whether an end of a link does.
-fn shares_root_end(
-    systems: &[System],
-    before: &[Chosen],
-    now: &[Chosen],
-    place: usize,
-    ends: &Ends,
-) -> bool
-    ensures { result ≡ shares_root_end systems.now before.now now.now place ends.now }
-{
-    shares_root(systems, before, now, place, ends.a)
-        || shares_root(systems, before, now, place, ends.b)
-}
-
-/// Whether an end of one of these links does.
-fn shares_root_any(
+/// The places of all that are.
+fn tops_with(
+    alloc: Global,
     systems: &[System],
     lost: &[Ends],
     before: &[Chosen],
     now: &[Chosen],
     place: usize,
-) -> bool
-    ensures { result ≡ list_any (shares_root_end systems.now before.now now.now place) lost.now }
+) -> Result<Vec<usize>, AllocError>
+    ensures { IfOk result (λ tops. tops.items ≡ tops_with systems.now lost.now before.now now.now place) }
 {
-    lost.iter()
-        .any(|ends| shares_root_end(systems, before, now, place, ends))
-}
-
-/// Whether the system at a place is in a tree if it falls, and has the root of none if not.
-fn is_in_or_apart(
-    systems: &[System],
-    lost: &[Ends],
-    links: &[Ends],
-    before: &[Chosen],
-    now: &[Chosen],
-    place: usize,
-) -> bool
-    ensures { result ≡ is_in_or_apart systems.now lost.now links.now before.now now.now place }
-{
-    if falls_at(systems, before, now, place) {
-        is_under_any(systems, lost, links, before, now, place)
-    } else {
-        !shares_root_any(systems, lost, before, now, place)
+    let mut tops = Vec::new(alloc);
+    for top in 0..systems.len() {
+        push_if(
+            &mut tops,
+            top,
+            is_top_with(systems, lost, before, now, place, top),
+        )?;
     }
+    Ok(tops)
+}
+
+/// Whether a system has another root than the top, or falls and is so below it.
+fn is_below_or_apart(
+    systems: &[System],
+    links: &[Ends],
+    before: &[Chosen],
+    now: &[Chosen],
+    top: usize,
+    place: usize,
+) -> bool
+    ensures { result ≡ is_below_or_apart systems.now links.now before.now now.now top place }
+{
+    !has_same_root(now, top, place)
+        || (falls_at(systems, before, now, place) && is_below(links, before, now, top, place))
 }
 
 /// Whether each system is so.
-fn all_are_in_or_apart(
+fn all_are_below_or_apart(
+    systems: &[System],
+    links: &[Ends],
+    before: &[Chosen],
+    now: &[Chosen],
+    top: usize,
+) -> bool
+    ensures { result
+        ≡ list_all (is_below_or_apart systems.now links.now before.now now.now top)
+        (range_with_len 0 (length systems.now)) }
+{
+    (0..systems.len()).all(|place| is_below_or_apart(systems, links, before, now, top, place))
+}
+
+/// Whether it is the one top of a tree, which falls to a worse root.
+fn falls_below_one(
+    systems: &[System],
+    links: &[Ends],
+    before: &[Chosen],
+    now: &[Chosen],
+    top: usize,
+) -> bool
+    ensures { result ≡ falls_below_one systems.now links.now before.now now.now top }
+{
+    had_better_root(before, now, top) && all_are_below_or_apart(systems, links, before, now, top)
+}
+
+/// Whether these are the tops of such a tree.
+fn falls_below_tops(
+    alloc: Global,
+    systems: &[System],
+    links: &[Ends],
+    before: &[Chosen],
+    now: &[Chosen],
+    tops: &[usize],
+) -> Result<bool, AllocError>
+    ensures { IfOk result (λ falls. falls ≡ falls_below_tops systems.now links.now before.now now.now tops.now) }
+{
+    match *tops {
+        [top] => Ok(falls_below_one(systems, links, before, now, top)),
+        [first, second] => {
+            let by_first = choose_from(alloc, systems, links, first)?;
+            let by_second = choose_from(alloc, systems, links, second)?;
+            Ok(falls_below_both(
+                systems, links, before, now, &by_first, &by_second, first, second,
+            ))
+        }
+        _ => Ok(false),
+    }
+}
+
+/// Whether there are tops.
+fn has_tops(tops: &[usize]) -> bool
+    ensures { result ≡ has_tops tops.now }
+{
+    !tops.is_empty()
+}
+
+/// Whether the system at a place, if it is a top, is one of such a tree, and if it falls, has tops.
+fn is_in_tree(
+    alloc: Global,
     systems: &[System],
     lost: &[Ends],
     links: &[Ends],
     before: &[Chosen],
     now: &[Chosen],
-) -> bool
-    ensures { result
-        ≡ list_all (is_in_or_apart systems.now lost.now links.now before.now now.now)
-        (range_with_len 0 (length systems.now)) }
+    place: usize,
+) -> Result<bool, AllocError>
+    ensures { IfOk result (λ is. is ≡ is_in_tree systems.now lost.now links.now before.now now.now place) }
 {
-    (0..systems.len()).all(|place| is_in_or_apart(systems, lost, links, before, now, place))
+    if is_top_at(systems, lost, before, now, place) {
+        let tops = tops_with(alloc, systems, lost, before, now, place)?;
+        return falls_below_tops(alloc, systems, links, before, now, &tops);
+    }
+    if falls_at(systems, before, now, place) {
+        let tops = tops_with(alloc, systems, lost, before, now, place)?;
+        return Ok(has_tops(&tops));
+    }
+    Ok(true)
 }
 
-/// Whether two systems had one root if they are moved, and are the same if they have one now.
+/// Whether each system is so.
+fn all_are_in_trees(
+    alloc: Global,
+    systems: &[System],
+    lost: &[Ends],
+    links: &[Ends],
+    before: &[Chosen],
+    now: &[Chosen],
+) -> Result<bool, AllocError>
+    ensures { IfOk result (λ all. all
+        ≡ list_all (is_in_tree systems.now lost.now links.now before.now now.now)
+        (range_with_len 0 (length systems.now))) }
+{
+    let mut all = true;
+    for place in 0..systems.len() {
+        let is = is_in_tree(alloc, systems, lost, links, before, now, place)?;
+        all = all && is;
+    }
+    Ok(all)
+}
+
+/// Whether two systems had one root if they are moved, and are the same if both turn.
 fn are_tops(systems: &[System], before: &[Chosen], now: &[Chosen], one: usize, other: usize) -> bool
     ensures { result ≡ are_tops systems.now before.now now.now one other }
 {
     !(is_moved_at(systems, before, now, one) && is_moved_at(systems, before, now, other))
-        || (has_same_root(before, one, other) && (!has_same_root(now, one, other) || one == other))
+        || (has_same_root(before, one, other)
+            && (!(is_turned_at(systems, before, now, one) && is_turned_at(systems, before, now, other))
+                || one == other))
 }
 
 /// Whether so are the ends of two links.
@@ -235,17 +282,22 @@ fn turns_none_or_one(
 
 /// Whether each system that is moved is in a tree that is cut off or turns, as these links are lost.
 pub(crate) fn moves_trees(
+    alloc: Global,
     systems: &[System],
     lost: &[Ends],
     links: &[Ends],
     before: &[Chosen],
     now: &[Chosen],
-) -> bool
-    ensures { result ≡ moves_trees systems.now lost.now links.now before.now now.now }
+) -> Result<bool, AllocError>
+    ensures { IfOk result (λ moves. moves ≡ moves_trees systems.now lost.now links.now before.now now.now) }
 {
-    all_agree(systems, lost, before, now)
-        && all_are_in_or_apart(systems, lost, links, before, now)
-        && turns_none_or_one(systems, lost, links, before, now)
+    if !all_agree(systems, lost, before, now) {
+        return Ok(false);
+    }
+    if !turns_none_or_one(systems, lost, links, before, now) {
+        return Ok(false);
+    }
+    all_are_in_trees(alloc, systems, lost, links, before, now)
 }
 
 /// Whether the system at a place stays, or gets a worse root.

@@ -2,7 +2,7 @@
 
 ghost use Rattle.std.specs.Prelude.{◌≡◌, length};
 ghost use Rattle.std.specs.List.{list_all, range_with_len};
-ghost use Rattle.gptp_how_soon.specs.TurnedTree.{is_turned_at, leads_nearer_within, leads_one_on_within, leads_out, leads_within, stays_or_is_turned, stays_or_turns, tree_turns_at, turns_below, turns_from, turns_tree};
+ghost use Rattle.gptp_how_soon.specs.TurnedTree.{falls_at, is_turned_at, leads_nearer_within, leads_one_on_within, leads_out, leads_within, stays_or_is_turned, stays_or_turns, tree_turns_at, turns_below, turns_from, turns_tree};
 
 use crate::chosen::{Chosen, Ends, is_moved_at};
 use crate::tree::{has_no_more_steps, has_same_root, is_one_apart};
@@ -19,6 +19,18 @@ pub(crate) fn is_turned_at(
     ensures { result ≡ is_turned_at systems.now before.now now.now place }
 {
     is_moved_at(systems, before, now, place) && goes_farther(before, now, place)
+}
+
+/// Whether it is moved, and doesn't turn.
+pub(crate) fn falls_at(
+    systems: &[System],
+    before: &[Chosen],
+    now: &[Chosen],
+    place: usize,
+) -> bool
+    ensures { result ≡ falls_at systems.now before.now now.now place }
+{
+    is_moved_at(systems, before, now, place) && !is_turned_at(systems, before, now, place)
 }
 
 /// Whether it is so if it is moved.

@@ -26,7 +26,6 @@ use crate::silent::{any_silent, heard_links, held_among, own_intervals};
 use crate::tree::{cuts_tree, worsens_best};
 use crate::turned::turns_one;
 use crate::turned_tree::turns_tree;
-use crate::two_tops::or_falls_twice;
 use gptp_scenario::{Act, Network, SyncPaths};
 use gptp_topology::{System, Tables, cables_of};
 use std::alloc::{AllocError, Global};
@@ -156,8 +155,7 @@ impl Walk {
         let heard = heard_links(alloc, &systems, &before, &self.used_before, &self.ends)?;
         let any_moved = any_moved(&systems, &before, &now);
         let silent = any_silent(&self.used_before, &self.tables.standings);
-        let moves = moves_trees(&systems, &lost, &links, &before, &now);
-        let trees = or_falls_twice(alloc, moves, &systems, &lost, &links, &before, &now)?;
+        let trees = moves_trees(alloc, &systems, &lost, &links, &before, &now)?;
         Ok(Moves {
             moved: any_counted(joined, &systems, &links, &before, &now),
             any_moved,

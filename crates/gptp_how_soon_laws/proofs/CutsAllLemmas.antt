@@ -20,14 +20,13 @@ use Rattle.gptp_scenario.specs.Network.{IsNetwork, NetworkState}
 use Rattle.gptp_scenario.specs.declared.change.Timed.{Timed}
 use Rattle.gptp_topology.specs.After.{system_then, systems_after}
 use Rattle.gptp_topology.specs.declared.nodes.System as ours
-use Rattle.gptp_how_soon.specs.Chosen.{chosen_after, differs, ends_of, is_moved, is_moved_at, lost_ends, moves_some, used_ends}
+use Rattle.gptp_how_soon.specs.Chosen.{chosen_after, differs, ends_of, is_moved, is_moved_at, lost_ends, moves_some}
 use Rattle.gptp_how_soon.specs.Far.{is_nearer_at}
 use Rattle.gptp_how_soon.specs.MovedTrees.{cuts_all_after, far_end_moves, far_ends_move_after, is_moved_if_far, moves_trees_after, stays_or_gets_worse}
 use Rattle.gptp_how_soon.specs.Silent.{hears, is_live}
 use Rattle.gptp_how_soon.specs.Tree.{has_better_root}
 use Rattle.gptp_how_soon.specs.TurnedTree.{is_turned_at}
 use Rattle.gptp_how_soon.specs.Turned.{goes_farther}
-use Rattle.gptp_how_soon.specs.TwoTops.{falls_twice, trees_move_after}
 use Rattle.gptp_how_soon.specs.declared.chosen.Chosen.{Chosen}
 use Rattle.gptp_how_soon.specs.declared.chosen.Ends.{Ends}
 use Rattle.gptp_how_soon.proofs.ChosenLemmas.{IsAt, at_clock}
@@ -41,7 +40,6 @@ use Rattle.gptp_how_soon_laws.proofs.LostLinkLemmas.{ends_are, stands_or_lost}
 use Rattle.gptp_how_soon_laws.proofs.MovedTreesLemmas.{cut_there}
 use Rattle.gptp_how_soon_laws.proofs.TakenAwayLemmas.{all_lived}
 use Rattle.gptp_how_soon_laws.proofs.TreeTestLemmas.{better_so}
-use Rattle.gptp_how_soon_laws.proofs.TwoTopsLemmas.{Twice, twice, twice_each}
 use Rattle.gptp_how_soon_laws.proofs.UnmovedLemmas.{AreWell, asked_of, unmoved_all, unmoved_at}
 use Rattle.gptp_how_soon_laws.proofs.WorseningLemmas.{lives_of}
 
@@ -164,7 +162,7 @@ module _ (n : NetworkState) (network : IsNetwork n) (made events : List Timed) w
 
   -- ---- and each that is moved has a worse root
 
-  module _ (trees : trees_move_after n made events ≡ true) (cuts : cuts_all_after n made events ≡ true)
+  module _ (trees : moves_trees_after n made events ≡ true) (cuts : cuts_all_after n made events ≡ true)
       (g h : Snapshot) (stands : StandsAfter n made g) (stands' : StandsAfter n events h) (well : IsWellFormed g)
       (well' : IsWellFormed h) (lived : (v : ℕ) → In v (clocks h) → In v (clocks g)) where
     abbrev Standing : ℕ → ℕ → Type 0
@@ -204,9 +202,8 @@ module _ (n : NetworkState) (network : IsNetwork n) (made events : List Timed) w
         ⊎ (((best : System) × (t : Tree) × IsTreeCutOff g h best t × IsBest h v t.next)
         ⊎ ((best : System) × (t : TopsTree) × IsTreeCutTwice g h best t × IsBest h v t.next))
 
-    -- where all that are moved are trees with one top
-    each_once : moves_trees_after n made events ≡ true → (v : ℕ) → In v (clocks h) → StaysOrIsCut v
-    each_once splits v known =
+    each : (v : ℕ) → In v (clocks h) → StaysOrIsCut v
+    each v known =
         let (i, s) = on_of n network made events g h stands stands' well well' lived v known in
         by i s (moves_there i) refl (is_turned_at systems before now i) refl
       where
@@ -216,31 +213,15 @@ module _ (n : NetworkState) (network : IsNetwork n) (made events : List Timed) w
             inl (unmoved_at n network made events g h stands stands' well well' v (lived v s.known) s.known i s.at none)
         by i s true moved true turns = absurd (turns_none i v s moved turns)
         by i s true moved false none =
-            inr (inl (cut_there n network made events splits g h stands stands' well well' lived i v s.at s.known
-            (and_from (moves_there i) (not (is_turned_at systems before now i)) moved (ap not none))))
-
-    -- or one with two
-    each_twice : Twice n network made events → (v : ℕ) → In v (clocks h) → StaysOrIsCut v
-    each_twice falls v known =
-        by (twice_each n network made events falls g h stands stands' well well' lived)
-      where
-        by : ((b : System) × ((v : ℕ) → In v (clocks h)
-            → IsUnmoved g h v ⊎ ((t : TopsTree) × IsTreeCutTwice g h b t × IsBest h v t.next)))
-            → StaysOrIsCut v
-        by (b, each) = elim (each v known) [
-          | inl stays ↦ inl stays
-          | inr (t, cut, in_v) ↦ inr (inr (b, t, cut, in_v))
-        ]
+            let (best, is) = cut_there n network made events trees g h stands stands' well well' lived i v s.at s.known
+            (and_from (moves_there i) (not (is_turned_at systems before now i)) moved (ap not none)) in
+            elim is [
+              | inl (t, cut, in_v) ↦ inr (inl (best, t, cut, in_v))
+              | inr (t, cut, in_v) ↦ inr (inr (best, t, cut, in_v))
+            ]
 
     pub cuts_beyond : CutsAllBeyond g h
-    cuts_beyond = record {
-      each = elim (or_cases (moves_trees_after n made events) (falls_twice systems lost (used_ends n events) before
-          now) trees) [
-            | inl splits ↦ each_once splits
-            | inr falls ↦ each_twice (twice n network made events falls)
-          ];
-      beyond = beyond both.1 g h stands stands' well well' lived;
-    }
+    cuts_beyond = record { each = each; beyond = beyond both.1 g h stands stands' well well' lived }
 
 -- ---- the events of a time
 
@@ -261,7 +242,7 @@ module _ (n : NetworkState) (network : IsNetwork n) where
   )
 
   pub all_beyond : (made now : List Timed) → AreWell n (made ++ now) → FailsTreesFirst n made now
-      → trees_move_after n made (made ++ now) ≡ true → cuts_all_after n made (made ++ now) ≡ true
+      → moves_trees_after n made (made ++ now) ≡ true → cuts_all_after n made (made ++ now) ≡ true
       → CutsAllBeyondFrom n made (made ++ now)
   all_beyond made now well fails trees cuts g h stands stands' =
       cuts_beyond n network made (made ++ now) trees cuts g h stands stands' (well made now refl g stands)

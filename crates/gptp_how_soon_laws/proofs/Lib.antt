@@ -22,11 +22,12 @@ mod FallsBelowLemmas
 mod TreeLemmas
 mod TreeWorsenedLemmas
 mod TreeByLemmas
-mod TwoTopsLemmas
 mod TurnedTreeTestLemmas
 mod TurnsBelowLemmas
 mod TurnedTreeLemmas
 mod MovedTreesTestLemmas
+mod LostEndLemmas
+mod TwoTopsLemmas
 mod MovedTreesLemmas
 mod TreeEventLemmas
 mod TurnedLemmas

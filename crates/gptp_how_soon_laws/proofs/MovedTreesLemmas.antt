@@ -1,55 +1,45 @@
 -- Where the tests of trees that are moved as a system fails hold, they are so from one snapshot to the other.
-use Rattle.std.proofs.Common.{◌≡◌, ◌≤◌, ◌⊎◌, inl, inr, ℕ, Bool, true, false, List, [], ◌∷◌, ◌++◌, filter, Some, length, slice_get, refl, sym, ap, subst, ◌∙◌, append-nil, arith}
-use Rattle.std.specs.Prelude.{◌==◌, ◌&&◌, not}
+use Rattle.std.proofs.Common.{◌≡◌, ◌≤◌, ◌⊎◌, inl, inr, ℕ, Bool, true, false, List, [], ◌∷◌, ◌++◌, length, slice_get, refl, sym, ap, subst, ◌∙◌, append-nil, arith}
+use Rattle.std.specs.Prelude.{not}
 use Rattle.std.specs.List.{range_with_len}
-use Rattle.std.proofs.lemmas.Bool.{and_from, and_parts, eq-eqb, or_cases}
+use Rattle.std.proofs.lemmas.Bool.{and_from}
 use Rattle.gptp_lists.specs.Members.{In}
-use Rattle.gptp_lists.proofs.MappedLemmas.{mapped_there}
-use Rattle.gptp_lists.proofs.SystemSpecLemmas.{In-slice_get, from_map, slice_get-In}
 use Rattle.gptp_bmca_machine.specs.CutTree.{Tree}
 use Rattle.gptp_bmca_machine.specs.FailureTrees.{Turning}
+use Rattle.gptp_bmca_machine.specs.TwoTops.{First, TopsTree}
 use Rattle.gptp_graph.specs.Best.{IsBest}
 use Rattle.gptp_graph.specs.Snapshot.{Adjacent, IsWellFormed, Snapshot, System, clocks, port_of}
 use Rattle.gptp_graph.proofs.BestLemmas.{IsBest-neighbour, IsBest-unique}
 use Rattle.gptp_graph.proofs.LinkLemmas.{Adjacent-clock}
-use Rattle.gptp_graph.proofs.SystemLemmas.{In-clocks}
 use Rattle.gptp_network.specs.Snapshot.{StandsAfter}
-use Rattle.gptp_network.proofs.InUseLemmas.{live_there}
-use Rattle.gptp_network.proofs.PassLemmas.{passes_at}
-use Rattle.gptp_network.proofs.SnapshotLemmas.{from_filter, with_clock}
-use Rattle.gptp_roles.specs.Selection.{clock_of}
-use Rattle.gptp_scenario.specs.Change.{system_after}
-use Rattle.gptp_scenario.specs.InUse.{lives}
 use Rattle.gptp_scenario.specs.Network.{IsNetwork, NetworkState}
 use Rattle.gptp_scenario.specs.SyncWait.{sync_paths}
 use Rattle.gptp_scenario.specs.declared.change.Timed.{Timed}
-use Rattle.gptp_scenario.specs.declared.network.SystemSpec.{SystemSpec}
-use Rattle.gptp_topology.specs.After.{system_then, systems_after}
+use Rattle.gptp_topology.specs.After.{systems_after}
 use Rattle.gptp_topology.specs.declared.nodes.System as ours
-use Rattle.gptp_how_soon.specs.Chosen.{chosen_after, differs, ends_of, is_moved, is_moved_at, lost_ends, used_ends}
+use Rattle.gptp_how_soon.specs.Chosen.{chosen_after, ends_of, is_moved_at, lost_ends, used_ends}
 use Rattle.gptp_how_soon.specs.Kinds.{fails_first}
-use Rattle.gptp_how_soon.specs.Links.{is_lost}
-use Rattle.gptp_how_soon.specs.MovedTrees.{falls_at, moves_trees_after}
+use Rattle.gptp_how_soon.specs.MovedTrees.{moves_trees_after}
 use Rattle.gptp_how_soon.specs.Times.{told_of}
-use Rattle.gptp_how_soon.specs.Tree.{has_better_root, has_same_root, is_below}
-use Rattle.gptp_how_soon.specs.TurnedTree.{is_turned_at}
-use Rattle.gptp_how_soon.specs.TwoTops.{falls_twice, trees_move_after}
+use Rattle.gptp_how_soon.specs.Tree.{has_better_root, has_same_root}
+use Rattle.gptp_how_soon.specs.TurnedTree.{falls_at, is_turned_at}
 use Rattle.gptp_how_soon.specs.declared.chosen.Chosen.{Chosen}
 use Rattle.gptp_how_soon.specs.declared.chosen.Ends.{Ends}
-use Rattle.gptp_how_soon.proofs.ChosenLemmas.{IsAt, at_clock, at_port, chosen_there, one_clock}
+use Rattle.gptp_how_soon.proofs.ChosenLemmas.{IsAt, at_clock, one_clock}
 use Rattle.gptp_settling_time.specs.HowSoon.{FailsTreesFirst}
 use Rattle.gptp_settling_time.specs.Losses.{IsUnmoved}
-use Rattle.gptp_settling_time.specs.TreeLosses.{IsTreeCutOff, IsTreeTurned, IsUnmovedOrInTree, MovesTreesFrom}
+use Rattle.gptp_settling_time.specs.TreeLosses.{IsTreeCutOff, IsTreeCutTwice, IsTreeTurned, IsUnmovedOrInTree, MovesTreesFrom}
 use Rattle.gptp_how_soon_laws.proofs.FailedLemmas.{Fails, clock_before, fails, first_delay, first_paths, others, parts, stands_on}
 use Rattle.gptp_how_soon_laws.proofs.ToldLemmas.{loss_fails}
-use Rattle.gptp_how_soon_laws.proofs.TreeBelowLemmas.{IsTop, below_same, best, best_so, cut_off, tree}
+use Rattle.gptp_how_soon_laws.proofs.TreeBelowLemmas.{IsTop, best, best_so, cut_off, tree}
 use Rattle.gptp_how_soon_laws.proofs.LivesOnLemmas.{LivesOn, on_at, on_of}
+use Rattle.gptp_how_soon_laws.proofs.LostEndLemmas as lost_ends
 use Rattle.gptp_how_soon_laws.proofs.LostLinkLemmas.{ends_are, stands_or_lost}
 use Rattle.gptp_how_soon_laws.proofs.MovedTreesTestLemmas as tests
 use Rattle.gptp_how_soon_laws.proofs.ReadyLemmas.{none_any}
-use Rattle.gptp_how_soon_laws.proofs.TreeTestLemmas.{better_so, same_back, same_so}
+use Rattle.gptp_how_soon_laws.proofs.TreeTestLemmas.{better_so, same_so}
 use Rattle.gptp_how_soon_laws.proofs.TurnedTreeTestLemmas.{TurnsAt, turned_moves, turns_at}
-use Rattle.gptp_how_soon_laws.proofs.TwoTopsLemmas.{twice, twice_so}
+use Rattle.gptp_how_soon_laws.proofs.TwoTopsLemmas as two_tops
 use Rattle.gptp_how_soon_laws.proofs.TurnsBelowLemmas.{HasTurned, has_turned, turning}
 use Rattle.gptp_how_soon_laws.proofs.UnmovedLemmas.{AreWell, asked_of, unmoved_at}
 use Rattle.gptp_how_soon_laws.proofs.WorseningLemmas.{same_system}
@@ -82,6 +72,22 @@ module _ (n : NetworkState) (network : IsNetwork n) (made events : List Timed) w
   abbrev IsLostEnd : ℕ → Type 0
   IsLostEnd = tests.IsLostEnd n network made events
 
+  abbrev is_top_there : ℕ → Bool
+  is_top_there = tests.is_top_there n network made events
+
+  abbrev OneTop : ℕ → Type 0
+  OneTop = tests.OneTop n network made events
+
+  abbrev TwoTops : ℕ → Type 0
+  TwoTops = tests.TwoTops n network made events
+
+  -- a top falls, at an end of a link that is lost
+  top_parts : (top : ℕ) → is_top_there top ≡ true → IsLostEnd top × (falls_there top ≡ true)
+  top_parts = tests.top_parts n network made events
+
+  top_moves : (top : ℕ) → is_top_there top ≡ true → is_moved_there top ≡ true
+  top_moves top is = falls_moves top (top_parts top is).1
+
   module _ (splits : moves_trees_after n made events ≡ true) where
     abbrev Agree : ℕ → ℕ → Type 0
     Agree = tests.Agree n network made events splits
@@ -89,15 +95,11 @@ module _ (n : NetworkState) (network : IsNetwork n) (made events : List Timed) w
     moved_agree : (i j : ℕ) → IsLostEnd i → IsLostEnd j → is_moved_there i ≡ true → is_moved_there j ≡ true → Agree i j
     moved_agree = tests.moved_agree n network made events splits
 
-    falls_agree : (i j : ℕ) → IsLostEnd i → IsLostEnd j → falls_there i ≡ true → falls_there j ≡ true → Agree i j
-    falls_agree = tests.falls_agree n network made events splits
-
     under : (i v : ℕ) → IsAt n i v → falls_there i ≡ true → tests.Under n network made events splits i
     under = tests.under n network made events splits
 
-    falls_with : (top i v : ℕ) → IsLostEnd top → falls_there top ≡ true → IsAt n i v
-        → has_same_root (slice_get now top) (slice_get now i) ≡ true → falls_there i ≡ true
-    falls_with = tests.falls_with n network made events splits
+    tree_at : (top v : ℕ) → IsAt n top v → is_top_there top ≡ true → OneTop top ⊎ TwoTops top
+    tree_at = tests.tree_at n network made events splits
 
     -- ---- between two snapshots
 
@@ -112,70 +114,26 @@ module _ (n : NetworkState) (network : IsNetwork n) (made events : List Timed) w
       abbrev on_there : (i v : ℕ) → IsAt n i v → In v (clocks h) → On i v
       on_there = on_at n network made events g h stands stands' well well' lived
 
-      below_top : (top i v : ℕ) → IsLostEnd top → falls_there top ≡ true → IsAt n i v
-          → has_same_root (slice_get now top) (slice_get now i) ≡ true
-          → is_below links before now top i ≡ true
-      below_top top i v x falls at same =
-          let u = under i v at (falls_with top i v x falls at same) in
-          let other = below_same n network made events g h stands stands' well well' lived u.top i u.below in
-          let one = (falls_agree u.top top u.lost_end x u.falls falls).one
-          (tests.same_both (slice_get now u.top) (slice_get now top) (slice_get now i) other same) in
-          subst (λ t. is_below links before now t i ≡ true) one u.below
-
-      -- who is moved lives
       moved_lives : (i v : ℕ) → IsAt n i v → is_moved_there i ≡ true → In v (clocks h)
-      moved_lives i v at moved =
-          let (b, there0) = chosen_there n network made g stands well i v at in
-          let (c, therek) = chosen_there n network events h stands' well' i v at in
-          let o : ours.System = system_then events at.system in
-          let there : slice_get systems i ≡ Some o =
-          mapped_there (system_then events) n.systems i at.system at.there in
-          let here : (o.lives && differs b c) ≡ true =
-          (λ k. is_moved (sym there k) (sym there0 k) (sym therek k)) ∙ moved in
-          let live : (system_after events at.system).live ≡ true = (and_parts o.lives (differs b c) here).0 in
-          let lives_so : lives n.systems events v ≡ true =
-          passes_at (λ (m : SystemSpec). (clock_of m.identity == v) && (system_after events m).live) n.systems
-          at.system (In-slice_get at.system n.systems i at.there)
-          (and_from (clock_of at.system.identity == v) (system_after events at.system).live
-          (eq-eqb (clock_of at.system.identity) v at.clock) live) in
-          let (s, known, same) = with_clock h.systems v (live_there n network events h stands' v lives_so) in
-          subst (λ c. In c (clocks h)) same (In-clocks h s known)
+      moved_lives = lost_ends.moved_lives n network made events g h stands stands' well well'
 
-      -- the system at an end of a link that is lost
       at_end : (i : ℕ) → IsLostEnd i → (v : ℕ) × IsAt n i v
-      at_end i x =
-          let (w, member, of) = from_map (ends_of n) x.ends (filter (is_lost n made events) n.links) x.listed in
-          let known = (from_filter (is_lost n made events) w n.links member).0 in
-          let (place, there) = slice_get-In w n.links known in
-          let wire = network.links place w there in
-          elim x.end [
-            | inl a ↦ (
-              w.a.clock,
-              subst (λ k. IsAt n k w.a.clock) (ap (λ (e : Ends). e.a) of ∙ a)
-                  (at_port n network made g stands well w.a wire.a),
-            )
-            | inr b ↦ (
-              w.b.clock,
-              subst (λ k. IsAt n k w.b.clock) (ap (λ (e : Ends). e.b) of ∙ b)
-                  (at_port n network made g stands well w.b wire.b),
-            )
-          ]
+      at_end = lost_ends.at_end n network made events g h stands stands' well well'
 
-      is_top : (top v : ℕ) → IsLostEnd top → falls_there top ≡ true → IsAt n top v
-          → IsTop n network made events g h stands stands' well well' lived top v
-      is_top top v x falls at =
-          let u = under top v at falls in
-          let other = below_same n network made events g h stands stands' well well' lived u.top top u.below in
-          let one = (falls_agree u.top top u.lost_end x u.falls falls).one other in
-          record {
-            at = at;
-            known = moved_lives top v at (falls_moves top falls);
-            worse = subst (λ t. has_better_root (slice_get before t) (slice_get now t) ≡ true) one u.worse;
-            below = λ i w here known same. below_top top i w x falls here same;
-            lost = λ i w here known same e listed end.
-                sym ((falls_agree top i x (record { ends = e; listed = listed; end = end }) falls
-                (falls_with top i w x falls here same)).one same);
-          }
+      abbrev IsTopOf : ℕ → ℕ → Type 0
+      IsTopOf = IsTop n network made events g h stands stands' well well' lived
+
+      is_top : (place : ℕ) (o : OneTop place) (clock : ℕ) → IsAt n o.top clock → In clock (clocks h)
+          → IsTopOf o.top clock
+      is_top place o clock at known = record {
+        at = at;
+        known = known;
+        worse = o.worse;
+        below = λ i w here known_w same. (tests.below_one n network made events place o i w here same).1;
+        lost = λ i w here known_w same e listed end.
+            tests.only_one n network made events place o i w here same
+            (record { ends = e; listed = listed; end = end });
+      }
 
       -- ---- the best of before
 
@@ -187,19 +145,24 @@ module _ (n : NetworkState) (network : IsNetwork n) (made events : List Timed) w
           same_system n network made made g g stands stands a.chose.best b.chose.best a.chose.is_best.live
           b.chose.is_best.live (sym a.chose.root ∙ same ∙ b.chose.root)
 
-      -- the top of a tree that is cut off, with the system at it
+      -- a top of a tree that is cut off, with the system at it
       record TopOf : Type 0 where
         top : ℕ
         clock : ℕ
-        lost_end : IsLostEnd top
-        falls : falls_there top ≡ true
         at : IsAt n top clock
+        known : In clock (clocks h)
+        is_top : is_top_there top ≡ true
 
-      top_is : (t : TopOf) → IsTop n network made events g h stands stands' well well' lived t.top t.clock
-      top_is t = is_top t.top t.clock t.lost_end t.falls t.at
+      abbrev on_top_of : (t : TopOf) → On t.top t.clock
+      on_top_of t = on_there t.top t.clock t.at t.known
 
-      best_of : TopOf → System
-      best_of t = best n network made events g h stands stands' well well' lived t.top t.clock (top_is t)
+      abbrev best_of : TopOf → System
+      best_of t = (on_top_of t).chose.best
+
+      top_of : (top : ℕ) → is_top_there top ≡ true → TopOf
+      top_of top is =
+          let (clock, at) = at_end top (top_parts top is).0 in
+          record { top = top; clock = clock; at = at; known = moved_lives top clock at (top_moves top is); is_top = is }
 
       -- that of the tree that turns
       record TurnedTop : Type 0 where
@@ -211,53 +174,85 @@ module _ (n : NetworkState) (network : IsNetwork n) (made events : List Timed) w
 
       -- all tops had one
       one_best : (t u : TopOf) → best_of t ≡ best_of u
-      unfolding best_of
       one_best t u =
-          let x = top_is t in
-          let y = top_is u in
-          same_best t.top u.top t.clock u.clock (on_there t.top t.clock x.at x.known)
-          (on_there u.top u.clock y.at y.known)
-          (falls_agree t.top u.top t.lost_end u.lost_end t.falls u.falls).root
+          same_best t.top u.top t.clock u.clock (on_top_of t) (on_top_of u)
+          (moved_agree t.top u.top (top_parts t.top t.is_top).0 (top_parts u.top u.is_top).0 (top_moves t.top t.is_top)
+          (top_moves u.top u.is_top)).root
 
       best_with : (t : TopOf) (x : TurnedTop) → best_of t ≡ x.on_top.chose.best
-      unfolding best_of
       best_with t x =
-          let y = top_is t in
-          same_best t.top x.top t.clock x.clock (on_there t.top t.clock y.at y.known) x.on_top
-          (moved_agree t.top x.top t.lost_end x.lost_end (falls_moves t.top t.falls)
+          same_best t.top x.top t.clock x.clock (on_top_of t) x.on_top
+          (moved_agree t.top x.top (top_parts t.top t.is_top).0 x.lost_end (top_moves t.top t.is_top)
           (turned_moves n network made events x.top x.turns.turns)).root
 
       -- ---- trees that are cut off
 
-      top_at : (i v : ℕ) → IsAt n i v → falls_there i ≡ true → TopOf
-      top_at i v at falls =
-          let u = under i v at falls in
-          let (clock, at_top) = at_end u.top u.lost_end in
-          record { top = u.top; clock = clock; lost_end = u.lost_end; falls = u.falls; at = at_top }
+      -- a system is in one, with one top or two
+      abbrev IsCutAt : System → ℕ → Type 0
+      IsCutAt b v = ((s : Tree) × IsTreeCutOff g h b s × IsBest h v s.next)
+          ⊎ ((s : TopsTree) × IsTreeCutTwice g h b s × IsBest h v s.next)
 
-      in_tree : (i v : ℕ) (at : IsAt n i v) (known : In v (clocks h)) (falls : falls_there i ≡ true) (b : System)
-          → best_of (top_at i v at falls) ≡ b → (s : Tree) × IsTreeCutOff g h b s × IsBest h v s.next
-      unfolding best_of top_at
-      in_tree i v at known falls b same =
-          let u = under i v at falls in
-          let own = top_at i v at falls in
-          let x = top_is own in (
-            tree n network made events g h stands stands' well well' lived own.top own.clock x,
+      -- the roots of the system and of the tops, by that of the place at which these were asked for
+      root_back : (i place top : ℕ) → has_same_root (slice_get now i) (slice_get now place) ≡ true
+          → has_same_root (slice_get now place) (slice_get now top) ≡ true
+          → has_same_root (slice_get now top) (slice_get now i) ≡ true
+      root_back i place top own with_top =
+          tests.same_turned (slice_get now i) (slice_get now top)
+          (tests.same_on (slice_get now i) (slice_get now place) (slice_get now top) own with_top)
+
+      in_one : (place : ℕ) (o : OneTop place) (i v : ℕ) → On i v
+          → has_same_root (slice_get now i) (slice_get now place) ≡ true → (b : System) → ((t : TopOf) → best_of t ≡ b)
+          → (s : Tree) × IsTreeCutOff g h b s × IsBest h v s.next
+      unfolding top_of is_top
+      in_one place o i v s own b tops =
+          let (is, same) = tests.of_tops n network made events place o.top
+          (subst (In o.top) (sym o.tops) (inl refl)) in
+          let t = top_of o.top is in
+          let x : IsTopOf o.top t.clock = is_top place o t.clock t.at t.known in (
+            tree n network made events g h stands stands' well well' lived o.top t.clock x,
             subst (λ c. IsTreeCutOff g h c
-                (tree n network made events g h stands stands' well well' lived own.top own.clock x)) same
-                (cut_off n network made events g h stands stands' well well' lived own.top own.clock x),
-            best_so n network made events g h stands stands' well well' lived own.top own.clock x i v
-                (on_there i v at known)
-                (below_same n network made events g h stands stands' well well' lived own.top i u.below),
+                (tree n network made events g h stands stands' well well' lived o.top t.clock x)) (tops t)
+                (cut_off n network made events g h stands stands' well well' lived o.top t.clock x),
+            best_so n network made events g h stands stands' well well' lived o.top t.clock x i v s
+                (root_back i place o.top own same),
           )
 
-      -- so is one that falls
-      pub cut_there : (i v : ℕ) → IsAt n i v → In v (clocks h) → falls_there i ≡ true
-          → (b : System) × (s : Tree) × IsTreeCutOff g h b s × IsBest h v s.next
+      in_two : (place : ℕ) (t : TwoTops place) (i v : ℕ) → On i v
+          → has_same_root (slice_get now i) (slice_get now place) ≡ true → (b : System) → ((u : TopOf) → best_of u ≡ b)
+          → (s : TopsTree) × IsTreeCutTwice g h b s × IsBest h v s.next
+      unfolding top_of
+      in_two place t i v s own b tops =
+          let (is, same) = tests.of_tops n network made events place t.first
+          (subst (In t.first) (sym t.tops) (inl refl)) in
+          let u = top_of t.first is in
+          let clock : ℕ =
+          two_tops.top_clock n network made events place t g h stands stands' well well' lived First in
+          let first : On t.first clock =
+          two_tops.first_on n network made events place t g h stands stands' well well' lived in
+          let lost = (top_parts t.first is).0 in
+          let moves = top_moves t.first is in
+          let one : first.chose.best ≡ best_of u =
+          same_best t.first t.first clock u.clock first (on_top_of u)
+          (moved_agree t.first t.first lost lost moves moves).root in
+          two_tops.in_twice n network made events place t g h stands stands' well well' lived b (one ∙ tops u) i v s
+          (root_back i place t.first own same)
+
+      cut_at : (i v : ℕ) → IsAt n i v → In v (clocks h) → falls_there i ≡ true → (b : System)
+          → ((t : TopOf) → best_of t ≡ b) → IsCutAt b v
+      cut_at i v at known falls b tops =
+          let u = under i v at falls in
+          elim (tree_at u.top (at_end u.top (top_parts u.top u.is_top).0).0
+          (at_end u.top (top_parts u.top u.is_top).0).1 u.is_top) [
+            | inl one ↦ inl (in_one u.top one i v (on_there i v at known) u.same b tops)
+            | inr two ↦ inr (in_two u.top two i v (on_there i v at known) u.same b tops)
+          ]
+
+      -- one that falls is in such a tree
+      pub cut_there : (i v : ℕ) → IsAt n i v → In v (clocks h) → falls_there i ≡ true → (b : System) × IsCutAt b v
       cut_there i v at known falls =
-          let b : System = best_of (top_at i v at falls) in
-          let (s, cut, best) = in_tree i v at known falls b refl in
-          (b, s, cut, best)
+          let u = under i v at falls in
+          let t = top_of u.top u.is_top in
+          (best_of t, cut_at i v at known falls (best_of t) (λ other. one_best other t))
 
       -- some top is known, or no system falls
       first_top : (vs : List ℕ) → ((v : ℕ) → In v vs → In v (clocks h))
@@ -270,7 +265,7 @@ module _ (n : NetworkState) (network : IsNetwork n) (made events : List Timed) w
           by : (i : ℕ) (at : IsAt n i v) (falls : Bool) → falls_there i ≡ falls
               → TopOf ⊎ ((u : ℕ) → In u vs → (j : ℕ) → IsAt n j u → falls_there j ≡ false)
               → TopOf ⊎ ((u : ℕ) → In u (v ∷ vs) → (j : ℕ) → IsAt n j u → falls_there j ≡ false)
-          by i at true is rest = inl (top_at i v at is)
+          by i at true is rest = let u = under i v at is in inl (top_of u.top u.is_top)
           by i at false is (inl t) = inl t
           by i at false is (inr none) = inr (λ u member j there. elim member [
             | inl same ↦
@@ -294,8 +289,8 @@ module _ (n : NetworkState) (network : IsNetwork n) (made events : List Timed) w
         abbrev has : HasTurned n turns_there g h had own
         has = has_turned n network made events x.top x.clock x.turns g h stands stands' well well' lived x.on_top
 
-        top_moves : is_moved_there x.top ≡ true
-        top_moves = turned_moves n network made events x.top x.turns.turns
+        turn_moves : is_moved_there x.top ≡ true
+        turn_moves = turned_moves n network made events x.top x.turns.turns
 
         -- a system of it has its best
         keeps_root : (i v : ℕ) (s : On i v) → IsBest h v had → s.is.root ≡ had.identity
@@ -306,11 +301,9 @@ module _ (n : NetworkState) (network : IsNetwork n) (made events : List Timed) w
         -- of it the top alone is at an end of a link that is lost
         only_top : (i v : ℕ) (s : On i v) → In v own.tree → IsLostEnd i → v ≡ x.clock
         only_top i v s in_v end =
-            let here = keeps_root i v s (has.is_best v in_v) in
-            let there = keeps_root x.top x.clock x.on_top (has.is_best x.clock has.in_top) in
-            let same = same_back now i x.top s.is x.on_top.is s.is_there x.on_top.is_there (here ∙ sym there) in
-            let moves = turned_moves n network made events i (has.turned_of i v s.at in_v) in
-            let one = (moved_agree i x.top end x.lost_end moves top_moves).one same in
+            let turns = has.turned_of i v s.at in_v in
+            let moves = turned_moves n network made events i turns in
+            let one = (moved_agree i x.top end x.lost_end moves turn_moves).one turns x.turns.turns in
             one_clock n network made g stands well x.top v x.clock (subst (λ k. IsAt n k v) one s.at) x.on_top.at
 
         lost_so : (v u : ℕ) → In v own.tree → Adjacent g v u → Adjacent h v u ⊎ (v ≡ x.clock)
@@ -345,20 +338,27 @@ module _ (n : NetworkState) (network : IsNetwork n) (made events : List Timed) w
 
         -- no system with the best of it falls: all tops had that, and what falls has a worse one
         falls_apart : (i v : ℕ) (s : On i v) → IsBest h v had → falls_there i ≡ true → ⊥
+        unfolding top_of
         falls_apart i v s is_best falls =
             let u = under i v s.at falls in
-            let (clock, at) = at_end u.top u.lost_end in
-            let moves = falls_moves u.top u.falls in
-            let o = on_there u.top clock at (moved_lives u.top clock at moves) in
-            let less = better_so o.was o.is
-            ((λ k. has_better_root (sym o.was_there k) (sym o.is_there k)) ∙ u.worse) in
-            let first = same_so before u.top x.top o.was x.on_top.was o.was_there x.on_top.was_there
-            (moved_agree u.top x.top u.lost_end x.lost_end moves top_moves).root in
-            let last = same_so now u.top i o.is s.is o.is_there s.is_there
-            (below_same n network made events g h stands stands' well well' lived u.top i u.below) in
-            let here = keeps_root i v s is_best in
-            let there = x.on_top.chose.root in
-            absurd (omega (arith, less, first, last, here, there))
+            let (clock, at) = at_end u.top (top_parts u.top u.is_top).0 in
+            let m = tests.main_top n network made events u.top (tree_at u.top clock at u.is_top) in
+            let t = top_of m.top m.is_top in
+            apart t m.worse (root_back i u.top m.top u.same m.same)
+          where
+            apart : (t : TopOf) → has_better_root (slice_get before t.top) (slice_get now t.top) ≡ true
+                → has_same_root (slice_get now t.top) (slice_get now i) ≡ true → ⊥
+            apart t worse same =
+                let o = on_top_of t in
+                let less = better_so o.was o.is
+                ((λ k. has_better_root (sym o.was_there k) (sym o.is_there k)) ∙ worse) in
+                let first = same_so before t.top x.top o.was x.on_top.was o.was_there x.on_top.was_there
+                (moved_agree t.top x.top (top_parts t.top t.is_top).0 x.lost_end (top_moves t.top t.is_top)
+                turn_moves).root in
+                let last = same_so now t.top i o.is s.is o.is_there s.is_there same in
+                let here = keeps_root i v s is_best in
+                let there = x.on_top.chose.root in
+                absurd (omega (arith, less, first, last, here, there))
 
         out_unmoved : IsUnmoved g h own.out
         out_unmoved =
@@ -445,16 +445,17 @@ module _ (n : NetworkState) (network : IsNetwork n) (made events : List Timed) w
           by i s true moves true turns (inr (x, same)) = inr (inr (inl (in_turned x i v s.at known turns b same)))
           by i s true moves false none may =
               let falls = and_from (is_moved_there i) (not (turns_there i)) moves (ap not none) in
-              inr (inl (in_tree i v s.at known falls b (tops (top_at i v s.at falls))))
+              elim (cut_at i v s.at known falls b tops) [
+                | inl cut ↦ inr (inl cut)
+                | inr twice ↦ inr (inr (inr twice))
+              ]
 
       abbrev NoneFalls : Type 0
       NoneFalls = (v : ℕ) → In v (clocks h) → (i : ℕ) → IsAt n i v → falls_there i ≡ false
 
       none_tops : NoneFalls → (b : System) (t : TopOf) → best_of t ≡ b
       none_tops none b t =
-          let known = moved_lives t.top t.clock t.at (falls_moves t.top t.falls) in
-          let no : true ≡ false = sym t.falls ∙ none t.clock known t.top t.at in
-          absurd cc
+          let no : true ≡ false = sym (top_parts t.top t.is_top).1 ∙ none t.clock t.known t.top t.at in absurd cc
 
       pub split_so : (b : System) × ((v : ℕ) → In v (clocks h) → IsUnmovedOrInTree g h b v)
       split_so = by (first_top (clocks h) (λ v member. member)) turned_top
@@ -473,7 +474,7 @@ module _ (n : NetworkState) (network : IsNetwork n) (made events : List Timed) w
 -- ---- the events of a time
 
 pub fails_trees_first : (n : NetworkState) (network : IsNetwork n) (made now : List Timed) → AreWell n (made ++ now)
-    → trees_move_after n made (made ++ now) ≡ true
+    → moves_trees_after n made (made ++ now) ≡ true
     → (sync_paths n (made ++ now)).delay ≤ (sync_paths n made).delay
     → (sync_paths n (made ++ now)).systems ≤ (sync_paths n made).systems
     → (sync_paths n made).systems ≤ 255
@@ -504,9 +505,4 @@ fails_trees_first n network made (event ∷ events) well moves delay paths few i
         let well_g = well made (event ∷ events) refl g stands in
         let well_h = well all [] (append-nil all) h last in
         let lived = clock_before n network made event x g h stands stands' in
-        elim (or_cases (moves_trees_after n made all) (falls_twice (systems_after n all) (lost_ends n made all)
-        (used_ends n all) (chosen_after n made) (chosen_after n all)) moves) [
-          | inl splits ↦ split_so n network made all splits g h stands last well_g well_h lived
-          | inr falls ↦
-              twice_so n network made all (twice n network made all falls) g h stands last well_g well_h lived
-        ]
+        split_so n network made all moves g h stands last well_g well_h lived

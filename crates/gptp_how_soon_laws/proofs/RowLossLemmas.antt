@@ -16,12 +16,11 @@ use Rattle.gptp_how_soon.specs.Bounds.{gone_by, quiet_by}
 use Rattle.gptp_how_soon.specs.Chosen.{moves_joined, moves_some}
 use Rattle.gptp_how_soon.specs.Kinds.{begins_with, brings_nothing, fails_beside_idle, fails_first, is_loss, is_lowering, is_worsening, lowers_one, takes_one, takes_several, worsens_first}
 use Rattle.gptp_how_soon.specs.Alone.{leaves_alone_after}
-use Rattle.gptp_how_soon.specs.MovedTrees.{cuts_all_after}
+use Rattle.gptp_how_soon.specs.MovedTrees.{cuts_all_after, moves_trees_after}
 use Rattle.gptp_how_soon.specs.Rest.{is_end_followed, is_failing_followed, is_from_rest, is_lowering_followed, is_taking_followed, is_worsening_followed, keeps_paths, rested}
 use Rattle.gptp_how_soon.specs.Times.{View, events_at, has_come_after, loss_at, row_at, told_at, told_of, view_at}
 use Rattle.gptp_how_soon.specs.Tree.{cuts_tree_after, worsens_best_after}
 use Rattle.gptp_how_soon.specs.TurnedTree.{turns_tree_after}
-use Rattle.gptp_how_soon.specs.TwoTops.{trees_move_after}
 use Rattle.gptp_how_soon.specs.declared.bounds.Row.{Row}
 use Rattle.gptp_how_soon.specs.declared.bounds.Row.TheVariants.{AnyLosses, CutOff, FailedEnd, FailedHeard, FailureCutsOff, FailureMovesTrees, Lowered, SystemTurned, TakenApart, TakenAway, TreeFalls, TreeTurned}
 use Rattle.gptp_how_soon.specs.declared.bounds.SettlingTime.{SettlingTime}
@@ -420,7 +419,7 @@ module _ (n : NetworkState) (network : IsNetwork n) (events : List Timed) (b : S
 
   trees_late : is_from_rest v.longest at v.paths_before v.paths v.told (Some b) ≡ true → AreWell n (made ++ now)
       → is_failing_followed v.paths_before v.paths v.told ≡ true → has_come_after n made (Some b) at ≡ true
-      → trees_move_after n made (made ++ now) ≡ true → FailsLate
+      → moves_trees_after n made (made ++ now) ≡ true → FailsLate
   trees_late from well followed come splits =
       let (keeps, one) = and_parts (keeps_paths v.paths_before v.paths) (fails_first v.told) followed in
       let x = keeps_so keeps in
@@ -436,7 +435,7 @@ module _ (n : NetworkState) (network : IsNetwork n) (events : List Timed) (b : S
       let (from, trees) = why FailureMovesTrees row in
       let (followed, both) = and_parts (is_failing_followed v.paths_before v.paths v.told) v.moves.trees_move trees in
       let (come, splits) =
-      and_parts (has_come_after n made (Some b) at) (trees_move_after n made (made ++ now)) both in
+      and_parts (has_come_after n made (Some b) at) (moves_trees_after n made (made ++ now)) both in
       trees_late from well followed come splits
 
   -- and so cuts off all that it moves
@@ -448,7 +447,7 @@ module _ (n : NetworkState) (network : IsNetwork n) (events : List Timed) (b : S
       → v.moves.cuts_all ≡ true → CutsAll
   all_cut well which cuts =
       let come_test : Bool = has_come_after n made (Some b) at in
-      let moves_test : Bool = trees_move_after n made (made ++ now) in
+      let moves_test : Bool = moves_trees_after n made (made ++ now) in
       let (both, all) = and_parts (come_test && moves_test) (cuts_all_after n made (made ++ now)) cuts in
       let (come, splits) = and_parts come_test moves_test both in
       let (from, followed) = by which in
