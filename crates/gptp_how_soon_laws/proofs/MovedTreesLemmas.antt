@@ -27,7 +27,7 @@ use Rattle.gptp_scenario.specs.declared.network.SystemSpec.{SystemSpec}
 use Rattle.gptp_topology.specs.After.{system_then, systems_after}
 use Rattle.gptp_topology.specs.declared.nodes.System as ours
 use Rattle.gptp_how_soon.specs.Chosen.{chosen_after, differs, ends_of, is_moved, is_moved_at, lost_ends, used_ends}
-use Rattle.gptp_how_soon.specs.Kinds.{fails_first}
+use Rattle.gptp_how_soon.specs.Losses.{fails_first}
 use Rattle.gptp_how_soon.specs.Links.{is_lost}
 use Rattle.gptp_how_soon.specs.MovedTrees.{falls_at, moves_trees_after}
 use Rattle.gptp_how_soon.specs.Times.{told_of}
