@@ -1,4 +1,5 @@
 pub mod Kinds
+pub mod Losses
 pub mod Links
 pub mod Chosen
 pub mod Far

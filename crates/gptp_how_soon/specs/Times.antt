@@ -26,7 +26,8 @@ use Rattle.gptp_how_soon.specs.Bounds.{arrived_by, heard_by, ready, times_by}
 use Rattle.gptp_how_soon.specs.Alone.{leaves_alone_after}
 use Rattle.gptp_how_soon.specs.Chosen.{moves_counted, moves_some}
 use Rattle.gptp_how_soon.specs.Far.{are_far_after, cut_far_ends_after, none_up_longer, up_is_used}
-use Rattle.gptp_how_soon.specs.Kinds.{sets_bounds, sets_link, takes_one, told_by}
+use Rattle.gptp_how_soon.specs.Kinds.{sets_bounds, sets_link, told_by}
+use Rattle.gptp_how_soon.specs.Losses.{takes_one}
 use Rattle.gptp_how_soon.specs.Links.{longest_delay, new_links}
 use Rattle.gptp_how_soon.specs.MovedTrees.{cuts_all_after, far_ends_move_after, moves_trees_after}
 use Rattle.gptp_how_soon.specs.Rest.{comes_soon, has_come, heard_at_once, is_from_rest, row_of}

@@ -13,7 +13,8 @@ use Rattle.gptp_how_soon.specs.Bounds.{arrived_by}
 use Rattle.gptp_how_soon.specs.Alone.{leaves_alone}
 use Rattle.gptp_how_soon.specs.Chosen.{any_counted, any_moved, chosen_over, ends_among, ends_in_use}
 use Rattle.gptp_how_soon.specs.Far.{all_cut_far_ends, are_far, none_up_longer, up_is_used}
-use Rattle.gptp_how_soon.specs.Kinds.{sets_bounds, takes_one, told_by}
+use Rattle.gptp_how_soon.specs.Kinds.{sets_bounds, told_by}
+use Rattle.gptp_how_soon.specs.Losses.{takes_one}
 use Rattle.gptp_how_soon.specs.Links.{delay_set, longest_among, lost_among, new_among}
 use Rattle.gptp_how_soon.specs.MovedTrees.{cuts_all, far_end_moves, moves_trees}
 use Rattle.gptp_how_soon.specs.Rest.{has_come}

@@ -18,6 +18,7 @@ mod kinds;
 #[cfg(test)]
 mod link_tests;
 mod links;
+mod losses;
 mod moved_trees;
 mod rest;
 #[cfg(test)]

@@ -8,9 +8,9 @@ use crate::bounds::{Row, SettlingTime, way_span};
 use crate::kinds::{
     Told, all_bring_nothing, all_leave_links, all_make_nothing, all_tell_nothing, any_better,
     any_gain, any_loss, any_lowers_unused, any_other, any_recovery, any_wider, are_heard,
-    begins_wider, fails_and_recovers, fails_beside_idle, fails_first, first_wider_by, lowers_one,
-    takes_several, worsens_first,
+    begins_wider, fails_and_recovers, first_wider_by,
 };
+use crate::losses::{fails_beside_idle, fails_first, lowers_one, takes_several, worsens_first};
 use gptp_scenario::SyncPaths;
 
 /// Whom the events of a time move.

@@ -16,8 +16,9 @@ use crate::chosen::{
     Chosen, Ends, any_counted, any_moved, choose, copy_systems, ends_in_use, ends_of,
 };
 use crate::far::{all_cut_far_ends, are_far, none_up_longer, up_is_used};
-use crate::kinds::{Told, sets_bounds, sets_link, takes_one, tell};
+use crate::kinds::{Told, sets_bounds, sets_link, tell};
 use crate::links::{delay_set, longest_among, lost_among, mark_used, new_links};
+use crate::losses::takes_one;
 use crate::moved_trees::{all_far_ends_move, cuts_all, moves_trees};
 use crate::rest::{
     Moves, asks_who_is_moved, comes_soon, has_come, heard_at_once, is_from_rest, row_of,

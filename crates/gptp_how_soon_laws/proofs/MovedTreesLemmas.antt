@@ -18,7 +18,7 @@ use Rattle.gptp_scenario.specs.declared.change.Timed.{Timed}
 use Rattle.gptp_topology.specs.After.{systems_after}
 use Rattle.gptp_topology.specs.declared.nodes.System as ours
 use Rattle.gptp_how_soon.specs.Chosen.{chosen_after, ends_of, is_moved_at, lost_ends, used_ends}
-use Rattle.gptp_how_soon.specs.Kinds.{fails_first}
+use Rattle.gptp_how_soon.specs.Losses.{fails_first}
 use Rattle.gptp_how_soon.specs.MovedTrees.{moves_trees_after}
 use Rattle.gptp_how_soon.specs.Times.{told_of}
 use Rattle.gptp_how_soon.specs.Tree.{has_better_root, has_same_root}

@@ -10,7 +10,7 @@ use Rattle.gptp_scenario.specs.declared.change.Timed.{Timed}
 use Rattle.gptp_network.specs.Snapshot.{events_by}
 use Rattle.gptp_how_soon.specs.Bounds.{gone_by, quiet_by}
 use Rattle.gptp_how_soon.specs.Chosen.{moves_some}
-use Rattle.gptp_how_soon.specs.Kinds.{takes_several}
+use Rattle.gptp_how_soon.specs.Losses.{takes_several}
 use Rattle.gptp_how_soon.specs.MovedTrees.{far_ends_move_after}
 use Rattle.gptp_how_soon.specs.Rest.{is_taking_followed, keeps_paths}
 use Rattle.gptp_how_soon.specs.Times.{View, events_at, loss_at, row_at, view_at}
