@@ -1,7 +1,7 @@
 -- Several events of one time take systems or links away, whoever is moved between: where the network had settled they
 -- lead to one from which they were taken. Where each link that is up then is in use they lead to one that is cleared,
 -- and so they do where no system is moved, and none lost its link to a nearer one.
-use Rattle.std.proofs.Common.{List, [], append_assoc, arith, inl, inr, max, pred, refl, subst, suc, sym, ℕ, ◌++◌, ◌+◌, ◌∙◌, ◌∷◌, ◌≡◌, ◌≤◌}
+use Rattle.std.proofs.Common.{List, [], append_assoc, arith, inl, inr, max, pred, refl, subst, suc, sym, ℕ, ◌++◌, ◌+◌, ◌∙◌, ◌∷◌, ◌≡◌, ◌≤◌, ◌⊎◌}
 use Rattle.std.proofs.Math.Nat.{le-max_left, le-max_right, mul-le-mul_left}
 use Rattle.std.specs.List.{AllByRecursion}
 use Rattle.gptp_setup.specs.SettlingParams.{largest_interval}
@@ -106,7 +106,7 @@ module _ (n : NetworkState) (time : ℕ) where
   -- ---- it is cleared as the last of them is taken away
 
   -- right traces are told anew then, or nothing that is held names what is gone
-  abbrev Clears : List Timed → List Timed → ℕ → ℕ → Type 0
+  abbrev pub Clears : List Timed → List Timed → ℕ → ℕ → Type 0
   Clears ago events right old =
       TellsAnew n events time time right old ⊎ LosesFartherNow n ago events time time right old
 

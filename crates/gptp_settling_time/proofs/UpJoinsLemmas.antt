@@ -1,5 +1,5 @@
 -- Links that are up were in use before: they stay so as links go down. What is in flight comes over such links.
-use Rattle.std.proofs.Common.{◌≡◌, ℕ, true, false, Some, slice_get, sym, ap, subst, ◌∙◌}
+use Rattle.std.proofs.Common.{◌≡◌, ℕ, true, false, Some, slice_get, sym, ap, subst, inl, inr, ◌∙◌}
 use Rattle.std.proofs.lemmas.Option.{same_Some}
 use Rattle.gptp_lists.proofs.MappedLemmas.{alike}
 use Rattle.gptp_lists.proofs.PlaceLemmas.{get-set_other, get-set_same, same_place}
