@@ -288,11 +288,7 @@ fn choice_by(network: &Network, loss: Loss, paths: SyncPaths, row: Row, gained: 
     }
     match row {
         Row::AnyPast => settling_span_at_once(network, paths),
-        Row::Unchanged
-        | Row::Lowered
-        | Row::FailedEnd
-        | Row::TakenAway
-        | Row::TakenApart => 0,
+        Row::Unchanged | Row::Lowered | Row::FailedEnd | Row::TakenAway | Row::TakenApart => 0,
         Row::FailedHeard => aged_by(loss),
         Row::FailureCutsOff | Row::FailureMovesTrees => aged_by(loss) + 2 * way_span(paths),
         Row::CutOff | Row::SystemTurned | Row::TreeFalls | Row::TreeTurned => 2 * way_span(paths),

@@ -189,7 +189,8 @@ fn are_tops(systems: &[System], before: &[Chosen], now: &[Chosen], one: usize, o
 {
     !(is_moved_at(systems, before, now, one) && is_moved_at(systems, before, now, other))
         || (has_same_root(before, one, other)
-            && (!(is_turned_at(systems, before, now, one) && is_turned_at(systems, before, now, other))
+            && (!(is_turned_at(systems, before, now, one)
+                && is_turned_at(systems, before, now, other))
                 || one == other))
 }
 
@@ -337,7 +338,12 @@ fn far_end_moves(systems: &[System], before: &[Chosen], now: &[Chosen], ends: &E
 }
 
 /// Whether it is so of each of these links.
-pub(crate) fn all_far_ends_move(systems: &[System], lost: &[Ends], before: &[Chosen], now: &[Chosen]) -> bool
+pub(crate) fn all_far_ends_move(
+    systems: &[System],
+    lost: &[Ends],
+    before: &[Chosen],
+    now: &[Chosen],
+) -> bool
     ensures { result ≡ list_all (far_end_moves systems.now before.now now.now) lost.now }
 {
     lost.iter()

@@ -22,12 +22,7 @@ pub(crate) fn is_turned_at(
 }
 
 /// Whether it is moved, and doesn't turn.
-pub(crate) fn falls_at(
-    systems: &[System],
-    before: &[Chosen],
-    now: &[Chosen],
-    place: usize,
-) -> bool
+pub(crate) fn falls_at(systems: &[System], before: &[Chosen], now: &[Chosen], place: usize) -> bool
     ensures { result ≡ falls_at systems.now before.now now.now place }
 {
     is_moved_at(systems, before, now, place) && !is_turned_at(systems, before, now, place)
