@@ -45,6 +45,7 @@ mod RowLossLemmas
 mod AnyLossLemmas
 mod AgedLemmas
 mod LossBoundLemmas
+pub mod FirstTimeLemmas
 pub mod ChoiceLemmas
 pub mod StepLemmas
 mod SettledLemmas
