@@ -1,9 +1,7 @@
 -- What is told of each time of a document is so: its choice and roles are choice bounds or loss bounds. The network has
 -- come to rest by a rest bound.
-use Rattle.std.proofs.Common.{◌≡◌, ◌<◌, ◌≤◌, ◌⊎◌, inl, inr, ◌+◌, ◌*◌, max, ℕ, Bool, true, false, cond, List, [], ◌∷◌, ◌++◌, Some, None, refl, sym, ap, subst, ◌∙◌, arith}
+use Rattle.std.proofs.Common.{◌≡◌, ◌<◌, ◌≤◌, ◌⊎◌, inl, inr, ◌+◌, ◌*◌, max, ℕ, Bool, true, false, List, [], ◌∷◌, ◌++◌, Some, None, refl, sym, ap, subst, ◌∙◌, arith}
 use Rattle.std.specs.Prelude.{◌==◌, if◌then◌else◌, nat_le}
-use Rattle.std.proofs.lemmas.Bool.{eqb-false, eqb-true}
-use Rattle.std.proofs.lemmas.Bool.Decides.{nat_tests}
 use Rattle.gptp_lists.specs.Members.{In}
 use Rattle.gptp_lists.proofs.SystemSpecLemmas.{In-left, In-parts}
 use Rattle.gptp_setup.specs.SettlingParams.{largest_interval}
@@ -26,7 +24,7 @@ use Rattle.gptp_how_soon.specs.declared.bounds.Row.{Row}
 use Rattle.gptp_how_soon.specs.declared.bounds.Row.TheVariants.{AnyLosses, AnyPast, CutOff, FailedEnd, FailedHeard, FailureCutsOff, FailureMovesTrees, Gained, Lowered, SystemTurned, TakenApart, TakenAway, TreeFalls, TreeTurned, Unchanged}
 use Rattle.gptp_how_soon.specs.declared.bounds.Settling.{Settling}
 use Rattle.gptp_how_soon.specs.declared.bounds.SettlingTime.{SettlingTime}
-use Rattle.gptp_settling_time.specs.HowSoon.{BeforeRepeats, BoundsAnyLoss, BoundsChoice, BoundsEvents, BoundsLoss, BoundsSplit, BoundsStart, BoundsTree, FailsTreesFirst, IsChoiceBoundAfter, IsLossBoundAfter, IsRestBoundAfter, NoneBetween, RestsAfterAnyLoss, RestsAfterLoss, RestsOnceTold, RestsSplit, RestsTaken, RestsTree, RolesAfterFailure, TreeNext}
+use Rattle.gptp_settling_time.specs.HowSoon.{BeforeRepeats, BoundsAnyLoss, BoundsChoice, BoundsEvents, BoundsLoss, BoundsSplit, BoundsTree, FailsTreesFirst, IsChoiceBoundAfter, IsLossBoundAfter, IsRestBoundAfter, NoneBetween, RestsAfterAnyLoss, RestsAfterLoss, RestsOnceTold, RestsSplit, RestsTaken, RestsTree, RolesAfterFailure, TreeNext}
 use Rattle.gptp_settling_time.specs.EventKinds.{FlightIsGoneFrom}
 use Rattle.gptp_settling_time.specs.Rests.{FlightIsGoneSince, turned_echo_span}
 use Rattle.gptp_settling_time.specs.Losses.{NoneSilent, UpIsUsed}
@@ -44,30 +42,11 @@ use Rattle.gptp_how_soon_laws.proofs.AgedLemmas.{aged, aging, quiet_later}
 use Rattle.gptp_how_soon_laws.proofs.LossBoundLemmas.{beside, greater, no_later, some_before, some_heard, some_lost, some_rested, some_trees}
 use Rattle.gptp_how_soon_laws.proofs.RepeatLemmas.{before_repeats}
 use Rattle.gptp_how_soon_laws.proofs.RowTestLemmas.{HasComeToRest}
-use Rattle.gptp_how_soon_laws.proofs.StartRowLemmas.{first_past, first_roles, first_sound, never_unchanged, started}
 use Rattle.gptp_how_soon_laws.proofs.UnmovedLemmas.{AreWell}
 use Rattle.gptp_how_soon_laws.proofs.TreeWorsenedLemmas.{octets_at}
 use Rattle.gptp_how_soon_laws.proofs.TimesLemmas.{AreTimes, later_times, times_after, times_parts}
 use Rattle.gptp_how_soon_laws.proofs.TakenAwayLemmas.{several_lost}
-
--- the events up to time 0 are those at it
-begin_at : (events : List Timed) → events_by 0 events ≡ events_at 0 events
-begin_at [] = refl
-begin_at (event ∷ events) = by (nat_le event.at 0) (event.at == 0) refl refl (begin_at events)
-  where
-    by : (soon now : Bool) → nat_le event.at 0 ≡ soon → (event.at == 0) ≡ now → events_by 0 events ≡ events_at 0 events
-        → cond soon (event ∷ events_by 0 events) (events_by 0 events)
-        ≡ cond now (event ∷ events_at 0 events) (events_at 0 events)
-    by true true f g rest = ap (λ es. event ∷ es) rest
-    by true false f g rest =
-        let apart = eqb-false event.at 0 g in
-        let early : event.at ≤ 0 = grind (arith, nat_tests) in
-        absurd (apart (omega (arith, early)))
-    by false true f g rest =
-        let is = eqb-true event.at 0 g in
-        let behind : 0 < event.at = grind (arith, nat_tests) in
-        absurd (omega (arith, is, behind))
-    by false false f g rest = rest
+use Rattle.gptp_how_soon_laws.proofs.FirstTimeLemmas.{IsSo, TellsSo, first_so}
 
 rested_late : (aged ways echo quiet sound : ℕ) → sound ≡ max (aged + (ways + echo)) quiet
     → max (max (aged + ways) quiet) (aged + ways + echo) ≤ sound
@@ -86,55 +65,8 @@ module _ (d : DocumentState) (playable : IsPlayable d) where
   abbrev all : List Timed
   all = d.events
 
-  -- what is told of a time is so, by the times before it
-  pub record IsSo (earlier : List ℕ) (at : ℕ) (s : Settling) : Type 0 where
-    pub bounds : IsChoiceBoundAfter n all earlier at s.roles
-        ⊎ ((alone : ℕ) × IsLossBoundAfter n all earlier at alone s.roles)
-    pub choice : IsChoiceBoundAfter n all earlier at s.choice
-        ⊎ ((roles : ℕ) × IsLossBoundAfter n all earlier at s.choice roles)
-    pub sooner : s.choice ≤ s.roles
-    pub sound : IsRestBoundAfter n all earlier at s.sound
-    pub rest : s.sound ≤ s.rest
-    pub exact : max (at + s.choice) (arrived_by (longest_delay n (events_by at all)) (last_set (events_by at all)))
-        + window_span n.params + (sync_paths n (events_by at all)).systems * (n.params.threshold + n.params.residence)
-        ≤ s.exact_from
-
-  abbrev pub TellsSo : List ℕ → SettlingTime → Type 0
-  TellsSo earlier t = (s : Settling) → t.settling ≡ Some s → IsSo earlier t.at s
-
-  first_so : TellsSo [] (time_at d None 0)
-  first_so s is =
-      let now : List Timed = events_at 0 all in
-      let v : View = view_at n [] now None 0 in
-      let it = tells n v s is in
-      let bound =
-      bounds_choice n (λ choice. BoundsStart n now choice) (loss_at v) now (row_at v) (gained_at n v) it.calm
-      (λ row. absurd (never_unchanged n now row)) (λ row off. started n now row) in
-      let same : s.choice ≡ choice_by n (loss_at v) v.paths (past_row (row_at v)) (gained_at n v) =
-      it.choice ∙ ap (λ row. choice_by n (loss_at v) v.paths row (gained_at n v)) (first_past n now) in
-      let chosen : IsChoiceBoundAfter n all [] 0 s.choice = (
-        refl,
-        subst (λ es. BoundsChoice n (BoundsStart n es s.choice) es s.choice) (sym (begin_at all))
-            (subst (λ choice. BoundsChoice n (BoundsStart n now choice) now choice) (sym same) bound),
-      ) in
-      let sound_same : s.choice ≡ s.sound =
-      it.choice ∙ sym (first_sound n now (loss_at v) v.paths (gained_at n v)) ∙ sym it.sound in
-      let roles_same : s.choice ≡ s.roles =
-      it.choice ∙ sym (first_roles n now (loss_at v) v.paths (gained_at n v))
-      ∙ sym it.roles in
-      record {
-        bounds = inl (subst (IsChoiceBoundAfter n all [] 0) roles_same chosen);
-        choice = inl chosen;
-        sooner = omega (arith, roles_same);
-        sound = subst (IsChoiceBoundAfter n all [] 0) sound_same chosen;
-        rest = it.rest;
-        exact = subst (λ es. max (0 + s.choice) (arrived_by (longest_delay n es) (last_set es)) + window_span n.params
-            + (sync_paths n es).systems * (n.params.threshold + n.params.residence)
-            ≤ s.exact_from) (sym (begin_at all)) it.exact;
-      }
-
   module _ (b : SettlingTime) (earlier : List ℕ) (at : ℕ) (late : b.at < at) (between : NoneBetween all b.at at)
-      (so : TellsSo earlier b) where
+      (so : TellsSo d playable earlier b) where
     abbrev made : List Timed
     made = events_by b.at all
 
@@ -622,7 +554,7 @@ module _ (d : DocumentState) (playable : IsPlayable d) where
           }
     ]
 
-    later_so : TellsSo (b.at ∷ earlier) (time_at d (Some b) at)
+    later_so : TellsSo d playable (b.at ∷ earlier) (time_at d (Some b) at)
     later_so s is =
         let it = tells n v s is in
         let settles = settles_so s is in
@@ -639,24 +571,24 @@ module _ (d : DocumentState) (playable : IsPlayable d) where
         }
 
   -- so it is of each time after one
-  each_so : (b : SettlingTime) (earlier ats : List ℕ) → AreTimes all b.at ats → TellsSo earlier b
-      → (t : SettlingTime) → In t (settling_times_from d (Some b) ats) → (before : List ℕ) × TellsSo before t
+  each_so : (b : SettlingTime) (earlier ats : List ℕ) → AreTimes all b.at ats → TellsSo d playable earlier b
+      → (t : SettlingTime) → In t (settling_times_from d (Some b) ats) → (before : List ℕ) × TellsSo d playable before t
   each_so b earlier [] times so t member = absurd member
   each_so b earlier (at ∷ ats) (late, between, times) so t (inl same) =
-      (b.at ∷ earlier, subst (TellsSo (b.at ∷ earlier)) (sym same) (later_so b earlier at late between so))
+      (b.at ∷ earlier, subst (TellsSo d playable (b.at ∷ earlier)) (sym same) (later_so b earlier at late between so))
   each_so b earlier (at ∷ ats) (late, between, times) so t (inr member) =
       each_so (time_at d (Some b) at) (b.at ∷ earlier) ats times (later_so b earlier at late between so) t member
 
   all_so : (t : SettlingTime) → In t (settling_times_from d None (0 ∷ later_times 0 all))
-      → (before : List ℕ) × TellsSo before t
-  all_so t (inl same) = ([], subst (TellsSo []) (sym same) first_so)
+      → (before : List ℕ) × TellsSo d playable before t
+  all_so t (inl same) = ([], subst (TellsSo d playable []) (sym same) (first_so d playable))
   all_so t (inr member) =
       each_so (time_at d None 0) [] (later_times 0 all)
       (times_after all 0 all playable.events.in_order (λ event among. omega arith) (λ event among behind. among))
-      first_so t member
+      (first_so d playable) t member
 
   pub time_so : (t : SettlingTime) (s : Settling) → In t (settling_times d) → t.settling ≡ Some s
-      → (before : List ℕ) × IsSo before t.at s
+      → (before : List ℕ) × IsSo d playable before t.at s
   time_so t s member is =
       let (before, so) =
       all_so t (subst (λ ats. In t (settling_times_from d None ats)) (times_parts 0 all) member) in

@@ -48,6 +48,7 @@ mod RowApartLemmas
 mod AnyLossLemmas
 mod AgedLemmas
 mod LossBoundLemmas
+pub mod FirstTimeLemmas
 pub mod ChoiceLemmas
 pub mod StepLemmas
 mod SettledLemmas
