@@ -1,9 +1,6 @@
 -- What is told of a time of a document: its choice and roles are bounds, and the network has come to rest by a rest
 -- bound. It is so of time 0.
-use Rattle.std.proofs.Common.{◌≡◌, ◌<◌, ◌≤◌, ◌⊎◌, inl, ◌+◌, ◌*◌, max, ℕ, Bool, true, false, cond, List, [], ◌∷◌, Some, None, refl, sym, ap, subst, ◌∙◌, arith}
-use Rattle.std.specs.Prelude.{◌==◌, nat_le}
-use Rattle.std.proofs.lemmas.Bool.{eqb-false, eqb-true}
-use Rattle.std.proofs.lemmas.Bool.Decides.{nat_tests}
+use Rattle.std.proofs.Common.{◌≡◌, ◌≤◌, ◌⊎◌, inl, ◌+◌, ◌*◌, max, ℕ, List, [], Some, None, refl, sym, ap, subst, ◌∙◌, arith}
 use Rattle.gptp_scenario.specs.Network.{NetworkState}
 use Rattle.gptp_scenario.specs.SettlingTime.{window_span}
 use Rattle.gptp_scenario.specs.SyncWait.{sync_paths}
@@ -19,25 +16,7 @@ use Rattle.gptp_how_soon.specs.declared.bounds.SettlingTime.{SettlingTime}
 use Rattle.gptp_settling_time.specs.HowSoon.{BoundsChoice, BoundsStart, IsChoiceBoundAfter, IsLossBoundAfter, IsRestBoundAfter}
 use Rattle.gptp_how_soon_laws.proofs.RowBoundLemmas.{bounds_choice, past_row, tells}
 use Rattle.gptp_how_soon_laws.proofs.StartRowLemmas.{first_past, first_roles, first_sound, never_unchanged, started}
-
--- the events up to time 0 are those at it
-begin_at : (events : List Timed) → events_by 0 events ≡ events_at 0 events
-begin_at [] = refl
-begin_at (event ∷ events) = by (nat_le event.at 0) (event.at == 0) refl refl (begin_at events)
-  where
-    by : (soon now : Bool) → nat_le event.at 0 ≡ soon → (event.at == 0) ≡ now → events_by 0 events ≡ events_at 0 events
-        → cond soon (event ∷ events_by 0 events) (events_by 0 events)
-        ≡ cond now (event ∷ events_at 0 events) (events_at 0 events)
-    by true true f g rest = ap (λ es. event ∷ es) rest
-    by true false f g rest =
-        let apart = eqb-false event.at 0 g in
-        let early : event.at ≤ 0 = grind (arith, nat_tests) in
-        absurd (apart (omega (arith, early)))
-    by false true f g rest =
-        let is = eqb-true event.at 0 g in
-        let behind : 0 < event.at = grind (arith, nat_tests) in
-        absurd (omega (arith, is, behind))
-    by false false f g rest = rest
+use Rattle.gptp_how_soon_laws.proofs.TimesLemmas.{begin_at}
 
 module _ (d : DocumentState) (playable : IsPlayable d) where
   abbrev n : NetworkState
