@@ -5,7 +5,8 @@ use Rattle.std.proofs.Common.{◌≡◌, ◌<◌, ◌≤◌, ◌⊎◌, inl, inr
 use Rattle.std.specs.Prelude.{◌==◌, ◌&&◌, ◌||◌, length, nat_lt, not, if◌then◌else◌}
 use Rattle.std.specs.List.{cons_option, filter_map, list_all, list_any, range_with_len}
 use Rattle.std.specs.List.Sorted.{IsPermutation}
-use Rattle.std.proofs.lemmas.Bool.{and_parts, eq-eqb, eqb-true, or_cases, false_from_ne_true}
+use Rattle.std.proofs.Math.Bool.{and-false}
+use Rattle.std.proofs.lemmas.Bool.{and_parts, eq-eqb, eqb-true, or_cases, false_from_ne_true, or_parts, or_from}
 use Rattle.std.proofs.lemmas.Bool.Decides.{nat_tests}
 use Rattle.gptp_lists.specs.Members.{In}
 use Rattle.gptp_lists.proofs.MappedLemmas.{mapped_there}
@@ -276,10 +277,6 @@ module _ (n : NetworkState) (network : IsNetwork n) (made : List Timed) (event :
       false_from_ne_true (has_clock h.systems clock) (λ has.
       let both : true ≡ false = sym (there_live n network made h stands clock has) ∙ lives_not n made clock none in cc)
 
-  and_off : (b : Bool) → (b && false) ≡ false
-  and_off true = refl
-  and_off false = refl
-
   -- it joined no two of the systems
   abbrev Stays : LinkSpec → Type 0
   Stays v = (joined_after after v ≡ joined_after made v)
@@ -313,7 +310,7 @@ module _ (n : NetworkState) (network : IsNetwork n) (made : List Timed) (event :
               | inr b ↦
                   let off = none_has v.b.clock
                   (subst (λ (p : PortId). IsLive n.systems made p.clock → ⊥) keeps.b b) in
-                  ap (λ t. has_clock h.systems v.a.clock && t) off ∙ and_off (has_clock h.systems v.a.clock)
+                  ap (λ t. has_clock h.systems v.a.clock && t) off ∙ and-false (has_clock h.systems v.a.clock)
             ],
           )
 
@@ -566,12 +563,10 @@ fails_end_first n network made (event ∷ events) well unmoved delay paths few i
 -- none that a link in use is at is moved where none is
 joined_none : (p q : ℕ → Bool) (xs : List ℕ) → list_any q xs ≡ false → list_any (λ x. p x && q x) xs ≡ false
 joined_none p q [] none = refl
-joined_none p q (x ∷ xs) none = by (p x) (q x) none
-  where
-    by : (b c : Bool) → (c || list_any q xs) ≡ false → ((b && c) || list_any (λ y. p y && q y) xs) ≡ false
-    by true false rest = joined_none p q xs rest
-    by false false rest = joined_none p q xs rest
-    by b true rest = absurd cc
+joined_none p q (x ∷ xs) none =
+    let (one, rest) = or_parts (q x) (list_any q xs) none in
+    or_from (p x && q x) (list_any (λ y. p y && q y) xs) (ap (λ test. p x && test) one ∙ and-false (p x))
+    (joined_none p q xs rest)
 
 pub moves_none_joined : (n : NetworkState) (made events : List Timed) → moves_some n made events ≡ false
     → moves_joined n made events ≡ false

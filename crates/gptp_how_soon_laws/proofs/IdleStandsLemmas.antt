@@ -1,5 +1,5 @@
 -- Behind an event that changes nothing the same snapshots stand, also where a failed system gets a priority1.
-use Rattle.std.proofs.Common.{◌≡◌, ℕ, Bool, true, false, ◌+◌, ◌*◌, ◌%◌, ◌^◌, List, [], ◌∷◌, ◌++◌, map, filter, Option, Some, None, refl, sym, ap, subst, ◌∙◌, inl, inr}
+use Rattle.std.proofs.Common.{◌≡◌, ℕ, Bool, true, false, ◌+◌, ◌*◌, ◌%◌, ◌^◌, List, [], ◌∷◌, ◌++◌, map, filter, Some, None, refl, sym, ap, subst, ◌∙◌, inl, inr}
 use Rattle.std.specs.Prelude.{◌==◌, if◌then◌else◌}
 use Rattle.std.specs.List.Sorted.{IsPermutation}
 use Rattle.std.proofs.lemmas.Bool.{eqb-true}
@@ -21,10 +21,6 @@ use Rattle.gptp_settling_time.specs.Gains.{ChangesNothing, KeepsIdentity}
 use Rattle.gptp_settling_time.proofs.SamePathsLemmas.{idle_same, map_same}
 use Rattle.gptp_how_soon_laws.proofs.RepeatLemmas.{stands_seen}
 
--- what a snapshot has of a system
-abbrev alive : ℕ → Bool → ℕ → Option (ℕ × ℕ)
-alive ports live identity = if live then Some (identity, ports) else None
-
 module _ (n : NetworkState) (network : IsNetwork n) (made : List Timed) (event : Timed)
     (nothing : ChangesNothing n made event.act) (h : Snapshot) (stands : StandsAfter n made h) where
   abbrev after : List Timed
@@ -36,15 +32,17 @@ module _ (n : NetworkState) (network : IsNetwork n) (made : List Timed) (event :
     kept = subst (ChangesNothing n made) is nothing
 
     gets : (m : SystemSpec) → In m n.systems → clock_of m.identity ≡ number
-        → alive m.ports (system_after made m).live (value * 2 ^ 104 + (system_after made m).identity % 2 ^ 104)
-        ≡ alive m.ports (system_after made m).live (system_after made m).identity
+        → (if (with_priority1 value (system_after made m)).live
+        then Some ((with_priority1 value (system_after made m)).identity, m.ports) else None)
+        ≡ live_after made m
     gets m member own =
         let (place, there) = slice_get-In m n.systems member in
+        let s = system_after made m in
         elim (kept place m there own) [
           | inl failed ↦
-              ap (λ live. alive m.ports live (value * 2 ^ 104 + (system_after made m).identity % 2 ^ 104)) failed
-              ∙ sym (ap (λ live. alive m.ports live (system_after made m).identity) failed)
-          | inr same ↦ ap (λ identity. alive m.ports (system_after made m).live identity) same
+              ap (λ live. if live then Some (value * 2 ^ 104 + s.identity % 2 ^ 104, m.ports) else None) failed
+              ∙ sym (ap (λ live. if live then Some (s.identity, m.ports) else None) failed)
+          | inr same ↦ ap (λ identity. if s.live then Some (identity, m.ports) else None) same
         ]
 
     system_stays : (m : SystemSpec) → In m n.systems → live_after after m ≡ live_after made m
@@ -55,9 +53,13 @@ module _ (n : NetworkState) (network : IsNetwork n) (made : List Timed) (event :
         ∙ by (number == clock_of m.identity) refl
       where
         by : (test : Bool) → (number == clock_of m.identity) ≡ test
-            → alive m.ports (if test then with_priority1 value (system_after made m) else system_after made m).live
-            (if test then with_priority1 value (system_after made m) else system_after made m).identity
-            ≡ alive m.ports (system_after made m).live (system_after made m).identity
+            → (if (if test then with_priority1 value (system_after made m) else system_after made m).live
+            then Some (
+              (if test then with_priority1 value (system_after made m) else system_after made m).identity,
+              m.ports,
+            )
+            else None)
+            ≡ live_after made m
         by true own = gets m member (sym (eqb-true number (clock_of m.identity) own))
         by false own = refl
 
