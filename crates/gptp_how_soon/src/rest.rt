@@ -36,7 +36,8 @@ pub struct Moves {
     pub taken: bool,
     /// Whether they move none, also none that is cut off, and no live system lost its link to a nearer one.
     pub apart: bool,
-    /// Whether then each system of these trees gets a worse root, and each live far end of a link that is lost is moved.
+    /// Whether then each system of these trees gets a worse root, and each live far end of a link that is lost is
+    /// moved.
     pub cuts_all: bool,
     /// Whether each live system is alone then, which was at one link in use at most, and each link that was up was in
     /// use.
