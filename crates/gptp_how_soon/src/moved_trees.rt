@@ -177,8 +177,8 @@ fn all_are_in_trees(
 {
     let mut all = true;
     for place in 0..systems.len() {
-        let is = is_in_tree(alloc, systems, lost, links, before, now, place)?;
-        all = all && is;
+        let within = is_in_tree(alloc, systems, lost, links, before, now, place)?;
+        all = all && within;
     }
     Ok(all)
 }
