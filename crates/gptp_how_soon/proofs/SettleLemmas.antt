@@ -12,7 +12,7 @@ use Rattle.gptp_how_soon.specs.Far.{none_up_longer, up_is_used}
 use Rattle.gptp_how_soon.specs.Bounds.{arrived_by, heard_by, ready, times_by}
 use Rattle.gptp_how_soon.specs.Kinds.{begins_wider, brings_nothing, is_loss, makes_nothing, sets_link}
 use Rattle.gptp_how_soon.specs.Links.{new_among}
-use Rattle.gptp_how_soon.specs.Rest.{are_losses_followed, asks_who_is_moved, comes_soon, failed_row, heard_at_once, is_failing_followed, is_from_rest, is_lowering_followed, is_taking_followed, is_worsening_followed, no_moves, row_of}
+use Rattle.gptp_how_soon.specs.Rest.{are_losses_followed, asks_who_is_moved, comes_soon, failed_row, heard_at_once, is_end_followed, is_failing_followed, is_from_rest, is_lowering_followed, is_taking_followed, is_worsening_followed, no_moves, row_of}
 use Rattle.gptp_how_soon.specs.Silent.{any_silent}
 use Rattle.gptp_how_soon.specs.Times.{settling_time}
 use Rattle.gptp_how_soon.specs.Walk.{moves_seen, view_seen}
@@ -32,8 +32,8 @@ abbrev asked_of : Moves → Bool → Moves
 asked_of moves asked = if asked then moves else no_moves
 
 -- the row of a time, by what its events are
-abbrev row_by : Bool → Bool → Bool → Bool → Bool → Bool → Bool → Bool → Bool → Bool → Moves → Row
-row_by rest first idle followed lowering failing taking worse loses losses moves =
+abbrev row_by : Bool → Bool → Bool → Bool → Bool → Bool → Bool → Bool → Bool → Bool → Bool → Moves → Row
+row_by rest first idle followed lowering failing ending taking worse loses losses moves =
     if not rest then AnyPast
     else if first then Gained
     else if idle then Unchanged
@@ -44,6 +44,7 @@ row_by rest first idle followed lowering failing taking worse loses losses moves
     else if lowering && moves.tree_turns then TreeTurned
     else if failing && not moves.moved then failed_row moves.far moves.any_moved
     else if failing && moves.trees_move then FailureMovesTrees
+    else if ending && (moves.far && not moves.any_moved) then FailedEnd
     else if taking && moves.taken then TakenAway
     else if loses then if losses then AnyLosses else AnyPast
     else Gained
@@ -55,20 +56,21 @@ same_row : (from_rest first : Bool) (before paths : SyncPaths) (told : List Told
 same_row from_rest first before paths told moves =
     by from_rest (list_all makes_nothing told || begins_wider told) (are_losses_followed before told)
     (is_lowering_followed before paths told) (is_failing_followed before paths told)
-    (is_taking_followed before paths told) (is_worsening_followed before paths told) (list_any is_loss told)
-    (list_all brings_nothing told)
+    (is_end_followed before paths told) (is_taking_followed before paths told)
+    (is_worsening_followed before paths told) (list_any is_loss told) (list_all brings_nothing told)
   where
-    by : (rest idle followed lowering failing taking worse loses losses : Bool)
-        → row_by rest first idle followed lowering failing taking worse loses losses
-        (asked_of moves (rest && (followed || lowering || failing || taking || worse)))
-        ≡ row_by rest first idle followed lowering failing taking worse loses losses moves
-    by false idle followed lowering failing taking worse loses losses = refl
-    by true idle true lowering failing taking worse loses losses = refl
-    by true idle false true failing taking worse loses losses = refl
-    by true idle false false true taking worse loses losses = refl
-    by true idle false false false true worse loses losses = refl
-    by true idle false false false false true loses losses = refl
-    by true idle false false false false false loses losses = refl
+    by : (rest idle followed lowering failing ending taking worse loses losses : Bool)
+        → row_by rest first idle followed lowering failing ending taking worse loses losses
+        (asked_of moves (rest && (followed || lowering || failing || ending || taking || worse)))
+        ≡ row_by rest first idle followed lowering failing ending taking worse loses losses moves
+    by false idle followed lowering failing ending taking worse loses losses = refl
+    by true idle true lowering failing ending taking worse loses losses = refl
+    by true idle false true failing ending taking worse loses losses = refl
+    by true idle false false true ending taking worse loses losses = refl
+    by true idle false false false true taking worse loses losses = refl
+    by true idle false false false false true worse loses losses = refl
+    by true idle false false false false false true loses losses = refl
+    by true idle false false false false false false loses losses = refl
 
 -- ---- what others hold
 
@@ -85,25 +87,27 @@ held_asked : (from_rest first : Bool) (before paths : SyncPaths) (told : List To
     → counts_held (row_of from_rest first before paths told moves) ≡ false
 held_asked from_rest first before paths told moves =
     by from_rest (are_losses_followed before told) (is_lowering_followed before paths told)
-    (is_failing_followed before paths told) (is_taking_followed before paths told)
-    (is_worsening_followed before paths told) first
+    (is_failing_followed before paths told) (is_end_followed before paths told)
+    (is_taking_followed before paths told) (is_worsening_followed before paths told) first
     (list_all makes_nothing told || begins_wider told)
     (list_any is_loss told) (list_all brings_nothing told)
   where
-    by : (rest followed lowering failing taking worse starts idle loses losses : Bool)
-        → (rest && (followed || lowering || failing || taking || worse)) ≡ false
-        → counts_held (row_by rest starts idle followed lowering failing taking worse loses losses moves) ≡ false
-    by false followed lowering failing taking worse starts idle loses losses none = refl
-    by true true lowering failing taking worse starts idle loses losses none = absurd cc
-    by true false true failing taking worse starts idle loses losses none = absurd cc
-    by true false false true taking worse starts idle loses losses none = absurd cc
-    by true false false false true worse starts idle loses losses none = absurd cc
-    by true false false false false true starts idle loses losses none = absurd cc
-    by true false false false false false true idle loses losses none = refl
-    by true false false false false false false true loses losses none = refl
-    by true false false false false false false false true true none = refl
-    by true false false false false false false false true false none = refl
-    by true false false false false false false false false losses none = refl
+    by : (rest followed lowering failing ending taking worse starts idle loses losses : Bool)
+        → (rest && (followed || lowering || failing || ending || taking || worse)) ≡ false
+        → counts_held (row_by rest starts idle followed lowering failing ending taking worse loses losses moves)
+        ≡ false
+    by false followed lowering failing ending taking worse starts idle loses losses none = refl
+    by true true lowering failing ending taking worse starts idle loses losses none = absurd cc
+    by true false true failing ending taking worse starts idle loses losses none = absurd cc
+    by true false false true ending taking worse starts idle loses losses none = absurd cc
+    by true false false false true taking worse starts idle loses losses none = absurd cc
+    by true false false false false true worse starts idle loses losses none = absurd cc
+    by true false false false false false true starts idle loses losses none = absurd cc
+    by true false false false false false false true idle loses losses none = refl
+    by true false false false false false false false true loses losses none = refl
+    by true false false false false false false false false true true none = refl
+    by true false false false false false false false false true false none = refl
+    by true false false false false false false false false false losses none = refl
 
 module _ (n : NetworkState) (at arrived : ℕ) (paths_before paths : SyncPaths)
     (used_before used soon soon_before silent calm sets : Bool) (gained : ℕ) where

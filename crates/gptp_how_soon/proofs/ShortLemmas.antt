@@ -188,22 +188,22 @@ module _ (n : NetworkState) (network : IsNetwork n) (paths : SyncPaths) (few : p
             quiet (gone_by n loss.paths_before loss.soon_before) (omega (arith, g))
         by FailedHeard = aged
         by FailureCutsOff =
-            let w = way in let a = aged in let b = aged_most in let g = gone paths loss.used short in
-            either_most loss.cuts_all (quiet_by n loss (aged_by loss + 2 * way_span paths + gone_by n paths loss.used))
+            let w = way in let a = aged in let b = aged_most in let g = gone paths loss.soon short in
+            either_most loss.cuts_all (quiet_by n loss (aged_by loss + 2 * way_span paths + gone_by n paths loss.soon))
             (max (aged_by loss + 2 * way_span paths) (aged_echo_span n loss paths)) 195000000000000
-            (quiet (aged_by loss + 2 * way_span paths + gone_by n paths loss.used) (omega (arith, w, b, g)))
+            (quiet (aged_by loss + 2 * way_span paths + gone_by n paths loss.soon) (omega (arith, w, b, g)))
             (omega (arith, w, a, b))
         by SystemTurned = let w = way in let e = echo in omega (arith, w, e)
         by TreeFalls = let w = way in let g = gone paths loss.used_before short in omega (arith, w, g)
         by TreeTurned = let w = way in let e = echo in omega (arith, w, e)
         by FailureMovesTrees =
-            let w = way in let e = echo in let l = largest in let a = aged_most in let g = gone paths loss.used short in
+            let w = way in let e = echo in let l = largest in let a = aged_most in let g = gone paths loss.soon short in
             let told : ℕ = max (echo_span (pace_of n) paths) (largest_interval (pace_of n)) in
-            let later : (if loss.cuts_all then gone_by n paths loss.used else told) ≤ 32384000000000 =
-            either_most loss.cuts_all (gone_by n paths loss.used) told 32384000000000 (omega (arith, g))
+            let later : (if loss.cuts_all then gone_by n paths loss.soon else told) ≤ 32384000000000 =
+            either_most loss.cuts_all (gone_by n paths loss.soon) told 32384000000000 (omega (arith, g))
             (omega (arith, e, l)) in
             quiet
-            (aged_by loss + 2 * way_span paths + (if loss.cuts_all then gone_by n paths loss.used else told))
+            (aged_by loss + 2 * way_span paths + (if loss.cuts_all then gone_by n paths loss.soon else told))
             (omega (arith, w, a, later))
         by TakenAway =
             let e = echo in let l = losses loss soon in

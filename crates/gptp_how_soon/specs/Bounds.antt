@@ -135,11 +135,11 @@ taken_echo_span n loss paths =
 
 -- By when all that is held and in flight is sound: as soon as the choice stands, but after a loss it may name what is
 -- gone. After a far end is cut off, a tree falls back, or a far end fails, only what was in flight does; of one that
--- fails by links of before too. So it is once the choice stands where a failure cuts off all that it moves. After a link
--- goes down by which no system is moved traces have to be told anew first, and so they have where several are taken
--- away. So they do once the choice stands where one system or a tree turns, or one fails that others heard; where that
--- cuts trees off what was in flight as they settled has to be gone too. After losses without a row of their own all is
--- sound once roles stand. After others it is as soon as the choice stands from any past.
+-- fails by links of before too. So it is once the choice stands where a failure cuts off all that it moves. After a
+-- link goes down by which no system is moved traces have to be told anew first, and so they have where several are
+-- taken away. So they do once the choice stands where one system or a tree turns, or one fails that others heard; where
+-- that cuts trees off what was in flight as they settled has to be gone too. After losses without a row of their own
+-- all is sound once roles stand. After others it is as soon as the choice stands from any past.
 abbrev pub sound_of_row : NetworkState → Loss → SyncPaths → Row → ℕ → ℕ
 sound_of_row n loss paths AnyPast gained = settling_span_at_once (pace_of n) paths
 sound_of_row n loss paths Unchanged gained = 0
@@ -148,7 +148,7 @@ sound_of_row n loss paths CutOff gained = max (2 * way_span paths) (gone_by n pa
 sound_of_row n loss paths FailedEnd gained = quiet_by n loss (gone_by n loss.paths_before loss.soon_before)
 sound_of_row n loss paths FailedHeard gained = aged_echo_span n loss paths
 sound_of_row n loss paths FailureCutsOff gained =
-    if loss.cuts_all then quiet_by n loss (aged_by loss + 2 * way_span paths + gone_by n paths loss.used)
+    if loss.cuts_all then quiet_by n loss (aged_by loss + 2 * way_span paths + gone_by n paths loss.soon)
     else max (aged_by loss + 2 * way_span paths) (aged_echo_span n loss paths)
 sound_of_row n loss paths SystemTurned gained = 2 * way_span paths + echo_span (pace_of n) paths
 sound_of_row n loss paths TreeFalls gained = max (2 * way_span paths) (gone_by n paths loss.used_before)
@@ -156,7 +156,7 @@ sound_of_row n loss paths TreeTurned gained = 2 * way_span paths + echo_span (pa
 sound_of_row n loss paths FailureMovesTrees gained =
     quiet_by n loss
     (aged_by loss + 2 * way_span paths
-    + (if loss.cuts_all then gone_by n paths loss.used
+    + (if loss.cuts_all then gone_by n paths loss.soon
     else max (echo_span (pace_of n) paths) (largest_interval (pace_of n))))
 sound_of_row n loss paths TakenAway gained = taken_echo_span n loss paths
 sound_of_row n loss paths AnyLosses gained = quiet_by n loss (any_loss_span n loss paths)

@@ -215,6 +215,15 @@ abbrev pub fails_first : List Told → Bool
 fails_first [] = false
 fails_first (e ∷ es) = is_failing e && list_all is_down_too es
 
+-- A live system fails by the first, and by the others links go down of which an end has failed, or they change nothing:
+-- a failed system gets a priority1, for instance.
+abbrev pub is_idle_beside : Told → Bool
+is_idle_beside e = lowers_unused e || is_idle e
+
+abbrev pub fails_beside_idle : List Told → Bool
+fails_beside_idle [] = false
+fails_beside_idle (e ∷ es) = is_failing e && list_all is_idle_beside es
+
 -- one link or one system is taken away
 abbrev pub takes_one : List Told → Bool
 takes_one told = lowers_one told || fails_first told

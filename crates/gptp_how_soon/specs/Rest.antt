@@ -6,7 +6,7 @@ use Rattle.std.specs.Prelude.{ℕ, ◌+◌, ◌*◌, ◌&&◌, ◌||◌, nat_le,
 use Rattle.std.specs.List.{list_all, list_any}
 use Rattle.gptp_scenario.specs.SettlingTime.{way_span}
 use Rattle.gptp_scenario.specs.declared.sync_wait.SyncPaths.{SyncPaths}
-use Rattle.gptp_how_soon.specs.Kinds.{are_heard, begins_wider, brings_nothing, fails_and_recovers, fails_first, first_wider_by, is_better, is_gain, is_loss, is_other, is_recovery, is_wider, leaves_links, lowers_one, lowers_unused, makes_nothing, takes_several, tells_nothing, worsens_first}
+use Rattle.gptp_how_soon.specs.Kinds.{are_heard, begins_wider, brings_nothing, fails_and_recovers, fails_beside_idle, fails_first, first_wider_by, is_better, is_gain, is_loss, is_other, is_recovery, is_wider, leaves_links, lowers_one, lowers_unused, makes_nothing, takes_several, tells_nothing, worsens_first}
 use Rattle.gptp_how_soon.specs.declared.bounds.Row.{Row}
 use Rattle.gptp_how_soon.specs.declared.bounds.Row.TheVariants.{AnyLosses, AnyPast, CutOff, FailedEnd, FailedHeard, FailureCutsOff, FailureMovesTrees, Gained, Lowered, SystemTurned, TakenAway, TreeFalls, TreeTurned, Unchanged}
 use Rattle.gptp_how_soon.specs.declared.bounds.Settling.{Settling}
@@ -85,6 +85,10 @@ is_lowering_followed paths_before paths told = keeps_paths paths_before paths &&
 abbrev pub is_failing_followed : SyncPaths → SyncPaths → List Told → Bool
 is_failing_followed paths_before paths told = keeps_paths paths_before paths && fails_first told
 
+-- So is a far end that fails beside events that change nothing, where nobody is moved.
+abbrev pub is_end_followed : SyncPaths → SyncPaths → List Told → Bool
+is_end_followed paths_before paths told = keeps_paths paths_before paths && fails_beside_idle told
+
 -- So are several events that take links and systems away.
 abbrev pub is_taking_followed : SyncPaths → SyncPaths → List Told → Bool
 is_taking_followed paths_before paths told = keeps_paths paths_before paths && takes_several told
@@ -109,6 +113,15 @@ is_from_rest longest at paths_before paths told (Some b) =
 abbrev pub failed_row : Bool → Bool → Row
 failed_row far any_moved = if far then FailedEnd else if any_moved then FailureCutsOff else FailedHeard
 
+-- What is known of a time whose events have no row among those where one is taken away: of a far end that fails beside
+-- events that change nothing, of several that are taken away, and of others.
+abbrev pub other_row : SyncPaths → SyncPaths → List Told → Moves → Row
+other_row paths_before paths told moves =
+    if is_end_followed paths_before paths told && (moves.far && not moves.any_moved) then FailedEnd
+    else if is_taking_followed paths_before paths told && moves.taken then TakenAway
+    else if list_any is_loss told then if list_all brings_nothing told then AnyLosses else AnyPast
+    else Gained
+
 -- What is known of a time, by what was seen of it. Not from rest, or where it both gains and loses, the network may
 -- come from any past. The first time has no loss: nothing was there to be lost. Events that make nothing of what stands
 -- leave it as it was. So does a link that gets wider, and so do losses that are followed, where no system is moved.
@@ -132,16 +145,15 @@ row_of from_rest first paths_before paths told moves =
     else if is_lowering_followed paths_before paths told && moves.tree_turns then TreeTurned
     else if is_failing_followed paths_before paths told && not moves.moved then failed_row moves.far moves.any_moved
     else if is_failing_followed paths_before paths told && moves.trees_move then FailureMovesTrees
-    else if is_taking_followed paths_before paths told && moves.taken then TakenAway
-    else if list_any is_loss told then if list_all brings_nothing told then AnyLosses else AnyPast
-    else Gained
+    else other_row paths_before paths told moves
 
 -- whether the row depends on whom the events move, and on whether one was a far end
 abbrev pub asks_who_is_moved : Bool → SyncPaths → SyncPaths → List Told → Bool
 asks_who_is_moved from_rest paths_before paths told =
     from_rest
     && (are_losses_followed paths_before told || is_lowering_followed paths_before paths told
-    || is_failing_followed paths_before paths told || is_taking_followed paths_before paths told
+    || is_failing_followed paths_before paths told || is_end_followed paths_before paths told
+    || is_taking_followed paths_before paths told
     || is_worsening_followed paths_before paths told)
 
 -- no system is moved, nor a far end, and others hold nothing

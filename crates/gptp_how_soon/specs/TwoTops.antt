@@ -34,8 +34,8 @@ abbrev pub top_places : List System → List Ends → List Chosen → List Chose
 top_places systems lost before now =
     filter (is_joined_moved_at systems lost before now) (range_with_len 0 (length systems))
 
--- Before, a system had as many steps as the nearer top leads to it, from those of the tops on. By way of either it would
--- be near.
+-- Before, a system had as many steps as the nearer top leads to it, from those of the tops on. By way of either it
+-- would be near.
 abbrev pub is_by_nearer : Option Chosen → Option Chosen → Option Chosen → Option Chosen → Bool
 is_by_nearer None own first second = false
 is_by_nearer (Some top) None first second = false
@@ -44,7 +44,8 @@ is_by_nearer (Some top) (Some own) (Some first) None = false
 is_by_nearer (Some top) (Some own) (Some first) (Some second) =
     (own.steps == top.steps + min first.steps second.steps) && nat_lt (top.steps + max first.steps second.steps) 255
 
--- It is below both tops, by what all choose where the one is better than all, and where the other is. It had their root.
+-- It is below both tops, by what all choose where the one is better than all, and where the other is. It had their
+-- root.
 abbrev pub is_below_both : List Ends → List Chosen → List Chosen → List Chosen → List Chosen → ℕ → ℕ → ℕ → Bool
 is_below_both links before now by_first by_second first second place =
     is_below links by_first now first place

@@ -404,7 +404,7 @@ fn sound_by(network: &Network, loss: Loss, paths: SyncPaths, row: Row, gained: u
         Row::FailureCutsOff => {
             let aged = aged_by(loss) + 2 * way_span(paths);
             if loss.cuts_all {
-                quiet_by(network, loss, aged + gone_by(network, paths, loss.used))
+                quiet_by(network, loss, aged + gone)
             } else {
                 aged.max(aged_echo_span(network, loss, paths))
             }
@@ -413,8 +413,7 @@ fn sound_by(network: &Network, loss: Loss, paths: SyncPaths, row: Row, gained: u
         Row::FailureMovesTrees => {
             network.well_formed();
             let told = echo_span(network, paths).max(interval_of(network.largest()));
-            let flight = gone_by(network, paths, loss.used);
-            let later = if loss.cuts_all { flight } else { told };
+            let later = if loss.cuts_all { gone } else { told };
             quiet_by(network, loss, aged_by(loss) + 2 * way_span(paths) + later)
         }
         Row::AnyLosses => quiet_by(network, loss, any_loss_span(network, loss, paths)),

@@ -107,7 +107,8 @@ fn what_a_failure_cuts_off_or_turns_costs_two_ways(rt: HostRuntime) -> Result<()
     const DOWN: &str =
         "[[event]]\nat = 30000000000\nkind = \"link_down\"\nclock = \"000000000000000b\"\nport = ";
     // In each row b fails, or loses its power and so many links. The next three move others that keep their root and get
-    // it by one link; after them one gets it by two. The last moves two that are joined beside b.
+    // it by one link; after them one gets it by two. The last three cut off such as are joined beside b at two of them,
+    // the last one of all besides.
     for (case, ports, links, hang, power) in [
         (
             "one is cut off",
@@ -187,6 +188,31 @@ fn what_a_failure_cuts_off_or_turns_costs_two_ways(rt: HostRuntime) -> Result<()
             ] as &[(&str, &str, &str, &str)],
             (3_000_001_230, 11_000_000_000),
             (820, 820),
+        ),
+        (
+            "a triangle",
+            3,
+            &[
+                ("a", "1", "b", "1"),
+                ("b", "2", "c", "1"),
+                ("c", "2", "d", "1"),
+                ("b", "3", "d", "2"),
+            ] as &[(&str, &str, &str, &str)],
+            (3_000_001_230, 11_000_000_000),
+            (820, 820),
+        ),
+        (
+            "a ring behind it",
+            3,
+            &[
+                ("a", "1", "b", "1"),
+                ("b", "2", "c", "1"),
+                ("c", "2", "e", "1"),
+                ("e", "2", "d", "1"),
+                ("b", "3", "d", "2"),
+            ] as &[(&str, &str, &str, &str)],
+            (3_000_002_050, 11_000_000_000),
+            (1_640, 1_640),
         ),
         (
             "a triangle and an end station",
@@ -398,19 +424,35 @@ fn losses_that_move_no_system_together_cost_nothing(rt: HostRuntime) -> Result<(
 }
 
 #[test]
-fn other_losses_cost_a_turn_for_each_system_of_a_path(rt: HostRuntime) -> Result<(), Fail> {
-    // Three announce intervals and a delay for each, an interval, and a way. The link from a to b is wider first.
+fn the_best_of_a_ring_that_fails_costs_two_ways(rt: HostRuntime) -> Result<(), Fail> {
+    // Both its neighbours lose it, and are joined by the other. Its link to b takes longer.
+    const SLOWER: &str =
+        "[[event]]\nat = 30000000000\nkind = \"link_set\"\nclock = \"000000000000000a\"\nport = 1\nmin = 380\nmax = 500\nloss = 0\n";
     for (case, events, bound) in [
         (
             "the root hangs",
             "[[event]]\nat = 60000000000\nkind = \"fail\"\nclock = \"000000000000000a\"\n",
-            (10_000_002_320, 11_000_000_000),
+            (3_000_002_140, 11_000_000_000),
         ),
         (
             "the root loses its power",
             "[[event]]\nat = 60000000000\nkind = \"fail\"\nclock = \"000000000000000a\"\n[[event]]\nat = 60000000000\nkind = \"link_down\"\nclock = \"000000000000000a\"\nport = 1\n[[event]]\nat = 60000000000\nkind = \"link_down\"\nclock = \"000000000000000a\"\nport = 2\n",
-            (10_000_002_320, 10_000_002_320),
+            (1_640, 1_640),
         ),
+    ] {
+        let mut text = String::new(rt.alloc());
+        text.push_str(SLOWER)?;
+        text.push_str(events)?;
+        let times = ring(rt.alloc(), text.as_str())?;
+        assert_eq!(rt; bounds(&times, 60_000_000_000), Some(bound), "{case}");
+    }
+    Ok(())
+}
+
+#[test]
+fn other_losses_cost_a_turn_for_each_system_of_a_path(rt: HostRuntime) -> Result<(), Fail> {
+    // Three announce intervals and a delay for each, an interval, and a way. The link from a to b is wider first.
+    for (case, events, bound) in [
         (
             "the root gets worse",
             "[[event]]\nat = 60000000000\nkind = \"priority1\"\nclock = \"000000000000000a\"\nvalue = 250\n",

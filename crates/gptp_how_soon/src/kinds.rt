@@ -2,7 +2,7 @@
 
 ghost use Rattle.std.specs.Prelude.{◌≡◌, ◌++◌, ◌∷◌, [], false, OnOk};
 ghost use Rattle.std.specs.List.{list_all, list_any};
-ghost use Rattle.gptp_how_soon.specs.Kinds.{are_heard, begins_wider, brings_nothing, first_wider_by, is_wider, kind_of_link_set, wider_by, fails_and_recovers, fails_first, is_fail, is_failing, is_recover, is_better, is_down_too, is_failure_of_same, is_gain, is_link_down, is_lowering, is_unused, leaves_links, lowers_one, lowers_unused, makes_nothing, tells_nothing, is_heard_too, is_idle, is_loss, is_other, is_priority1, is_worsening, is_link_up, is_recovery, is_recovery_of, kind_of, kind_of_change, kind_of_failure, kind_of_link_down, kind_of_link_up, kind_of_priority1, kind_of_recovery, recovers, repeats, sets_bounds, sets_link, is_link_set, taken_too, takes_any, takes_one, takes_several, told_by, what_of, what_of_change, worsens_first};
+ghost use Rattle.gptp_how_soon.specs.Kinds.{are_heard, begins_wider, brings_nothing, first_wider_by, is_wider, kind_of_link_set, wider_by, fails_and_recovers, fails_beside_idle, fails_first, is_fail, is_failing, is_recover, is_better, is_down_too, is_failure_of_same, is_gain, is_link_down, is_lowering, is_unused, leaves_links, lowers_one, lowers_unused, makes_nothing, tells_nothing, is_heard_too, is_idle, is_idle_beside, is_loss, is_other, is_priority1, is_worsening, is_link_up, is_recovery, is_recovery_of, kind_of, kind_of_change, kind_of_failure, kind_of_link_down, kind_of_link_up, kind_of_priority1, kind_of_recovery, recovers, repeats, sets_bounds, sets_link, is_link_set, taken_too, takes_any, takes_one, takes_several, told_by, what_of, what_of_change, worsens_first};
 
 use gptp_scenario::{Act, Change};
 use gptp_topology::{Standing, System, is_used, named};
@@ -521,6 +521,31 @@ pub(crate) fn fails_first(told: &[Told]) -> bool
 {
     match told.split_first() {
         Some((first, others)) => is_failing(first) && all_are_down_too(others),
+        None => false,
+    }
+}
+
+/// Whether a link goes down by it of which an end has failed, or it changes nothing.
+fn is_idle_beside(told: &Told) -> bool
+    ensures { result ≡ is_idle_beside told.now }
+{
+    lowers_unused(told) || is_idle(told)
+}
+
+/// Whether each of these events is so.
+fn all_are_idle_beside(told: &[Told]) -> bool
+    ensures { result ≡ list_all is_idle_beside told.now }
+{
+    told.iter().all(|one| is_idle_beside(one))
+}
+
+/// Whether a live system fails by the first of these events, and by the others links go down of which an end has
+/// failed, or they change nothing.
+pub(crate) fn fails_beside_idle(told: &[Told]) -> bool
+    ensures { result ≡ fails_beside_idle told.now }
+{
+    match told.split_first() {
+        Some((first, others)) => is_failing(first) && all_are_idle_beside(others),
         None => false,
     }
 }

@@ -2,14 +2,14 @@
 
 ghost use Rattle.std.specs.Prelude.{◌≡◌, ◌≤◌, ◌+◌, ◌*◌, ◌&&◌, ◌||◌, nat_le, nat_lt};
 ghost use Rattle.gptp_scenario.specs.SettlingTime.{way_span};
-ghost use Rattle.gptp_how_soon.specs.Rest.{are_events_followed, are_losses_followed, are_recoveries_followed, are_turns_followed, asks_who_is_moved, comes_soon, heard_at_once, is_failing_followed, failed_row, has_come, is_from_rest, is_lowering_followed, is_taking_followed, is_wider_followed, is_worsening_followed, keeps_paths, rested, row_of, settles_wider_by};
+ghost use Rattle.gptp_how_soon.specs.Rest.{are_events_followed, are_losses_followed, are_recoveries_followed, are_turns_followed, asks_who_is_moved, comes_soon, heard_at_once, is_end_followed, is_failing_followed, failed_row, has_come, is_from_rest, is_lowering_followed, is_taking_followed, is_wider_followed, is_worsening_followed, keeps_paths, other_row, rested, row_of, settles_wider_by};
 
 use crate::bounds::{Row, SettlingTime, way_span};
 use crate::kinds::{
     Told, all_bring_nothing, all_leave_links, all_make_nothing, all_tell_nothing, any_better,
     any_gain, any_loss, any_lowers_unused, any_other, any_recovery, any_wider, are_heard,
-    begins_wider, fails_and_recovers, fails_first, first_wider_by, lowers_one, takes_several,
-    worsens_first,
+    begins_wider, fails_and_recovers, fails_beside_idle, fails_first, first_wider_by, lowers_one,
+    takes_several, worsens_first,
 };
 use gptp_scenario::SyncPaths;
 
@@ -229,6 +229,13 @@ fn is_failing_followed(paths_before: SyncPaths, paths: SyncPaths, told: &[Told])
     keeps_paths(paths_before, paths) && fails_first(told)
 }
 
+/// Whether a far end that fails beside events that change nothing is followed.
+fn is_end_followed(paths_before: SyncPaths, paths: SyncPaths, told: &[Told]) -> bool
+    ensures { result ≡ is_end_followed paths_before paths told.now }
+{
+    keeps_paths(paths_before, paths) && fails_beside_idle(told)
+}
+
 /// Whether links and systems that are taken away are followed.
 fn is_taking_followed(paths_before: SyncPaths, paths: SyncPaths, told: &[Told]) -> bool
     ensures { result ≡ is_taking_followed paths_before paths told.now }
@@ -256,6 +263,7 @@ pub(crate) fn asks_who_is_moved(
         && (are_losses_followed(paths_before, told)
             || is_lowering_followed(paths_before, paths, told)
             || is_failing_followed(paths_before, paths, told)
+            || is_end_followed(paths_before, paths, told)
             || is_taking_followed(paths_before, paths, told)
             || is_worsening_followed(paths_before, paths, told))
 }
@@ -271,6 +279,25 @@ fn failed_row(far: bool, any_moved: bool) -> Row
         Row::FailureCutsOff
     } else {
         Row::FailedHeard
+    }
+}
+
+/// What is known of a time whose events have no row among those where one is taken away.
+fn other_row(paths_before: SyncPaths, paths: SyncPaths, told: &[Told], moves: Moves) -> Row
+    ensures { result ≡ other_row paths_before paths told.now moves }
+{
+    if is_end_followed(paths_before, paths, told) && (moves.far && !moves.any_moved) {
+        Row::FailedEnd
+    } else if is_taking_followed(paths_before, paths, told) && moves.taken {
+        Row::TakenAway
+    } else if any_loss(told) {
+        if all_bring_nothing(told) {
+            Row::AnyLosses
+        } else {
+            Row::AnyPast
+        }
+    } else {
+        Row::Gained
     }
 }
 
@@ -308,16 +335,8 @@ pub(crate) fn row_of(
         failed_row(moves.far, moves.any_moved)
     } else if is_failing_followed(paths_before, paths, told) && moves.trees_move {
         Row::FailureMovesTrees
-    } else if is_taking_followed(paths_before, paths, told) && moves.taken {
-        Row::TakenAway
-    } else if any_loss(told) {
-        if all_bring_nothing(told) {
-            Row::AnyLosses
-        } else {
-            Row::AnyPast
-        }
     } else {
-        Row::Gained
+        other_row(paths_before, paths, told, moves)
     }
 }
 

@@ -76,9 +76,9 @@ fn events_come_from_rest_soon_after_a_loss(rt: HostRuntime) -> Result<(), Fail> 
         ),
         (
             "d hangs, and cuts c off",
-            "[[event]]\nat = 100000000000\nkind = \"fail\"\nclock = \"000000000000000d\"\n[[event]]\nat = 101375000821\nkind = \"recover\"\nclock = \"000000000000000d\"\n[network]\npdelay = -3\nlost = 1\n",
-            1_375_000_820,
-            101_375_000_821,
+            "[[event]]\nat = 100000000000\nkind = \"fail\"\nclock = \"000000000000000d\"\n[[event]]\nat = 100375001231\nkind = \"recover\"\nclock = \"000000000000000d\"\n[network]\npdelay = -3\nlost = 1\n",
+            375_001_230,
+            100_375_001_231,
             1_250_003_050,
         ),
         (

@@ -11,13 +11,20 @@ use gptp_topology::System;
 use gptp_vector::Identity;
 use std::alloc::{AllocError, Global};
 
+/// The lowest identity.
+fn lowest() -> Identity
+    ensures { result ≡ 0 }
+{
+    Identity::of_octets([0; 14])
+}
+
 /// The same systems, but the one at a place is better than all.
 fn lowered(alloc: Global, systems: &[System], place: usize) -> Result<Vec<System>, AllocError>
     ensures { IfOk result (λ all. all.items ≡ lowered systems.now place) }
 {
     let mut all = systems.to_vec(alloc)?;
     if let Some(system) = all.get_mut(place) {
-        system.identity = Identity::of_octets([0; 14]);
+        system.identity = lowest();
     }
     Ok(all)
 }

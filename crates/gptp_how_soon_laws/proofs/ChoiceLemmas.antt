@@ -7,7 +7,7 @@ use Rattle.std.proofs.lemmas.Bool.Decides.{nat_tests}
 use Rattle.gptp_lists.specs.Members.{In}
 use Rattle.gptp_lists.proofs.SystemSpecLemmas.{In-left, In-parts}
 use Rattle.gptp_setup.specs.SettlingParams.{largest_interval}
-use Rattle.gptp_scenario.specs.Calm.{IsCalm, NothingLapses}
+use Rattle.gptp_scenario.specs.Calm.{IsCalm, NothingLapses, last_change}
 use Rattle.gptp_scenario.specs.Network.{NetworkState, pace_of}
 use Rattle.gptp_scenario.specs.SettlingTime.{echo_span, silence_span, way_span, window_span}
 use Rattle.gptp_scenario.specs.SyncWait.{sync_paths}
@@ -27,10 +27,10 @@ use Rattle.gptp_how_soon.specs.declared.bounds.Row.TheVariants.{AnyLosses, AnyPa
 use Rattle.gptp_how_soon.specs.declared.bounds.Settling.{Settling}
 use Rattle.gptp_how_soon.specs.declared.bounds.SettlingTime.{SettlingTime}
 use Rattle.gptp_settling_time.specs.HowSoon.{BeforeRepeats, BoundsAnyLoss, BoundsChoice, BoundsEvents, BoundsLoss, BoundsSplit, BoundsStart, BoundsTree, FailsTreesFirst, IsChoiceBoundAfter, IsLossBoundAfter, IsRestBoundAfter, NoneBetween, RestsAfterAnyLoss, RestsAfterLoss, RestsOnceTold, RestsSplit, RestsTaken, RestsTree, RolesAfterFailure, TreeNext}
-use Rattle.gptp_settling_time.specs.EventKinds.{FlightIsGone}
-use Rattle.gptp_settling_time.specs.Rests.{turned_echo_span}
+use Rattle.gptp_settling_time.specs.EventKinds.{FlightIsGoneFrom}
+use Rattle.gptp_settling_time.specs.Rests.{FlightIsGoneSince, turned_echo_span}
 use Rattle.gptp_settling_time.specs.Losses.{NoneSilent}
-use Rattle.gptp_settling_time.specs.TreeLosses.{FallsTree, TurnsTreeLink}
+use Rattle.gptp_settling_time.specs.TreeLosses.{CutsAllBeyondFrom, FallsTree, TurnsTreeLink}
 use Rattle.gptp_settling_time.proofs.BesideIdleLemmas.{before_none}
 use Rattle.gptp_settling_time.proofs.MomentLemmas.{parted}
 use Rattle.gptp_settling_time.proofs.WellFormedLemmas.{after_well}
@@ -38,7 +38,7 @@ use Rattle.gptp_how_soon_laws.specs.Choice.{SettlingsAreChoiceBounds}
 use Rattle.gptp_how_soon_laws.proofs.FailedLemmas.{used_up}
 use Rattle.gptp_how_soon_laws.proofs.RowBoundLemmas.{HasOwnBounds, IsSoundSooner, IsTelling, bounds_choice, choice_or_own, past_row, sound_or_sooner, tells}
 use Rattle.gptp_how_soon_laws.proofs.RowLemmas.{gained, unchanged}
-use Rattle.gptp_how_soon_laws.proofs.RowLossLemmas.{ComesLate, FallsLate, FailsLate, GoesFirst, TakesSome, cut_off, failed, failure_cuts, heard, losses, lowered, none_left, same_paths, taken, tree_falls, tree_turned, turned}
+use Rattle.gptp_how_soon_laws.proofs.RowLossLemmas.{ComesLate, FailsLate, FallsLate, GoesFirst, TakesSome, all_cut, cut_off, failed, failure_cuts, flight_now, heard, losses, lowered, none_left, same_paths, taken, tree_falls, tree_turned, turned}
 use Rattle.gptp_how_soon_laws.proofs.AgedLemmas.{aged, aging, quiet_later}
 use Rattle.gptp_how_soon_laws.proofs.LossBoundLemmas.{beside, greater, no_later, some_before, some_heard, some_lost, some_rested, some_trees}
 use Rattle.gptp_how_soon_laws.proofs.RepeatLemmas.{before_repeats}
@@ -218,6 +218,14 @@ module _ (d : DocumentState) (playable : IsPlayable d) where
       subst Asks (sym (parted all b.at at playable.events.in_order late between)) asks,
     )
 
+    -- so much is enough behind a failure that moves trees
+    abbrev Enough : ℕ → ℕ → ℕ → Type 0
+    Enough sound choice roles =
+        (max roles (choice + max (echo_span (pace_of n) (sync_paths n (made ++ now))) (largest_interval (pace_of n)))
+        ≤ sound)
+        ⊎ (CutsAllBeyondFrom n made (made ++ now) × (flight : ℕ) × FlightIsGoneSince n made (made ++ now) flight
+        × (max roles (choice + flight) ≤ sound))
+
     -- it comes to rest so after a loss, or after a tree is cut off, one turns, or a failure cuts trees off
     abbrev Rests : ℕ → Type 0
     Rests sound =
@@ -263,6 +271,33 @@ module _ (d : DocumentState) (playable : IsPlayable d) where
         inr (inr (inr (inl (tree_next (TurnsTreeLink n) (λ events. sound ≡ turned_echo_span n events) calm off rest
         tree is))))
 
+    -- it has by so much later than the choice stands, where that is enough
+    split_rests : (sound : ℕ) → FailsLate n playable.network all b at late → (more : ℕ)
+        → sound ≡ quiet_by n loss (aged_by loss + 2 * way_span v.paths + more)
+        → (max (max (aged_by loss + 2 * way_span v.paths) (quiet_by n loss (aged_by loss)))
+        (aged_by loss + 2 * way_span v.paths + more)
+        ≤ sound
+        → Enough sound (aged_by loss + 2 * way_span v.paths)
+        (max (aged_by loss + 2 * way_span v.paths) (quiet_by n loss (aged_by loss))))
+        → RestsSplit n sound made now
+    split_rests sound x more told enough =
+        let same : aged_by loss + 2 * way_span v.paths + more ≡ aged_by loss + (2 * way_span v.paths + more) =
+        omega arith in
+        let later = rested_late (aged_by loss) (2 * way_span v.paths) more (quiet_by n loss (aged_by loss)) sound
+        (told ∙ ap (quiet_by n loss) same
+        ∙ quiet_later n playable.network all b at late well (2 * way_span v.paths + more)) in (
+          aged_by loss + 2 * way_span v.paths,
+          max (aged_by loss + 2 * way_span v.paths) (quiet_by n loss (aged_by loss)),
+          (
+            aged_by loss,
+            quiet_by n loss (aged_by loss),
+            aging n playable.network all b at late well (some_trees n made now x.fails),
+            refl,
+            refl,
+          ),
+          enough later,
+        )
+
     -- it has come to rest by what the row of this loss says
     rests_by : (sound : ℕ) → sound ≡ sound_by n loss v.paths (row_at v) (gained_at n v)
         → IsSoundSooner n loss v.paths (row_at v) (sound_by n loss v.paths (row_at v) (gained_at n v)) → Rests sound
@@ -293,7 +328,7 @@ module _ (d : DocumentState) (playable : IsPlayable d) where
     rests_by sound told (inr (inr (inl (row, is)))) =
         let x = cut_off n playable.network all b at late well row in
         let same = same_paths n playable.network all b at late is_lowering x.none.first in
-        let gone : ℕ = gone_by n v.paths v.used_before in
+        let gone : ℕ = gone_by n v.paths loss.soon in
         let is_first = told ∙ is ∙ ap (λ (p : SyncPaths). max (2 * way_span p) gone) same in
         inl (x.rested, behind x.none.first (Resting sound) (inl (inl (x.cuts, (gone, x.flight, is_first)))))
     rests_by sound told (inr (inr (inr (inl (inr row, is))))) =
@@ -336,27 +371,21 @@ module _ (d : DocumentState) (playable : IsPlayable d) where
           ))),
         )
     rests_by sound told (inr (inr (inr (inr (inr (inr (inl (row, is)))))))) =
-        let (rest, tree) = tree_falls n playable.network all b at late well (octets_at d playable at) row in inr (inl (rest, tree, told ∙ is))
+        let (rest, tree) = tree_falls n playable.network all b at late well (octets_at d playable at) row in inr
+        (inl (rest, tree, told ∙ is))
     rests_by sound told (inr (inr (inr (inr (inr (inr (inr (inl (row, is))))))))) =
         let x = failure_cuts n playable.network all b at late well row in
         let echo : ℕ = max (echo_span (pace_of n) v.paths) (largest_interval (pace_of n)) in
+        inr (inr (inr (x, split_rests sound x echo (told ∙ is) (λ later. inl later))))
+    rests_by sound told (inr (inr (inr (inr (inr (inr (inr (inr (inr (which, cuts, is)))))))))) =
+        let x = all_cut n playable.network all b at late well which cuts in
+        let gone : ℕ = gone_by n v.paths loss.soon in
+        let flight = flight_now n playable.network all b at late x.trees.fails in
         inr (inr (inr (
-          x,
-          (
-            aged_by loss + 2 * way_span v.paths,
-            max (aged_by loss + 2 * way_span v.paths) (quiet_by n loss (aged_by loss)),
-            (
-              aged_by loss,
-              quiet_by n loss (aged_by loss),
-              aging n playable.network all b at late well (some_trees n made now x.fails),
-              refl,
-              refl,
-            ),
-            rested_late (aged_by loss) (2 * way_span v.paths) echo (quiet_by n loss (aged_by loss)) sound
-                (told ∙ is ∙ quiet_later n playable.network all b at late well (2 * way_span v.paths + echo)),
-          ),
+          x.trees,
+          split_rests sound x.trees gone (told ∙ is) (λ later. inr (x.beyond, gone, flight, later)),
         )))
-    rests_by sound told (inr (inr (inr (inr (inr (inr (inr (inr (row, is))))))))) =
+    rests_by sound told (inr (inr (inr (inr (inr (inr (inr (inr (inl (row, is)))))))))) =
         let x = taken n playable.network all b at late well row in
         inl (x.rested, alone (Resting sound) (inr (by x v.used refl (told ∙ is))))
       where

@@ -1,5 +1,5 @@
 -- A failure that cuts off all that it moves, and all far ends of lost links, does so from one snapshot to the other.
-use Rattle.std.proofs.Common.{◌≡◌, ◌<◌, ◌⊎◌, inl, inr, ℕ, Bool, true, false, List, Some, length, slice_get, refl, sym, ap, subst, ◌∙◌, arith}
+use Rattle.std.proofs.Common.{◌≡◌, ◌<◌, ◌⊎◌, inl, inr, ℕ, Bool, true, false, List, [], ◌∷◌, ◌++◌, Some, append-nil, length, slice_get, refl, sym, ap, subst, ◌∙◌, arith}
 use Rattle.std.specs.Prelude.{◌==◌, ◌&&◌, nat_lt, not}
 use Rattle.std.specs.List.{list_all, range_with_len}
 use Rattle.std.proofs.Math.Bool.{and-false}
@@ -29,15 +29,17 @@ use Rattle.gptp_how_soon.specs.Turned.{goes_farther}
 use Rattle.gptp_how_soon.specs.declared.chosen.Chosen.{Chosen}
 use Rattle.gptp_how_soon.specs.declared.chosen.Ends.{Ends}
 use Rattle.gptp_how_soon.proofs.ChosenLemmas.{IsAt, at_clock}
-use Rattle.gptp_settling_time.specs.Losses.{IsUnmoved}
-use Rattle.gptp_settling_time.specs.TreeLosses.{CutsAllBeyond, IsTreeCutOff}
+use Rattle.gptp_settling_time.specs.HowSoon.{EachEvent, FailsTreesFirst, IsDownToo, IsTakenToo}
+use Rattle.gptp_settling_time.specs.Losses.{IsUnmoved, LosesAny}
+use Rattle.gptp_settling_time.specs.TreeLosses.{CutsAllBeyond, CutsAllBeyondFrom, IsTreeCutOff}
 use Rattle.gptp_how_soon_laws.proofs.FailedLemmas.{each_is}
 use Rattle.gptp_how_soon_laws.proofs.LiveEndsLemmas.{nearer_at}
-use Rattle.gptp_how_soon_laws.proofs.LivesOnLemmas.{LivesOn, on_of}
+use Rattle.gptp_how_soon_laws.proofs.LivesOnLemmas.{LivesOn, clock_lived, on_of}
 use Rattle.gptp_how_soon_laws.proofs.LostLinkLemmas.{ends_are, stands_or_lost}
 use Rattle.gptp_how_soon_laws.proofs.MovedTreesLemmas.{cut_there}
+use Rattle.gptp_how_soon_laws.proofs.TakenAwayLemmas.{all_lived}
 use Rattle.gptp_how_soon_laws.proofs.TreeTestLemmas.{better_so}
-use Rattle.gptp_how_soon_laws.proofs.UnmovedLemmas.{asked_of, unmoved_at}
+use Rattle.gptp_how_soon_laws.proofs.UnmovedLemmas.{AreWell, asked_of, unmoved_at}
 use Rattle.gptp_how_soon_laws.proofs.WorseningLemmas.{lives_of}
 
 module _ (n : NetworkState) (network : IsNetwork n) (made events : List Timed) where
@@ -193,3 +195,30 @@ module _ (n : NetworkState) (network : IsNetwork n) (made events : List Timed) w
         each v known =
             let (i, s) = on_of n network made events g h stands stands' well well' lived v known in
             by i v s (moves_there i) refl (is_turned_at systems before now i) refl
+
+-- ---- the events of a time
+
+module _ (n : NetworkState) (network : IsNetwork n) where
+  taken_too : (made now : List Timed) → EachEvent (IsDownToo n) made now → EachEvent (IsTakenToo n) made now
+  taken_too made [] each = tt
+  taken_too made (event ∷ now) (one, each) = (inr one, taken_too (made ++ event ∷ []) now each)
+
+  -- by the first of them a system fails
+  first_taken : (made now : List Timed) → FailsTreesFirst n made now → EachEvent (IsTakenToo n) made now
+  first_taken made [] none = absurd none
+  first_taken made (event ∷ now) (fails, each) = (
+    inl (
+      subst (LosesAny n made) (sym fails.act) fails.live,
+      λ number value act. let no = sym fails.act ∙ act in absurd cc,
+    ),
+    taken_too (made ++ event ∷ []) now each,
+  )
+
+  pub all_beyond : (made now : List Timed) → AreWell n (made ++ now) → FailsTreesFirst n made now
+      → moves_trees_after n made (made ++ now) ≡ true → cuts_all_after n made (made ++ now) ≡ true
+      → CutsAllBeyondFrom n made (made ++ now)
+  all_beyond made now well fails splits cuts g h stands stands' =
+      cuts_beyond n network made (made ++ now) splits cuts g h stands stands' (well made now refl g stands)
+      (well (made ++ now) [] (append-nil (made ++ now)) h stands')
+      (clock_lived n network made (made ++ now) (all_lived n network made now (first_taken made now fails)) g h stands
+      stands')

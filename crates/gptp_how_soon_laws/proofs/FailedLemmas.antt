@@ -2,10 +2,11 @@
 -- its event is told, and where it is the far end of each of its links; the others take down links of which an end has
 -- failed.
 use Rattle.std.proofs.Common.{◌≡◌, ◌<◌, ◌≤◌, ◌⊎◌, inl, inr, ℕ, Bool, true, false, cond, List, [], ◌∷◌, ◌++◌, map, filter, Option, Some, None, refl, sym, ap, subst, ◌∙◌, append_assoc, append-nil, arith}
-use Rattle.std.specs.Prelude.{◌==◌, ◌&&◌, ◌||◌, nat_lt, not, if◌then◌else◌}
-use Rattle.std.specs.List.{cons_option, filter_map, list_all}
+use Rattle.std.specs.Prelude.{◌==◌, ◌&&◌, ◌||◌, length, nat_lt, not, if◌then◌else◌}
+use Rattle.std.specs.List.{cons_option, filter_map, list_all, list_any, range_with_len}
 use Rattle.std.specs.List.Sorted.{IsPermutation}
-use Rattle.std.proofs.lemmas.Bool.{and_parts, eq-eqb, eqb-true, or_cases, false_from_ne_true}
+use Rattle.std.proofs.Math.Bool.{and-false}
+use Rattle.std.proofs.lemmas.Bool.{and_parts, eq-eqb, eqb-true, or_cases, false_from_ne_true, or_parts, or_from}
 use Rattle.std.proofs.lemmas.Bool.Decides.{nat_tests}
 use Rattle.gptp_lists.specs.Members.{In}
 use Rattle.gptp_lists.proofs.MappedLemmas.{mapped_there}
@@ -26,9 +27,9 @@ use Rattle.gptp_network.proofs.InUseLemmas.{there_live}
 use Rattle.gptp_theorem.proofs.EventLemmas.{system_behind, link_behind}
 use Rattle.gptp_topology.specs.After.{system_then, systems_after, standing_then, standings_after}
 use Rattle.gptp_topology.specs.declared.nodes.System as ours
-use Rattle.gptp_how_soon.specs.Chosen.{chosen_after, is_joined, moves_joined, place_of, used_ends}
+use Rattle.gptp_how_soon.specs.Chosen.{chosen_after, is_joined, is_moved_at, moves_joined, moves_some, place_of, used_ends}
 use Rattle.gptp_how_soon.specs.Far.{are_far_after, has_lower_clock, is_far_end, is_far_over, is_nearer, is_nearer_at, is_down_or_used, is_far_named, up_is_used}
-use Rattle.gptp_how_soon.specs.Kinds.{fails_first, is_down_too, is_fail, is_failing, is_loss, lowers_unused, makes_nothing, repeats}
+use Rattle.gptp_how_soon.specs.Kinds.{fails_beside_idle, fails_first, is_down_too, is_fail, is_failing, is_idle, is_idle_beside, is_loss, lowers_unused, makes_nothing, repeats}
 use Rattle.gptp_how_soon.specs.Times.{told_at, told_of}
 use Rattle.gptp_how_soon.specs.declared.chosen.Chosen.{Chosen}
 use Rattle.gptp_how_soon.proofs.ChosenLemmas.{IsAt, at_clock, chosen_there, place_is, settled_choice, touched}
@@ -46,12 +47,13 @@ use Rattle.gptp_how_soon.specs.declared.kinds.Kind.{Kind}
 use Rattle.gptp_how_soon.specs.declared.kinds.Kind.TheVariants.{Gain, Idle, Loss, Other, Unused, Wider}
 use Rattle.gptp_how_soon.specs.declared.kinds.Told.{Told}
 use Rattle.gptp_how_soon.specs.declared.kinds.What.{What}
-use Rattle.gptp_settling_time.proofs.SamePathsLemmas.{idle_same, is_end, lives_not, map_same, turned_paths}
+use Rattle.gptp_settling_time.proofs.SamePathsLemmas.{idle_paths, is_end, lives_not, map_same, turned_paths}
 use Rattle.gptp_how_soon_laws.proofs.KindLemmas.{told}
-use Rattle.gptp_how_soon_laws.proofs.ToldLemmas.{failure_is, loss_fails, unused_lowers}
+use Rattle.gptp_how_soon_laws.proofs.ToldLemmas.{failure_is, idle_changes, loss_fails, unused_lowers}
+use Rattle.gptp_how_soon_laws.proofs.IdleStandsLemmas.{stands_idle}
 use Rattle.gptp_how_soon_laws.proofs.LivesOnLemmas.{clock_lived}
 use Rattle.gptp_how_soon_laws.proofs.LoweredLemmas.{joined_by}
-use Rattle.gptp_how_soon_laws.proofs.RepeatLemmas.{paths_seen, repeats_by, stands_seen}
+use Rattle.gptp_how_soon_laws.proofs.RepeatLemmas.{repeats_by}
 use Rattle.gptp_how_soon_laws.proofs.UnmovedLemmas.{AreWell, none_joined_there, unmoved_at}
 
 -- what is so of all is so of each
@@ -275,10 +277,6 @@ module _ (n : NetworkState) (network : IsNetwork n) (made : List Timed) (event :
       false_from_ne_true (has_clock h.systems clock) (λ has.
       let both : true ≡ false = sym (there_live n network made h stands clock has) ∙ lives_not n made clock none in cc)
 
-  and_off : (b : Bool) → (b && false) ≡ false
-  and_off true = refl
-  and_off false = refl
-
   -- it joined no two of the systems
   abbrev Stays : LinkSpec → Type 0
   Stays v = (joined_after after v ≡ joined_after made v)
@@ -312,7 +310,7 @@ module _ (n : NetworkState) (network : IsNetwork n) (made : List Timed) (event :
               | inr b ↦
                   let off = none_has v.b.clock
                   (subst (λ (p : PortId). IsLive n.systems made p.clock → ⊥) keeps.b b) in
-                  ap (λ t. has_clock h.systems v.a.clock && t) off ∙ and_off (has_clock h.systems v.a.clock)
+                  ap (λ t. has_clock h.systems v.a.clock && t) off ∙ and-false (has_clock h.systems v.a.clock)
             ],
           )
 
@@ -361,35 +359,50 @@ module _ (n : NetworkState) (network : IsNetwork n) (made : List Timed) (event :
     links = stands.links ∙ sym (links_stay n.links link_stays);
   }
 
--- and several do, or repeat what stands
+-- and several do, or change nothing
 module _ (n : NetworkState) (network : IsNetwork n) where
-  stands_too : (h : Snapshot) (made : List Timed) (event : Timed) → IsDownToo n made event → StandsAfter n made h
+  stands_too : (h : Snapshot) (made : List Timed) (event : Timed) → IsIdleBeside n made event → StandsAfter n made h
       → StandsAfter n (made ++ event ∷ []) h
   stands_too h made event (inl lowers) stands = stands_less n network made event lowers h stands
-  stands_too h made event (inr repeats) stands =
-      stands_seen n made (made ++ event ∷ []) (idle_same n network made event repeats) h stands
+  stands_too h made event (inr nothing) stands = stands_idle n network made event nothing h stands
 
-  stands_all : (h : Snapshot) (made now : List Timed) → EachEvent (IsDownToo n) made now → StandsAfter n made h
+  stands_all : (h : Snapshot) (made now : List Timed) → EachEvent (IsIdleBeside n) made now → StandsAfter n made h
       → StandsAfter n (made ++ now) h
   stands_all h made [] each stands = subst (λ es. StandsAfter n es h) (sym (append-nil made)) stands
   stands_all h made (event ∷ now) (down, others) stands =
       subst (λ es. StandsAfter n es h) (append_assoc made (event ∷ []) now)
       (stands_all h (made ++ event ∷ []) now others (stands_too h made event down stands))
 
-  paths_too : (made : List Timed) (event : Timed) → IsDownToo n made event
+  paths_too : (made : List Timed) (event : Timed) → IsIdleBeside n made event
       → sync_paths n (made ++ event ∷ []) ≡ sync_paths n made
   paths_too made event (inl lowers) =
       turned_paths n made event (subst (TurnsUnused n made) (sym lowers.act) lowers.failed)
-  paths_too made event (inr repeats) =
-      paths_seen n made (made ++ event ∷ []) (idle_same n network made event repeats)
+  paths_too made event (inr nothing) = idle_paths n network made event nothing
 
-  paths_all : (made now : List Timed) → EachEvent (IsDownToo n) made now
+  paths_all : (made now : List Timed) → EachEvent (IsIdleBeside n) made now
       → sync_paths n (made ++ now) ≡ sync_paths n made
   paths_all made [] each = ap (sync_paths n) (append-nil made)
   paths_all made (event ∷ now) (down, others) =
       ap (sync_paths n) (sym (append_assoc made (event ∷ []) now))
       ∙ paths_all (made ++ event ∷ []) now others
       ∙ paths_too made event down
+
+  beside_so : (made : List Timed) (event : Timed) → is_idle_beside (told_at n made event.act) ≡ true
+      → IsIdleBeside n made event
+  beside_so made event is =
+      elim (or_cases (lowers_unused (told_at n made event.act)) (is_idle (told_at n made event.act)) is) [
+        | inl lowers ↦ inl (unused_lowers n network made event lowers)
+        | inr idle ↦ inr (idle_changes n network made event.act idle)
+      ]
+
+  beside_all : (made now : List Timed) → list_all is_idle_beside (told_of n made now) ≡ true
+      → EachEvent (IsIdleBeside n) made now
+  beside_all made [] all = tt
+  beside_all made (event ∷ now) all =
+      let (first, others) =
+      and_parts (is_idle_beside (told_at n made event.act))
+      (list_all is_idle_beside (told_of n (made ++ event ∷ []) now)) all in
+      (beside_so made event first, beside_all (made ++ event ∷ []) now others)
 
   -- so it is told
   pub is_down_so : (made : List Timed) (event : Timed) → is_down_too (told_at n made event.act) ≡ true
@@ -437,65 +450,93 @@ loss_makes Gain clock what loss nothing = absurd cc
 loss_makes (Wider by) clock what loss nothing = absurd cc
 loss_makes Other clock what loss nothing = absurd cc
 
--- the events of a time
+-- what stands behind the first event of a time stands behind the others
 module _ (n : NetworkState) (network : IsNetwork n) (made : List Timed) (event : Timed) (events : List Timed)
     (delay : (sync_paths n (made ++ event ∷ events)).delay ≤ (sync_paths n made).delay)
     (paths : (sync_paths n (made ++ event ∷ events)).systems ≤ (sync_paths n made).systems)
-    (few : (sync_paths n made).systems ≤ 255) (is : fails_first (told_of n made (event ∷ events)) ≡ true) where
-  abbrev pub first_behind : List Timed
+    (few : (sync_paths n made).systems ≤ 255) (failing : is_failing (told_at n made event.act) ≡ true)
+    (beside : EachEvent (IsIdleBeside n) (made ++ event ∷ []) events) where
+  abbrev first_behind : List Timed
   first_behind = made ++ event ∷ []
 
-  abbrev pub t : Told
+  abbrev t : Told
   t = told_at n made event.act
-
-  pub parts : (is_failing t ≡ true) × (list_all is_down_too (told_of n first_behind events) ≡ true)
-  parts = and_parts (is_failing t) (list_all is_down_too (told_of n first_behind events)) is
-
-  pub others : EachEvent (IsDownToo n) first_behind events
-  others = down_each n network first_behind events parts.1
 
   whole : first_behind ++ events ≡ made ++ event ∷ events
   whole = append_assoc made (event ∷ []) events
 
   same : sync_paths n (made ++ event ∷ events) ≡ sync_paths n first_behind
-  same = ap (sync_paths n) (sym whole) ∙ paths_all n network first_behind events others
+  same = ap (sync_paths n) (sym whole) ∙ paths_all n network first_behind events beside
 
-  pub first_delay : (sync_paths n first_behind).delay ≤ (sync_paths n made).delay
-  first_delay = subst (λ (x : SyncPaths). x.delay ≤ (sync_paths n made).delay) same delay
+  delay_first : (sync_paths n first_behind).delay ≤ (sync_paths n made).delay
+  delay_first = subst (λ (x : SyncPaths). x.delay ≤ (sync_paths n made).delay) same delay
 
-  pub first_paths : (sync_paths n first_behind).systems ≤ (sync_paths n made).systems
-  first_paths = subst (λ (x : SyncPaths). x.systems ≤ (sync_paths n made).systems) same paths
+  paths_first : (sync_paths n first_behind).systems ≤ (sync_paths n made).systems
+  paths_first = subst (λ (x : SyncPaths). x.systems ≤ (sync_paths n made).systems) same paths
 
-  pub stands_on : (h : Snapshot) → StandsAfter n first_behind h → StandsAfter n (made ++ event ∷ events) h
-  stands_on h stands =
-      subst (λ es. StandsAfter n es h) whole (stands_all n network h first_behind events others stands)
+  stands_behind : (h : Snapshot) → StandsAfter n first_behind h → StandsAfter n (made ++ event ∷ events) h
+  stands_behind h stands =
+      subst (λ es. StandsAfter n es h) whole (stands_all n network h first_behind events beside stands)
 
-  pub heard_first : AreWell n (made ++ event ∷ events) → moves_joined n made (made ++ event ∷ events) ≡ false
-      → FailsHeard n made event × EachEvent (IsDownToo n) first_behind events
-  heard_first well unmoved = (
-    fails_heard n network made event (made ++ event ∷ events) well
-        (λ g stands. well made (event ∷ events) refl g stands) stands_on unmoved first_delay first_paths few parts.0,
-    others,
-  )
+  heard_so : AreWell n (made ++ event ∷ events) → moves_joined n made (made ++ event ∷ events) ≡ false
+      → FailsHeard n made event
+  heard_so well unmoved =
+      fails_heard n network made event (made ++ event ∷ events) well
+      (λ g stands. well made (event ∷ events) refl g stands) stands_behind unmoved delay_first paths_first few failing
 
-  pub end_first : AreWell n (made ++ event ∷ events) → moves_joined n made (made ++ event ∷ events) ≡ false
-      → are_far_after n made (told_of n made (event ∷ events)) ≡ true
-      → FailsFarEnd n made event × EachEvent (IsIdleBeside n) first_behind events
-  end_first well unmoved far =
+  end_so : AreWell n (made ++ event ∷ events) → moves_joined n made (made ++ event ∷ events) ≡ false
+      → are_far_after n made (told_of n made (event ∷ events)) ≡ true → FailsFarEnd n made event
+  end_so well unmoved far =
       let far_test : Bool = is_far_end (systems_after n made) (chosen_after n made) (used_ends n made)
       (place_of (systems_after n made) t.clock) in
       let (first, more) = and_parts (makes_nothing t || far_test)
       (list_all (is_far_named (systems_after n made) (chosen_after n made) (used_ends n made))
       (told_of n first_behind events)) far in
       let far_end : far_test ≡ true = elim (or_cases (makes_nothing t) far_test first) [
-        | inl nothing ↦ absurd (loss_makes t.kind t.clock t.what (and_parts (is_loss t) (is_fail t) parts.0).0 nothing)
+        | inl nothing ↦ absurd (loss_makes t.kind t.clock t.what (and_parts (is_loss t) (is_fail t) failing).0 nothing)
         | inr is_far ↦ is_far
-      ] in (
-        fails_far_end n network made event (made ++ event ∷ events) well
-            (λ g stands. well made (event ∷ events) refl g stands) stands_on unmoved first_delay first_paths few
-            parts.0 far_end,
-        beside_each n network first_behind events others,
-      )
+      ] in
+      fails_far_end n network made event (made ++ event ∷ events) well
+      (λ g stands. well made (event ∷ events) refl g stands) stands_behind unmoved delay_first paths_first few failing
+      far_end
+
+-- the events of a time
+module _ (n : NetworkState) (network : IsNetwork n) (made : List Timed) (event : Timed) (events : List Timed)
+    (delay : (sync_paths n (made ++ event ∷ events)).delay ≤ (sync_paths n made).delay)
+    (paths : (sync_paths n (made ++ event ∷ events)).systems ≤ (sync_paths n made).systems)
+    (few : (sync_paths n made).systems ≤ 255) (is : fails_first (told_of n made (event ∷ events)) ≡ true) where
+  abbrev behind : List Timed
+  behind = made ++ event ∷ []
+
+  pub parts : (is_failing (told_at n made event.act) ≡ true)
+      × (list_all is_down_too (told_of n behind events) ≡ true)
+  parts = and_parts (is_failing (told_at n made event.act)) (list_all is_down_too (told_of n behind events)) is
+
+  pub others : EachEvent (IsDownToo n) behind events
+  others = down_each n network behind events parts.1
+
+  beside : EachEvent (IsIdleBeside n) behind events
+  beside = beside_each n network behind events others
+
+  pub first_delay : (sync_paths n behind).delay ≤ (sync_paths n made).delay
+  first_delay = delay_first n network made event events delay paths few parts.0 beside
+
+  pub first_paths : (sync_paths n behind).systems ≤ (sync_paths n made).systems
+  first_paths = paths_first n network made event events delay paths few parts.0 beside
+
+  pub stands_on : (h : Snapshot) → StandsAfter n behind h → StandsAfter n (made ++ event ∷ events) h
+  stands_on = stands_behind n network made event events delay paths few parts.0 beside
+
+  pub heard_first : AreWell n (made ++ event ∷ events) → moves_joined n made (made ++ event ∷ events) ≡ false
+      → FailsHeard n made event × EachEvent (IsDownToo n) behind events
+  heard_first well unmoved =
+      (heard_so n network made event events delay paths few parts.0 beside well unmoved, others)
+
+  pub end_first : AreWell n (made ++ event ∷ events) → moves_joined n made (made ++ event ∷ events) ≡ false
+      → are_far_after n made (told_of n made (event ∷ events)) ≡ true
+      → FailsFarEnd n made event × EachEvent (IsIdleBeside n) behind events
+  end_first well unmoved far =
+      (end_so n network made event events delay paths few parts.0 beside well unmoved far, beside)
 
 pub fails_heard_first : (n : NetworkState) (network : IsNetwork n) (made now : List Timed) → AreWell n (made ++ now)
     → moves_joined n made (made ++ now) ≡ false
@@ -518,3 +559,37 @@ pub fails_end_first : (n : NetworkState) (network : IsNetwork n) (made now : Lis
 fails_end_first n network made [] well unmoved delay paths few is far = absurd cc
 fails_end_first n network made (event ∷ events) well unmoved delay paths few is far =
     end_first n network made event events delay paths few is well unmoved far
+
+-- none that a link in use is at is moved where none is
+joined_none : (p q : ℕ → Bool) (xs : List ℕ) → list_any q xs ≡ false → list_any (λ x. p x && q x) xs ≡ false
+joined_none p q [] none = refl
+joined_none p q (x ∷ xs) none =
+    let (one, rest) = or_parts (q x) (list_any q xs) none in
+    or_from (p x && q x) (list_any (λ y. p y && q y) xs) (ap (λ test. p x && test) one ∙ and-false (p x))
+    (joined_none p q xs rest)
+
+pub moves_none_joined : (n : NetworkState) (made events : List Timed) → moves_some n made events ≡ false
+    → moves_joined n made events ≡ false
+moves_none_joined n made events none =
+    joined_none (is_joined (used_ends n events))
+    (is_moved_at (systems_after n events) (chosen_after n made) (chosen_after n events))
+    (range_with_len 0 (length (systems_after n events))) none
+
+-- so it is where the others change nothing, and none is moved
+pub fails_beside_first : (n : NetworkState) (network : IsNetwork n) (made now : List Timed) → AreWell n (made ++ now)
+    → moves_some n made (made ++ now) ≡ false
+    → (sync_paths n (made ++ now)).delay ≤ (sync_paths n made).delay
+    → (sync_paths n (made ++ now)).systems ≤ (sync_paths n made).systems
+    → (sync_paths n made).systems ≤ 255
+    → fails_beside_idle (told_of n made now) ≡ true → are_far_after n made (told_of n made now) ≡ true
+    → FailsEndFirst n made now
+fails_beside_first n network made [] well unmoved delay paths few is far = absurd cc
+fails_beside_first n network made (event ∷ events) well unmoved delay paths few is far =
+    let (failing, idle) =
+    and_parts (is_failing (told_at n made event.act))
+    (list_all is_idle_beside (told_of n (made ++ event ∷ []) events)) is in
+    let beside = beside_all n network (made ++ event ∷ []) events idle in (
+      end_so n network made event events delay paths few failing beside well
+          (moves_none_joined n made (made ++ event ∷ events) unmoved) far,
+      beside,
+    )

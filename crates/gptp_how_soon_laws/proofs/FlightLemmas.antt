@@ -1,11 +1,11 @@
 -- By when what was in flight at a time is gone, as it is computed.
-use Rattle.std.proofs.Common.{◌≡◌, ◌≤◌, inl, inr, ◌+◌, ℕ, Bool, true, false, not, List, [], ◌∷◌, ◌++◌, filter, slice_get, append-nil, refl, sym, ap, subst, ◌∙◌, cond, arith}
+use Rattle.std.proofs.Common.{◌≡◌, ◌≤◌, inl, inr, ◌+◌, ℕ, Bool, true, false, not, List, [], ◌∷◌, ◌++◌, filter, append-nil, refl, sym, ap, subst, ◌∙◌, cond, arith}
 use Rattle.std.specs.Prelude.{◌&&◌, nat_le}
-use Rattle.std.specs.List.{AllByRecursion}
 use Rattle.std.proofs.lemmas.Bool.{and_parts, or_cases}
 use Rattle.std.proofs.lemmas.Bool.Decides.{nat_tests}
 use Rattle.std.proofs.lemmas.List.Elements.{filter-append}
 use Rattle.gptp_lists.proofs.SystemSpecLemmas.{In-map, In-slice_get}
+use Rattle.gptp_scenario.specs.Calm.{last_change}
 use Rattle.gptp_scenario.specs.Change.{link_after}
 use Rattle.gptp_scenario.specs.Network.{IsNetwork, NetworkState}
 use Rattle.gptp_scenario.specs.SyncWait.{sync_paths}
@@ -20,10 +20,12 @@ use Rattle.gptp_how_soon.specs.Links.{longest_delay}
 use Rattle.gptp_how_soon.specs.Rest.{comes_soon}
 use Rattle.gptp_how_soon.specs.Times.{arrived_after}
 use Rattle.gptp_settling_time.specs.Arrivals.{after_set, arrived_by, last_of, last_set, sets_link}
-use Rattle.gptp_settling_time.specs.EventKinds.{FlightIsGone, FlightIsGoneFrom}
+use Rattle.gptp_settling_time.specs.EventKinds.{FlightIsGoneFrom}
 use Rattle.gptp_settling_time.specs.Gains.{ChangesNothing, HasDelaysWithin, Repeats}
-use Rattle.gptp_settling_time.specs.HowSoon.{EachEvent}
+use Rattle.gptp_settling_time.specs.HowSoon.{EachEvent, FailsTreesFirst, IsDownToo}
 use Rattle.gptp_settling_time.specs.Losses.{NoneUpIsSlower}
+use Rattle.gptp_settling_time.specs.Rests.{FlightIsGoneSince}
+use Rattle.gptp_settling_time.proofs.DelayWithinLemmas.{within_before}
 use Rattle.gptp_settling_time.proofs.SamePathsLemmas.{StandSame}
 use Rattle.gptp_how_soon_laws.proofs.ArrivedLemmas.{same_set}
 use Rattle.gptp_how_soon_laws.proofs.FailedLemmas.{each_is, used_up}
@@ -42,20 +44,46 @@ sets_none n made (acts.Change (changes.Recover number)) nothing = refl
 sets_none n made (acts.Change (changes.Priority1 number value)) nothing = refl
 sets_none n made (acts.Change (changes.Inject clock port octets)) nothing = refl
 
-none_kept : (n : NetworkState) (made others : List Timed) → EachEvent (Repeats n) made others
-    → filter (λ (t : Timed). sets_link t.act) others ≡ []
-none_kept n made [] each = refl
-none_kept n made (event ∷ others) (one, each) =
-    ap (λ test. cond test (event ∷ filter (λ (t : Timed). sets_link t.act) others)
-    (filter (λ (t : Timed). sets_link t.act) others)) (sets_none n made event.act one.0)
-    ∙ none_kept n (made ++ event ∷ []) others each
+-- an event sets none
+abbrev pub SetsNone : List Timed → Timed → Type 0
+SetsNone made event = sets_link event.act ≡ false
 
--- events that repeat what stands set none
-pub set_before : (n : NetworkState) (made others : List Timed) → EachEvent (Repeats n) made others
+pub repeats_set_none : (n : NetworkState) (made others : List Timed) → EachEvent (Repeats n) made others
+    → EachEvent SetsNone made others
+repeats_set_none n made [] each = tt
+repeats_set_none n made (event ∷ others) (one, each) =
+    (sets_none n made event.act one.0, repeats_set_none n (made ++ event ∷ []) others each)
+
+downs_set_none : (n : NetworkState) (made others : List Timed) → EachEvent (IsDownToo n) made others
+    → EachEvent SetsNone made others
+downs_set_none n made [] each = tt
+downs_set_none n made (event ∷ others) (one, each) =
+    (by one, downs_set_none n (made ++ event ∷ []) others each)
+  where
+    by : IsDownToo n made event → sets_link event.act ≡ false
+    by (inl lowers) = ap sets_link lowers.act
+    by (inr same) = sets_none n made event.act same.0
+
+pub fails_set_none : (n : NetworkState) (made now : List Timed) → FailsTreesFirst n made now
+    → EachEvent SetsNone made now
+fails_set_none n made [] none = absurd none
+fails_set_none n made (event ∷ others) (fails, each) =
+    (ap sets_link fails.act, downs_set_none n (made ++ event ∷ []) others each)
+
+none_kept : (made others : List Timed) → EachEvent SetsNone made others
+    → filter (λ (t : Timed). sets_link t.act) others ≡ []
+none_kept made [] each = refl
+none_kept made (event ∷ others) (one, each) =
+    ap (λ test. cond test (event ∷ filter (λ (t : Timed). sets_link t.act) others)
+    (filter (λ (t : Timed). sets_link t.act) others)) one
+    ∙ none_kept (made ++ event ∷ []) others each
+
+-- so a link was last set before them
+pub set_before : (made others : List Timed) → EachEvent SetsNone made others
     → last_set made ≡ last_set (made ++ others)
-set_before n made others each =
+set_before made others each =
     ap last_of (sym (filter-append (λ (t : Timed). sets_link t.act) made others
-    ∙ ap (λ kept. filter (λ (t : Timed). sets_link t.act) made ++ kept) (none_kept n made others each)
+    ∙ ap (λ kept. filter (λ (t : Timed). sets_link t.act) made ++ kept) (none_kept made others each)
     ∙ append-nil (filter (λ (t : Timed). sets_link t.act) made)))
 
 -- ---- what is gone
@@ -115,3 +143,18 @@ module _ (n : NetworkState) (network : IsNetwork n) (events all : List Timed) (s
       (sym (λ i. comes_soon (up_is_used (standings i)) (none_up_longer (paths i).delay (standings i)) (paths i).delay
       (arrived_after n all) time)
       ∙ is)
+
+-- what is gone behind events that set none is gone since before them
+pub gone_since : (n : NetworkState) (made now : List Timed) (gone : ℕ) → EachEvent SetsNone made now
+    → FlightIsGoneFrom n (made ++ now) (last_change (made ++ now)) gone → FlightIsGoneSince n made (made ++ now) gone
+gone_since n made now gone each (inl is) = inl is
+gone_since n made now gone each (inr (none, (most, within, arrived), is)) =
+    inr (
+      none,
+      (
+        most,
+        within_before n made now most within,
+        subst (λ t. after_set most t ≤ last_change (made ++ now) + gone) (sym (set_before made now each)) arrived,
+      ),
+      is,
+    )

@@ -10,6 +10,7 @@ mod WorseningLemmas
 mod UnmovedLemmas
 mod RepeatLemmas
 mod LoweredLemmas
+mod IdleStandsLemmas
 mod FailedLemmas
 mod CutOffLemmas
 mod LivesOnLemmas
@@ -43,6 +44,7 @@ mod ArrivedLemmas
 mod FlightLemmas
 mod RowLemmas
 mod TakenAwayLemmas
+mod CutsAllLemmas
 mod RowLossLemmas
 mod AnyLossLemmas
 mod AgedLemmas

@@ -2,7 +2,7 @@
 use Rattle.std.proofs.Common.{◌≡◌, ◌≤◌, ◌⊎◌, inl, inr, ℕ, Bool, true, false, List, [], ◌∷◌, ◌++◌, filter, Some, length, slice_get, refl, sym, ap, subst, ◌∙◌, append-nil, arith}
 use Rattle.std.specs.Prelude.{◌==◌, ◌&&◌, not}
 use Rattle.std.specs.List.{range_with_len}
-use Rattle.std.proofs.lemmas.Bool.{and_from, and_parts, eq-eqb, or_cases}
+use Rattle.std.proofs.lemmas.Bool.{and_from, and_parts, eq-eqb, or_cases, or_left}
 use Rattle.gptp_lists.specs.Members.{In}
 use Rattle.gptp_lists.proofs.MappedLemmas.{mapped_there}
 use Rattle.gptp_lists.proofs.SystemSpecLemmas.{In-slice_get, from_map, slice_get-In}
@@ -471,6 +471,14 @@ module _ (n : NetworkState) (network : IsNetwork n) (made events : List Timed) w
               (x.on_top.chose.best, each_by x.on_top.chose.best (none_tops none x.on_top.chose.best) (inr (x, refl)))
 
 -- ---- the events of a time
+
+-- where all that are moved are trees with one top they are trees
+pub trees_move_so : (n : NetworkState) (made events : List Timed) → moves_trees_after n made events ≡ true
+    → trees_move_after n made events ≡ true
+trees_move_so n made events is =
+    or_left (moves_trees_after n made events)
+    (falls_twice (systems_after n events) (lost_ends n made events) (used_ends n events) (chosen_after n made)
+    (chosen_after n events)) is
 
 pub fails_trees_first : (n : NetworkState) (network : IsNetwork n) (made now : List Timed) → AreWell n (made ++ now)
     → trees_move_after n made (made ++ now) ≡ true

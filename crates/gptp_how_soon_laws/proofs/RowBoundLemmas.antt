@@ -128,17 +128,19 @@ choice_or_own n loss paths row gained = by (n.params.sync_timeout == 0) refl row
 -- All is sound by that bound. Or nothing lapses, and it is sooner after a loss.
 abbrev pub IsSoundSooner : NetworkState → Loss → SyncPaths → Row → ℕ → Type 0
 IsSoundSooner n loss paths row sound =
-    ((row ≡ FailedEnd) × (sound ≡ quiet_by n loss (gone_by n loss.paths_before loss.used_before)))
+    ((row ≡ FailedEnd) × (sound ≡ quiet_by n loss (gone_by n loss.paths_before loss.soon_before)))
     ⊎ (((row ≡ Lowered) × (sound ≡ max (echo_span (pace_of n) paths) (gone_by n paths loss.used_before)))
-    ⊎ (((row ≡ CutOff) × (sound ≡ max (2 * way_span paths) (gone_by n paths loss.used_before)))
+    ⊎ (((row ≡ CutOff) × (sound ≡ max (2 * way_span paths) (gone_by n paths loss.soon)))
     ⊎ ((((row ≡ SystemTurned) ⊎ (row ≡ TreeTurned)) × (sound ≡ 2 * way_span paths + echo_span (pace_of n) paths))
     ⊎ ((((row ≡ FailedHeard) ⊎ (row ≡ FailureCutsOff)) × (aged_echo_span n loss paths ≤ sound))
     ⊎ (((row ≡ AnyLosses) × (sound ≡ quiet_by n loss (any_loss_span n loss paths)))
     ⊎ (((row ≡ TreeFalls) × (sound ≡ max (2 * way_span paths) (gone_by n paths loss.used_before)))
     ⊎ (((row ≡ FailureMovesTrees)
     × (sound ≡ quiet_by n loss
-    (aged_by loss + (2 * way_span paths + max (echo_span (pace_of n) paths) (largest_interval (pace_of n))))))
-    ⊎ ((row ≡ TakenAway) × (sound ≡ taken_echo_span n loss paths)))))))))
+    (aged_by loss + 2 * way_span paths + max (echo_span (pace_of n) paths) (largest_interval (pace_of n)))))
+    ⊎ (((row ≡ TakenAway) × (sound ≡ taken_echo_span n loss paths))
+    ⊎ (((row ≡ FailureCutsOff) ⊎ (row ≡ FailureMovesTrees)) × (loss.cuts_all ≡ true)
+    × (sound ≡ quiet_by n loss (aged_by loss + 2 * way_span paths + gone_by n paths loss.soon)))))))))))
 
 pub sound_or_sooner : (n : NetworkState) (loss : Loss) (paths : SyncPaths) (row : Row)
     (gained : ℕ)
@@ -149,6 +151,28 @@ sound_or_sooner n loss paths row gained = by (n.params.sync_timeout == 0) refl r
   where
     span : ℕ
     span = settling_span_with (pace_of n) paths paths.systems
+
+    -- after a failure it matters whether all that is moved is cut off
+    all : (r : Row) → (r ≡ FailureCutsOff) ⊎ (r ≡ FailureMovesTrees) → loss.cuts_all ≡ true
+        → IsSoundSooner n loss paths r
+        (quiet_by n loss (aged_by loss + 2 * way_span paths + gone_by n paths loss.soon))
+    all r which cuts = inr (inr (inr (inr (inr (inr (inr (inr (inr (which, cuts, refl)))))))))
+
+    cut : (cuts : Bool) → loss.cuts_all ≡ cuts
+        → IsSoundSooner n loss paths FailureCutsOff
+        (if cuts then quiet_by n loss (aged_by loss + 2 * way_span paths + gone_by n paths loss.soon)
+        else max (aged_by loss + 2 * way_span paths) (aged_echo_span n loss paths))
+    cut true cuts = all FailureCutsOff (inl refl) cuts
+    cut false cuts = inr (inr (inr (inr (inl (inr refl, omega arith)))))
+
+    moved : (cuts : Bool) → loss.cuts_all ≡ cuts
+        → IsSoundSooner n loss paths FailureMovesTrees
+        (quiet_by n loss
+        (aged_by loss + 2 * way_span paths
+        + (if cuts then gone_by n paths loss.soon
+        else max (echo_span (pace_of n) paths) (largest_interval (pace_of n)))))
+    moved true cuts = all FailureMovesTrees (inr refl) cuts
+    moved false cuts = inr (inr (inr (inr (inr (inr (inr (inl (refl, refl))))))))
 
     by : (off : Bool) → (n.params.sync_timeout == 0) ≡ off → (r : Row)
         → (cond (not off) span (sound_of_row n loss paths r gained)
@@ -167,14 +191,12 @@ sound_or_sooner n loss paths row gained = by (n.params.sync_timeout == 0) refl r
     by true is TreeTurned = inr (eqb-true n.params.sync_timeout 0 is, inr (inr (inr (inl (inr refl, refl)))))
     by true is FailedHeard =
         inr (eqb-true n.params.sync_timeout 0 is, inr (inr (inr (inr (inl (inl refl, omega arith))))))
-    by true is FailureCutsOff =
-        inr (eqb-true n.params.sync_timeout 0 is, inr (inr (inr (inr (inl (inr refl, omega arith))))))
+    by true is FailureCutsOff = inr (eqb-true n.params.sync_timeout 0 is, cut loss.cuts_all refl)
     by true is AnyLosses =
         inr (eqb-true n.params.sync_timeout 0 is, inr (inr (inr (inr (inr (inl (refl, refl)))))))
-    by true is FailureMovesTrees =
-        inr (eqb-true n.params.sync_timeout 0 is, inr (inr (inr (inr (inr (inr (inr (inl (refl, refl)))))))))
+    by true is FailureMovesTrees = inr (eqb-true n.params.sync_timeout 0 is, moved loss.cuts_all refl)
     by true is TakenAway =
-        inr (eqb-true n.params.sync_timeout 0 is, inr (inr (inr (inr (inr (inr (inr (inr (refl, refl)))))))))
+        inr (eqb-true n.params.sync_timeout 0 is, inr (inr (inr (inr (inr (inr (inr (inr (inl (refl, refl))))))))))
     by true is TreeFalls =
         inr (eqb-true n.params.sync_timeout 0 is, inr (inr (inr (inr (inr (inr (inl (refl, refl))))))))
 

@@ -1,7 +1,7 @@
 -- What is told of a time after the first one with losses, by its row, is so by its events.
 use Rattle.std.proofs.Common.{◌≡◌, ◌<◌, ◌≤◌, ◌⊎◌, ap, inl, inr, ◌+◌, ℕ, Bool, true, false, List, [], ◌∷◌, ◌++◌, Some, suc, refl, sym, subst, ◌∙◌}
 use Rattle.std.specs.Prelude.{◌&&◌, not, if◌then◌else◌, nat_le, max}
-use Rattle.std.specs.List.{list_all, list_any}
+use Rattle.std.specs.List.{list_all, list_any, AllByRecursion}
 use Rattle.std.proofs.lemmas.Bool.{and_parts, not-true, or_cases}
 use Rattle.gptp_lists.specs.Members.{In}
 use Rattle.gptp_scenario.specs.Network.{IsNetwork, NetworkState, pace_of}
@@ -9,12 +9,14 @@ use Rattle.gptp_scenario.specs.SettlingTime.{silence_span}
 use Rattle.gptp_scenario.specs.SyncWait.{sync_paths}
 use Rattle.gptp_scenario.specs.declared.change.Timed.{Timed}
 use Rattle.gptp_scenario.specs.declared.sync_wait.SyncPaths.{SyncPaths}
+use Rattle.gptp_scenario.specs.Calm.{last_change}
 use Rattle.gptp_network.specs.Snapshot.{events_by}
 use Rattle.gptp_invariants.specs.WorldEncodableLaws.{SetsAnOctet}
 use Rattle.gptp_how_soon.specs.Bounds.{gone_by, quiet_by}
 use Rattle.gptp_how_soon.specs.Chosen.{moves_joined, moves_some}
-use Rattle.gptp_how_soon.specs.Kinds.{begins_with, brings_nothing, fails_first, is_loss, is_lowering, is_worsening, lowers_one, takes_one, takes_several, worsens_first}
-use Rattle.gptp_how_soon.specs.Rest.{is_failing_followed, is_from_rest, is_lowering_followed, is_taking_followed, is_worsening_followed, keeps_paths, rested}
+use Rattle.gptp_how_soon.specs.Kinds.{begins_with, brings_nothing, fails_beside_idle, fails_first, is_loss, is_lowering, is_worsening, lowers_one, takes_one, takes_several, worsens_first}
+use Rattle.gptp_how_soon.specs.MovedTrees.{cuts_all_after, moves_trees_after}
+use Rattle.gptp_how_soon.specs.Rest.{is_end_followed, is_failing_followed, is_from_rest, is_lowering_followed, is_taking_followed, is_worsening_followed, keeps_paths, rested}
 use Rattle.gptp_how_soon.specs.Times.{View, events_at, has_come_after, loss_at, row_at, told_at, told_of, view_at}
 use Rattle.gptp_how_soon.specs.Tree.{cuts_tree_after, worsens_best_after}
 use Rattle.gptp_how_soon.specs.TurnedTree.{turns_tree_after}
@@ -23,29 +25,35 @@ use Rattle.gptp_how_soon.specs.declared.bounds.Row.{Row}
 use Rattle.gptp_how_soon.specs.declared.bounds.Row.TheVariants.{AnyLosses, CutOff, FailedEnd, FailedHeard, FailureCutsOff, FailureMovesTrees, Lowered, SystemTurned, TakenAway, TreeFalls, TreeTurned}
 use Rattle.gptp_how_soon.specs.declared.bounds.SettlingTime.{SettlingTime}
 use Rattle.gptp_how_soon.specs.declared.kinds.Told.{Told}
-use Rattle.gptp_settling_time.specs.Arrivals.{HasArrivedBy}
+use Rattle.gptp_how_soon.specs.Links.{longest_delay}
+use Rattle.gptp_settling_time.specs.Arrivals.{HasArrivedBy, last_set}
 use Rattle.gptp_settling_time.specs.HowSoon.{BeforeRepeats, FailsEndFirst, FailsHeardFirst, FailsTreesFirst, LosesEvents, OneEvent, RolesAfterLoss, TakesSeveral}
-use Rattle.gptp_settling_time.specs.EventKinds.{FlightIsGone}
+use Rattle.gptp_settling_time.specs.EventKinds.{FlightIsGone, FlightIsGoneFrom}
+use Rattle.gptp_settling_time.specs.Rests.{FlightIsGoneSince}
 use Rattle.gptp_settling_time.specs.Losses.{CutsFarEnd, LowersLink, MovesNoneInAll, NoneSilent, TurnsLink, UpIsUsed}
-use Rattle.gptp_settling_time.specs.TreeLosses.{FallsTree, TurnsTreeLink}
-use Rattle.gptp_settling_time.proofs.SamePathsLemmas.{StandSame}
+use Rattle.gptp_settling_time.specs.TreeLosses.{CutsAllBeyondFrom, FallsTree, TurnsTreeLink}
+use Rattle.gptp_settling_time.proofs.SamePathsLemmas.{StandSame, same_itself}
+use Rattle.gptp_settling_time.specs.Gains.{HasDelaysWithin}
+use Rattle.gptp_settling_time.proofs.MomentLemmas.{all_at}
 use Rattle.gptp_how_soon_laws.proofs.AnyLossLemmas.{all_losses}
-use Rattle.gptp_how_soon_laws.proofs.ArrivedLemmas.{has_come_so}
-use Rattle.gptp_how_soon_laws.proofs.FailedLemmas.{fails_end_first, fails_heard_first, used_up}
+use Rattle.gptp_how_soon_laws.proofs.ArrivedLemmas.{all_within, has_come_so, longest_within}
+use Rattle.gptp_how_soon_laws.proofs.FailedLemmas.{fails_beside_first, fails_end_first, fails_heard_first, used_up}
 use Rattle.gptp_how_soon_laws.proofs.CutOffLemmas.{cuts_far}
-use Rattle.gptp_how_soon_laws.proofs.MovedTreesLemmas.{fails_trees_first}
+use Rattle.gptp_how_soon_laws.proofs.MovedTreesLemmas.{fails_trees_first, trees_move_so}
 use Rattle.gptp_how_soon_laws.proofs.LoweredLemmas.{lowers_link, used_on}
-use Rattle.gptp_how_soon_laws.proofs.RepeatLemmas.{Begins, before_repeats, begins, cut_seen, falls_seen, first_same, first_well, joined_seen, paths_seen, turned_seen, turns_seen, used_still, worsens_seen}
+use Rattle.gptp_how_soon_laws.proofs.RepeatLemmas.{Begins, before_repeats, begins, cut_seen, falls_seen, first_same, first_well, joined_seen, paths_seen, turned_seen, turns_seen, used_still, whole, worsens_seen}
 use Rattle.gptp_how_soon_laws.proofs.TreeEventLemmas.{lowers_one_tree, turns_tree_link}
 use Rattle.gptp_how_soon_laws.proofs.TreeWorsenedLemmas.{used_behind, worsens_tree}
 use Rattle.gptp_how_soon_laws.proofs.TurnedLemmas.{turns_link}
 use Rattle.gptp_how_soon_laws.proofs.UnmovedLemmas.{AreWell}
 use Rattle.gptp_how_soon_laws.proofs.WorseningLemmas.{worsening_so}
 use Rattle.gptp_how_soon_laws.proofs.RowReasonLemmas.{ReasonOf, Tests}
-use Rattle.gptp_how_soon_laws.proofs.SilentLemmas.{none_silent}
+use Rattle.gptp_how_soon_laws.proofs.SilentLemmas.{last_now, none_silent}
 use Rattle.gptp_how_soon_laws.proofs.RowTestLemmas.{HasComeToRest, at_most, counts_joined, failing_takes, lowering_takes}
 use Rattle.gptp_how_soon_laws.proofs.RowLemmas as rows
 use Rattle.gptp_how_soon_laws.proofs.TakenAwayLemmas.{several_taken, several_unmoved}
+use Rattle.gptp_how_soon_laws.proofs.FlightLemmas.{fails_set_none, gone_since, gone_soon, repeats_set_none, set_before}
+use Rattle.gptp_how_soon_laws.proofs.CutsAllLemmas.{all_beyond}
 
 module _ (n : NetworkState) (network : IsNetwork n) (events : List Timed) (b : SettlingTime) (at : ℕ)
     (late : b.at < at) where
@@ -172,7 +180,8 @@ module _ (n : NetworkState) (network : IsNetwork n) (events : List Timed) (b : S
       let (g, unmoved) = lowers_none well is in
       record {
         first = g;
-        lowers = lowers_link n network made g.x.event (first_well n network is_lowering made now g.x well) unmoved g.delay g.paths
+        lowers = lowers_link n network made g.x.event (first_well n network is_lowering made now
+            g.x well) unmoved g.delay g.paths
             g.few g.x.so;
       }
 
@@ -213,7 +222,7 @@ module _ (n : NetworkState) (network : IsNetwork n) (events : List Timed) (b : S
       subst (λ t. FlightIsGoneFrom n first t (gone_by n v.paths soon)) (sym (moment g.x.event g.x.others g.x.split).0)
       (subst (λ (p : SyncPaths). FlightIsGoneFrom n first at (gone_by n p soon)) (sym (same_paths is_lowering g))
       (gone_soon n network first (made ++ now) (first_stays is_lowering g) within
-      (set_before n first g.x.others g.x.each ∙ ap last_set all_is) at soon refl))
+      (set_before first g.x.others (repeats_set_none n first g.x.others g.x.each) ∙ ap last_set all_is) at soon refl))
     where
       first : List Timed
       first = made ++ g.x.event ∷ []
@@ -295,7 +304,8 @@ module _ (n : NetworkState) (network : IsNetwork n) (events : List Timed) (b : S
         (
           g,
           turns_link n network made g.x.event (first_well n network is_lowering made now g.x well)
-              (sym (turned_seen n made (made ++ g.x.event ∷ []) (made ++ now) (first_stays is_lowering g)) ∙ one) g.delay g.paths
+              (sym (turned_seen n made (made ++ g.x.event ∷ []) (made ++ now)
+              (first_stays is_lowering g)) ∙ one) g.delay g.paths
               g.few g.x.so,
         ),
       )
@@ -390,7 +400,8 @@ module _ (n : NetworkState) (network : IsNetwork n) (events : List Timed) (b : S
       let (keeps, lowers, tree, come) = late_by lowers_one (turns_tree_after n made (made ++ now)) turns in
       let rest = rest_so from in
       let g = goes_first is_lowering keeps lowers in
-      let one = turns_tree_link n network made g.x.event (first_well n network is_lowering made now g.x well) g.delay g.paths g.few
+      let one = turns_tree_link n network made g.x.event (first_well n network is_lowering made
+      now g.x well) g.delay g.paths g.few
       g.x.so (sym (turns_seen n made (made ++ g.x.event ∷ []) (made ++ now) (first_stays is_lowering g)) ∙ tree) in (
         rest,
         record {
@@ -405,26 +416,89 @@ module _ (n : NetworkState) (network : IsNetwork n) (events : List Timed) (b : S
     pub come : HasCome rest
     pub fails : FailsTreesFirst n made now
 
-  pub failure_cuts : AreWell n (made ++ now) → row_at v ≡ FailureMovesTrees → FailsLate
-  failure_cuts well row =
-      let (from, trees) = why FailureMovesTrees row in
-      let (keeps, one, cut, come) = late_by fails_first (trees_move_after n made (made ++ now)) trees in
+  trees_late : is_from_rest v.longest at v.paths_before v.paths v.told (Some b) ≡ true → AreWell n (made ++ now)
+      → is_failing_followed v.paths_before v.paths v.told ≡ true → has_come_after n made (Some b) at ≡ true
+      → trees_move_after n made (made ++ now) ≡ true → FailsLate
+  trees_late from well followed come splits =
+      let (keeps, one) = and_parts (keeps_paths v.paths_before v.paths) (fails_first v.told) followed in
       let x = keeps_so keeps in
       let rest = rest_so from in
       record {
         rest = rest;
-        come = come rest;
-        fails = fails_trees_first n network made now well cut x.delay x.paths x.few one;
+        come = has_come_so n made b at rest.settling rest.is come;
+        fails = fails_trees_first n network made now well splits x.delay x.paths x.few one;
       }
+
+  pub failure_cuts : AreWell n (made ++ now) → row_at v ≡ FailureMovesTrees → FailsLate
+  failure_cuts well row =
+      let (from, trees) = why FailureMovesTrees row in
+      let (followed, both) = and_parts (is_failing_followed v.paths_before v.paths v.told) v.moves.trees_move trees in
+      let (come, splits) =
+      and_parts (has_come_after n made (Some b) at) (trees_move_after n made (made ++ now)) both in
+      trees_late from well followed come splits
+
+  -- and so cuts off all that it moves
+  pub record CutsAll : Type 0 where
+    pub trees : FailsLate
+    pub beyond : CutsAllBeyondFrom n made (made ++ now)
+
+  pub all_cut : AreWell n (made ++ now) → (row_at v ≡ FailureCutsOff) ⊎ (row_at v ≡ FailureMovesTrees)
+      → v.moves.cuts_all ≡ true → CutsAll
+  all_cut well which cuts =
+      let come_test : Bool = has_come_after n made (Some b) at in
+      let moves_test : Bool = moves_trees_after n made (made ++ now) in
+      let (both, all) = and_parts (come_test && moves_test) (cuts_all_after n made (made ++ now)) cuts in
+      let (come, splits) = and_parts come_test moves_test both in
+      let (from, followed) = by which in
+      let trees = trees_late from well followed come (trees_move_so n made (made ++ now) splits) in
+      record { trees = trees; beyond = all_beyond n network made now well trees.fails splits all }
+    where
+      by : (row_at v ≡ FailureCutsOff) ⊎ (row_at v ≡ FailureMovesTrees)
+          → (is_from_rest v.longest at v.paths_before v.paths v.told (Some b) ≡ true)
+          × (is_failing_followed v.paths_before v.paths v.told ≡ true)
+      by (inl row) =
+          let (from, fails) = why FailureCutsOff row in
+          (from, (and_parts (is_failing_followed v.paths_before v.paths v.told) (not v.moves.moved) fails).0)
+      by (inr row) =
+          let (from, trees) = why FailureMovesTrees row in
+          (from, (and_parts (is_failing_followed v.paths_before v.paths v.told) v.moves.trees_move trees).0)
+
+  -- what is in flight behind all is gone by then
+  pub flight_now : FailsTreesFirst n made now → FlightIsGoneSince n made (made ++ now)
+      (gone_by n v.paths (loss_at v).soon)
+  flight_now fails =
+      gone_since n made now (gone_by n v.paths (loss_at v).soon) (fails_set_none n made now fails) (by now refl fails)
+    where
+      by : (es : List Timed) → now ≡ es → FailsTreesFirst n made es
+          → FlightIsGoneFrom n (made ++ now) (last_change (made ++ now)) (gone_by n v.paths (loss_at v).soon)
+      by [] split none = absurd none
+      by (event ∷ others) split first =
+          subst (λ t. FlightIsGoneFrom n (made ++ now) t (gone_by n v.paths (loss_at v).soon))
+          (sym (moment event others split).1)
+          (gone_soon n network (made ++ now) (made ++ now) (same_itself n (made ++ now)) (all_within n (made ++ now))
+          refl at (loss_at v).soon refl)
 
   -- or a far end fails
   pub failed : AreWell n (made ++ now) → row_at v ≡ FailedEnd
       → HasComeToRest b at × FailsEndFirst n made now
       × FlightIsGoneFrom n made (last_change (made ++ now)) (gone_by n v.paths_before (loss_at v).soon_before)
   failed well row =
-      let (from, fails, far) = why FailedEnd row in
-      let first = failing_end well fails far in
+      let (from, which) = why FailedEnd row in
+      let first = by which in
       (rest_so from, first, flight_before (λ none. subst (FailsEndFirst n made) none first))
+    where
+      followed : Bool
+      followed = is_end_followed v.paths_before v.paths v.told
+
+      by : (((is_failing_followed v.paths_before v.paths v.told && not v.moves.moved) ≡ true) × (v.moves.far ≡ true))
+          ⊎ ((followed && (v.moves.far && not v.moves.any_moved)) ≡ true) → FailsEndFirst n made now
+      by (inl (fails, far)) = failing_end well fails far
+      by (inr ends) =
+          let (end, both) = and_parts followed (v.moves.far && not v.moves.any_moved) ends in
+          let (keeps, beside) = and_parts (keeps_paths v.paths_before v.paths) (fails_beside_idle v.told) end in
+          let (far, still) = and_parts v.moves.far (not v.moves.any_moved) both in
+          let x = keeps_so keeps in
+          fails_beside_first n network made now well (not-true v.moves.any_moved still) x.delay x.paths x.few beside far
 
   -- or a system that others heard
   pub heard : AreWell n (made ++ now) → (row_at v ≡ FailedHeard) ⊎ (row_at v ≡ FailureCutsOff)

@@ -119,7 +119,7 @@ module _ (n : NetworkState) (network : IsNetwork n) where
   one_lived made event (inr (inr same)) m member live =
       sym (ap (λ s. s.live) ((idle_same n network made event same).systems m member)) ∙ live
 
-  all_lived : (made now : List Timed) → EachEvent (IsTakenToo n) made now → (m : SystemSpec) → In m n.systems
+  pub all_lived : (made now : List Timed) → EachEvent (IsTakenToo n) made now → (m : SystemSpec) → In m n.systems
       → (system_after (made ++ now) m).live ≡ true → (system_after made m).live ≡ true
   all_lived made [] each m member live =
       subst (λ es. (system_after es m).live ≡ true) (append-nil made) live

@@ -499,7 +499,7 @@ abbrev pub RestsAfterLoss : NetworkState → List Timed → List Timed → ℕ �
 RestsAfterLoss n made now rest =
     RestsAfterOneLoss n made now rest ⊎ (RestsAfterAnyLoss n made now rest ⊎ RestsTaken n made now rest)
 
--- After a tree was cut off it has come to rest once the tree has settled and what was in flight is gone.
+-- After a tree fell back it has come to rest once the tree has settled and what was in flight is gone.
 abbrev pub RestsTree : NetworkState → ℕ → List Timed → Type 0
 RestsTree n rest events =
     (gone : ℕ) × FlightIsGone n events gone × (rest ≡ max (2 * way_span (sync_paths n events)) gone)

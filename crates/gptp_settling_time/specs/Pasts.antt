@@ -14,8 +14,9 @@
 --   rest as if all had been heard.
 -- - TurnedTree: a link went down, by which a tree turned to its one way out. The network settles 1 ns and twice the
 --   greatest delay for each system of a path but one later. It comes to rest as one in which a system turned.
--- - Fallen: a link went down and so cut a tree off. The network settles 1 ns and twice the greatest delay for each
---   system of a path but one later. When what was in flight is gone too, it has come to rest as if all had been heard.
+-- - Fallen: a link went down and so cut a tree off, or the best of a tree got worse. The network settles 1 ns and twice
+--   the greatest delay for each system of a path but one later. When what was in flight is gone too, it has come to
+--   rest as if all had been heard.
 -- - Aging: a system failed that others heard. What they hold of it ages, and the choice stands once that is gone. The
 --   network has come to rest, as if all had been heard, once right traces have been told by distance since, what was in
 --   flight is gone, and ports without a link aren't capable.
@@ -25,6 +26,7 @@
 --   is gone, if nothing has changed since the system failed.
 -- - Lost: anything was taken away at one time, whatever was moved. The network settles as one that has gained, once all
 --   that is held is told by live systems over links in use. It has come to rest then, as if all had been heard.
+-- - Fewer: so it is, but systems and links alone were taken away. Who is unmoved by all of it keeps root and steps.
 use Rattle.std.specs.Prelude.{ℕ, List}
 use Rattle.gptp_scenario.specs.declared.change.Timed.{Timed}
 

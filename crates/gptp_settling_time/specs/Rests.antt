@@ -56,7 +56,7 @@ pub record HasAged (n : NetworkState) (events : List Timed) (aged silent start t
   pub unlinked : silent ≤ time
   pub over : HasSettledHeard n events start time
 
--- A network in which a tree was cut off at a time has come to rest by another, as one whose ports are capable from a
+-- A network in which a tree fell back at a time has come to rest by another, as one whose ports are capable from a
 -- start on, by which the tree had dropped the best of before. What was in flight is gone. And the greatest delay has
 -- passed since the start for each system of a path but one.
 pub record HasFallenBack (n : NetworkState) (events : List Timed) (fallen start time : ℕ) : Type 0 where

@@ -1,5 +1,5 @@
 -- Events that move a tree of systems: a link goes down, by which it is cut off from the best or turns to its one way
--- out; the best gets a worse identity; or a system fails, which cuts some off.
+-- out; the best gets a worse identity; or a system fails, which moves any number of them.
 use Rattle.std.specs.Prelude.{◌≡◌, ◌⊎◌, ◌<◌, ◌≤◌, ◌+◌, ℕ, suc, min, List, [], ◌∷◌, ◌++◌, Some, slice_get}
 use Rattle.gptp_lists.specs.Members.{In}
 use Rattle.gptp_graph.specs.Best.{IsBest}
