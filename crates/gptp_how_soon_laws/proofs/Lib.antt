@@ -17,7 +17,6 @@ mod LivesOnLemmas
 mod LostLinkLemmas
 mod OneLostLemmas
 mod TreeTestLemmas
-mod TreeByLemmas
 mod TreeBelowLemmas
 mod FallsBelowLemmas
 mod TreeLemmas
@@ -28,10 +27,7 @@ mod TurnedTreeTestLemmas
 mod TurnsBelowLemmas
 mod TurnedTreeLemmas
 mod MovedTreesTestLemmas
-mod MovedOnLemmas
 mod MovedTreesLemmas
-mod TwoTopsTestLemmas
-mod TwoTopsLemmas
 mod TreeEventLemmas
 mod TurnedLemmas
 mod LiveEndsLemmas
