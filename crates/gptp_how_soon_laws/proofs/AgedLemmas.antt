@@ -1,27 +1,34 @@
 -- What others hold of a system that fails has aged, and ports at silent links are off, as soon as their bounds say.
-use Rattle.std.proofs.Common.{◌≡◌, ◌<◌, inl, inr, ◌+◌, max, ℕ, Bool, true, false, List, [], ◌∷◌, ◌++◌, Some, refl, arith}
+use Rattle.std.proofs.Common.{◌≡◌, ◌<◌, inl, inr, ◌+◌, max, ℕ, Bool, true, false, List, [], ◌∷◌, ◌++◌, Some, refl, arith, ◌⊎◌, ◌*◌, ap, ◌∙◌, ◌≤◌}
 use Rattle.std.specs.Prelude.{if◌then◌else◌, nat_lt}
 use Rattle.std.specs.List.{AllByRecursion}
 use Rattle.std.proofs.lemmas.Bool.Decides.{nat_tests}
 use Rattle.gptp_setup.specs.SettlingParams.{largest_interval, longest_span}
 use Rattle.gptp_scenario.specs.Calm.{last_change}
 use Rattle.gptp_scenario.specs.Network.{IsNetwork, NetworkState, pace_of}
-use Rattle.gptp_scenario.specs.SettlingTime.{silence_span}
+use Rattle.gptp_scenario.specs.SettlingTime.{echo_span, silence_span, way_span}
 use Rattle.gptp_scenario.specs.declared.change.Timed.{Timed}
+use Rattle.gptp_scenario.specs.SyncWait.{sync_paths}
 use Rattle.gptp_network.specs.Snapshot.{events_by}
 use Rattle.gptp_how_soon.specs.Bounds.{aged_by, quiet_by}
 use Rattle.gptp_how_soon.specs.Silent.{own_intervals}
 use Rattle.gptp_how_soon.specs.Times.{View, events_at, loss_at, view_at}
 use Rattle.gptp_how_soon.specs.declared.bounds.Loss.{Loss}
 use Rattle.gptp_how_soon.specs.declared.bounds.SettlingTime.{SettlingTime}
-use Rattle.gptp_settling_time.specs.HowSoon.{BoundsAging, HeldFor}
+use Rattle.gptp_settling_time.specs.HowSoon.{BoundsAging, HeldFor, RestsSplit}
 use Rattle.gptp_settling_time.proofs.MomentLemmas.{all_at, last_by}
+use Rattle.gptp_settling_time.specs.TreeLosses.{CutsAllBeyondFrom}
+use Rattle.gptp_settling_time.specs.Rests.{FlightIsGoneSince}
 use Rattle.gptp_how_soon_laws.proofs.RowLossLemmas.{none_left}
 use Rattle.gptp_how_soon_laws.proofs.SilentLemmas.{held_for, last_now, none_ages}
 use Rattle.gptp_how_soon_laws.proofs.UnmovedLemmas.{AreWell}
 
 below : (a b : ℕ) → nat_lt a b ≡ true → a < b
 below a b is = grind (arith, nat_tests)
+
+rested_late : (aged ways echo quiet sound : ℕ) → sound ≡ max (aged + (ways + echo)) quiet
+    → max (max (aged + ways) quiet) (aged + ways + echo) ≤ sound
+rested_late aged ways echo quiet sound is = omega (arith, is)
 
 module _ (n : NetworkState) (network : IsNetwork n) (all : List Timed) (b : SettlingTime) (at : ℕ)
     (late : b.at < at) where
@@ -91,3 +98,38 @@ module _ (n : NetworkState) (network : IsNetwork n) (all : List Timed) (b : Sett
             else if silent then v.moves.held else 0)
         by true = omega arith
         by false = omega arith
+
+    -- so much is enough behind a failure that moves trees
+    abbrev pub Enough : ℕ → ℕ → ℕ → Type 0
+    Enough sound choice roles =
+        (max roles (choice + max (echo_span (pace_of n) (sync_paths n (made ++ now))) (largest_interval (pace_of n)))
+        ≤ sound)
+        ⊎ (CutsAllBeyondFrom n made (made ++ now) × (flight : ℕ) × FlightIsGoneSince n made (made ++ now) flight
+        × (max roles (choice + flight) ≤ sound))
+
+    -- so it has come to rest by so much later than the choice stands, where that is enough
+    pub split_rests : (sound more : ℕ) → (now ≡ [] → ⊥)
+        → sound ≡ quiet_by n loss (aged_by loss + 2 * way_span v.paths + more)
+        → (max (max (aged_by loss + 2 * way_span v.paths) (quiet_by n loss (aged_by loss)))
+        (aged_by loss + 2 * way_span v.paths + more)
+        ≤ sound
+        → Enough sound (aged_by loss + 2 * way_span v.paths)
+        (max (aged_by loss + 2 * way_span v.paths) (quiet_by n loss (aged_by loss))))
+        → RestsSplit n sound made now
+    split_rests sound more some told enough =
+        let same : aged_by loss + 2 * way_span v.paths + more ≡ aged_by loss + (2 * way_span v.paths + more) =
+        omega arith in
+        let later = rested_late (aged_by loss) (2 * way_span v.paths) more (quiet_by n loss (aged_by loss)) sound
+        (told ∙ ap (quiet_by n loss) same
+        ∙ quiet_later (2 * way_span v.paths + more)) in (
+          aged_by loss + 2 * way_span v.paths,
+          max (aged_by loss + 2 * way_span v.paths) (quiet_by n loss (aged_by loss)),
+          (
+            aged_by loss,
+            quiet_by n loss (aged_by loss),
+            aging some,
+            refl,
+            refl,
+          ),
+          enough later,
+        )

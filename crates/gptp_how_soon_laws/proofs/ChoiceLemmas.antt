@@ -1,9 +1,7 @@
 -- What is told of each time of a document is so: its choice and roles are choice bounds or loss bounds. The network has
 -- come to rest by a rest bound.
-use Rattle.std.proofs.Common.{◌≡◌, ◌<◌, ◌≤◌, ◌⊎◌, inl, inr, ◌+◌, ◌*◌, max, ℕ, Bool, true, false, cond, List, [], ◌∷◌, ◌++◌, Some, None, refl, sym, ap, subst, ◌∙◌, arith}
+use Rattle.std.proofs.Common.{◌≡◌, ◌<◌, ◌≤◌, ◌⊎◌, inl, inr, ◌+◌, ◌*◌, max, ℕ, Bool, true, false, List, [], ◌∷◌, ◌++◌, Some, None, refl, sym, ap, subst, ◌∙◌, arith}
 use Rattle.std.specs.Prelude.{◌==◌, if◌then◌else◌, nat_le}
-use Rattle.std.proofs.lemmas.Bool.{eqb-false, eqb-true}
-use Rattle.std.proofs.lemmas.Bool.Decides.{nat_tests}
 use Rattle.gptp_lists.specs.Members.{In}
 use Rattle.gptp_lists.proofs.SystemSpecLemmas.{In-left, In-parts}
 use Rattle.gptp_setup.specs.SettlingParams.{largest_interval}
@@ -28,9 +26,9 @@ use Rattle.gptp_how_soon.specs.declared.bounds.Settling.{Settling}
 use Rattle.gptp_how_soon.specs.declared.bounds.SettlingTime.{SettlingTime}
 use Rattle.gptp_settling_time.specs.HowSoon.{BeforeRepeats, BoundsAnyLoss, BoundsChoice, BoundsEvents, BoundsLoss, BoundsSplit, BoundsStart, BoundsTree, FailsTreesFirst, IsChoiceBoundAfter, IsLossBoundAfter, IsRestBoundAfter, NoneBetween, RestsAfterAnyLoss, RestsAfterLoss, RestsOnceTold, RestsSplit, RestsTaken, RestsTree, RolesAfterFailure, TreeNext}
 use Rattle.gptp_settling_time.specs.EventKinds.{FlightIsGoneFrom}
-use Rattle.gptp_settling_time.specs.Rests.{FlightIsGoneSince, turned_echo_span}
+use Rattle.gptp_settling_time.specs.Rests.{turned_echo_span}
 use Rattle.gptp_settling_time.specs.Losses.{NoneSilent}
-use Rattle.gptp_settling_time.specs.TreeLosses.{CutsAllBeyondFrom, FallsTree, TurnsTreeLink}
+use Rattle.gptp_settling_time.specs.TreeLosses.{FallsTree, TurnsTreeLink}
 use Rattle.gptp_settling_time.proofs.BesideIdleLemmas.{before_none}
 use Rattle.gptp_settling_time.proofs.MomentLemmas.{parted}
 use Rattle.gptp_settling_time.proofs.WellFormedLemmas.{after_well}
@@ -39,38 +37,15 @@ use Rattle.gptp_how_soon_laws.proofs.FailedLemmas.{used_up}
 use Rattle.gptp_how_soon_laws.proofs.RowBoundLemmas.{HasOwnBounds, IsSoundSooner, IsTelling, bounds_choice, choice_or_own, past_row, sound_or_sooner, tells}
 use Rattle.gptp_how_soon_laws.proofs.RowLemmas.{gained, unchanged}
 use Rattle.gptp_how_soon_laws.proofs.RowLossLemmas.{ComesLate, FailsLate, FallsLate, GoesFirst, TakesSome, all_cut, cut_off, failed, failure_cuts, flight_now, heard, losses, lowered, none_left, same_paths, taken, tree_falls, tree_turned, turned}
-use Rattle.gptp_how_soon_laws.proofs.AgedLemmas.{aged, aging, quiet_later}
+use Rattle.gptp_how_soon_laws.proofs.AgedLemmas.{aged, aging, quiet_later, split_rests}
 use Rattle.gptp_how_soon_laws.proofs.LossBoundLemmas.{beside, greater, no_later, some_before, some_heard, some_lost, some_rested, some_trees}
 use Rattle.gptp_how_soon_laws.proofs.RepeatLemmas.{before_repeats}
 use Rattle.gptp_how_soon_laws.proofs.RowTestLemmas.{HasComeToRest}
 use Rattle.gptp_how_soon_laws.proofs.StartRowLemmas.{first_past, first_roles, first_sound, never_unchanged, started}
 use Rattle.gptp_how_soon_laws.proofs.UnmovedLemmas.{AreWell}
 use Rattle.gptp_how_soon_laws.proofs.TreeWorsenedLemmas.{octets_at}
-use Rattle.gptp_how_soon_laws.proofs.TimesLemmas.{AreTimes, later_times, times_after, times_parts}
+use Rattle.gptp_how_soon_laws.proofs.TimesLemmas.{AreTimes, begin_at, later_times, times_after, times_parts}
 use Rattle.gptp_how_soon_laws.proofs.TakenAwayLemmas.{several_lost}
-
--- the events up to time 0 are those at it
-begin_at : (events : List Timed) → events_by 0 events ≡ events_at 0 events
-begin_at [] = refl
-begin_at (event ∷ events) = by (nat_le event.at 0) (event.at == 0) refl refl (begin_at events)
-  where
-    by : (soon now : Bool) → nat_le event.at 0 ≡ soon → (event.at == 0) ≡ now → events_by 0 events ≡ events_at 0 events
-        → cond soon (event ∷ events_by 0 events) (events_by 0 events)
-        ≡ cond now (event ∷ events_at 0 events) (events_at 0 events)
-    by true true f g rest = ap (λ es. event ∷ es) rest
-    by true false f g rest =
-        let apart = eqb-false event.at 0 g in
-        let early : event.at ≤ 0 = grind (arith, nat_tests) in
-        absurd (apart (omega (arith, early)))
-    by false true f g rest =
-        let is = eqb-true event.at 0 g in
-        let behind : 0 < event.at = grind (arith, nat_tests) in
-        absurd (omega (arith, is, behind))
-    by false false f g rest = rest
-
-rested_late : (aged ways echo quiet sound : ℕ) → sound ≡ max (aged + (ways + echo)) quiet
-    → max (max (aged + ways) quiet) (aged + ways + echo) ≤ sound
-rested_late aged ways echo quiet sound is = omega (arith, is)
 
 module _ (d : DocumentState) (playable : IsPlayable d) where
   abbrev n : NetworkState
@@ -218,14 +193,6 @@ module _ (d : DocumentState) (playable : IsPlayable d) where
       subst Asks (sym (parted all b.at at playable.events.in_order late between)) asks,
     )
 
-    -- so much is enough behind a failure that moves trees
-    abbrev Enough : ℕ → ℕ → ℕ → Type 0
-    Enough sound choice roles =
-        (max roles (choice + max (echo_span (pace_of n) (sync_paths n (made ++ now))) (largest_interval (pace_of n)))
-        ≤ sound)
-        ⊎ (CutsAllBeyondFrom n made (made ++ now) × (flight : ℕ) × FlightIsGoneSince n made (made ++ now) flight
-        × (max roles (choice + flight) ≤ sound))
-
     -- it comes to rest so after a loss, or after a tree is cut off, one turns, or a failure cuts trees off
     abbrev Rests : ℕ → Type 0
     Rests sound =
@@ -270,33 +237,6 @@ module _ (d : DocumentState) (playable : IsPlayable d) where
     rests sound calm off (inr (inr (inl (rest, tree, is)))) =
         inr (inr (inr (inl (tree_next (TurnsTreeLink n) (λ events. sound ≡ turned_echo_span n events) calm off rest
         tree is))))
-
-    -- it has by so much later than the choice stands, where that is enough
-    split_rests : (sound : ℕ) → FailsLate n playable.network all b at late → (more : ℕ)
-        → sound ≡ quiet_by n loss (aged_by loss + 2 * way_span v.paths + more)
-        → (max (max (aged_by loss + 2 * way_span v.paths) (quiet_by n loss (aged_by loss)))
-        (aged_by loss + 2 * way_span v.paths + more)
-        ≤ sound
-        → Enough sound (aged_by loss + 2 * way_span v.paths)
-        (max (aged_by loss + 2 * way_span v.paths) (quiet_by n loss (aged_by loss))))
-        → RestsSplit n sound made now
-    split_rests sound x more told enough =
-        let same : aged_by loss + 2 * way_span v.paths + more ≡ aged_by loss + (2 * way_span v.paths + more) =
-        omega arith in
-        let later = rested_late (aged_by loss) (2 * way_span v.paths) more (quiet_by n loss (aged_by loss)) sound
-        (told ∙ ap (quiet_by n loss) same
-        ∙ quiet_later n playable.network all b at late well (2 * way_span v.paths + more)) in (
-          aged_by loss + 2 * way_span v.paths,
-          max (aged_by loss + 2 * way_span v.paths) (quiet_by n loss (aged_by loss)),
-          (
-            aged_by loss,
-            quiet_by n loss (aged_by loss),
-            aging n playable.network all b at late well (some_trees n made now x.fails),
-            refl,
-            refl,
-          ),
-          enough later,
-        )
 
     -- it has come to rest by what the row of this loss says
     rests_by : (sound : ℕ) → sound ≡ sound_by n loss v.paths (row_at v) (gained_at n v)
@@ -371,19 +311,24 @@ module _ (d : DocumentState) (playable : IsPlayable d) where
           ))),
         )
     rests_by sound told (inr (inr (inr (inr (inr (inr (inl (row, is)))))))) =
-        let (rest, tree) = tree_falls n playable.network all b at late well (octets_at d playable at) row in inr
-        (inl (rest, tree, told ∙ is))
+        let (rest, tree) = tree_falls n playable.network all b at late well (octets_at d playable at) row in
+        inr (inl (rest, tree, told ∙ is))
     rests_by sound told (inr (inr (inr (inr (inr (inr (inr (inl (row, is))))))))) =
         let x = failure_cuts n playable.network all b at late well row in
         let echo : ℕ = max (echo_span (pace_of n) v.paths) (largest_interval (pace_of n)) in
-        inr (inr (inr (x, split_rests sound x echo (told ∙ is) (λ later. inl later))))
+        inr (inr (inr (
+          x,
+          split_rests n playable.network all b at late well sound echo (some_trees n made now x.fails) (told ∙ is)
+              (λ later. inl later),
+        )))
     rests_by sound told (inr (inr (inr (inr (inr (inr (inr (inr (inr (which, cuts, is)))))))))) =
         let x = all_cut n playable.network all b at late well which cuts in
         let gone : ℕ = gone_by n v.paths loss.soon in
         let flight = flight_now n playable.network all b at late x.trees.fails in
         inr (inr (inr (
           x.trees,
-          split_rests sound x.trees gone (told ∙ is) (λ later. inr (x.beyond, gone, flight, later)),
+          split_rests n playable.network all b at late well sound gone (some_trees n made now x.trees.fails) (told ∙ is)
+              (λ later. inr (x.beyond, gone, flight, later)),
         )))
     rests_by sound told (inr (inr (inr (inr (inr (inr (inr (inr (inl (row, is)))))))))) =
         let x = taken n playable.network all b at late well row in

@@ -54,7 +54,10 @@ module _ (n : NetworkState) (network : IsNetwork n) (made : List Timed) (event :
       where
         by : (test : Bool) → (number == clock_of m.identity) ≡ test
             → (if (if test then with_priority1 value (system_after made m) else system_after made m).live
-            then Some ((if test then with_priority1 value (system_after made m) else system_after made m).identity, m.ports)
+            then Some (
+              (if test then with_priority1 value (system_after made m) else system_after made m).identity,
+              m.ports,
+            )
             else None)
             ≡ live_after made m
         by true own = gets m member (sym (eqb-true number (clock_of m.identity) own))

@@ -180,9 +180,8 @@ module _ (n : NetworkState) (network : IsNetwork n) (events : List Timed) (b : S
       let (g, unmoved) = lowers_none well is in
       record {
         first = g;
-        lowers = lowers_link n network made g.x.event (first_well n network is_lowering made now
-            g.x well) unmoved g.delay g.paths
-            g.few g.x.so;
+        lowers = lowers_link n network made g.x.event (first_well n network is_lowering made now g.x well) unmoved
+            g.delay g.paths g.few g.x.so;
       }
 
   -- and it cuts off a far end
@@ -304,9 +303,8 @@ module _ (n : NetworkState) (network : IsNetwork n) (events : List Timed) (b : S
         (
           g,
           turns_link n network made g.x.event (first_well n network is_lowering made now g.x well)
-              (sym (turned_seen n made (made ++ g.x.event ∷ []) (made ++ now)
-              (first_stays is_lowering g)) ∙ one) g.delay g.paths
-              g.few g.x.so,
+              (sym (turned_seen n made (made ++ g.x.event ∷ []) (made ++ now) (first_stays is_lowering g)) ∙ one)
+              g.delay g.paths g.few g.x.so,
         ),
       )
 
@@ -400,9 +398,9 @@ module _ (n : NetworkState) (network : IsNetwork n) (events : List Timed) (b : S
       let (keeps, lowers, tree, come) = late_by lowers_one (turns_tree_after n made (made ++ now)) turns in
       let rest = rest_so from in
       let g = goes_first is_lowering keeps lowers in
-      let one = turns_tree_link n network made g.x.event (first_well n network is_lowering made
-      now g.x well) g.delay g.paths g.few
-      g.x.so (sym (turns_seen n made (made ++ g.x.event ∷ []) (made ++ now) (first_stays is_lowering g)) ∙ tree) in (
+      let seen = turns_seen n made (made ++ g.x.event ∷ []) (made ++ now) (first_stays is_lowering g) in
+      let one = turns_tree_link n network made g.x.event (first_well n network is_lowering made now g.x well) g.delay
+      g.paths g.few g.x.so (sym seen ∙ tree) in (
         rest,
         record {
           lowers = before_repeats n network is_lowering made now g.x (OneEvent (TurnsTreeLink n)) one;
@@ -464,8 +462,8 @@ module _ (n : NetworkState) (network : IsNetwork n) (events : List Timed) (b : S
           (from, (and_parts (is_failing_followed v.paths_before v.paths v.told) v.moves.trees_move trees).0)
 
   -- what is in flight behind all is gone by then
-  pub flight_now : FailsTreesFirst n made now → FlightIsGoneSince n made (made ++ now)
-      (gone_by n v.paths (loss_at v).soon)
+  pub flight_now : FailsTreesFirst n made now
+      → FlightIsGoneSince n made (made ++ now) (gone_by n v.paths (loss_at v).soon)
   flight_now fails =
       gone_since n made now (gone_by n v.paths (loss_at v).soon) (fails_set_none n made now fails) (by now refl fails)
     where

@@ -1,12 +1,15 @@
 -- The times of a document come one after another, with no event between.
 use Rattle.std.proofs.Common.{◌≡◌, inl, inr, ◌<◌, ◌≤◌, ℕ, Bool, true, false, cond, List, [], ◌∷◌, refl, ap, arith}
-use Rattle.std.specs.Prelude.{◌==◌, ⊤, if◌then◌else◌}
+use Rattle.std.specs.Prelude.{◌==◌, ⊤, if◌then◌else◌, nat_le}
 use Rattle.std.proofs.lemmas.Bool.{eqb-false, eqb-true}
+use Rattle.std.proofs.lemmas.Bool.Decides.{nat_tests}
 use Rattle.gptp_lists.specs.Members.{In}
 use Rattle.gptp_scenario.specs.declared.change.Timed.{Timed}
 use Rattle.gptp_network.specs.Events.{AreInOrder}
+use Rattle.gptp_network.specs.Snapshot.{events_by}
 use Rattle.gptp_topology.specs.Times.{times_from}
 use Rattle.gptp_settling_time.specs.HowSoon.{NoneBetween}
+use Rattle.gptp_how_soon.specs.Times.{events_at}
 
 -- ---- the times after one
 
@@ -72,3 +75,24 @@ module _ (all : List Timed) where
             λ event member behind_it. first_least t ts order event (rest event member behind_it),
             other late,
           )
+
+-- ---- time 0
+
+-- the events up to time 0 are those at it
+pub begin_at : (events : List Timed) → events_by 0 events ≡ events_at 0 events
+begin_at [] = refl
+begin_at (event ∷ events) = by (nat_le event.at 0) (event.at == 0) refl refl (begin_at events)
+  where
+    by : (soon now : Bool) → nat_le event.at 0 ≡ soon → (event.at == 0) ≡ now → events_by 0 events ≡ events_at 0 events
+        → cond soon (event ∷ events_by 0 events) (events_by 0 events)
+        ≡ cond now (event ∷ events_at 0 events) (events_at 0 events)
+    by true true f g rest = ap (λ es. event ∷ es) rest
+    by true false f g rest =
+        let apart = eqb-false event.at 0 g in
+        let early : event.at ≤ 0 = grind (arith, nat_tests) in
+        absurd (apart (omega (arith, early)))
+    by false true f g rest =
+        let is = eqb-true event.at 0 g in
+        let behind : 0 < event.at = grind (arith, nat_tests) in
+        absurd (omega (arith, is, behind))
+    by false false f g rest = rest
