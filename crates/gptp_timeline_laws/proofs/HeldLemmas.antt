@@ -332,7 +332,13 @@ module _ {F : Type 0} (answers : Bounds → ℕ → F → Option ℕ → F → T
           choice = λ s lives.
               let is = (rest answers d playable names events g name from bound has until t fate drawn w happens keeps
               late s lives).settled in
-              record { root = is.root; steps = is.steps; slave = is.slave; parent = is.parent };
+              record {
+                root = is.root;
+                steps = is.steps;
+                slave = is.slave;
+                parent = is.parent;
+                roles = λ n of linked. is.roles n of;
+              };
           draws = was.draws;
           acts = was.acts;
           used = λ uses.
