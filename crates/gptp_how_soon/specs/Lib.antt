@@ -8,6 +8,7 @@ pub mod TurnedTree
 pub mod TwoTops
 pub mod MovedTrees
 pub mod Silent
+pub mod Alone
 pub mod Bounds
 pub mod Rest
 pub mod Times

@@ -169,6 +169,7 @@ no_moves = record {
   trees_move = false;
   taken = false;
   cuts_all = false;
+  alone = false;
   far = false;
   held = 0;
 }

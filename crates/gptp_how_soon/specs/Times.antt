@@ -23,6 +23,7 @@ use Rattle.gptp_topology.specs.Times.{times_of}
 use Rattle.gptp_topology.specs.declared.course.Cable.{Cable}
 use Rattle.gptp_topology.specs.declared.course.Standing.{Standing}
 use Rattle.gptp_how_soon.specs.Bounds.{arrived_by, heard_by, ready, times_by}
+use Rattle.gptp_how_soon.specs.Alone.{leaves_alone_after}
 use Rattle.gptp_how_soon.specs.Chosen.{moves_counted, moves_some}
 use Rattle.gptp_how_soon.specs.Far.{are_far_after, cut_far_ends_after, none_up_longer, up_is_used}
 use Rattle.gptp_how_soon.specs.Kinds.{sets_bounds, sets_link, takes_one, told_by}
@@ -96,6 +97,7 @@ loss_at v = record {
   soon = comes_soon v.used v.none_longer v.paths.delay (arrived_by v.longest v.last_set) v.at;
   soon_before = comes_soon v.used_before v.none_longer_before v.paths_before.delay v.arrived_before v.at;
   cuts_all = v.moves.cuts_all;
+  alone = v.moves.alone;
   silent = v.silent;
   held = v.moves.held;
 }
@@ -151,6 +153,7 @@ moves_at n made now before at = record {
   taken = not (moves_some n made (made ++ now)) && not (silent_after n made (made ++ now));
   cuts_all = (has_come_after n made before at && moves_trees_after n made (made ++ now))
       && cuts_all_after n made (made ++ now);
+  alone = up_is_used (standings_after n made) && leaves_alone_after n made (made ++ now);
   far = are_far_after n made (told_of n made now);
   held = held_after n (own_intervals n before at) made (made ++ now);
 }

@@ -10,6 +10,7 @@ use Rattle.gptp_topology.specs.Course.{cable_is_used, named}
 use Rattle.gptp_topology.specs.Tables.{TablesActed, are_calm, cables_of, has_clock, link_named, marked_paths, neighbours_at, systems_in}
 use Rattle.gptp_topology.specs.declared.nodes.System.{System}
 use Rattle.gptp_how_soon.specs.Bounds.{arrived_by}
+use Rattle.gptp_how_soon.specs.Alone.{leaves_alone}
 use Rattle.gptp_how_soon.specs.Chosen.{any_counted, any_moved, chosen_over, ends_among, ends_in_use}
 use Rattle.gptp_how_soon.specs.Far.{all_cut_far_ends, are_far, none_up_longer, up_is_used}
 use Rattle.gptp_how_soon.specs.Kinds.{sets_bounds, takes_one, told_by}
@@ -134,6 +135,9 @@ moves_seen n w at = record {
       && moves_trees (systems_in w.tables.nodes.items) (lost_seen w) (ends_in_use w.ends.items (used_now w))
       (chosen_before w) (chosen_now w))
       && cuts_all (systems_in w.tables.nodes.items) (lost_seen w) (chosen_before w) (chosen_now w);
+  alone = w.all_used_before
+      && leaves_alone (systems_in w.tables.nodes.items) (ends_in_use w.ends.items w.used_before.items)
+      (ends_in_use w.ends.items (used_now w));
   far = are_far w.systems_before.items (chosen_before w) (ends_in_use w.ends.items w.used_before.items) w.told.items;
   held = held_among n (own_intervals n w.before at) (heard_seen w) w.tables.standings.items;
 }

@@ -36,6 +36,9 @@ pub struct Moves {
     pub taken: bool,
     /// Whether then each system of these trees gets a worse root, and each live far end of a link that is lost is moved.
     pub cuts_all: bool,
+    /// Whether each live system is alone then, which was at one link in use at most, and each link that was up was in
+    /// use.
+    pub alone: bool,
     /// Whether those that they name were far ends.
     pub far: bool,
     /// For how long it counts what others hold of a system that fails, in ns; 0 where no link is left silent whose far

@@ -7,6 +7,7 @@ ghost use Rattle.gptp_how_soon.specs.Times.{settling_time};
 ghost use Rattle.gptp_how_soon.specs.Rest.{no_moves};
 ghost use Rattle.gptp_how_soon.specs.Walk.{IsFirstWalk, WalkGoesOn, WalkPasses, moves_seen, view_seen};
 
+use crate::alone::leaves_alone;
 use crate::bounds::{
     Loss, SettlingTime, announce_interval, arrived_before, arrived_by, heard, ready, times_by,
     way_span,
@@ -169,6 +170,10 @@ impl Walk {
             trees_move: both(come, trees),
             taken: both(!any_moved, !silent),
             cuts_all: both(both(come, trees), cuts_all(&systems, &lost, &before, &now)),
+            alone: both(
+                self.all_used_before,
+                leaves_alone(&systems, &links_before, &links),
+            ),
             far: are_far(&self.systems_before, &before, &links_before, &self.told),
             held: held_among(network, own, &heard, &self.tables.standings),
         })
@@ -199,6 +204,7 @@ impl Walk {
                 trees_move: false,
                 taken: false,
                 cuts_all: false,
+                alone: false,
                 far: false,
                 held: 0,
             })
@@ -251,6 +257,7 @@ impl Walk {
             soon,
             soon_before,
             cuts_all: moves.cuts_all,
+            alone: moves.alone,
             silent: any_silent(used, standings),
             held: moves.held,
         };

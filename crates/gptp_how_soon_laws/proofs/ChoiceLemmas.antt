@@ -36,8 +36,8 @@ use Rattle.gptp_how_soon_laws.specs.Choice.{SettlingsAreChoiceBounds}
 use Rattle.gptp_how_soon_laws.proofs.FailedLemmas.{used_up}
 use Rattle.gptp_how_soon_laws.proofs.RowBoundLemmas.{HasOwnBounds, IsSoundSooner, IsTelling, bounds_choice, choice_or_own, past_row, sound_or_sooner, tells}
 use Rattle.gptp_how_soon_laws.proofs.RowLemmas.{gained, unchanged}
-use Rattle.gptp_how_soon_laws.proofs.RowLossLemmas.{ComesLate, FailsLate, FallsLate, GoesFirst, TakesSome, all_cut, cut_off, failed, failure_cuts, flight_now, heard, losses, lowered, none_left, same_paths, taken, tree_falls, tree_turned, turned}
-use Rattle.gptp_how_soon_laws.proofs.AgedLemmas.{aged, aging, quiet_later, split_rests}
+use Rattle.gptp_how_soon_laws.proofs.RowLossLemmas.{ComesLate, CutsAll, FailsLate, FallsLate, GoesFirst, TakesSome, all_cut, cut_off, failed, failure_cuts, flight_now, heard, left_alone, losses, lowered, none_left, same_paths, taken, tree_falls, tree_turned, turned}
+use Rattle.gptp_how_soon_laws.proofs.AgedLemmas.{aged, aging, alone_rests, quiet_later, split_rests}
 use Rattle.gptp_how_soon_laws.proofs.LossBoundLemmas.{beside, greater, no_later, some_before, some_heard, some_lost, some_rested, some_trees}
 use Rattle.gptp_how_soon_laws.proofs.RepeatLemmas.{before_repeats}
 use Rattle.gptp_how_soon_laws.proofs.RowTestLemmas.{HasComeToRest}
@@ -323,13 +323,25 @@ module _ (d : DocumentState) (playable : IsPlayable d) where
         )))
     rests_by sound told (inr (inr (inr (inr (inr (inr (inr (inr (inr (which, cuts, is)))))))))) =
         let x = all_cut n playable.network all b at late well which cuts in
-        let gone : ℕ = gone_by n v.paths loss.soon in
-        let flight = flight_now n playable.network all b at late x.trees.fails in
-        inr (inr (inr (
-          x.trees,
-          split_rests n playable.network all b at late well sound gone (some_trees n made now x.trees.fails) (told ∙ is)
-              (λ later. inr (x.beyond, gone, flight, later)),
-        )))
+        inr (inr (inr (x.trees, by x loss.alone refl (told ∙ is))))
+      where
+        gone : ℕ
+        gone = gone_by n v.paths loss.soon
+
+        fallen : ℕ
+        fallen = aged_by loss + 2 * way_span v.paths
+
+        by : CutsAll n playable.network all b at late → (apart : Bool) → loss.alone ≡ apart
+            → sound ≡ quiet_by n loss (if apart then max fallen v.paths_before.delay else fallen + gone)
+            → RestsSplit n sound made now
+        by x false some same =
+            let flight = flight_now n playable.network all b at late x.trees.fails in
+            split_rests n playable.network all b at late well sound gone (some_trees n made now x.trees.fails) same
+            (λ later. inr (inl (x.beyond, gone, flight, later)))
+        by x true apart same =
+            let (leaves, used) = left_alone n playable.network all b at late well apart in
+            alone_rests n playable.network all b at late well sound (some_trees n made now x.trees.fails) same leaves
+            used
     rests_by sound told (inr (inr (inr (inr (inr (inr (inr (inr (inl (row, is)))))))))) =
         let x = taken n playable.network all b at late well row in
         inl (x.rested, alone (Resting sound) (inr (by x v.used refl (told ∙ is))))
@@ -341,7 +353,7 @@ module _ (d : DocumentState) (playable : IsPlayable d) where
             → sound ≡ (if used then max (echo_span (pace_of n) v.paths) v.paths.delay else span)
             → RestsAfterAnyLoss n made now sound ⊎ RestsTaken n made now sound
         by x true used same =
-            inr (x.takes, x.moves, x.few, used_up n playable.network (made ++ now) used, omega (arith, same))
+            inr (x.takes, x.moves, x.few, inl (used_up n playable.network (made ++ now) used, omega (arith, same)))
         by x false used same =
             inl (span, (several_lost n playable.network made now x.takes, refl, inl (x.none, same)))
 
@@ -497,7 +509,7 @@ module _ (d : DocumentState) (playable : IsPlayable d) where
         ))
     asks_by TakenAway row own =
         let x = taken n playable.network all b at late well row in
-        inl (x.rested, alone (Losing 0 0) (inr (inr (inr (inr (inr (x.takes, x.moves, x.none, refl, refl)))))))
+        inl (x.rested, alone (Losing 0 0) (inr (inr (inr (inr (inr (x.takes, x.moves, refl, inl (x.none, refl))))))))
     asks_by AnyLosses row own =
         let (rest, loses, roles) = losses n playable.network all b at late row in
         let span : ℕ = any_loss_span n loss v.paths in

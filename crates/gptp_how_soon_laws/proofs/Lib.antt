@@ -41,6 +41,7 @@ mod ArrivedLemmas
 mod FlightLemmas
 mod RowLemmas
 mod TakenAwayLemmas
+mod AloneLemmas
 mod CutsAllLemmas
 mod RowLossLemmas
 mod AnyLossLemmas

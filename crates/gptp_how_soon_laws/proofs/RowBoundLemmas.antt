@@ -13,7 +13,7 @@ use Rattle.gptp_scenario.specs.SyncWait.{sync_paths}
 use Rattle.gptp_scenario.specs.declared.change.Timed.{Timed}
 use Rattle.gptp_scenario.specs.declared.sync_wait.SyncPaths.{SyncPaths}
 use Rattle.gptp_topology.specs.After.{is_calm}
-use Rattle.gptp_how_soon.specs.Bounds.{aged_by, aged_echo_span, any_loss_span, arrived_by, choice_by, choice_of_row, gone_by, quiet_by, roles_by, roles_of_row, settled, sound_by, sound_of_row, taken_echo_span}
+use Rattle.gptp_how_soon.specs.Bounds.{aged_by, aged_echo_span, any_loss_span, apart_by, arrived_by, choice_by, choice_of_row, gone_by, quiet_by, roles_by, roles_of_row, settled, sound_by, sound_of_row, taken_echo_span}
 use Rattle.gptp_how_soon.specs.Kinds.{sets_link}
 use Rattle.gptp_how_soon.specs.Times.{View, gained_at, loss_at, row_at, settling_time}
 use Rattle.gptp_how_soon.specs.declared.bounds.Loss.{Loss}
@@ -140,7 +140,7 @@ IsSoundSooner n loss paths row sound =
     (aged_by loss + 2 * way_span paths + max (echo_span (pace_of n) paths) (largest_interval (pace_of n)))))
     ⊎ (((row ≡ TakenAway) × (sound ≡ taken_echo_span n loss paths))
     ⊎ (((row ≡ FailureCutsOff) ⊎ (row ≡ FailureMovesTrees)) × (loss.cuts_all ≡ true)
-    × (sound ≡ quiet_by n loss (aged_by loss + 2 * way_span paths + gone_by n paths loss.soon)))))))))))
+    × (sound ≡ quiet_by n loss (apart_by n loss paths)))))))))))
 
 pub sound_or_sooner : (n : NetworkState) (loss : Loss) (paths : SyncPaths) (row : Row)
     (gained : ℕ)
@@ -154,13 +154,12 @@ sound_or_sooner n loss paths row gained = by (n.params.sync_timeout == 0) refl r
 
     -- after a failure it matters whether all that is moved is cut off
     all : (r : Row) → (r ≡ FailureCutsOff) ⊎ (r ≡ FailureMovesTrees) → loss.cuts_all ≡ true
-        → IsSoundSooner n loss paths r
-        (quiet_by n loss (aged_by loss + 2 * way_span paths + gone_by n paths loss.soon))
+        → IsSoundSooner n loss paths r (quiet_by n loss (apart_by n loss paths))
     all r which cuts = inr (inr (inr (inr (inr (inr (inr (inr (inr (which, cuts, refl)))))))))
 
     cut : (cuts : Bool) → loss.cuts_all ≡ cuts
         → IsSoundSooner n loss paths FailureCutsOff
-        (if cuts then quiet_by n loss (aged_by loss + 2 * way_span paths + gone_by n paths loss.soon)
+        (if cuts then quiet_by n loss (apart_by n loss paths)
         else max (aged_by loss + 2 * way_span paths) (aged_echo_span n loss paths))
     cut true cuts = all FailureCutsOff (inl refl) cuts
     cut false cuts = inr (inr (inr (inr (inl (inr refl, omega arith)))))
@@ -168,9 +167,8 @@ sound_or_sooner n loss paths row gained = by (n.params.sync_timeout == 0) refl r
     moved : (cuts : Bool) → loss.cuts_all ≡ cuts
         → IsSoundSooner n loss paths FailureMovesTrees
         (quiet_by n loss
-        (aged_by loss + 2 * way_span paths
-        + (if cuts then gone_by n paths loss.soon
-        else max (echo_span (pace_of n) paths) (largest_interval (pace_of n)))))
+        (if cuts then apart_by n loss paths
+        else aged_by loss + 2 * way_span paths + max (echo_span (pace_of n) paths) (largest_interval (pace_of n))))
     moved true cuts = all FailureMovesTrees (inr refl) cuts
     moved false cuts = inr (inr (inr (inr (inr (inr (inr (inl (refl, refl))))))))
 

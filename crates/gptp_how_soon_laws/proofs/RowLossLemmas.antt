@@ -15,6 +15,7 @@ use Rattle.gptp_invariants.specs.WorldEncodableLaws.{SetsAnOctet}
 use Rattle.gptp_how_soon.specs.Bounds.{gone_by, quiet_by}
 use Rattle.gptp_how_soon.specs.Chosen.{moves_joined, moves_some}
 use Rattle.gptp_how_soon.specs.Kinds.{begins_with, brings_nothing, fails_beside_idle, fails_first, is_loss, is_lowering, is_worsening, lowers_one, takes_one, takes_several, worsens_first}
+use Rattle.gptp_how_soon.specs.Alone.{leaves_alone_after}
 use Rattle.gptp_how_soon.specs.MovedTrees.{cuts_all_after, moves_trees_after}
 use Rattle.gptp_how_soon.specs.Rest.{is_end_followed, is_failing_followed, is_from_rest, is_lowering_followed, is_taking_followed, is_worsening_followed, keeps_paths, rested}
 use Rattle.gptp_how_soon.specs.Times.{View, events_at, has_come_after, loss_at, row_at, told_at, told_of, view_at}
@@ -30,7 +31,7 @@ use Rattle.gptp_settling_time.specs.HowSoon.{BeforeRepeats, FailsEndFirst, Fails
 use Rattle.gptp_settling_time.specs.EventKinds.{FlightIsGone, FlightIsGoneFrom}
 use Rattle.gptp_settling_time.specs.Rests.{FlightIsGoneSince}
 use Rattle.gptp_settling_time.specs.Losses.{CutsFarEnd, LowersLink, MovesNoneInAll, NoneSilent, TurnsLink, UpIsUsed}
-use Rattle.gptp_settling_time.specs.TreeLosses.{CutsAllBeyondFrom, FallsTree, TurnsTreeLink}
+use Rattle.gptp_settling_time.specs.TreeLosses.{CutsAllBeyondFrom, FallsTree, LeavesAloneFrom, TurnsTreeLink}
 use Rattle.gptp_settling_time.proofs.SamePathsLemmas.{StandSame, same_itself}
 use Rattle.gptp_settling_time.specs.Gains.{HasDelaysWithin}
 use Rattle.gptp_settling_time.proofs.MomentLemmas.{all_at}
@@ -52,6 +53,7 @@ use Rattle.gptp_how_soon_laws.proofs.RowTestLemmas.{HasComeToRest, at_most, coun
 use Rattle.gptp_how_soon_laws.proofs.RowLemmas as rows
 use Rattle.gptp_how_soon_laws.proofs.TakenAwayLemmas.{several_taken, several_unmoved}
 use Rattle.gptp_how_soon_laws.proofs.FlightLemmas.{fails_set_none, gone_since, gone_soon, repeats_set_none, set_before}
+use Rattle.gptp_how_soon_laws.proofs.AloneLemmas.{all_alone}
 use Rattle.gptp_how_soon_laws.proofs.CutsAllLemmas.{all_beyond}
 
 module _ (n : NetworkState) (network : IsNetwork n) (events : List Timed) (b : SettlingTime) (at : ℕ)
@@ -459,6 +461,13 @@ module _ (n : NetworkState) (network : IsNetwork n) (events : List Timed) (b : S
       by (inr row) =
           let (from, trees) = why FailureMovesTrees row in
           (from, (and_parts (is_failing_followed v.paths_before v.paths v.told) v.moves.trees_move trees).0)
+
+  -- or it leaves each live system alone
+  pub left_alone : AreWell n (made ++ now) → (loss_at v).alone ≡ true
+      → LeavesAloneFrom n made (made ++ now) × UpIsUsed n made
+  left_alone well alone =
+      let (used, leaves) = and_parts v.used_before (leaves_alone_after n made (made ++ now)) alone in
+      (all_alone n network made now well leaves, used_up n network made used)
 
   -- what is in flight behind all is gone by then
   pub flight_now : FailsTreesFirst n made now

@@ -45,6 +45,7 @@ use Rattle.gptp_settling_time.proofs.FallDownLemmas.{FlightNames}
 use Rattle.gptp_settling_time.proofs.GainLemmas.{lives_so, unused_so, up_so}
 use Rattle.gptp_settling_time.proofs.HoldSpanLemmas.{ages_over}
 use Rattle.gptp_settling_time.proofs.KeptToLemmas.{KeepsTo}
+use Rattle.gptp_settling_time.proofs.LeftToLemmas.{up_in_use}
 use Rattle.gptp_settling_time.proofs.LossMadeLemmas.{HasRestedSo}
 use Rattle.gptp_settling_time.proofs.NamedLemmas.{IsNamedFrom}
 use Rattle.gptp_settling_time.proofs.SettledSeenLemmas.{IsSettledSeen}
@@ -55,7 +56,7 @@ use Rattle.gptp_settling_time.proofs.SplitAlwaysLemmas.{IsSplitAlways}
 use Rattle.gptp_settling_time.proofs.SplitDownLemmas.{alone_down, down_splits}
 use Rattle.gptp_settling_time.proofs.SplitFailLemmas.{anew_begins}
 use Rattle.gptp_settling_time.proofs.SplitRestLemmas.{SplitNamesAlone, split_anew_begins}
-use Rattle.gptp_settling_time.proofs.SplitToLemmas.{GoesOver, IsSplitTo, SetLimits, over_gone, split_by}
+use Rattle.gptp_settling_time.proofs.SplitToLemmas.{GoesOver, IsSplitTo, SetLimits, WereUsed, over_gone, split_by}
 use Rattle.gptp_settling_time.proofs.UpPortsLemmas.{IsUpAt, by_up}
 use Rattle.gptp_settling_time.proofs.WereSilentLemmas.{WereSilent, were_down, were_failed}
 use Rattle.gptp_settling_time.proofs.WorldMovesLemmas.{adjacent_alike, alike_so, cut_off_alike, joins_alike, near_so, unmoved_alike, twice_alike}
@@ -258,7 +259,12 @@ module _ (d : DocumentState) (playable : IsPlayable d) (made : List Timed) (even
               (near_so d playable made then keeps x.few) (omega (arith, over, at_time)) names_now onward_now silent best
               each
               few_before few_then shorter_then (GoesOver n before made more then.time gone silent) (SetLimits n made)
-              (λ limit (most, within, is). subst (λ t. AreLimitedBy t then) (sym is) (keeps.limited most within)) gone
+              (WereUsed n made then.time)
+              (λ limit (most, within, is). subst (λ t. AreLimitedBy t then) (sym is) (keeps.limited most within))
+              (λ old (used, past). (
+                up_in_use d made then keeps used,
+                let delay = ap (λ (y : SyncPaths). y.delay) paths_then in omega (arith, past, delay),
+              )) gone
               after.claim.measured
               (omega (arith, silent_is))
               (λ links. by_map says_announce (snapshot_of w') (stay_of p) (AgesOver n before made more then.time)
@@ -293,9 +299,11 @@ module _ (d : DocumentState) (playable : IsPlayable d) (made : List Timed) (even
     abbrev Over : List Timed → ℕ → PortIdentity → ℕ → Type 0
     Over events by = GoesOver n so.before ago events so.failed by silent
 
-    down : IsSplitAlways p so.before (Over made gone) (SetLimits n ago) so.failed gone silent w'
+    down : IsSplitAlways p so.before (Over made gone) (SetLimits n ago)
+        (WereUsed n ago so.failed) so.failed gone silent w'
     down =
-        down_splits p so.before (Over made gone) (SetLimits n ago) so.failed gone silent y.clock y.port then
+        down_splits p so.before (Over made gone) (SetLimits n ago) (WereUsed n ago so.failed) so.failed gone silent
+        y.clock y.port then
         draws done w' after.claim.world after.claim.measured lowered so.since.split quiet_then
         (up_so n made then keeps.stands end y.up lowered.1.place lowered.1.channel lowered.1.is)
         (unused_so n made then keeps.stands world_then.sound end y.failed) falls.off
@@ -303,7 +311,8 @@ module _ (d : DocumentState) (playable : IsPlayable d) (made : List Timed) (even
     -- what has no steps still names its sender alone
     names_down : SplitNamesAlone p silent w'
     names_down =
-        alone_down p so.before (Over made gone) (SetLimits n ago) so.failed gone silent y.clock y.port then
+        alone_down p so.before (Over made gone) (SetLimits n ago) (WereUsed n ago so.failed)
+        so.failed gone silent y.clock y.port then
         draws done w' after.claim.world after.claim.measured lowered so.since.split quiet_then
         (up_so n made then keeps.stands end y.up lowered.1.place lowered.1.channel lowered.1.is)
         (unused_so n made then keeps.stands world_then.sound end y.failed) so.since.alone
@@ -332,8 +341,10 @@ module _ (d : DocumentState) (playable : IsPlayable d) (made : List Timed) (even
       before = so.before;
       stood = so.stood;
       failed = so.failed;
-      since = split_anew_begins p so.before (Over more gone) (SetLimits n ago) so.failed gone silent w'
-          (split_by p so.before (Over made gone) (SetLimits n ago) so.failed gone silent w' down
+      since = split_anew_begins p so.before (Over more gone) (SetLimits n ago)
+          (WereUsed n ago so.failed) so.failed gone silent w'
+          (split_by p so.before (Over made gone) (SetLimits n ago) (WereUsed n ago so.failed)
+          so.failed gone silent w' down
           (Over more gone) gone over_more
           (λ port until is. is.1) (over_gone n so.before ago more so.failed gone silent) (inl (omega arith))) names_down
           last;
@@ -356,10 +367,10 @@ module _ (d : DocumentState) (playable : IsPlayable d) (made : List Timed) (even
         stood = so.stood;
         failed = so.failed;
         since = split_anew_begins p so.before (GoesOver n so.before ago more so.failed sooner silent) (SetLimits n ago)
-            so.failed sooner
+            (WereUsed n ago so.failed) so.failed sooner
             silent w'
             (split_by p so.before (GoesOver n so.before ago more so.failed gone silent)
-            (SetLimits n ago) so.failed gone silent w'
+            (SetLimits n ago) (WereUsed n ago so.failed) so.failed gone silent w'
             so.since.split (GoesOver n so.before ago more so.failed sooner silent) sooner
             (λ links. by_map says_announce (snapshot_of w') (stay_of p)
             (GoesOver n so.before ago more so.failed gone silent)

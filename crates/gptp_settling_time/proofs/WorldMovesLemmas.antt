@@ -24,7 +24,7 @@ use Rattle.gptp_theorem.proofs.AlikeLemmas.{clock_among, turned, best as alike_b
 use Rattle.gptp_theorem.proofs.SnapshotLemmas.{snapshots_stand}
 use Rattle.gptp_theorem.proofs.SyncPathLemmas.{paths_stand}
 use Rattle.gptp_settling_time.specs.Losses.{IsCutOff, IsFarEnd, IsTurned, IsUnmoved, IsUnmovedOrCutOff, MovesNone, MovesNoneJoined, TurnsSystem}
-use Rattle.gptp_settling_time.specs.TreeLosses.{CutsAllBeyond, IsTreeCutOff, IsTreeCutTwice}
+use Rattle.gptp_settling_time.specs.TreeLosses.{CutsAllBeyond, IsTreeCutOff, IsTreeCutTwice, LeavesAlone, LosesFarther}
 use Rattle.gptp_settling_time.proofs.KeptToLemmas.{KeepsTo}
 
 -- a system is unmoved between two snapshots that is so between others of the same systems and links
@@ -97,6 +97,18 @@ twice_alike g h g' h' before now best t cut = record {
     to_h : (v : ℕ) → IsBest g' v t.next → IsBest h' v t.next
     to_h v is = alike_best g' h' now v t.next is
 
+-- so it is that no system is moved, and none lost its link to a nearer one
+pub farther_alike : (g h g' h' : Snapshot) → AreAlike g h → AreAlike g' h' → LosesFarther h h' → LosesFarther g g'
+farther_alike g h g' h' before now loses = record {
+  each = λ v known. unmoved_alike g h g' h' before now v (loses.each v (clock_among g' h' now v known));
+  beyond = λ from to joins known bare nearer.
+      loses.beyond from to (joins_alike g h before from to joins) (clock_among g' h' now to.clock known)
+      (λ (u, link). bare (u, joins_alike h' g' (turned g' h' now) to u link))
+      (λ near far from_near to_far.
+      nearer near far (alike_distance h g (turned g h before) from.clock near from_near)
+      (alike_distance h g (turned g h before) to.clock far to_far));
+}
+
 -- and so is all beyond a failed system
 pub beyond_alike : (g h g' h' : Snapshot) → AreAlike g h → AreAlike g' h' → CutsAllBeyond h h' → CutsAllBeyond g g'
 beyond_alike g h g' h' before now cuts = record {
@@ -126,6 +138,15 @@ beyond_alike g h g' h' before now cuts = record {
   where
     back : AreAlike h' g'
     back = turned g' h' now
+
+-- and where each live system is left alone
+pub leaves_alike : (g h g' h' : Snapshot) → AreAlike g h → AreAlike g' h' → LeavesAlone h h' → LeavesAlone g g'
+leaves_alike g h g' h' before now leaves = record {
+  none = λ from to joins. leaves.none from to (joins_alike g' h' now from to joins);
+  one = λ v p q t u known first second.
+      leaves.one v p q t u (clock_among g' h' now v known) (joins_alike g h before (port_of v p) t first)
+      (joins_alike g h before (port_of v q) u second);
+}
 
 far_alike : (g h : Snapshot) → AreAlike g h → (v : ℕ) → IsFarEnd h v → IsFarEnd g v
 far_alike g h alike_is v is_far u far near joined away close =
