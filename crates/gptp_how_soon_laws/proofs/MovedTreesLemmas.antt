@@ -1,9 +1,9 @@
 -- Where the tests of trees that are moved as a system fails hold, they are so from one snapshot to the other.
-use Rattle.std.proofs.Common.{◌≡◌, ◌≤◌, ◌⊎◌, inl, inr, ℕ, Bool, true, false, List, [], ◌∷◌, ◌++◌, length, slice_get, refl, sym, ap, subst, ◌∙◌, append-nil, arith}
+use Rattle.std.proofs.Common.{◌≡◌, ◌≤◌, ◌⊎◌, inl, inr, ℕ, Bool, true, false, List, [], ◌∷◌, ◌++◌, slice_get, refl, sym, ap, subst, ◌∙◌, append-nil, arith}
 use Rattle.std.specs.Prelude.{not}
-use Rattle.std.specs.List.{range_with_len}
-use Rattle.std.proofs.lemmas.Bool.{and_from}
+use Rattle.std.proofs.lemmas.Bool.{and_from, and_parts}
 use Rattle.gptp_lists.specs.Members.{In}
+use Rattle.gptp_lists.proofs.SystemSpecLemmas.{In-map}
 use Rattle.gptp_bmca_machine.specs.CutTree.{Tree}
 use Rattle.gptp_bmca_machine.specs.FailureTrees.{Turning}
 use Rattle.gptp_bmca_machine.specs.TwoTops.{First, TopsTree}
@@ -34,14 +34,13 @@ use Rattle.gptp_how_soon_laws.proofs.ToldLemmas.{loss_fails}
 use Rattle.gptp_how_soon_laws.proofs.TreeBelowLemmas.{IsTop, best, best_so, cut_off, tree}
 use Rattle.gptp_how_soon_laws.proofs.LivesOnLemmas.{LivesOn, on_at, on_of}
 use Rattle.gptp_how_soon_laws.proofs.LostEndLemmas as lost_ends
-use Rattle.gptp_how_soon_laws.proofs.LostLinkLemmas.{ends_are, stands_or_lost}
+use Rattle.gptp_how_soon_laws.proofs.LostLinkLemmas.{ends_are, joined_by, stands_or_lost, used_links}
 use Rattle.gptp_how_soon_laws.proofs.MovedTreesTestLemmas as tests
-use Rattle.gptp_how_soon_laws.proofs.ReadyLemmas.{none_any}
 use Rattle.gptp_how_soon_laws.proofs.TreeTestLemmas.{better_so, same_so}
-use Rattle.gptp_how_soon_laws.proofs.TurnedTreeTestLemmas.{TurnsAt, turned_moves, turns_at}
+use Rattle.gptp_how_soon_laws.proofs.TurnedTreeTestLemmas.{TurnsAt, part_turns, turned_moves, turns_at}
 use Rattle.gptp_how_soon_laws.proofs.TwoTopsLemmas as two_tops
 use Rattle.gptp_how_soon_laws.proofs.TurnsBelowLemmas.{HasTurned, has_turned, turning}
-use Rattle.gptp_how_soon_laws.proofs.UnmovedLemmas.{AreWell, asked_of, unmoved_at}
+use Rattle.gptp_how_soon_laws.proofs.UnmovedLemmas.{AreWell, unmoved_at}
 use Rattle.gptp_how_soon_laws.proofs.WorseningLemmas.{same_system}
 
 module _ (n : NetworkState) (network : IsNetwork n) (made events : List Timed) where
@@ -65,6 +64,18 @@ module _ (n : NetworkState) (network : IsNetwork n) (made events : List Timed) w
 
   abbrev falls_there : ℕ → Bool
   falls_there = falls_at systems before now
+
+  abbrev names : List Chosen
+  names = tests.names n network made events
+
+  abbrev part_there : ℕ → ℕ → Bool
+  part_there = tests.part_there n network made events
+
+  turns_moves : (i : ℕ) → turns_there i ≡ true → is_moved_there i ≡ true
+  turns_moves = turned_moves n network made events
+
+  part_is_turned : (top i : ℕ) → part_there top i ≡ true → turns_there i ≡ true
+  part_is_turned = part_turns n network made events names
 
   falls_moves : (i : ℕ) → falls_there i ≡ true → is_moved_there i ≡ true
   falls_moves = tests.falls_moves n network made events
@@ -145,13 +156,14 @@ module _ (n : NetworkState) (network : IsNetwork n) (made events : List Timed) w
           same_system n network made made g g stands stands a.chose.best b.chose.best a.chose.is_best.live
           b.chose.is_best.live (sym a.chose.root ∙ same ∙ b.chose.root)
 
-      -- a top of a tree that is cut off, with the system at it
+      -- a system that is moved at an end of a link that is lost
       record TopOf : Type 0 where
         top : ℕ
         clock : ℕ
         at : IsAt n top clock
         known : In clock (clocks h)
-        is_top : is_top_there top ≡ true
+        lost_end : IsLostEnd top
+        moves : is_moved_there top ≡ true
 
       abbrev on_top_of : (t : TopOf) → On t.top t.clock
       on_top_of t = on_there t.top t.clock t.at t.known
@@ -159,31 +171,24 @@ module _ (n : NetworkState) (network : IsNetwork n) (made events : List Timed) w
       abbrev best_of : TopOf → System
       best_of t = (on_top_of t).chose.best
 
-      top_of : (top : ℕ) → is_top_there top ≡ true → TopOf
-      top_of top is =
-          let (clock, at) = at_end top (top_parts top is).0 in
-          record { top = top; clock = clock; at = at; known = moved_lives top clock at (top_moves top is); is_top = is }
+      top_of : (top : ℕ) → IsLostEnd top → is_moved_there top ≡ true → TopOf
+      top_of top x moves =
+          let (clock, at) = at_end top x in
+          record { top = top; clock = clock; at = at; known = moved_lives top clock at moves; lost_end = x; moves = moves }
 
-      -- that of the tree that turns
+      cut_top : (top : ℕ) → is_top_there top ≡ true → TopOf
+      cut_top top is = top_of top (top_parts top is).0 (top_moves top is)
+
+      -- one at which a tree turns
       record TurnedTop : Type 0 where
-        top : ℕ
-        clock : ℕ
-        lost_end : IsLostEnd top
-        turns : TurnsAt n network made events top
-        on_top : On top clock
+        of : TopOf
+        turns : TurnsAt n network made events names of.top
 
-      -- all tops had one
+      -- all had one best
       one_best : (t u : TopOf) → best_of t ≡ best_of u
       one_best t u =
           same_best t.top u.top t.clock u.clock (on_top_of t) (on_top_of u)
-          (moved_agree t.top u.top (top_parts t.top t.is_top).0 (top_parts u.top u.is_top).0 (top_moves t.top t.is_top)
-          (top_moves u.top u.is_top)).root
-
-      best_with : (t : TopOf) (x : TurnedTop) → best_of t ≡ x.on_top.chose.best
-      best_with t x =
-          same_best t.top x.top t.clock x.clock (on_top_of t) x.on_top
-          (moved_agree t.top x.top (top_parts t.top t.is_top).0 x.lost_end (top_moves t.top t.is_top)
-          (turned_moves n network made events x.top x.turns.turns)).root
+          (moved_agree t.top u.top t.lost_end u.lost_end t.moves u.moves).root
 
       -- ---- trees that are cut off
 
@@ -203,11 +208,11 @@ module _ (n : NetworkState) (network : IsNetwork n) (made events : List Timed) w
       in_one : (place : ℕ) (o : OneTop place) (i v : ℕ) → On i v
           → has_same_root (slice_get now i) (slice_get now place) ≡ true → (b : System) → ((t : TopOf) → best_of t ≡ b)
           → (s : Tree) × IsTreeCutOff g h b s × IsBest h v s.next
-      unfolding top_of is_top
+      unfolding cut_top top_of is_top
       in_one place o i v s own b tops =
           let (is, same) = tests.of_tops n network made events place o.top
           (subst (In o.top) (sym o.tops) (inl refl)) in
-          let t = top_of o.top is in
+          let t = cut_top o.top is in
           let x : IsTopOf o.top t.clock = is_top place o t.clock t.at t.known in (
             tree n network made events g h stands stands' well well' lived o.top t.clock x,
             subst (λ c. IsTreeCutOff g h c
@@ -220,11 +225,11 @@ module _ (n : NetworkState) (network : IsNetwork n) (made events : List Timed) w
       in_two : (place : ℕ) (t : TwoTops place) (i v : ℕ) → On i v
           → has_same_root (slice_get now i) (slice_get now place) ≡ true → (b : System) → ((u : TopOf) → best_of u ≡ b)
           → (s : TopsTree) × IsTreeCutTwice g h b s × IsBest h v s.next
-      unfolding top_of
+      unfolding cut_top top_of
       in_two place t i v s own b tops =
           let (is, same) = tests.of_tops n network made events place t.first
           (subst (In t.first) (sym t.tops) (inl refl)) in
-          let u = top_of t.first is in
+          let u = cut_top t.first is in
           let clock : ℕ =
           two_tops.top_clock n network made events place t g h stands stands' well well' lived First in
           let first : On t.first clock =
@@ -251,46 +256,62 @@ module _ (n : NetworkState) (network : IsNetwork n) (made events : List Timed) w
       pub cut_there : (i v : ℕ) → IsAt n i v → In v (clocks h) → falls_there i ≡ true → (b : System) × IsCutAt b v
       cut_there i v at known falls =
           let u = under i v at falls in
-          let t = top_of u.top u.is_top in
+          let t = cut_top u.top u.is_top in
           (best_of t, cut_at i v at known falls (best_of t) (λ other. one_best other t))
 
-      -- some top is known, or no system falls
+      -- who is moved has one
+      top_for : (i v : ℕ) → IsAt n i v → is_moved_there i ≡ true → TopOf
+      top_for i v at moves = by (turns_there i) refl
+        where
+          by : (turns : Bool) → turns_there i ≡ turns → TopOf
+          by true turns =
+              let w = tests.has_end n network made events splits i v at turns in
+              top_of w.top w.lost_end (turns_moves w.top w.turns)
+          by false none =
+              let u = under i v at (and_from (is_moved_there i) (not (turns_there i)) moves (ap not none)) in
+              cut_top u.top u.is_top
+
+      -- some top is known, or no system is moved
       first_top : (vs : List ℕ) → ((v : ℕ) → In v vs → In v (clocks h))
-          → TopOf ⊎ ((v : ℕ) → In v vs → (i : ℕ) → IsAt n i v → falls_there i ≡ false)
+          → TopOf ⊎ ((v : ℕ) → In v vs → (i : ℕ) → IsAt n i v → is_moved_there i ≡ false)
       first_top [] within = inr (λ v none. absurd none)
       first_top (v ∷ vs) within =
           let (i, s) = on v (within v (inl refl)) in
-          by i s.at (falls_there i) refl (first_top vs (λ u member. within u (inr member)))
+          by i s.at (is_moved_there i) refl (first_top vs (λ u member. within u (inr member)))
         where
-          by : (i : ℕ) (at : IsAt n i v) (falls : Bool) → falls_there i ≡ falls
-              → TopOf ⊎ ((u : ℕ) → In u vs → (j : ℕ) → IsAt n j u → falls_there j ≡ false)
-              → TopOf ⊎ ((u : ℕ) → In u (v ∷ vs) → (j : ℕ) → IsAt n j u → falls_there j ≡ false)
-          by i at true is rest = let u = under i v at is in inl (top_of u.top u.is_top)
+          by : (i : ℕ) (at : IsAt n i v) (moves : Bool) → is_moved_there i ≡ moves
+              → TopOf ⊎ ((u : ℕ) → In u vs → (j : ℕ) → IsAt n j u → is_moved_there j ≡ false)
+              → TopOf ⊎ ((u : ℕ) → In u (v ∷ vs) → (j : ℕ) → IsAt n j u → is_moved_there j ≡ false)
+          by i at true is rest = inl (top_for i v at is)
           by i at false is (inl t) = inl t
           by i at false is (inr none) = inr (λ u member j there. elim member [
             | inl same ↦
                 let own = subst (IsAt n j) same there in
                 let one : j ≡ i =
                 network.clocks j i own.system at.system own.there at.there (own.clock ∙ sym at.clock) in
-                ap falls_there one ∙ is
+                ap is_moved_there one ∙ is
             | inr behind ↦ none u behind j there
           ])
 
       -- ---- the tree that turns
 
       module _ (x : TurnedTop) where
+        abbrev top : ℕ
+        top = x.of.top
+
+        abbrev on_top : On top x.of.clock
+        on_top = on_top_of x.of
+
         abbrev own : Turning
         own =
-            turning n network made events x.top x.clock x.turns g h stands stands' well well' lived x.on_top
+            turning n network made events names top x.of.clock x.turns g h stands stands' well well' lived on_top
 
         abbrev had : System
-        had = x.on_top.chose.best
+        had = on_top.chose.best
 
-        abbrev has : HasTurned n turns_there g h had own
-        has = has_turned n network made events x.top x.clock x.turns g h stands stands' well well' lived x.on_top
-
-        turn_moves : is_moved_there x.top ≡ true
-        turn_moves = turned_moves n network made events x.top x.turns.turns
+        abbrev has : HasTurned n (part_there top) g h had own
+        has =
+            has_turned n network made events names top x.of.clock x.turns g h stands stands' well well' lived on_top
 
         -- a system of it has its best
         keeps_root : (i v : ℕ) (s : On i v) → IsBest h v had → s.is.root ≡ had.identity
@@ -299,14 +320,15 @@ module _ (n : NetworkState) (network : IsNetwork n) (made events : List Timed) w
             s.chooses.root ∙ ap (λ (b : System). b.identity) (sym one)
 
         -- of it the top alone is at an end of a link that is lost
-        only_top : (i v : ℕ) (s : On i v) → In v own.tree → IsLostEnd i → v ≡ x.clock
+        only_top : (i v : ℕ) (s : On i v) → In v own.tree → IsLostEnd i → v ≡ x.of.clock
         only_top i v s in_v end =
-            let turns = has.turned_of i v s.at in_v in
-            let moves = turned_moves n network made events i turns in
-            let one = (moved_agree i x.top end x.lost_end moves turn_moves).one turns x.turns.turns in
-            one_clock n network made g stands well x.top v x.clock (subst (λ k. IsAt n k v) one s.at) x.on_top.at
+            let inside = has.turned_of i v s.at in_v in
+            let moves = turns_moves i (part_is_turned top i inside) in
+            let top_turns = part_is_turned top top x.turns.turns in
+            let one = (moved_agree top i x.of.lost_end end x.of.moves moves).one top_turns inside in
+            one_clock n network made g stands well top v x.of.clock (subst (λ k. IsAt n k v) (sym one) s.at) x.of.at
 
-        lost_so : (v u : ℕ) → In v own.tree → Adjacent g v u → Adjacent h v u ⊎ (v ≡ x.clock)
+        lost_so : (v u : ℕ) → In v own.tree → Adjacent g v u → Adjacent h v u ⊎ (v ≡ x.of.clock)
         lost_so v u in_v (p, q, joins) =
             let (i, s) = on v (has.lives v in_v) in
             let (j, at_u) =
@@ -338,12 +360,12 @@ module _ (n : NetworkState) (network : IsNetwork n) (made events : List Timed) w
 
         -- no system with the best of it falls: all tops had that, and what falls has a worse one
         falls_apart : (i v : ℕ) (s : On i v) → IsBest h v had → falls_there i ≡ true → ⊥
-        unfolding top_of
+        unfolding cut_top top_of
         falls_apart i v s is_best falls =
             let u = under i v s.at falls in
             let (clock, at) = at_end u.top (top_parts u.top u.is_top).0 in
             let m = tests.main_top n network made events u.top (tree_at u.top clock at u.is_top) in
-            let t = top_of m.top m.is_top in
+            let t = cut_top m.top m.is_top in
             apart t m.worse (root_back i u.top m.top u.same m.same)
           where
             apart : (t : TopOf) → has_better_root (slice_get before t.top) (slice_get now t.top) ≡ true
@@ -352,12 +374,11 @@ module _ (n : NetworkState) (network : IsNetwork n) (made events : List Timed) w
                 let o = on_top_of t in
                 let less = better_so o.was o.is
                 ((λ k. has_better_root (sym o.was_there k) (sym o.is_there k)) ∙ worse) in
-                let first = same_so before t.top x.top o.was x.on_top.was o.was_there x.on_top.was_there
-                (moved_agree t.top x.top (top_parts t.top t.is_top).0 x.lost_end (top_moves t.top t.is_top)
-                turn_moves).root in
+                let first = same_so before t.top top o.was on_top.was o.was_there on_top.was_there
+                (moved_agree t.top top t.lost_end x.of.lost_end t.moves x.of.moves).root in
                 let last = same_so now t.top i o.is s.is o.is_there s.is_there same in
                 let here = keeps_root i v s is_best in
-                let there = x.on_top.chose.root in
+                let there = on_top.chose.root in
                 absurd (omega (arith, less, first, last, here, there))
 
         out_unmoved : IsUnmoved g h own.out
@@ -366,6 +387,32 @@ module _ (n : NetworkState) (network : IsNetwork n) (made events : List Timed) w
             let (i, s) = on own.out known in
             by i s (is_moved_there i) refl (turns_there i) refl
           where
+            -- if it turned it would be of this part
+            of_part : (i : ℕ) (s : On i own.out) → turns_there i ≡ true → part_there top i ≡ true
+            of_part i s turns =
+                let (p, q, joins) = has.joined in
+                let (j, r) = on own.last (has.lives own.last has.in_last) in
+                let inside = has.turned_of j own.last r.at has.in_last in
+                let last_turns = part_is_turned top j inside in
+                let link = joined_by n network made g stands well events h stands' well' j i (port_of own.last p)
+                (port_of own.out q) r.at s.at joins in
+                let listed = In-map (ends_of n) link.wire (used_links n events) link.among in
+                let named : has_same_root (slice_get names j) (slice_get names i) ≡ true = elim link.by [
+                  | inl (ends, is) ↦ at_ends j i (ends_of n link.wire) listed ends last_turns turns
+                  | inr (ends, is) ↦ tests.same_turned (slice_get names i) (slice_get names j)
+                      (at_ends i j (ends_of n link.wire) listed ends turns last_turns)
+                ] in
+                let with_top = (and_parts (turns_there j) (has_same_root (slice_get names top) (slice_get names j))
+                inside).1 in
+                and_from (turns_there i) (has_same_root (slice_get names top) (slice_get names i)) turns
+                (tests.same_on (slice_get names top) (slice_get names j) (slice_get names i) with_top named)
+              where
+                at_ends : (a b : ℕ) (e : Ends) → In e links → e ≡ record { a = a; b = b } → turns_there a ≡ true
+                    → turns_there b ≡ true → has_same_root (slice_get names a) (slice_get names b) ≡ true
+                at_ends a b e listed same is is' =
+                    tests.same_part n network made events splits (record { a = a; b = b })
+                    (subst (λ d. In d links) same listed) is is'
+
             out_best : IsBest h own.out had
             out_best = IsBest-neighbour h own.last own.out had well' has.joined (has.is_best own.last has.in_last)
 
@@ -374,7 +421,7 @@ module _ (n : NetworkState) (network : IsNetwork n) (made events : List Timed) w
             by i s false none turns is =
                 unmoved_at n network made events g h stands stands' well well' own.out (lived own.out s.known) s.known i
                 s.at none
-            by i s true moves true turns = absurd (has.outside (has.member i own.out s.at s.known turns))
+            by i s true moves true turns = absurd (has.outside (has.member i own.out s.at s.known (of_part i s turns)))
             by i s true moves false none =
                 absurd (falls_apart i own.out s out_best
                 (and_from (is_moved_there i) (not (turns_there i)) moves (ap not none)))
@@ -399,77 +446,56 @@ module _ (n : NetworkState) (network : IsNetwork n) (made events : List Timed) w
           one_way = has.one_way;
         }
 
-        in_turned : (i v : ℕ) → IsAt n i v → In v (clocks h) → turns_there i ≡ true → (b : System) → had ≡ b
+        in_turned : (i v : ℕ) → IsAt n i v → In v (clocks h) → part_there top i ≡ true → (b : System) → had ≡ b
             → (t : Turning) × IsTreeTurned g h b t × In v t.tree
-        in_turned i v at known turns b same =
-            (own, subst (λ c. IsTreeTurned g h c own) same is_turned, has.member i v at known turns)
+        in_turned i v at known inside b same =
+            (own, subst (λ c. IsTreeTurned g h c own) same is_turned, has.member i v at known inside)
 
-      -- no system turns, or the top of the tree is known
-      turned_top : ((i v : ℕ) → IsAt n i v → turns_there i ≡ false) ⊎ TurnedTop
-      turned_top =
-          elim (tests.turns_by n network made events splits) [
-            | inl none ↦
-                inl (λ i v at.
-                none_any turns_there (range_with_len 0 (length systems)) i none
-                (asked_of n events i at.system at.there))
-            | inr (top, x, is) ↦
-                let turns = turns_at n network made events top is in
-                let (clock, at) = at_end top x in
-                let known = moved_lives top clock at (turned_moves n network made events top turns.turns) in
-                inr (record {
-                  top = top;
-                  clock = clock;
-                  lost_end = x;
-                  turns = turns;
-                  on_top = on_there top clock at known;
-                })
-          ]
+      -- who turns is in such a tree
+      turned_at : (i v : ℕ) → IsAt n i v → In v (clocks h) → turns_there i ≡ true → (b : System)
+          → ((t : TopOf) → best_of t ≡ b) → (t : Turning) × IsTreeTurned g h b t × In v t.tree
+      unfolding top_of
+      turned_at i v at known turns b tops =
+          let w = tests.has_end n network made events splits i v at turns in
+          by w.inside (top_of w.top w.lost_end (turns_moves w.top w.turns)) refl
+          (turns_at n network made events names w.top
+          (tests.tree_below n network made events splits w.top w.lost_end w.turns))
+        where
+          by : {top : ℕ} → part_there top i ≡ true → (t : TopOf) → t.top ≡ top → TurnsAt n network made events names top
+              → (t : Turning) × IsTreeTurned g h b t × In v t.tree
+          by inside t same below =
+              in_turned (record { of = t; turns = subst (TurnsAt n network made events names) (sym same) below }) i v at
+              known (subst (λ k. part_there k i ≡ true) (sym same) inside) b (tops t)
 
       -- ---- all
 
-      -- what may be known of the tree that turns, where this is the best of before
-      abbrev MayTurn : System → Type 0
-      MayTurn b = ((i v : ℕ) → IsAt n i v → turns_there i ≡ false) ⊎ ((x : TurnedTop) × (x.on_top.chose.best ≡ b))
-
-      each_by : (b : System) → ((t : TopOf) → best_of t ≡ b) → MayTurn b → (v : ℕ) → In v (clocks h)
-          → IsUnmovedOrInTree g h b v
-      each_by b tops may v known =
-          let (i, s) = on v known in by i s (is_moved_there i) refl (turns_there i) refl may
+      each_by : (b : System) → ((t : TopOf) → best_of t ≡ b) → (v : ℕ) → In v (clocks h) → IsUnmovedOrInTree g h b v
+      each_by b tops v known = let (i, s) = on v known in by i s (is_moved_there i) refl (turns_there i) refl
         where
           by : (i : ℕ) (s : On i v) (moves : Bool) → is_moved_there i ≡ moves → (turns : Bool)
-              → turns_there i ≡ turns → MayTurn b → IsUnmovedOrInTree g h b v
-          by i s false none turns is may =
+              → turns_there i ≡ turns → IsUnmovedOrInTree g h b v
+          by i s false none turns is =
               inl (unmoved_at n network made events g h stands stands' well well' v (lived v known) known i s.at none)
-          by i s true moves true turns (inl none) =
-              let no : true ≡ false = sym turns ∙ none i v s.at in absurd cc
-          by i s true moves true turns (inr (x, same)) = inr (inr (inl (in_turned x i v s.at known turns b same)))
-          by i s true moves false none may =
+          by i s true moves true turns = inr (inr (inl (turned_at i v s.at known turns b tops)))
+          by i s true moves false none =
               let falls = and_from (is_moved_there i) (not (turns_there i)) moves (ap not none) in
               elim (cut_at i v s.at known falls b tops) [
                 | inl cut ↦ inr (inl cut)
                 | inr twice ↦ inr (inr (inr twice))
               ]
 
-      abbrev NoneFalls : Type 0
-      NoneFalls = (v : ℕ) → In v (clocks h) → (i : ℕ) → IsAt n i v → falls_there i ≡ false
-
-      none_tops : NoneFalls → (b : System) (t : TopOf) → best_of t ≡ b
-      none_tops none b t =
-          let no : true ≡ false = sym (top_parts t.top t.is_top).1 ∙ none t.clock t.known t.top t.at in absurd cc
-
       pub split_so : (b : System) × ((v : ℕ) → In v (clocks h) → IsUnmovedOrInTree g h b v)
-      split_so = by (first_top (clocks h) (λ v member. member)) turned_top
+      split_so = by (first_top (clocks h) (λ v member. member))
         where
-          by : TopOf ⊎ NoneFalls → ((i v : ℕ) → IsAt n i v → turns_there i ≡ false) ⊎ TurnedTop
+          by : TopOf ⊎ ((v : ℕ) → In v (clocks h) → (i : ℕ) → IsAt n i v → is_moved_there i ≡ false)
               → (b : System) × ((v : ℕ) → In v (clocks h) → IsUnmovedOrInTree g h b v)
-          by (inl t) (inl still) = (best_of t, each_by (best_of t) (λ u. one_best u t) (inl still))
-          by (inl t) (inr x) =
-              (best_of t, each_by (best_of t) (λ u. one_best u t) (inr (x, sym (best_with t x))))
-          by (inr none) (inl still) =
-              let b : System = record { clock = 0; identity = 0; ports = 0 } in
-              (b, each_by b (none_tops none b) (inl still))
-          by (inr none) (inr x) =
-              (x.on_top.chose.best, each_by x.on_top.chose.best (none_tops none x.on_top.chose.best) (inr (x, refl)))
+          by (inl t) = (best_of t, each_by (best_of t) (λ u. one_best u t))
+          by (inr none) =
+              let b : System = record { clock = 0; identity = 0; ports = 0 } in (
+                b,
+                each_by b (λ t.
+                    let no : true ≡ false = sym t.moves ∙ none t.clock t.known t.top t.at in absurd cc),
+              )
 
 -- ---- the events of a time
 

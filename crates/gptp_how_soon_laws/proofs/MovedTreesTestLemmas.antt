@@ -2,7 +2,7 @@
 use Rattle.std.proofs.Common.{◌≡◌, ◌⊎◌, inl, inr, ℕ, Bool, true, false, List, [], ◌∷◌, Option, Some, None, length, slice_get, refl, sym, ap, subst, ◌∙◌}
 use Rattle.std.specs.Prelude.{◌==◌, ◌&&◌, ◌||◌, not, if◌then◌else◌}
 use Rattle.std.specs.List.{list_all, list_any, range_with_len}
-use Rattle.std.proofs.lemmas.Bool.{and_from, and_parts, eq-eqb, eqb-true, not-true, or_cases, or_left, or_right}
+use Rattle.std.proofs.lemmas.Bool.{and_from, and_parts, eq-eqb, eqb-true, or_cases, or_left, or_right}
 use Rattle.gptp_lists.specs.Members.{In}
 use Rattle.gptp_network.proofs.PassLemmas.{kept, passes, passes_at}
 use Rattle.gptp_network.proofs.SnapshotLemmas.{from_filter}
@@ -11,9 +11,9 @@ use Rattle.gptp_scenario.specs.declared.change.Timed.{Timed}
 use Rattle.gptp_topology.specs.After.{systems_after}
 use Rattle.gptp_topology.specs.declared.nodes.System as ours
 use Rattle.gptp_how_soon.specs.Chosen.{chosen_after, ends_at, is_joined, is_moved, is_moved_at, lost_ends, used_ends}
-use Rattle.gptp_how_soon.specs.MovedTrees.{agrees_with, are_tops, ends_are_tops, falls_below_tops, has_tops, is_below_or_apart, is_in_tree, is_top_at, is_top_with, moves_trees_after, tops_with, turns_at_end, turns_none_or_one}
+use Rattle.gptp_how_soon.specs.MovedTrees.{agrees_with, are_tops, ends_are_tops, falls_below_tops, has_tops, is_below_or_apart, is_in_tree, is_top_at, is_top_with, keeps_part, moves_trees_after, part_names, parts_turn, stays_or_has_end, stays_or_tree_turns, tops_with, trees_turn_at, turns_with, turns_with_end}
 use Rattle.gptp_how_soon.specs.Tree.{chose_itself, has_better_root, has_same_root, is_below}
-use Rattle.gptp_how_soon.specs.TurnedTree.{falls_at, is_turned_at, tree_turns_at}
+use Rattle.gptp_how_soon.specs.TurnedTree.{falls_at, is_in_part, is_turned_at, tree_turns_at}
 use Rattle.gptp_how_soon.specs.TwoTops.{chosen_from, is_both_or_apart}
 use Rattle.gptp_how_soon.specs.declared.chosen.Chosen.{Chosen}
 use Rattle.gptp_how_soon.specs.declared.chosen.Ends.{Ends}
@@ -75,6 +75,14 @@ module _ (n : NetworkState) (network : IsNetwork n) (made events : List Timed) w
 
   abbrev pub falls_there : ℕ → Bool
   falls_there = falls_at systems before now
+
+  -- names of parts that turn
+  abbrev pub names : List Chosen
+  names = part_names systems links before now
+
+  -- who is of the part of a top
+  abbrev pub part_there : ℕ → ℕ → Bool
+  part_there = is_in_part systems before now names
 
   -- who falls is moved
   pub falls_moves : (i : ℕ) → falls_there i ≡ true → is_moved_there i ≡ true
@@ -229,19 +237,19 @@ module _ (n : NetworkState) (network : IsNetwork n) (made events : List Timed) w
 
   module _ (splits : moves_trees_after n made events ≡ true) where
     abbrev agree_test : Bool
-    agree_test = list_all (agrees_with systems lost before now) lost
+    agree_test = list_all (agrees_with systems lost before now names) lost
 
     abbrev trees_test : Bool
     trees_test = list_all (is_in_tree systems lost links before now) (range_with_len 0 (length systems))
 
-    two_parts : ((agree_test && trees_test) ≡ true) × (turns_none_or_one systems lost links before now ≡ true)
-    two_parts = and_parts (agree_test && trees_test) (turns_none_or_one systems lost links before now) splits
+    two_parts : ((agree_test && trees_test) ≡ true) × (parts_turn systems lost links before now names ≡ true)
+    two_parts = and_parts (agree_test && trees_test) (parts_turn systems lost links before now names) splits
 
     agree : agree_test ≡ true
     agree = (and_parts agree_test trees_test two_parts.0).0
 
     -- two ends of such links agree
-    tops_agree : (i j : ℕ) → IsLostEnd i → IsLostEnd j → are_tops systems before now i j ≡ true
+    tops_agree : (i j : ℕ) → IsLostEnd i → IsLostEnd j → are_tops systems before now names i j ≡ true
     tops_agree i j x y = by x.end y.end
       where
         e : Ends
@@ -250,38 +258,38 @@ module _ (n : NetworkState) (network : IsNetwork n) (made events : List Timed) w
         f : Ends
         f = y.ends
 
-        each : ends_are_tops systems before now e f ≡ true
+        each : ends_are_tops systems before now names e f ≡ true
         each =
-            each_is (ends_are_tops systems before now e) lost f
-            (each_is (agrees_with systems lost before now) lost e agree x.listed) y.listed
+            each_is (ends_are_tops systems before now names e) lost f
+            (each_is (agrees_with systems lost before now names) lost e agree x.listed) y.listed
 
-        three : ((are_tops systems before now e.a f.a && are_tops systems before now e.a f.b
-            && are_tops systems before now e.b f.a) ≡ true) × (are_tops systems before now e.b f.b ≡ true)
+        three : ((are_tops systems before now names e.a f.a && are_tops systems before now names e.a f.b
+            && are_tops systems before now names e.b f.a) ≡ true) × (are_tops systems before now names e.b f.b ≡ true)
         three =
             and_parts
-            (are_tops systems before now e.a f.a && are_tops systems before now e.a f.b
-            && are_tops systems before now e.b f.a)
-            (are_tops systems before now e.b f.b) each
+            (are_tops systems before now names e.a f.a && are_tops systems before now names e.a f.b
+            && are_tops systems before now names e.b f.a)
+            (are_tops systems before now names e.b f.b) each
 
-        two : ((are_tops systems before now e.a f.a && are_tops systems before now e.a f.b) ≡ true)
-            × (are_tops systems before now e.b f.a ≡ true)
+        two : ((are_tops systems before now names e.a f.a && are_tops systems before now names e.a f.b) ≡ true)
+            × (are_tops systems before now names e.b f.a ≡ true)
         two =
-            and_parts (are_tops systems before now e.a f.a && are_tops systems before now e.a f.b)
-            (are_tops systems before now e.b f.a) three.0
+            and_parts (are_tops systems before now names e.a f.a && are_tops systems before now names e.a f.b)
+            (are_tops systems before now names e.b f.a) three.0
 
-        one : (are_tops systems before now e.a f.a ≡ true) × (are_tops systems before now e.a f.b ≡ true)
-        one = and_parts (are_tops systems before now e.a f.a) (are_tops systems before now e.a f.b) two.0
+        one : (are_tops systems before now names e.a f.a ≡ true) × (are_tops systems before now names e.a f.b ≡ true)
+        one = and_parts (are_tops systems before now names e.a f.a) (are_tops systems before now names e.a f.b) two.0
 
-        by : (e.a ≡ i) ⊎ (e.b ≡ i) → (f.a ≡ j) ⊎ (f.b ≡ j) → are_tops systems before now i j ≡ true
-        by (inl a) (inl b) = (λ k. are_tops systems before now (sym a k) (sym b k)) ∙ one.0
-        by (inl a) (inr b) = (λ k. are_tops systems before now (sym a k) (sym b k)) ∙ one.1
-        by (inr a) (inl b) = (λ k. are_tops systems before now (sym a k) (sym b k)) ∙ two.1
-        by (inr a) (inr b) = (λ k. are_tops systems before now (sym a k) (sym b k)) ∙ three.1
+        by : (e.a ≡ i) ⊎ (e.b ≡ i) → (f.a ≡ j) ⊎ (f.b ≡ j) → are_tops systems before now names i j ≡ true
+        by (inl a) (inl b) = (λ k. are_tops systems before now names (sym a k) (sym b k)) ∙ one.0
+        by (inl a) (inr b) = (λ k. are_tops systems before now names (sym a k) (sym b k)) ∙ one.1
+        by (inr a) (inl b) = (λ k. are_tops systems before now names (sym a k) (sym b k)) ∙ two.1
+        by (inr a) (inr b) = (λ k. are_tops systems before now names (sym a k) (sym b k)) ∙ three.1
 
-    -- where both are moved they had one root, and are one system if both turn
+    -- where both are moved they had one root, and are one system if both turn and are of one part
     pub record Agree (i j : ℕ) : Type 0 where
       pub root : has_same_root (slice_get before i) (slice_get before j) ≡ true
-      pub one : turns_there i ≡ true → turns_there j ≡ true → i ≡ j
+      pub one : turns_there i ≡ true → part_there i j ≡ true → i ≡ j
 
     pub moved_agree : (i j : ℕ) → IsLostEnd i → IsLostEnd j → is_moved_there i ≡ true → is_moved_there j ≡ true
         → Agree i j
@@ -296,9 +304,9 @@ module _ (n : NetworkState) (network : IsNetwork n) (made events : List Timed) w
               let (root, single) = and_parts root_test (not turn_test || (i == j)) is in
               record {
                 root = root;
-                one = λ turns turns'. elim (or_cases (not turn_test) (i == j) single) [
+                one = λ turns inside. elim (or_cases (not turn_test) (i == j) single) [
                   | inl apart ↦
-                      let both = and_from (turns_there i) (turns_there j) turns turns' in
+                      let both = and_from (turns_there i) (part_there i j) turns inside in
                       let no : false ≡ true = ap not (sym both) ∙ apart in
                       absurd cc
                   | inr equal ↦ eqb-true i j equal
@@ -310,7 +318,7 @@ module _ (n : NetworkState) (network : IsNetwork n) (made events : List Timed) w
         root_test = has_same_root (slice_get before i) (slice_get before j)
 
         turn_test : Bool
-        turn_test = turns_there i && turns_there j
+        turn_test = turns_there i && part_there i j
 
     -- ---- who is in a tree
 
@@ -358,14 +366,77 @@ module _ (n : NetworkState) (network : IsNetwork n) (made events : List Timed) w
               record { top = top; is_top = is_top; same = same }
         ]
 
-    -- no system turns, or a tree does below an end of a link that is lost
-    pub turns_by : (list_any turns_there (range_with_len 0 (length systems)) ≡ false)
-        ⊎ ((top : ℕ) × IsLostEnd top × (tree_turns_at systems links before now top ≡ true))
-    turns_by =
-        elim (or_cases (not (list_any turns_there (range_with_len 0 (length systems))))
-        (list_any (turns_at_end systems links before now) lost) two_parts.1) [
-          | inl none ↦ inl (not-true (list_any turns_there (range_with_len 0 (length systems))) none)
+    -- ---- who turns
+
+    abbrev keep_test : Bool
+    keep_test = list_all (keeps_part systems before now names) links
+
+    abbrev tree_test : Bool
+    tree_test = list_all (trees_turn_at systems links before now names) lost
+
+    part_tests : ((keep_test && tree_test) ≡ true)
+        × (list_all (stays_or_has_end systems lost before now names) (range_with_len 0 (length systems)) ≡ true)
+    part_tests =
+        and_parts (keep_test && tree_test)
+        (list_all (stays_or_has_end systems lost before now names) (range_with_len 0 (length systems))) two_parts.1
+
+    -- a link between two that turn leads to no other part
+    pub same_part : (e : Ends) → In e links → turns_there e.a ≡ true → turns_there e.b ≡ true
+        → has_same_root (slice_get names e.a) (slice_get names e.b) ≡ true
+    same_part e listed turns turns' =
+        elim (or_cases (not (turns_there e.a && turns_there e.b))
+        (has_same_root (slice_get names e.a) (slice_get names e.b))
+        (each_is (keeps_part systems before now names) links e (and_parts keep_test tree_test part_tests.0).0 listed)) [
+          | inl apart ↦
+              let both = and_from (turns_there e.a) (turns_there e.b) turns turns' in
+              let no : false ≡ true = ap not (sym both) ∙ apart in
+              absurd cc
+          | inr same ↦ same
+        ]
+
+    abbrev end_test : ℕ → Bool
+    end_test = stays_or_tree_turns systems links before now names
+
+    -- at an end of a link that is lost a tree turns, if that end does
+    pub tree_below : (top : ℕ) → IsLostEnd top → turns_there top ≡ true
+        → tree_turns_at systems links before now names top ≡ true
+    tree_below top x turns =
+        let e : Ends = x.ends in
+        let (first, second) = and_parts (end_test e.a) (end_test e.b)
+        (each_is (trees_turn_at systems links before now names) lost e (and_parts keep_test tree_test part_tests.0).1
+        x.listed) in
+        by (elim x.end [
+          | inl same ↦ subst (λ i. end_test i ≡ true) same first
+          | inr same ↦ subst (λ i. end_test i ≡ true) same second
+        ])
+      where
+        by : end_test top ≡ true → tree_turns_at systems links before now names top ≡ true
+        by is =
+            elim (or_cases (not (turns_there top)) (tree_turns_at systems links before now names top) is) [
+              | inl stays ↦ let no : false ≡ true = ap not (sym turns) ∙ stays in absurd cc
+              | inr tree ↦ tree
+            ]
+
+    -- who turns is of the part of such an end
+    pub record TurnsWith (i : ℕ) : Type 0 where
+      pub top : ℕ
+      pub lost_end : IsLostEnd top
+      pub turns : turns_there top ≡ true
+      pub inside : part_there top i ≡ true
+
+    pub has_end : (i v : ℕ) → IsAt n i v → turns_there i ≡ true → TurnsWith i
+    has_end i v at turns =
+        elim (or_cases (not (turns_there i)) (list_any (turns_with_end systems before now names i) lost)
+        (each_is (stays_or_has_end systems lost before now names) (range_with_len 0 (length systems)) i part_tests.1
+        (asked_of n events i at.system at.there))) [
+          | inl stays ↦ let no : false ≡ true = ap not (sym turns) ∙ stays in absurd cc
           | inr some ↦
-              let (e, listed, top, end, is) = end_of (tree_turns_at systems links before now) lost some in
-              inr (top, record { ends = e; listed = listed; end = end }, is)
+              let (e, listed, top, end, is) = end_of (turns_with systems before now names i) lost some in
+              let (top_turns, inside) = and_parts (turns_there top) (part_there top i) is in
+              record {
+                top = top;
+                lost_end = record { ends = e; listed = listed; end = end };
+                turns = top_turns;
+                inside = inside;
+              }
         ]
