@@ -174,7 +174,8 @@ module _ (n : NetworkState) (network : IsNetwork n) (made events : List Timed) w
       top_of : (top : ℕ) → IsLostEnd top → is_moved_there top ≡ true → TopOf
       top_of top x moves =
           let (clock, at) = at_end top x in
-          record { top = top; clock = clock; at = at; known = moved_lives top clock at moves; lost_end = x; moves = moves }
+          let known = moved_lives top clock at moves in
+          record { top = top; clock = clock; at = at; known = known; lost_end = x; moves = moves }
 
       cut_top : (top : ℕ) → is_top_there top ≡ true → TopOf
       cut_top top is = top_of top (top_parts top is).0 (top_moves top is)
