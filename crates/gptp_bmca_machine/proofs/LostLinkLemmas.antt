@@ -143,21 +143,6 @@ module _ (says : Spelling) (n0 n : Network) (net0 : IsSettlingNetwork n0) (w w' 
                   })));
             }
 
-    -- how long it stays says the interval that it names
-    pub long_at_rest : (s : Station) (pu : Port) (l : Lane) → slice_get w.stations (n0.place x) ≡ Some s
-        → slice_get s.ports i ≡ Some pu → slice_get w.lanes (n0.lane (port_of lost (suc p))) ≡ Some l
-        → n.interval_of (port_of lost (suc p)) + n0.most < stay (n.log_of (port_of lost (suc p)))
-    long_at_rest s pu l at there lane =
-        let told = told_at_rest s pu l at there lane in
-        let r = told.stays.what in
-        let final = told.stays.final in
-        let log = loss.same.log (port_of lost (suc p)) in
-        let interval = loss.same.interval (port_of lost (suc p)) in
-        let more = stays_long s at pu there r told.stays.holds final.source (final.log ∙ log) in
-        let spans = named (n0.place x) s i r at (is_x s at pu there).0 (pu, there, told.stays.holds)
-        ∙ ap stay final.log in
-        omega (arith, more, spans, interval)
-
     -- so the port holds what was told last
     pub last_begins : (s : Station) (pu : Port) (l : Lane) → slice_get w'.stations (n.place x) ≡ Some s
         → slice_get s.ports i ≡ Some pu → slice_get w'.lanes (n.lane (port_of lost (suc p))) ≡ Some l
