@@ -9,7 +9,7 @@ ghost use Rattle.gptp_how_soon.specs.TurnedTree.{is_turned_at, leads_within};
 use crate::chosen::{Chosen, Ends, choose, is_joined, is_moved_at};
 use crate::silent::hears;
 use crate::tree::{had_better_root, has_same_root, is_below};
-use crate::turned::push_if;
+use crate::turned::{both, push_if};
 use crate::turned_tree::{falls_at, is_in_part, is_turned_at, tree_turns_at};
 use crate::two_tops::{choose_from, falls_below_both};
 use gptp_topology::System;
@@ -178,7 +178,7 @@ fn all_are_in_trees(
     let mut all = true;
     for place in 0..systems.len() {
         let is = is_in_tree(alloc, systems, lost, links, before, now, place)?;
-        all = all && is;
+        all = both(all, is);
     }
     Ok(all)
 }

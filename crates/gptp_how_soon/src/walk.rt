@@ -1,6 +1,6 @@
 //! How a document stands at each time, as its events come.
 
-ghost use Rattle.std.specs.Prelude.{◌≡◌, ◌≤◌, ◌&&◌, if◌then◌else◌, IfOk, IfSome, OnOk};
+ghost use Rattle.std.specs.Prelude.{◌≡◌, ◌≤◌, if◌then◌else◌, IfOk, IfSome, OnOk};
 ghost use Rattle.gptp_network.specs.declared.keys.TheConstants.{LATEST_EVENT};
 ghost use Rattle.gptp_topology.specs.Tables.{AreMarked, marked_paths};
 ghost use Rattle.gptp_how_soon.specs.Times.{settling_time};
@@ -25,7 +25,7 @@ use crate::rest::{
 };
 use crate::silent::{any_silent, heard_links, held_among, own_intervals};
 use crate::tree::{cuts_tree, worsens_best};
-use crate::turned::turns_one;
+use crate::turned::{both, turns_one};
 use crate::turned_tree::turns_tree;
 use gptp_scenario::{Act, Network, SyncPaths};
 use gptp_topology::{System, Tables, cables_of};
@@ -56,13 +56,6 @@ pub(crate) struct Walk {
     pub all_used_before: bool,
     /// Whether none that was up took longer than those in use.
     pub none_longer_before: bool,
-}
-
-/// Whether two things are so, each of which is told.
-fn both(one: bool, other: bool) -> bool
-    ensures { result ≡ (one && other) }
-{
-    one && other
 }
 
 impl Walk {

@@ -17,7 +17,7 @@ use Rattle.gptp_scenario.specs.SyncWait.{sync_paths}
 use Rattle.gptp_scenario.specs.declared.change.Timed.{Timed}
 use Rattle.gptp_topology.specs.After.{systems_after}
 use Rattle.gptp_topology.specs.declared.nodes.System as ours
-use Rattle.gptp_how_soon.specs.Chosen.{chosen_after, ends_of, is_moved_at, lost_ends, used_ends}
+use Rattle.gptp_how_soon.specs.Chosen.{chosen_after, ends_of, is_moved_at, used_ends}
 use Rattle.gptp_how_soon.specs.Losses.{fails_first}
 use Rattle.gptp_how_soon.specs.MovedTrees.{moves_trees_after}
 use Rattle.gptp_how_soon.specs.Times.{told_of}
@@ -31,7 +31,7 @@ use Rattle.gptp_settling_time.specs.Losses.{IsUnmoved}
 use Rattle.gptp_settling_time.specs.TreeLosses.{IsTreeCutOff, IsTreeCutTwice, IsTreeTurned, IsUnmovedOrInTree, MovesTreesFrom}
 use Rattle.gptp_how_soon_laws.proofs.FailedLemmas.{Fails, clock_before, fails, first_delay, first_paths, others, parts, stands_on}
 use Rattle.gptp_how_soon_laws.proofs.ToldLemmas.{loss_fails}
-use Rattle.gptp_how_soon_laws.proofs.TreeBelowLemmas.{IsTop, best, best_so, cut_off, tree}
+use Rattle.gptp_how_soon_laws.proofs.TreeBelowLemmas.{IsTop, best_so, cut_off, tree}
 use Rattle.gptp_how_soon_laws.proofs.LivesOnLemmas.{LivesOn, on_at, on_of}
 use Rattle.gptp_how_soon_laws.proofs.LostEndLemmas as lost_ends
 use Rattle.gptp_how_soon_laws.proofs.LostLinkLemmas.{ends_are, joined_by, stands_or_lost, used_links}

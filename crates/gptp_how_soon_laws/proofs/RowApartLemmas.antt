@@ -1,5 +1,5 @@
--- Several systems and links are taken away at a time, by its row: no system is moved, and no live system lost its link to
--- a nearer one.
+-- Several systems and links are taken away at a time, by its row: no system is moved, and no live system lost its link
+-- to a nearer one.
 use Rattle.std.proofs.Common.{◌≡◌, ◌⊎◌, ◌≤◌, ◌<◌, ℕ, Bool, true, false, List, ◌++◌, Some, inl, inr, refl, max, arith}
 use Rattle.std.specs.Prelude.{if◌then◌else◌, not}
 use Rattle.std.proofs.lemmas.Bool.{and_parts, not-true}
@@ -90,8 +90,12 @@ module _ (n : NetworkState) (network : IsNetwork n) (events : List Timed) (b : S
         inr (x.farther, (gone_by n v.paths v.used, flight_apart, inr (omega (arith, same)), omega (arith, same))),
       )
       by false silent same =
-          let none = none_left n network events b at late silent in
-          (x.takes, x.moves, x.few, inr (x.farther, (gone_by n v.paths v.used, flight_apart, inl none, omega (arith, same))))
+          let none = none_left n network events b at late silent in (
+            x.takes,
+            x.moves,
+            x.few,
+            inr (x.farther, (gone_by n v.paths v.used, flight_apart, inl none, omega (arith, same))),
+          )
 
   -- and so the choice and the roles are bounded
   pub apart_bounds : TakesApart → BoundsTaken n made now 0 (quiet_by n (loss_at v) 0)

@@ -18,7 +18,7 @@ use Rattle.gptp_how_soon.specs.Kinds.{brings_nothing, is_loss, is_lowering, is_w
 use Rattle.gptp_how_soon.specs.Losses.{begins_with, fails_beside_idle, fails_first, lowers_one, takes_one, takes_several, worsens_first}
 use Rattle.gptp_how_soon.specs.Alone.{leaves_alone_after}
 use Rattle.gptp_how_soon.specs.MovedTrees.{cuts_all_after, moves_trees_after}
-use Rattle.gptp_how_soon.specs.Rest.{is_end_followed, is_failing_followed, is_from_rest, is_lowering_followed, is_taking_followed, is_worsening_followed, keeps_paths, rested}
+use Rattle.gptp_how_soon.specs.Rest.{is_end_followed, is_failing_followed, is_from_rest, is_lowering_followed, is_taking_followed, is_worsening_followed, keeps_paths}
 use Rattle.gptp_how_soon.specs.Times.{View, events_at, has_come_after, loss_at, row_at, told_at, told_of, view_at}
 use Rattle.gptp_how_soon.specs.Tree.{cuts_tree_after, worsens_best_after}
 use Rattle.gptp_how_soon.specs.TurnedTree.{turns_tree_after}

@@ -88,7 +88,8 @@ reason : (rest idle left lowers cut turns falls branch fails far moved trees end
 reason false idle left lowers cut turns falls branch fails far moved trees ends apart taken loss only = tt
 reason true true left lowers cut turns falls branch fails far moved trees ends apart taken loss only = (refl, inl refl)
 reason true false true lowers cut turns falls branch fails far moved trees ends apart taken loss only = (refl, inr refl)
-reason true false false true true turns falls branch fails far moved trees ends apart taken loss only = (refl, refl, refl)
+reason true false false true true turns falls branch fails far moved trees ends apart taken loss only =
+    (refl, refl, refl)
 reason true false false true false turns falls branch fails far moved trees ends apart taken loss only = (refl, refl)
 reason true false false false cut true falls branch fails far moved trees ends apart taken loss only = (refl, refl)
 reason true false false false cut false true branch fails far moved trees ends apart taken loss only = (refl, refl)
@@ -101,9 +102,11 @@ reason true false false false cut false false false false far moved true ends ap
 reason true false false false cut false false false false far moved false true apart taken loss only = (refl, inr refl)
 reason true false false false cut false false false false far moved false false true taken loss only = (refl, refl)
 reason true false false false cut false false false false far moved false false false true loss only = (refl, refl)
-reason true false false false cut false false false false far moved false false false false true true = (refl, refl, refl)
+reason true false false false cut false false false false far moved false false false false true true =
+    (refl, refl, refl)
 reason true false false false cut false false false false far moved false false false false true false = tt
-reason true false false false cut false false false false far moved false false false false false only = (refl, refl, refl)
+reason true false false false cut false false false false far moved false false false false false only =
+    (refl, refl, refl)
 
 pub reason_of : (t : Tests) (row : Row) → RowBy t ≡ row → ReasonOf t row
 reason_of t row is =

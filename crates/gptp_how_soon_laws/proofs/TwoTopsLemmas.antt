@@ -78,7 +78,7 @@ module _ (n : NetworkState) (network : IsNetwork n) (made events : List Timed) w
     abbrev in_tree : ℕ → Bool
     in_tree i = has_same_root (slice_get now t.first) (slice_get now i)
 
-    side_place : Side → ℕ
+    pub side_place : Side → ℕ
     side_place First = t.first
     side_place Second = t.second
 

@@ -1,5 +1,5 @@
--- Something is lost, and all beyond it is cut off. What an unmoved system says by a shortest way didn't pass it, so that
--- is sound of what is left.
+-- Something is lost, and all beyond it is cut off. What an unmoved system says by a shortest way didn't pass it, so
+-- that is sound of what is left.
 use Rattle.std.proofs.Common.{◌≡◌, ◌⊎◌, ◌<◌, ◌≤◌, ℕ, suc, List, [], ◌∷◌, length, refl, sym, ap, subst, inl, inr, arith}
 use native.Mathlib.Decide.{dec_le, dec_lt}
 use Rattle.gptp_lists.specs.Members.{In}

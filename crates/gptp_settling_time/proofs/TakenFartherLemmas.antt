@@ -1,5 +1,6 @@
--- A world from which links and systems are taken away at one time, by all of which no system is moved, and none lost its
--- link to a nearer one. What is held is sound in what is left at once, and what is in flight is so but for what is old.
+-- A world from which links and systems are taken away at one time, by all of which no system is moved, and none lost
+-- its link to a nearer one. What is held is sound in what is left at once, and what is in flight is so but for what is
+-- old.
 use Rattle.std.proofs.Common.{◌≡◌, ◌⊎◌, ◌<◌, ◌≤◌, ◌+◌, ◌*◌, ◌∙◌, ℕ, suc, pred, true, List, Some, slice_get, sym, ap, subst, inl, inr, arith}
 use Rattle.gptp_lists.specs.Members.{In}
 use Rattle.gptp_graph.specs.Distance.{IsDistance}

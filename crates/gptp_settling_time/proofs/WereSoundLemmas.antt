@@ -1,5 +1,5 @@
--- Links and systems are taken away from a network in which all was sound. Whatever is held and told since is sound still
--- in the snapshot of before: it came over a link of that, and its trace leads over such links.
+-- Links and systems are taken away from a network in which all was sound. Whatever is held and told since is sound
+-- still in the snapshot of before: it came over a link of that, and its trace leads over such links.
 use Rattle.std.proofs.Common.{◌≡◌, ℕ, suc, true, Some, slice_get, subst, inl, inr}
 use Rattle.gptp_lists.specs.Members.{In}
 use Rattle.gptp_graph.specs.Snapshot.{IsWellFormed, Joins, PortIdentity, Snapshot, System, clocks, port_of}

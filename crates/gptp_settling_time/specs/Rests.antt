@@ -78,8 +78,8 @@ FlightIsGoneSince n ago events flight = FlightIsGone n events flight
 
 -- What is held and in flight in it is right. Right traces have been told by distance since trees settled, and what was
 -- in flight is gone. Or all beyond the failed system was cut off; then trees have settled, and what was in flight as
--- they dropped what they chose before is gone. Or each live system was left alone, having had one link at most, and each
--- link that was up was in use; then what was in flight as the system failed is gone.
+-- they dropped what they chose before is gone. Or each live system was left alone, having had one link at most, and
+-- each link that was up was in use; then what was in flight as the system failed is gone.
 abbrev pub IsToldApart : NetworkState → List Timed → List Timed → ℕ → ℕ → Type 0
 IsToldApart n ago events gone time =
     (gone + 2 * way_span (sync_paths n events) + nearer_echo_span n events + largest_interval (pace_of n) ≤ time)

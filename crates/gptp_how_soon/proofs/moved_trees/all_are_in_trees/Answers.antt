@@ -13,7 +13,8 @@ loop-place-preserved c =
     let i = c.loop-place.place in
     let all = c.loop-place.all in
     let rest = list_all is (range_with_len (i + 1) (length systems - (i + 1))) in
-    ap (λ new. (all && new) && rest) c.in_ok-is_in_tree.ensures
+    ap (λ new. new && rest) c.both-all.ensures
+    ∙ ap (λ new. (all && new) && rest) c.in_ok-is.ensures
     ∙ both_more all (is i) rest
     ∙ ap (λ new. all && new) (all_more is i (length systems) c.loop-place-test.true)
     ∙ c.loop-place.invariant
