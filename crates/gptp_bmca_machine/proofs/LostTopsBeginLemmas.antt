@@ -28,7 +28,10 @@ module _ (says : Spelling) (n0 n : Network) (net0 : IsSettlingNetwork n0) (w w' 
   g = n0.graph
 
   pub tops_begin : TopsHold says g n lost top best next base depth loses c stay w.time n0.most shorter long w'
-  tops_begin = record { last = λ x p i in_x joins bare. last x p i in_x joins bare; bare = λ x in_x. bare_begins says n0 n w w' loss kept' x in_x.reached.1.begins }
+  tops_begin = record {
+    last = λ x p i in_x joins bare. last x p i in_x joins bare;
+    bare = λ x in_x. bare_begins says n0 n w w' loss kept' x in_x.reached.1.begins;
+  }
     where
       last : (x p i : ℕ) → IsBest n.graph x next → Joins g (port_of lost (suc p)) (port_of x (suc i))
           → (IsLinked n.graph (port_of x (suc i)) → ⊥)

@@ -20,8 +20,8 @@ use Rattle.gptp_bmca_machine.proofs.StandsLemmas.{at_either, due_by, port_on}
 use Rattle.gptp_bmca_machine.proofs.StillLemmas.{still}
 use Rattle.gptp_bmca_machine.proofs.ToldLemmas.{HoldsTold, IsTold, all_more, old_hears, old_misses, old_more, told_front}
 
-module _ (says : Spelling) (n : Network) (wf : IsWellFormed n.graph) (ways : Snapshot) (d : ℕ) (best : System) (v p u q : ℕ)
-    (joins : Joins n.graph (port_of v (suc p)) (port_of u (suc q))) (last : ℕ) (w w' : MachineState)
+module _ (says : Spelling) (n : Network) (wf : IsWellFormed n.graph) (ways : Snapshot) (d : ℕ) (best : System)
+    (v p u q : ℕ) (joins : Joins n.graph (port_of v (suc p)) (port_of u (suc q))) (last : ℕ) (w w' : MachineState)
     (kept : IsAfterLoss n w) (kept' : IsAfterLoss n w') (step : MachineSteps says w w')
     (settled : (pu : Port) → StandsAtEnd says n v p u q w pu → HearsSettled (still n d best v p u q) pu)
     (settled' : (pu : Port) → StandsAtEnd says n v p u q w' pu → HearsSettled (still n d best v p u q) pu)
