@@ -156,7 +156,7 @@ trees_move systems lost links before now names =
     && list_all (is_in_tree systems lost links before now) (range_with_len 0 (length systems))
     && parts_turn systems lost links before now names
 
-abbrev pub moves_trees : List System → List Ends → List Ends → List Chosen → List Chosen → Bool
+unfoldable pub moves_trees : List System → List Ends → List Ends → List Chosen → List Chosen → Bool
 moves_trees systems lost links before now =
     trees_move systems lost links before now (part_names systems links before now)
 

@@ -448,6 +448,7 @@ fn parts_turn(
 }
 
 /// Whether each system that is moved is in a tree that is cut off or turns, as these links are lost.
+#[tactic(auto, unfolding(crate::specs::MovedTrees::moves_trees))]
 pub(crate) fn moves_trees(
     alloc: Global,
     systems: &[System],

@@ -11,7 +11,7 @@ use Rattle.gptp_scenario.specs.declared.change.Timed.{Timed}
 use Rattle.gptp_topology.specs.After.{systems_after}
 use Rattle.gptp_topology.specs.declared.nodes.System as ours
 use Rattle.gptp_how_soon.specs.Chosen.{chosen_after, ends_at, is_joined, is_moved, is_moved_at, lost_ends, used_ends}
-use Rattle.gptp_how_soon.specs.MovedTrees.{agrees_with, are_tops, ends_are_tops, falls_below_tops, has_tops, is_below_or_apart, is_in_tree, is_top_at, is_top_with, keeps_part, moves_trees_after, part_names, parts_turn, stays_or_has_end, stays_or_tree_turns, tops_with, trees_turn_at, turns_with, turns_with_end}
+use Rattle.gptp_how_soon.specs.MovedTrees.{agrees_with, are_tops, ends_are_tops, falls_below_tops, has_tops, is_below_or_apart, is_in_tree, is_top_at, is_top_with, keeps_part, moves_trees, moves_trees_after, part_names, parts_turn, stays_or_has_end, stays_or_tree_turns, tops_with, trees_turn_at, turns_with, turns_with_end}
 use Rattle.gptp_how_soon.specs.Tree.{chose_itself, has_better_root, has_same_root, is_below}
 use Rattle.gptp_how_soon.specs.TurnedTree.{falls_at, is_in_part, is_turned_at, tree_turns_at}
 use Rattle.gptp_how_soon.specs.TwoTops.{chosen_from, is_both_or_apart}
@@ -243,6 +243,7 @@ module _ (n : NetworkState) (network : IsNetwork n) (made events : List Timed) w
     trees_test = list_all (is_in_tree systems lost links before now) (range_with_len 0 (length systems))
 
     two_parts : ((agree_test && trees_test) ≡ true) × (parts_turn systems lost links before now names ≡ true)
+    unfolding moves_trees
     two_parts = and_parts (agree_test && trees_test) (parts_turn systems lost links before now names) splits
 
     agree : agree_test ≡ true
