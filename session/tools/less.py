@@ -4,7 +4,7 @@ import sys,os,re,glob,subprocess,collections
 from concurrent.futures import ThreadPoolExecutor
 sys.path.insert(0,'/root/c/h_m')
 CASES='/work/shared/cases'; prog=sys.argv[1]
-src=open('/root/c/h_m/shared.py').read().split("files=sorted")[0].replace("words=sys.argv[2:]","words=[]")
+src=open('/root/c/tools/shared.py').read().split("files=sorted")[0].replace("words=sys.argv[2:]","words=[]")
 exec(src)
 files=sorted(f for f in map(os.path.basename,glob.glob(f'{CASES}/*.want')) if re.search('soon2|power-|continues|stamps|times',f) and ('timeline' in f or 'faults' in f) and not f.startswith('power1') and not f.startswith('soon1'))
 def bounds(lines):
