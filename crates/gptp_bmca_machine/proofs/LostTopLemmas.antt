@@ -21,7 +21,7 @@ use Rattle.gptp_bmca_machine.specs.LossLaws.{EverythingFits, IsAfterLoss}
 use Rattle.gptp_bmca_machine.specs.Network.{Network}
 use Rattle.gptp_bmca_machine.specs.Station.{Disabled, HoldsAt, MachineState, Port, Received, Reception, Station}
 use Rattle.gptp_bmca_machine.proofs.FallLeaveLemmas.{TreeAnswers, answers_or_stands}
-use Rattle.gptp_bmca_machine.proofs.FallLemmas.{IsOldTold}
+use Rattle.gptp_bmca_machine.proofs.UnlinkedLemmas.{IsOldTold}
 use Rattle.gptp_bmca_machine.proofs.LevelLemmas.{places_of}
 use Rattle.gptp_bmca_machine.proofs.LinkStepLemmas.{AtLink, LaneStands, lives_at}
 use Rattle.gptp_bmca_machine.proofs.MovedTreeLemmas.{MovesTree}
@@ -36,7 +36,7 @@ module _ (says : Spelling) (g : Snapshot) (n : Network) (Tree : ℕ → Type 0) 
   known : In top (clocks n.graph)
   known = t.lives top in_top
 
-  top_far : (d : ℕ) → base ≡ d → IsDistance g top d
+  pub top_far : (d : ℕ) → base ≡ d → IsDistance g top d
   top_far d is = subst (IsDistance g top) (let none = t.first in omega (arith, is, none)) (t.was top in_top)
 
   -- the top wasn't the best of before

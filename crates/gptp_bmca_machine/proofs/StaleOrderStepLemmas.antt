@@ -264,7 +264,7 @@ module _ (says : Spelling) (n : Network) (next : System) (top : Side → ℕ) (d
             → AtLink says n v p u q (HoldsTold says (still n d root_then v p u q)
             (IsNewTold n.graph (port_of v (suc p)) u) last) w' ⊎ IsFreeAt says n.graph n v p u q w'
         told_then =
-            told_on says n t.well d root_then v p u q joins last w w' m.kept kept' step
+            told_on says n t.well n.graph d root_then v p u q joins last w w' m.kept kept' step
             (hears_old v p u q in_v joins strong w m.kept m.dark m.mixed)
             (hears_old v p u q in_v joins strong w' kept' dark' mixed')
             (new_said says n next top depth t old base worse w w' m.kept kept' dark' step m.mixed ordered v p u q in_v
@@ -369,13 +369,14 @@ module _ (says : Spelling) (n : Network) (next : System) (top : Side → ℕ) (d
                       (λ since pv pu l stand is_ready. inr (inr (stays pv pu l stand)))
 
               left_now : (HasChoice s' root_then d → ⊥) → IsLeft says n.graph n root_then d last v p u q w'
-              left_now not_old = (
-                left',
-                elim (answers_or_stands says n (λ c. ⊤) v w w' m.kept.calm kept'.calm in_v.reached.1.begins step s' at') [
-                  | inl still_there ↦ absurd (not_old (is_old s' still_there))
-                  | inr z ↦ leaves_now left' is_old stays z
-                ],
-              )
+              left_now not_old =
+                  let begins = in_v.reached.1.begins in (
+                    left',
+                    elim (answers_or_stands says n (λ c. ⊤) v w w' m.kept.calm kept'.calm begins step s' at') [
+                      | inl still_there ↦ absurd (not_old (is_old s' still_there))
+                      | inr z ↦ leaves_now left' is_old stays z
+                    ],
+                  )
                 where
                   left' : HasLeft n w' v root_then d
                   left' s at choice = not_old (subst (λ (x : Station). HasChoice x root_then d)

@@ -4,6 +4,7 @@
 //! its events do says how soon. [`settling_times`] tells both for all times, [`settling_at`] finds one of them.
 #![tactic(auto)]
 
+mod alone;
 mod bounds;
 mod chosen;
 #[cfg(test)]
@@ -11,12 +12,15 @@ mod documents;
 #[cfg(test)]
 mod failure_tests;
 mod far;
+mod flight;
 #[cfg(test)]
 mod gain_tests;
+mod gains;
 mod kinds;
 #[cfg(test)]
 mod link_tests;
 mod links;
+mod losses;
 mod moved_trees;
 mod rest;
 #[cfg(test)]

@@ -2,15 +2,15 @@
 
 ghost use Rattle.std.specs.Prelude.{◌≡◌, ◌≤◌, ◌+◌, ◌*◌, ◌&&◌, ◌||◌, nat_le, nat_lt};
 ghost use Rattle.gptp_scenario.specs.SettlingTime.{way_span};
-ghost use Rattle.gptp_how_soon.specs.Rest.{are_events_followed, are_losses_followed, are_recoveries_followed, are_turns_followed, asks_who_is_moved, comes_soon, heard_at_once, is_end_followed, is_failing_followed, failed_row, has_come, is_from_rest, is_lowering_followed, is_taking_followed, is_wider_followed, is_worsening_followed, keeps_paths, other_row, rested, row_of, settles_wider_by};
+ghost use Rattle.gptp_how_soon.specs.Rest.{are_events_followed, are_losses_followed, are_recoveries_followed, are_turns_followed, asks_who_is_moved, is_end_followed, is_failing_followed, failed_row, has_come, is_from_rest, is_lowering_followed, is_taking_followed, is_wider_followed, is_worsening_followed, keeps_paths, other_row, rested, row_of, settles_wider_by};
 
 use crate::bounds::{Row, SettlingTime, way_span};
 use crate::kinds::{
-    Told, all_bring_nothing, all_leave_links, all_make_nothing, all_tell_nothing, any_better,
-    any_gain, any_loss, any_lowers_unused, any_other, any_recovery, any_wider, are_heard,
-    begins_wider, fails_and_recovers, fails_beside_idle, fails_first, first_wider_by, lowers_one,
-    takes_several, worsens_first,
+    Told, all_bring_nothing, all_leave_links, all_make_nothing, all_tell_nothing, any_gain,
+    any_loss, any_lowers_unused, any_other, any_recovery, any_wider, begins_wider,
+    fails_and_recovers, first_wider_by,
 };
+use crate::losses::{fails_beside_idle, fails_first, lowers_one, takes_several, worsens_first};
 use gptp_scenario::SyncPaths;
 
 /// Whom the events of a time move.
@@ -34,8 +34,14 @@ pub struct Moves {
     pub trees_move: bool,
     /// Whether they move none, also none that is cut off, and leave no link silent.
     pub taken: bool,
-    /// Whether then each system of these trees gets a worse root, and each live far end of a link that is lost is moved.
+    /// Whether they move none, also none that is cut off, and no live system lost its link to a nearer one.
+    pub apart: bool,
+    /// Whether then each system of these trees gets a worse root, and each live far end of a link that is lost is
+    /// moved.
     pub cuts_all: bool,
+    /// Whether each live system is alone then, which was at one link in use at most, and each link that was up was in
+    /// use.
+    pub alone: bool,
     /// Whether those that they name were far ends.
     pub far: bool,
     /// For how long it counts what others hold of a system that fails, in ns; 0 where no link is left silent whose far
@@ -89,14 +95,6 @@ pub(crate) fn has_come(
         },
         None => false,
     }
-}
-
-/// Whether what was in flight at a time has come within this greatest delay of a link in use: each link that is up is
-/// in use, or none takes longer, and what was in flight as a link was last set has arrived as soon.
-pub(crate) fn comes_soon(used: bool, none_longer: bool, delay: u64, arrived: u128, at: u64) -> bool
-    ensures { result ≡ comes_soon used none_longer delay arrived at }
-{
-    used || (none_longer && arrived <= u128::from(at) + u128::from(delay))
 }
 
 /// Whether each of these events is followed.
@@ -288,6 +286,8 @@ fn other_row(paths_before: SyncPaths, paths: SyncPaths, told: &[Told], moves: Mo
 {
     if is_end_followed(paths_before, paths, told) && (moves.far && !moves.any_moved) {
         Row::FailedEnd
+    } else if is_taking_followed(paths_before, paths, told) && moves.apart {
+        Row::TakenApart
     } else if is_taking_followed(paths_before, paths, told) && moves.taken {
         Row::TakenAway
     } else if any_loss(told) {
@@ -338,11 +338,4 @@ pub(crate) fn row_of(
     } else {
         other_row(paths_before, paths, told, moves)
     }
-}
-
-/// Whether it is followed that all is heard at once.
-pub(crate) fn heard_at_once(first: bool, paths_before: SyncPaths, told: &[Told]) -> bool
-    ensures { result ≡ heard_at_once first paths_before told.now }
-{
-    first || (are_heard(told) && (paths_before.systems <= 255 || !any_better(told)))
 }

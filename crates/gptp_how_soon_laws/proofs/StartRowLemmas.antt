@@ -21,7 +21,8 @@ use Rattle.gptp_scenario.specs.declared.sync_wait.SyncPaths.{SyncPaths}
 use Rattle.gptp_network.proofs.PassLemmas.{kept}
 use Rattle.gptp_topology.specs.Course.{cable_of}
 use Rattle.gptp_topology.specs.declared.course.Cable.{Cable}
-use Rattle.gptp_how_soon.specs.Bounds.{asked_again, choice_by, is_again, is_hard_to_hear, ready, roles_by, sound_by, two_exchanges}
+use Rattle.gptp_how_soon.specs.Bounds.{asked_again, choice_by, roles_by, sound_by, two_exchanges}
+use Rattle.gptp_how_soon.specs.Gains.{is_again, is_hard_to_hear, ready}
 use Rattle.gptp_how_soon.specs.Kinds.{is_idle, is_recover, is_recovery, is_recovery_of, recovers, tells_nothing}
 use Rattle.gptp_how_soon.specs.Links.{is_new, new_links, varies}
 use Rattle.gptp_how_soon.specs.Rest.{is_from_rest}
@@ -162,9 +163,9 @@ starts n now quiet = (
 
     by : (hard : Bool) → list_any (is_hard_to_hear (told_of n [] now)) (new_links n [] now true) ≡ hard
         → (UsedVaryLittle n now
-        × (start + cond (true && not hard) 0 (largest_interval (pace_of n)) + way_span (sync_paths n now)
+        × (start + cond hard (largest_interval (pace_of n)) 0 + way_span (sync_paths n now)
         ≡ start + way_span (sync_paths n now)))
-        ⊎ (start + cond (true && not hard) 0 (largest_interval (pace_of n)) + way_span (sync_paths n now)
+        ⊎ (start + cond hard (largest_interval (pace_of n)) 0 + way_span (sync_paths n now)
         ≡ start + largest_interval (pace_of n) + way_span (sync_paths n now))
     by true is = inr refl
     by false is = inl (vary_little n now (told_of n [] now) is, omega arith)

@@ -17,7 +17,9 @@ pub mod BetweenFailedLemmas
 pub mod AskedElsewhereLemmas
 pub mod RestartLemmas
 pub mod AsksSoonLemmas
+pub mod FreshWorldLemmas
 pub mod RecoverLemmas
+pub mod RaisesOwnLemmas
 pub mod RecoverAloneLemmas
 pub mod UpSoonLemmas
 pub mod TimedNewsLemmas
@@ -29,6 +31,7 @@ pub mod PassLemmas
 pub mod LaterLemmas
 pub mod SinceSetLemmas
 pub mod DelayWithinLemmas
+pub mod ArrivalsLemmas
 pub mod KeptToLemmas
 pub mod PrioritySparedLemmas
 pub mod MadeLemmas
@@ -40,6 +43,7 @@ pub mod ToldLemmas
 pub mod MasterLemmas
 pub mod OrderedLemmas
 pub mod UntoldLemmas
+pub mod WayLinkLemmas
 pub mod AlwaysClaimedLemmas
 pub mod SeenSettledLemmas
 pub mod StartLemmas
@@ -124,6 +128,7 @@ pub mod RestNamesLemmas
 pub mod EndAnswersLemmas
 pub mod TurnsAwayLemmas
 pub mod TurnsTellLemmas
+pub mod GoesOnLemmas
 pub mod MovedAlwaysLemmas
 pub mod OneEndLemmas
 pub mod TurnsBeginLemmas
@@ -220,9 +225,13 @@ pub mod SplitLemmas
 pub mod SplitAlwaysLemmas
 pub mod SplitDownLemmas
 pub mod SplitTracesLemmas
+pub mod StillSoundLemmas
 pub mod SplitSoundLemmas
 pub mod TopsDeepLemmas
+pub mod TopsSoundLemmas
 pub mod TopsRestLemmas
+pub mod LeftAloneLemmas
+pub mod UpJoinsLemmas
 pub mod SplitLinksLemmas
 pub mod SplitSettlesLemmas
 pub mod SplitRestLemmas
@@ -232,3 +241,8 @@ pub mod SplitMadeLemmas
 pub mod MovedRestLemmas
 pub mod TurnedRestLemmas
 pub mod TurnedTreeRestLemmas
+pub mod GoneBeforeLemmas
+pub mod TakenFartherLemmas
+pub mod WereSoundLemmas
+pub mod PriorityLinkLemmas
+pub mod AlwaysReactsLemmas

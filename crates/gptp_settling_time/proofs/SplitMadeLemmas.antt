@@ -1,13 +1,12 @@
 -- A system fails that others hear, in a world of a document whose choice had stood, and so moves trees: they fall back.
 -- Behind that links go down of which an end has failed.
-use Rattle.std.proofs.Common.{◌≡◌, ◌<◌, ◌≤◌, ◌+◌, ◌∷◌, ◌++◌, ℕ, suc, List, [], sym, ap, subst, inl, inr, arith, min}
+use Rattle.std.proofs.Common.{◌≡◌, ◌<◌, ◌≤◌, ◌+◌, ◌∷◌, ◌++◌, ℕ, suc, List, [], sym, ap, subst, inl, inr, arith}
 use native.Mathlib.Decide.{dec_le}
 use Rattle.gptp_lists.specs.Members.{In}
-use Rattle.gptp_graph.specs.Best.{IsBest}
 use Rattle.gptp_graph.specs.PathBound.{path_bound}
 use Rattle.gptp_graph.specs.Snapshot.{IsLinked, PortIdentity, Snapshot, System, clocks, port_of}
 use Rattle.gptp_links.specs.Fate.{Draw}
-use Rattle.gptp_setup.specs.SettlingParams.{SettlingParams, largest_interval}
+use Rattle.gptp_setup.specs.SettlingParams.{SettlingParams}
 use Rattle.gptp_scenario.specs.Network.{NetworkState, pace_of}
 use Rattle.gptp_scenario.specs.SettlingTime.{silence_span}
 use Rattle.gptp_scenario.specs.SyncWait.{sync_paths}
@@ -22,31 +21,28 @@ use Rattle.gptp_model.specs.declared.done.Done.{Done}
 use Rattle.gptp_network.specs.Document.{DocumentState}
 use Rattle.gptp_network.proofs.ExistenceLemmas.{stands_after}
 use Rattle.gptp_bmca_machine.specs.FailureTrees.{Turning}
-use Rattle.gptp_bmca_machine.specs.TwoTops.{First, Second, TopsTree}
 use Rattle.gptp_invariants.specs.ChoiceCalm.{HaveQuietLinks, delay_in, sync_paths_of}
 use Rattle.gptp_invariants.specs.ChoiceSettlesAsMachine.{IsWorld}
 use Rattle.gptp_invariants.specs.ChoiceView.{says_announce, view}
 use Rattle.gptp_invariants.specs.WorldStanding.{snapshot_of}
-use Rattle.gptp_invariants.proofs.WorldGreatestDelayLemmas.{delay_short}
 use Rattle.gptp_invariants.proofs.WorldStandsLemmas.{stands_well}
 use Rattle.gptp_theorem.specs.AlikeLaws.{AreAlike}
 use Rattle.gptp_theorem.specs.PlayedLaws.{IsPlayable}
 use Rattle.gptp_theorem.proofs.AlikeLemmas.{best as alike_best, clock_among, distance as alike_distance, turned}
 use Rattle.gptp_theorem.proofs.CalmLemmas.{quiet_stands}
 use Rattle.gptp_theorem.proofs.SyncPathLemmas.{paths_stand}
-use Rattle.gptp_settling_time.specs.Arrivals.{HasArrivedBy}
 use Rattle.gptp_settling_time.specs.EventKinds.{LowersUnusedCalm}
 use Rattle.gptp_settling_time.specs.Leads.{IsGoneBy, SplitsNow}
 use Rattle.gptp_settling_time.specs.Losses.{LowersUnused}
-use Rattle.gptp_settling_time.specs.TreeLosses.{FailsTrees, IsTreeTurned, IsUnmovedOrInTree, IsTreeCutTwice}
+use Rattle.gptp_settling_time.specs.TreeLosses.{FailsTrees, IsTreeTurned, IsUnmovedOrInTree}
 use Rattle.gptp_settling_time.proofs.AgesByLemmas.{by_map}
 use Rattle.gptp_settling_time.proofs.AgesByWorldLemmas.{WorldAgesBy}
 use Rattle.gptp_settling_time.proofs.AgingClaimedLemmas.{stay_of}
 use Rattle.gptp_settling_time.proofs.FailedAgesLemmas.{failed_ages_by}
-use Rattle.gptp_settling_time.proofs.FallDownLemmas.{FlightNames}
 use Rattle.gptp_settling_time.proofs.GainLemmas.{lives_so, unused_so, up_so}
 use Rattle.gptp_settling_time.proofs.HoldSpanLemmas.{ages_over}
 use Rattle.gptp_settling_time.proofs.KeptToLemmas.{KeepsTo}
+use Rattle.gptp_settling_time.proofs.LeftToLemmas.{up_in_use}
 use Rattle.gptp_settling_time.proofs.LossMadeLemmas.{HasRestedSo}
 use Rattle.gptp_settling_time.proofs.NamedLemmas.{IsNamedFrom}
 use Rattle.gptp_settling_time.proofs.SettledSeenLemmas.{IsSettledSeen}
@@ -57,39 +53,14 @@ use Rattle.gptp_settling_time.proofs.SplitAlwaysLemmas.{IsSplitAlways}
 use Rattle.gptp_settling_time.proofs.SplitDownLemmas.{alone_down, down_splits}
 use Rattle.gptp_settling_time.proofs.SplitFailLemmas.{anew_begins}
 use Rattle.gptp_settling_time.proofs.SplitRestLemmas.{SplitNamesAlone, split_anew_begins}
-use Rattle.gptp_settling_time.proofs.SplitToLemmas.{GoesOver, IsSplitTo, SetLimits, over_gone, split_by}
+use Rattle.gptp_settling_time.proofs.ArrivalsLemmas.{SetLimits}
+use Rattle.gptp_settling_time.proofs.SplitToLemmas.{GoesOver, IsSplitTo, WereUsed, over_gone, split_by}
 use Rattle.gptp_settling_time.proofs.UpPortsLemmas.{IsUpAt, by_up}
 use Rattle.gptp_settling_time.proofs.WereSilentLemmas.{WereSilent, were_down, were_failed}
-use Rattle.gptp_settling_time.proofs.WorldMovesLemmas.{adjacent_alike, alike_so, cut_off_alike, joins_alike, near_so, unmoved_alike}
+use Rattle.gptp_settling_time.proofs.WorldMovesLemmas.{adjacent_alike, alike_so, cut_off_alike, joins_alike, near_so, unmoved_alike, twice_alike}
 use Rattle.gptp_settling_time.proofs.OnwardLemmas.{IsOnwardFrom}
 use Rattle.gptp_bmca_machine.proofs.TwoTopsBeginLemmas.{FlightLeads}
-
--- a tree with two tops is so cut off between two snapshots where it is between others of the same systems and links
-twice_alike : (g h g' h' : Snapshot) → AreAlike g h → AreAlike g' h' → (best : System) (t : TopsTree)
-    → IsTreeCutTwice h h' best t → IsTreeCutTwice g g' best t
-twice_alike g h g' h' before now best t cut = record {
-  in_top = λ side. alike_best h' g' (turned g' h' now) (t.top side) t.next (cut.in_top side);
-  worse = cut.worse;
-  was_best = λ v in_v. alike_best h g back v best (cut.was_best v (to_h v in_v));
-  was = λ v in_v.
-      alike_distance h g back v (t.base + min (t.depth First v) (t.depth Second v)) (cut.was v (to_h v in_v));
-  near = λ side v in_v. cut.near side v (to_h v in_v);
-  first = cut.first;
-  lost = λ v u in_v joined. elim (cut.lost v u (to_h v in_v) (adjacent_alike g h before v u joined)) [
-    | inl left ↦ inl (adjacent_alike h' g' (turned g' h' now) v u left)
-    | inr is_top ↦ inr is_top
-  ];
-  steps = λ side v u in_v joined. cut.steps side v u (to_h v in_v) (adjacent_alike g' h' now v u joined);
-  single = λ side v p q a b in_v one two.
-      cut.single side v p q a b (to_h v in_v) (joins_alike g' h' now (port_of v p) a one)
-      (joins_alike g' h' now (port_of v q) b two);
-}
-  where
-    back : AreAlike h g
-    back = turned g h before
-
-    to_h : (v : ℕ) → IsBest g' v t.next → IsBest h' v t.next
-    to_h v is = alike_best g' h' now v t.next is
+use Rattle.gptp_settling_time.proofs.TreeMadeLemmas.{few_then, late_then, names_now}
 
 -- and so is one that turns
 turned_alike : (g h g' h' : Snapshot) → AreAlike g h → AreAlike g' h' → (best : System) (t : Turning)
@@ -215,40 +186,12 @@ module _ (d : DocumentState) (playable : IsPlayable d) (made : List Timed) (even
     few_before : path_bound (snapshot_of then) ≤ 255
     few_before = subst (λ (y : SyncPaths). y.systems ≤ 255) paths_then x.few
 
-    few_then : path_bound (snapshot_of w') ≤ 255
-    few_then =
-        let few = x.few in
-        let fewer = x.paths in
-        subst (λ (y : SyncPaths). y.systems ≤ 255) paths_after (omega (arith, few, fewer))
-
     shorter_then : delay_in w' ≤ delay_in then
     shorter_then =
         subst (λ (y : SyncPaths). y.delay ≤ delay_in then) paths_after
         (subst (λ (y : SyncPaths). (sync_paths n more).delay ≤ y.delay) paths_then x.delay)
 
-    -- a delay is over
-    late_then : delay_in w' ≤ w'.time
-    late_then = by splits.arrives
-      where
-        by : HasArrivedBy n made stood splits.arrived → delay_in w' ≤ w'.time
-        by (inl is) =
-            let short : delay_in w' ≤ largest_interval p = delay_short p w' after.claim.world.known in
-            let since = splits.quiet in
-            omega (arith, short, is, since, time)
-        by (inr (is, within)) =
-            let delay = ap (λ (y : SyncPaths). y.delay) paths_then in
-            let shorter = shorter_then in
-            let since = splits.quiet in
-            omega (arith, shorter, delay, is, since, time)
-
-    -- what is in flight names the best
-    names_now : FlightNames says_announce (snapshot_of then) (view then)
-    names_now j l f a best at among said joins is_best =
-        let left = seen_then.calm.left j l f at among in
-        let since = splits.quiet in
-        named j l f a best at among said joins is_best (omega (arith, left, at_time, since))
-
-    -- and leads onward
+    -- what is in flight leads onward
     onward_now : FlightLeads says_announce (snapshot_of then) (view then)
     onward_now j l f a d e at among said joins =
         let left = seen_then.calm.left j l f at among in
@@ -264,6 +207,11 @@ module _ (d : DocumentState) (playable : IsPlayable d) (made : List Timed) (even
     split_to =
         let over = rest.over in
         let past : start ≤ then.time = omega (arith, over, at_time) in
+        let since = splits.quiet in
+        let names = names_now p then seen_then splits.arrived named (omega (arith, since, at_time)) in
+        let few = few_then d playable made more w' after x.paths x.few in
+        let late = late_then d playable made more w' after stood splits.arrived splits.arrives
+        (omega (arith, since, time)) x.delay in
         let lived = lives_so n made then keeps.stands world_then.sound x.clock x.live came.1.place came.1.station
         (record { here = came.1.is.here; named = came.1.is.named }) in
         let by_link = failed_ages_by p x.clock then draws done w' world_then after.claim.world came lived seen_then
@@ -284,10 +232,15 @@ module _ (d : DocumentState) (playable : IsPlayable d) (made : List Timed) (even
           failed = then.time;
           since = anew_begins p x.clock then draws done w' world_then after.claim.world came lived seen_then rest.sound
               start keeps.claim.pace keeps.claim.measured past rest.ready quiet rest.silent
-              (near_so d playable made then keeps x.few) (omega (arith, over, at_time)) names_now onward_now silent best
+              (near_so d playable made then keeps x.few) (omega (arith, over, at_time)) names onward_now silent best
               each
-              few_before few_then shorter_then (GoesOver n before made more then.time gone silent) (SetLimits n made)
-              (λ limit (most, within, is). subst (λ t. AreLimitedBy t then) (sym is) (keeps.limited most within)) gone
+              few_before few shorter_then (GoesOver n before made more then.time gone silent) (SetLimits n made)
+              (WereUsed n made then.time)
+              (λ limit (most, within, is). subst (λ t. AreLimitedBy t then) (sym is) (keeps.limited most within))
+              (λ old (used, past). (
+                up_in_use d made then keeps used,
+                let delay = ap (λ (y : SyncPaths). y.delay) paths_then in omega (arith, past, delay),
+              )) gone
               after.claim.measured
               (omega (arith, silent_is))
               (λ links. by_map says_announce (snapshot_of w') (stay_of p) (AgesOver n before made more then.time)
@@ -297,7 +250,7 @@ module _ (d : DocumentState) (playable : IsPlayable d) (made : List Timed) (even
               (over_linked n made event x.clock x.act then w' playable.network keeps.stands world_then.sound
               (stands_well then world_then.sound world_then.between world_then.encodable) after.stands
               after.claim.world.sound then.time port until over_it)) (by links)) (λ port until is. is.1)
-              (over_gone n before made more then.time gone silent) some late_then last;
+              (over_gone n before made more then.time gone silent) some late last;
           were = were_failed n made x.clock then draws done w' world_then after.claim.world came lived keeps.stands
               quiet start past rest.silent;
           unanswered = silent_is;
@@ -322,9 +275,11 @@ module _ (d : DocumentState) (playable : IsPlayable d) (made : List Timed) (even
     abbrev Over : List Timed → ℕ → PortIdentity → ℕ → Type 0
     Over events by = GoesOver n so.before ago events so.failed by silent
 
-    down : IsSplitAlways p so.before (Over made gone) (SetLimits n ago) so.failed gone silent w'
+    down : IsSplitAlways p so.before (Over made gone) (SetLimits n ago)
+        (WereUsed n ago so.failed) so.failed gone silent w'
     down =
-        down_splits p so.before (Over made gone) (SetLimits n ago) so.failed gone silent y.clock y.port then
+        down_splits p so.before (Over made gone) (SetLimits n ago) (WereUsed n ago so.failed) so.failed gone silent
+        y.clock y.port then
         draws done w' after.claim.world after.claim.measured lowered so.since.split quiet_then
         (up_so n made then keeps.stands end y.up lowered.1.place lowered.1.channel lowered.1.is)
         (unused_so n made then keeps.stands world_then.sound end y.failed) falls.off
@@ -332,7 +287,8 @@ module _ (d : DocumentState) (playable : IsPlayable d) (made : List Timed) (even
     -- what has no steps still names its sender alone
     names_down : SplitNamesAlone p silent w'
     names_down =
-        alone_down p so.before (Over made gone) (SetLimits n ago) so.failed gone silent y.clock y.port then
+        alone_down p so.before (Over made gone) (SetLimits n ago) (WereUsed n ago so.failed)
+        so.failed gone silent y.clock y.port then
         draws done w' after.claim.world after.claim.measured lowered so.since.split quiet_then
         (up_so n made then keeps.stands end y.up lowered.1.place lowered.1.channel lowered.1.is)
         (unused_so n made then keeps.stands world_then.sound end y.failed) so.since.alone
@@ -361,8 +317,10 @@ module _ (d : DocumentState) (playable : IsPlayable d) (made : List Timed) (even
       before = so.before;
       stood = so.stood;
       failed = so.failed;
-      since = split_anew_begins p so.before (Over more gone) (SetLimits n ago) so.failed gone silent w'
-          (split_by p so.before (Over made gone) (SetLimits n ago) so.failed gone silent w' down
+      since = split_anew_begins p so.before (Over more gone) (SetLimits n ago)
+          (WereUsed n ago so.failed) so.failed gone silent w'
+          (split_by p so.before (Over made gone) (SetLimits n ago) (WereUsed n ago so.failed)
+          so.failed gone silent w' down
           (Over more gone) gone over_more
           (λ port until is. is.1) (over_gone n so.before ago more so.failed gone silent) (inl (omega arith))) names_down
           last;
@@ -385,10 +343,10 @@ module _ (d : DocumentState) (playable : IsPlayable d) (made : List Timed) (even
         stood = so.stood;
         failed = so.failed;
         since = split_anew_begins p so.before (GoesOver n so.before ago more so.failed sooner silent) (SetLimits n ago)
-            so.failed sooner
+            (WereUsed n ago so.failed) so.failed sooner
             silent w'
             (split_by p so.before (GoesOver n so.before ago more so.failed gone silent)
-            (SetLimits n ago) so.failed gone silent w'
+            (SetLimits n ago) (WereUsed n ago so.failed) so.failed gone silent w'
             so.since.split (GoesOver n so.before ago more so.failed sooner silent) sooner
             (λ links. by_map says_announce (snapshot_of w') (stay_of p)
             (GoesOver n so.before ago more so.failed gone silent)

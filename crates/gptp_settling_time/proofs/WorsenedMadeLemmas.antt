@@ -18,8 +18,9 @@ use Rattle.gptp_theorem.specs.PlayedLaws.{IsPlayable}
 use Rattle.gptp_theorem.proofs.AlikeLemmas.{best as alike_best, distance as alike_distance, clock_among, turned}
 use Rattle.gptp_settling_time.specs.Arrivals.{HasArrivedBy}
 use Rattle.gptp_settling_time.specs.TreeLosses.{IsWorsenedTree, WorsensTree}
+use Rattle.gptp_settling_time.proofs.ArrivalsLemmas.{SetLimits}
 use Rattle.gptp_settling_time.proofs.FallAlwaysLemmas.{IsFallenAlways}
-use Rattle.gptp_settling_time.proofs.FallenToLemmas.{IsFallenTo}
+use Rattle.gptp_settling_time.proofs.FallenToLemmas.{IsFallenTo, limits_to}
 use Rattle.gptp_settling_time.proofs.GainLemmas.{lives_so}
 use Rattle.gptp_settling_time.proofs.KeptToLemmas.{KeepsTo}
 use Rattle.gptp_settling_time.proofs.LossMadeLemmas.{HasRestedSo}
@@ -89,22 +90,21 @@ module _ (d : DocumentState) (playable : IsPlayable d) (made : List Timed) (even
   worsened_to =
       let over = rest.over in
       let (best, next, depth, is) = tree_so in
+      let seen = seen_then d playable made then keeps start event.at rest calm off in
+      let names = names_now p then seen arrived named (omega (arith, quiet, at_time)) in
+      let late = late_then d playable made more w' after stood arrived arrives (omega (arith, quiet, time)) x.delay in
       record {
         keeps = after;
         before = snapshot_of then;
-        since = subst (λ t. IsFallenAlways p (snapshot_of then) start t w') at_time
+        ago = more;
+        set = λ limit is. is;
+        since = subst (λ t. IsFallenAlways p (snapshot_of then) (SetLimits n more) start t w') at_time
             (act_worsened p start x.clock x.value then draws done w' keeps.claim.pace keeps.claim.world
             after.claim.world keeps.claim.measured after.claim.measured
             (subst (λ act. Acts act then draws done w') x.act acts)
             (λ place station k.
             lives_so n made then keeps.stands keeps.claim.world.sound x.clock x.live place station k) x.octet
-            (omega (arith, over, at_time)) rest.ready rest.silent
-            (seen_then d playable made event then draws done w' at_time time keeps after start rest stood arrived named
-            arrives quiet calm off) (near_so d playable made then keeps x.few) best next depth is
-            (few_then d playable made event then draws done w' at_time time keeps after start rest stood arrived named
-            arrives quiet calm off x.paths x.few)
-            (late_then d playable made event then draws done w' at_time time keeps after start rest stood arrived named
-            arrives quiet calm off x.delay) rest.sound
-            (names_now d playable made event then draws done w' at_time time keeps after start rest stood arrived named
-            arrives quiet calm off));
+            (omega (arith, over, at_time)) rest.ready rest.silent seen (near_so d playable made then keeps x.few) best
+            next depth is (few_then d playable made more w' after x.paths x.few) late rest.sound names
+            (SetLimits n more) (limits_to d more w' after));
       }

@@ -16,7 +16,7 @@ use Rattle.gptp_scenario.specs.declared.network.LinkSpec.{LinkSpec}
 use Rattle.gptp_model.specs.World.{port_id}
 use Rattle.gptp_settling_time.specs.Arrivals.{HasArrivedSinceSet}
 use Rattle.gptp_settling_time.specs.Gains.{ChangesNothing, EndHasFailed, IdleNow, IsDownAfter, IsNoWorse, JoinsLive, LeavesCapable, RepeatsNow, UsesNoLink, exchanged_from}
-use Rattle.gptp_settling_time.specs.Losses.{AgesWithin, CutsFarEnd, FailsFarEnd, FailsHeard, LeavesChoice, LowersLink, LowersUnused, NoneUpIsSlower, TurnsLink, UpIsUsed}
+use Rattle.gptp_settling_time.specs.Losses.{AgesWithin, CutsFarEnd, FailsFarEnd, FailsHeard, LeavesChoice, LowersLink, LowersUnused, TurnsLink, UpIsUsed, UpIsWithin}
 use Rattle.gptp_settling_time.specs.TreeLosses.{FallsTree, TurnsTreeLink}
 
 -- ---- events at time 0
@@ -73,14 +73,13 @@ pub record BringsUp (n : NetworkState) (before : List Timed) (event : Timed) (ne
   pub live : JoinsLive n (before ++ event ∷ []) (port_id clock port)
   pub capable : exchanged_from (pace_of n) (sync_paths n (before ++ event ∷ [])) event.at ≤ next
 
--- After these events this one sets a priority1 that makes the identity of a system that lives no worse, where no path
--- has more than 255 of them. The next time is later than that.
+-- After these events this one sets a priority1 that makes the identity of a system that lives no worse. The next time
+-- is later than that.
 pub record BettersClock (n : NetworkState) (before : List Timed) (event : Timed) (next : ℕ) : Type 0 where
   pub clock : ℕ
   pub value : ℕ
   pub act : event.act ≡ Changing (Priority1 clock value)
   pub better : IsNoWorse n before clock value
-  pub few : (sync_paths n before).systems ≤ 255
   pub later : event.at < next
 
 -- After these events this one lets a failed system recover that uses no link then. The other ports are as capable as
@@ -206,12 +205,11 @@ abbrev pub FlightIsGone : NetworkState → List Timed → ℕ → Type 0
 FlightIsGone n events gone =
     (UpIsUsed n events × (gone ≡ (sync_paths n events).delay)) ⊎ (gone ≡ largest_interval (pace_of n))
 
--- From this time on it is gone so much later: as above, or by the greatest delay of a link in use, where no link that
--- is up takes longer, and what was in flight as a link was last set has arrived as soon.
+-- From this time on it is gone so much later: as above, or by what no link that is up takes longer than, if what was in
+-- flight as a link was last set has arrived as soon.
 abbrev pub FlightIsGoneFrom : NetworkState → List Timed → ℕ → ℕ → Type 0
 FlightIsGoneFrom n events time gone =
-    FlightIsGone n events gone
-    ⊎ (NoneUpIsSlower n events × HasArrivedSinceSet n events (time + gone) × (gone ≡ (sync_paths n events).delay))
+    FlightIsGone n events gone ⊎ (UpIsWithin n events gone × HasArrivedSinceSet n events (time + gone))
 
 -- what is in flight at this time is gone by another
 abbrev pub FlightIsGoneBy : NetworkState → List Timed → ℕ → ℕ → Type 0
@@ -279,6 +277,7 @@ abbrev pub HasSettledHeard : NetworkState → List Timed → ℕ → ℕ → Typ
 HasSettledHeard n events start time =
     start + pred (sync_paths n events).systems * (sync_paths n events).delay ≤ time
 
--- it brings up a link, or lets a system recover that uses none
+-- what it tells is heard at once: it brings up a link, lets a system recover that uses none, or sets a better priority1
 abbrev pub AddsHeard : NetworkState → List Timed → Timed → ℕ → Type 0
-AddsHeard n before event next = BringsUp n before event next ⊎ RecoversAlone n before event next
+AddsHeard n before event next =
+    BringsUp n before event next ⊎ (RecoversAlone n before event next ⊎ BettersClock n before event next)
