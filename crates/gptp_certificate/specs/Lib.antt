@@ -1,0 +1,5 @@
+pub mod Stated
+pub mod Stating
+pub mod Rounds
+pub mod Marking
+pub mod Settled

@@ -1,0 +1,13 @@
+pub mod TextLemmas
+pub mod PrintedLemmas
+pub mod LengthLemmas
+pub mod LineTextLemmas
+pub mod WordLemmas
+pub mod FormLemmas
+pub mod SpellingLemmas
+pub mod LineLemmas
+pub mod OrderLemmas
+pub mod ReadingLemmas
+pub mod LawLemmas
+pub mod DecisionLemmas
+pub mod EveryLemmas

@@ -1,0 +1,14 @@
+pub mod EachLemmas
+pub mod PlaceLemmas
+pub mod PortLemmas
+pub mod StatedLemmas
+pub mod LineTestLemmas
+pub mod FaultLemmas
+pub mod LawLemmas
+pub mod ReadableLemmas
+pub mod LocatedLemmas
+pub mod EndLemmas
+pub mod OneLocationLemmas
+pub mod DecisionLemmas
+pub mod EveryLemmas
+pub mod PlacedLemmas

@@ -1,0 +1,4 @@
+pub mod Faults
+pub mod LineTests
+pub mod Places
+pub mod Located

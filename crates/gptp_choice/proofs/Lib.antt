@@ -1,0 +1,3 @@
+pub mod ParentLemmas
+pub mod RoleLemmas
+pub mod LineLemmas

@@ -1,0 +1,5 @@
+use Rattle.gptp_commands.proofs.EveryQuestionLemmas.{each_has_accuracy}
+use Rattle.gptp_commands.proofs.laws.every_input_has_an_accuracy.Goals as goal
+
+pub returns : goal.returns
+returns c = each_has_accuracy

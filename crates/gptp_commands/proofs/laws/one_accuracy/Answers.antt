@@ -1,0 +1,5 @@
+use Rattle.gptp_commands.proofs.OneQuestionLemmas as lemmas
+use Rattle.gptp_commands.proofs.laws.one_accuracy.Goals as goal
+
+pub returns : goal.returns
+returns c = lemmas.one_accuracy

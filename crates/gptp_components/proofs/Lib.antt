@@ -1,0 +1,5 @@
+pub mod ComponentLemmas
+pub mod FoundLemmas
+pub mod SpreadLemmas
+pub mod ReachedLemmas
+pub mod RankedLemmas

@@ -1,0 +1,5 @@
+pub mod SyncIn
+pub mod Correction
+pub mod Sum
+pub mod Carry
+pub mod CarryLaws

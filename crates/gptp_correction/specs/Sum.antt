@@ -1,0 +1,7 @@
+-- Sums over places.
+use Rattle.std.specs.Prelude.{ℕ, zero, suc, ℤ, pos, ◌+ℤ◌}
+
+-- f 0 + f 1 + .. + f (n - 1)
+abbrev pub sum_below : ℕ → (ℕ → ℤ) → ℤ
+sum_below zero f = pos 0
+sum_below (suc n) f = sum_below n f +ℤ f n

@@ -1,0 +1,13 @@
+pub mod StepLaws
+pub mod Named
+pub mod GoingOn
+pub mod ActLaws
+pub mod CourseLaws
+pub mod RunLaws
+pub mod SoFar
+pub mod ActTraceLaws
+pub mod ExistenceLaws
+pub mod BesideTime
+pub mod ContinuesLaws
+pub mod BesideWorlds
+pub mod WorldsBesideLaws

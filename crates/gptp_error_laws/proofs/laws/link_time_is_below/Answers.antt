@@ -1,0 +1,5 @@
+use Rattle.gptp_error_laws.proofs.LinkLemmas.{link_time_is_below}
+use Rattle.gptp_error_laws.proofs.laws.link_time_is_below.Goals as goal
+
+pub returns : goal.returns
+returns c = link_time_is_below

@@ -1,0 +1,5 @@
+use Rattle.gptp_error_laws.proofs.LinkLemmas.{stay_is_below}
+use Rattle.gptp_error_laws.proofs.laws.stay_is_below.Goals as goal
+
+pub returns : goal.returns
+returns c = stay_is_below

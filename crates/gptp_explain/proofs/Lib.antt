@@ -1,0 +1,9 @@
+pub mod SettledLemmas
+pub mod PortLemmas
+pub mod PortLinesLemmas
+pub mod PathLemmas
+pub mod RankLemmas
+pub mod UsedLemmas
+pub mod TextLemmas
+pub mod OneLemmas
+pub mod EveryLemmas

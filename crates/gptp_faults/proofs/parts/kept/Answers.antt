@@ -1,0 +1,25 @@
+use Rattle.std.proofs.Common.{◌≡◌, ◌+◌, ◌++◌, ◌∷◌, List, drop, filter, map, ap, sym, ◌∙◌, append-nil}
+use Rattle.std.proofs.lemmas.List.{drop_all, drop_more}
+use Rattle.gptp_faults.specs.Parts.{is_kept, kept, placed_in}
+use Rattle.gptp_faults.specs.declared.parts.Placed.{Placed}
+use Rattle.gptp_faults.specs.declared.parts.Weighed.{Weighed}
+use Rattle.gptp_faults.proofs.KeptLemmas.{kept_more}
+use Rattle.gptp_faults.proofs.parts.kept.Goals as goal
+
+pub loop-one-preserved : goal.loop-one-preserved
+loop-one-preserved c =
+    let all = c.args.all.now in let i = c.loop-one.one-index in let x = c.one-item.result in
+    let ys = c.loop-one.kept.items in let rest = drop (i + 1) all in
+    let here : drop i all ≡ x ∷ rest =
+    drop_more all i x c.loop-one-test.true ∙ ap (λ (y : Weighed). y ∷ rest) (sym c.one-item.is) in
+    ap (λ (vs : List Placed). vs ++ map placed_in (filter (is_kept c.args.all.now) rest)) c.in_ok-push_kept.ensures
+    ∙ kept_more placed_in (is_kept c.args.all.now) x rest ys
+    ∙ ap (λ (xs : List Weighed). ys ++ map placed_in (filter (is_kept c.args.all.now) xs)) (sym here)
+    ∙ c.loop-one.invariant
+
+pub returns : goal.returns
+returns c =
+    sym (append-nil c.loop-one.kept.items)
+    ∙ ap (λ (xs : List Weighed). c.loop-one.kept.items ++ map placed_in (filter (is_kept c.args.all.now) xs))
+    (sym (drop_all c.loop-one.one-index c.args.all.now c.loop-one-test.false))
+    ∙ c.loop-one.invariant

@@ -1,0 +1,23 @@
+pub mod SystemLemmas
+pub mod DecisionLemmas
+pub mod LinkDecisions
+pub mod OrderLemmas
+pub mod LinkLemmas
+pub mod PathLemmas
+pub mod PathBoundLemmas
+pub mod BestLemmas
+pub mod DistanceLemmas
+pub mod ExistenceLemmas
+pub mod ParentLemmas
+pub mod RoleLemmas
+pub mod StatementLemmas
+pub mod SoundLemmas
+pub mod CompleteLemmas
+pub mod RisingLemmas
+pub mod ChoiceLemmas
+pub mod NearLemmas
+pub mod MarkingLemmas
+pub mod TreeLemmas
+pub mod Sure
+pub mod SureTests
+mod ExampleLemmas

@@ -1,0 +1,11 @@
+pub mod LinksLemmas
+pub mod SilentLemmas
+pub mod TurnedLemmas
+pub mod WalkLemmas
+pub mod RisingLemmas
+pub mod TimesLemmas
+pub mod SettleLemmas
+pub mod ShortLemmas
+pub mod WatchLemmas
+pub mod RoundsLemmas
+pub mod ChosenLemmas

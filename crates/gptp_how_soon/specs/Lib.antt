@@ -1,0 +1,14 @@
+pub mod Kinds
+pub mod Links
+pub mod Chosen
+pub mod Far
+pub mod Turned
+pub mod Tree
+pub mod TurnedTree
+pub mod MovedTrees
+pub mod TwoTops
+pub mod Silent
+pub mod Bounds
+pub mod Rest
+pub mod Times
+pub mod Walk

@@ -1,0 +1,240 @@
+-- What is told of a time after the first one, by its row, is so by its events.
+use Rattle.std.proofs.Common.{◌≡◌, ◌<◌, ◌≤◌, ◌⊎◌, inl, inr, ◌+◌, ◌*◌, ℕ, Bool, true, false, cond, List, [], ◌∷◌, ◌++◌, Option, Some, None, refl, sym, ap, subst, ◌∙◌, arith}
+use Rattle.std.specs.Prelude.{◌&&◌, ◌||◌, not, nat_le, nat_lt}
+use Rattle.std.specs.List.{list_all, list_any}
+use Rattle.std.proofs.lemmas.Bool.{and_parts, not-true, or_cases, or_parts}
+use Rattle.std.proofs.lemmas.Bool.Decides.{nat_tests}
+use Rattle.gptp_lists.proofs.MappedLemmas.{some_same}
+use Rattle.gptp_setup.specs.SettlingParams.{largest_interval}
+use Rattle.gptp_scenario.specs.Calm.{NothingLapses}
+use Rattle.gptp_scenario.specs.Network.{IsNetwork, NetworkState, pace_of}
+use Rattle.gptp_scenario.specs.SettlingTime.{way_span}
+use Rattle.gptp_scenario.specs.SyncWait.{sync_paths}
+use Rattle.gptp_scenario.specs.declared.change.Timed.{Timed}
+use Rattle.gptp_network.specs.Snapshot.{events_by}
+use Rattle.gptp_how_soon.specs.Bounds.{is_hard_to_hear}
+use Rattle.gptp_how_soon.specs.Kinds.{are_heard, brings_nothing, fails_and_recovers, is_better, is_gain, is_idle, is_loss, is_other, is_recovery, leaves_links, lowers_unused, makes_nothing, recovers, takes_one, begins_wider, first_wider_by, is_wider}
+use Rattle.gptp_how_soon.specs.Rest.{are_events_followed, are_losses_followed, are_recoveries_followed, are_turns_followed, heard_at_once, is_end_followed, is_failing_followed, is_from_rest, is_lowering_followed, is_taking_followed, is_wider_followed, rested, settles_wider_by, is_worsening_followed}
+use Rattle.gptp_how_soon.specs.Times.{View, events_at, gained_at, ready_at, row_at, view_at}
+use Rattle.gptp_how_soon.specs.declared.bounds.Row.{Row}
+use Rattle.gptp_how_soon.specs.declared.bounds.Row.TheVariants.{Gained, Unchanged}
+use Rattle.gptp_how_soon.specs.declared.bounds.Settling.{Settling}
+use Rattle.gptp_how_soon.specs.declared.bounds.SettlingTime.{SettlingTime}
+use Rattle.gptp_how_soon.specs.declared.kinds.Told.{Told}
+use Rattle.gptp_settling_time.specs.HowSoon.{AreWiderEvents, BoundsGains, EachEvent, IsStillEvent}
+use Rattle.gptp_settling_time.proofs.CutLemmas.{all_by}
+use Rattle.gptp_settling_time.proofs.LeadOnLemmas.{all_still}
+use Rattle.gptp_settling_time.proofs.MomentLemmas.{all_at}
+use Rattle.gptp_how_soon_laws.proofs.ArrivedLemmas.{longest_within}
+use Rattle.gptp_how_soon_laws.proofs.GainLemmas.{AreFollowed, AreTurnsFollowed}
+use Rattle.gptp_how_soon_laws.proofs.GainedLemmas.{all_gained, all_heard, all_idle, all_wider}
+use Rattle.gptp_how_soon_laws.proofs.UnmovedLemmas.{AreWell, all_still_unmoved}
+use Rattle.gptp_how_soon_laws.proofs.RowReasonLemmas.{ReasonOf, Tests, reason_of}
+use Rattle.gptp_how_soon_laws.proofs.RowTestLemmas.{HasComeToRest, at_most, counts_all, leaves_all, not_both, over_before, rested_so}
+
+module _ (n : NetworkState) (network : IsNetwork n) (events : List Timed) (b : SettlingTime) (at : ℕ)
+    (late : b.at < at) where
+  abbrev made : List Timed
+  made = events_by b.at events
+
+  abbrev now : List Timed
+  now = events_at at events
+
+  abbrev v : View
+  v = view_at n made now (Some b) at
+
+  abbrev pub tests : Tests
+  tests = record {
+    rest = is_from_rest v.longest at v.paths_before v.paths v.told (Some b);
+    idle = list_all makes_nothing v.told || begins_wider v.told;
+    left = are_losses_followed v.paths_before v.told && not v.moves.moved;
+    lowers = is_lowering_followed v.paths_before v.paths v.told && not v.moves.moved;
+    cut = v.moves.cut;
+    turns = is_lowering_followed v.paths_before v.paths v.told && v.moves.turned;
+    falls = (is_lowering_followed v.paths_before v.paths v.told && v.moves.falls)
+        || (is_worsening_followed v.paths_before v.paths v.told && v.moves.worsens);
+    branch = is_lowering_followed v.paths_before v.paths v.told && v.moves.tree_turns;
+    fails = is_failing_followed v.paths_before v.paths v.told && not v.moves.moved;
+    far = v.moves.far;
+    moved = v.moves.any_moved;
+    trees = is_failing_followed v.paths_before v.paths v.told && v.moves.trees_move;
+    ends = is_end_followed v.paths_before v.paths v.told && (v.moves.far && not v.moves.any_moved);
+    taken = is_taking_followed v.paths_before v.paths v.told && v.moves.taken;
+    loss = list_any is_loss v.told;
+    only = list_all brings_nothing v.told;
+  }
+
+  pub why : (row : Row) → row_at v ≡ row → ReasonOf tests row
+  why row is = reason_of tests row is
+
+  -- it is from rest
+  pub record IsFromRest : Type 0 where
+    pub rested : HasComeToRest b at
+    pub others : list_any is_other v.told ≡ false
+    pub turns : AreTurnsFollowed n network at made now
+    pub followed : list_any is_recovery v.told ≡ true
+        → are_recoveries_followed v.longest b.at at v.told ≡ true
+    pub wider : list_any is_wider v.told ≡ true → is_wider_followed b at v.paths_before v.paths v.told ≡ true
+
+  turns_so : are_turns_followed v.told ≡ true → AreTurnsFollowed n network at made now
+  turns_so is =
+      not_both (list_any lowers_unused v.told) (list_any is_gain v.told)
+      (not-true (list_any lowers_unused v.told && list_any is_gain v.told) is)
+
+  pub from_rest : is_from_rest v.longest at v.paths_before v.paths v.told (Some b) ≡ true → IsFromRest
+  from_rest is =
+      let (four, fourth) =
+      and_parts
+      (rested b at && are_events_followed v.told && are_turns_followed v.told
+      && (not (list_any is_recovery v.told) || are_recoveries_followed v.longest b.at at v.told))
+      (not (list_any is_wider v.told) || is_wider_followed b at v.paths_before v.paths v.told) is in
+      let (three, third) =
+      and_parts (rested b at && are_events_followed v.told && are_turns_followed v.told)
+      (not (list_any is_recovery v.told) || are_recoveries_followed v.longest b.at at v.told) four in
+      let (two, turns_are) =
+      and_parts (rested b at && are_events_followed v.told) (are_turns_followed v.told) three in
+      let (rest, events_are) = and_parts (rested b at) (are_events_followed v.told) two in
+      let (known, apart) =
+      and_parts (not (list_any is_other v.told)) (not (fails_and_recovers v.told)) events_are in
+      record {
+        rested = rested_so b at b.settling refl rest;
+        others = not-true (list_any is_other v.told) known;
+        turns = turns_so turns_are;
+        followed = λ recovers. elim (or_cases (not (list_any is_recovery v.told))
+            (are_recoveries_followed v.longest b.at at v.told) third) [
+              | inl none ↦
+                  let no : true ≡ false = sym recovers ∙ not-true (list_any is_recovery v.told) none in absurd cc
+              | inr are ↦ are
+            ];
+        wider = λ some. elim (or_cases (not (list_any is_wider v.told))
+            (is_wider_followed b at v.paths_before v.paths v.told) fourth) [
+              | inl none ↦ let no : true ≡ false = sym some ∙ not-true (list_any is_wider v.told) none in absurd cc
+              | inr is_followed ↦ is_followed
+            ];
+      }
+
+  recoveries : are_recoveries_followed v.longest b.at at v.told ≡ true → AreFollowed n network at made now
+  recoveries is =
+      let past_test : Bool = nat_lt (b.at + v.longest) at in
+      let (past, turns) = and_parts past_test (not (list_any lowers_unused v.told)) is in
+      let over : b.at + v.longest < at = grind (arith, nat_tests) in
+      record {
+        most = v.longest;
+        within = longest_within n made now;
+        past = over_before b.at v.longest at made over (all_by b.at events);
+        turns = not-true (list_any lowers_unused v.told) turns;
+      }
+
+  -- where a link gets wider by the first event one gets wider
+  begins_some : (es : List Told) → begins_wider es ≡ true → list_any is_wider es ≡ true
+  begins_some [] is = absurd cc
+  begins_some (e ∷ es) is =
+      let (wider, still) = and_parts (is_wider e) (list_all is_idle es) is in
+      ap (λ test. test || list_any is_wider es) wider
+
+  settles_so : (s : Settling) (o : Option Settling) → o ≡ Some s
+      → settles_wider_by b at v.paths_before v.paths (first_wider_by v.told) o ≡ true
+      → b.at + s.sound + 2 * first_wider_by v.told + way_span v.paths < at + way_span v.paths_before
+  settles_so s None same is = absurd cc
+  settles_so s (Some t) same is =
+      let one : t ≡ s = some_same t s same in
+      subst (λ (x : Settling). b.at + x.sound + 2 * first_wider_by v.told + way_span v.paths
+      < at + way_span v.paths_before) one
+      (below (b.at + t.sound + 2 * first_wider_by v.told + way_span v.paths) (at + way_span v.paths_before) is)
+    where
+      below : (x y : ℕ) → nat_lt x y ≡ true → x < y
+      below x y test = grind (arith, nat_tests)
+
+  -- what stands is left, as no system is moved
+  unmoved : AreWell n (made ++ now) → (are_losses_followed v.paths_before v.told && not v.moves.moved) ≡ true
+      → EachEvent (IsStillEvent n) made now
+  unmoved well left =
+      let (followed, none) = and_parts (are_losses_followed v.paths_before v.told) (not v.moves.moved) left in
+      let (few, leaves) =
+      and_parts (nat_le v.paths_before.systems 255) (list_all leaves_links v.told) followed in
+      all_still_unmoved n network made now well (at_most v.paths_before.systems 255 few)
+      (counts_all (takes_one v.told) n made (made ++ now) (leaves_all v.told leaves) (not-true v.moves.moved none))
+      leaves
+
+  pub unchanged : AreWell n (made ++ now) → row_at v ≡ Unchanged
+      → (rest : HasComeToRest b at)
+      × (EachEvent (IsStillEvent n) made now ⊎ AreWiderEvents n (b.at + rest.settling.sound) at made now)
+  unchanged well row =
+      let (from, which) = why Unchanged row in
+      let facts = from_rest from in (
+        facts.rested,
+        elim which [
+          | inl nothing ↦ elim (or_cases (list_all makes_nothing v.told) (begins_wider v.told) nothing) [
+            | inl idle ↦
+                inl (all_still n made now (all_idle n network at made now facts.turns (all_at at events) idle))
+            | inr begins ↦
+                let settles =
+                (and_parts (begins_wider v.told)
+                (settles_wider_by b at v.paths_before v.paths (first_wider_by v.told) b.settling)
+                (facts.wider (begins_some v.told begins))).1 in
+                inr (all_wider n network at made now (b.at + facts.rested.settling.sound) made now begins
+                (settles_so facts.rested.settling b.settling facts.rested.is settles))
+          ]
+          | inr left ↦ inl (unmoved well left)
+        ],
+      )
+
+  -- where that isn't so none gets wider
+  none_wider : IsFromRest → begins_wider v.told ≡ false → list_any is_wider v.told ≡ false
+  none_wider facts none = by (list_any is_wider v.told) refl
+    where
+      by : (some : Bool) → list_any is_wider v.told ≡ some → list_any is_wider v.told ≡ false
+      by false is = is
+      by true is =
+          let begins =
+          (and_parts (begins_wider v.told)
+          (settles_wider_by b at v.paths_before v.paths (first_wider_by v.told) b.settling) (facts.wider is)).0 in
+          let no : true ≡ false = sym begins ∙ none in
+          absurd cc
+
+  pub gained : row_at v ≡ Gained → NothingLapses n.params
+      → HasComeToRest b at × BoundsGains n made now at (ready_at n v) (gained_at n v)
+  gained row off =
+      let (from, none, which) = why Gained row in
+      let facts = from_rest from in
+      let (some, narrow) = or_parts (list_all makes_nothing v.told) (begins_wider v.told) which in (
+        facts.rested,
+        by facts none (none_wider facts narrow) some (heard_at_once false v.paths_before v.told)
+            (list_any (is_hard_to_hear v.told) v.new) refl refl,
+      )
+    where
+      followed : IsFromRest → list_any is_recovery v.told ≡ true → AreFollowed n network at made now
+      followed facts recovers = recoveries (facts.followed recovers)
+
+      few_before : (nat_le v.paths_before.systems 255 || not (list_any is_better v.told)) ≡ true
+          → list_any is_better v.told ≡ true → (sync_paths n made).systems ≤ 255
+      few_before is better = elim (or_cases (nat_le v.paths_before.systems 255) (not (list_any is_better v.told)) is) [
+        | inl few ↦ grind (arith, nat_tests)
+        | inr none ↦ let no : true ≡ false = sym better ∙ not-true (list_any is_better v.told) none in absurd cc
+      ]
+
+      by : IsFromRest → list_any is_loss v.told ≡ false → list_any is_wider v.told ≡ false
+          → list_all makes_nothing v.told ≡ false → (heard hard : Bool)
+          → heard_at_once false v.paths_before v.told ≡ heard
+          → list_any (is_hard_to_hear v.told) v.new ≡ hard
+          → BoundsGains n made now at (ready_at n v)
+          (ready_at n v + cond (heard && not hard) 0 (largest_interval (pace_of n)) + way_span v.paths)
+      by facts none narrow some true false is soft =
+          let (heard, few) =
+          and_parts (are_heard false v.told)
+          (nat_le v.paths_before.systems 255 || not (list_any is_better v.told)) is in
+          inl (
+            all_heard n network at made now (all_at at events) off facts.turns (followed facts) (omega (arith, late))
+                none narrow facts.others soft (few_before few) heard,
+            omega arith,
+          )
+      by facts none narrow some true true is hard = inr (
+        all_gained n network at made now (all_at at events) off facts.turns (followed facts) (omega (arith, late)) none
+            narrow facts.others some,
+        refl,
+      )
+      by facts none narrow some false hard is soft = inr (
+        all_gained n network at made now (all_at at events) off facts.turns (followed facts) (omega (arith, late)) none
+            narrow facts.others some,
+        refl,
+      )

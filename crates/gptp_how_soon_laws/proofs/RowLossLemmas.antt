@@ -1,0 +1,560 @@
+-- What is told of a time after the first one with losses, by its row, is so by its events.
+use Rattle.std.proofs.Common.{◌≡◌, ◌<◌, ◌≤◌, ◌⊎◌, ap, inl, inr, ◌+◌, ℕ, Bool, true, false, List, [], ◌∷◌, ◌++◌, Some, suc, refl, sym, subst, ◌∙◌}
+use Rattle.std.specs.Prelude.{◌&&◌, not, if◌then◌else◌, nat_le, max}
+use Rattle.std.specs.List.{list_all, list_any, AllByRecursion}
+use Rattle.std.proofs.lemmas.Bool.{and_parts, not-true, or_cases}
+use Rattle.gptp_lists.specs.Members.{In}
+use Rattle.gptp_scenario.specs.Network.{IsNetwork, NetworkState, pace_of}
+use Rattle.gptp_scenario.specs.SettlingTime.{silence_span}
+use Rattle.gptp_scenario.specs.SyncWait.{sync_paths}
+use Rattle.gptp_scenario.specs.declared.change.Timed.{Timed}
+use Rattle.gptp_scenario.specs.declared.sync_wait.SyncPaths.{SyncPaths}
+use Rattle.gptp_scenario.specs.Calm.{last_change}
+use Rattle.gptp_network.specs.Snapshot.{events_by}
+use Rattle.gptp_invariants.specs.WorldEncodableLaws.{SetsAnOctet}
+use Rattle.gptp_how_soon.specs.Bounds.{gone_by, quiet_by}
+use Rattle.gptp_how_soon.specs.Chosen.{moves_joined, moves_some}
+use Rattle.gptp_how_soon.specs.Kinds.{begins_with, brings_nothing, fails_beside_idle, fails_first, is_loss, is_lowering, is_worsening, lowers_one, takes_one, takes_several, worsens_first}
+use Rattle.gptp_how_soon.specs.MovedTrees.{cuts_all_after, moves_trees_after}
+use Rattle.gptp_how_soon.specs.Rest.{is_end_followed, is_failing_followed, is_from_rest, is_lowering_followed, is_taking_followed, is_worsening_followed, keeps_paths, rested}
+use Rattle.gptp_how_soon.specs.Times.{View, events_at, has_come_after, loss_at, row_at, told_at, told_of, view_at}
+use Rattle.gptp_how_soon.specs.Tree.{cuts_tree_after, worsens_best_after}
+use Rattle.gptp_how_soon.specs.TurnedTree.{turns_tree_after}
+use Rattle.gptp_how_soon.specs.TwoTops.{trees_move_after}
+use Rattle.gptp_how_soon.specs.declared.bounds.Row.{Row}
+use Rattle.gptp_how_soon.specs.declared.bounds.Row.TheVariants.{AnyLosses, CutOff, FailedEnd, FailedHeard, FailureCutsOff, FailureMovesTrees, Lowered, SystemTurned, TakenAway, TreeFalls, TreeTurned}
+use Rattle.gptp_how_soon.specs.declared.bounds.SettlingTime.{SettlingTime}
+use Rattle.gptp_how_soon.specs.declared.kinds.Told.{Told}
+use Rattle.gptp_how_soon.specs.Links.{longest_delay}
+use Rattle.gptp_settling_time.specs.Arrivals.{HasArrivedBy, last_set}
+use Rattle.gptp_settling_time.specs.HowSoon.{BeforeRepeats, FailsEndFirst, FailsHeardFirst, FailsTreesFirst, LosesEvents, OneEvent, RolesAfterLoss, TakesSeveral}
+use Rattle.gptp_settling_time.specs.EventKinds.{FlightIsGone, FlightIsGoneFrom}
+use Rattle.gptp_settling_time.specs.Rests.{FlightIsGoneSince}
+use Rattle.gptp_settling_time.specs.Losses.{CutsFarEnd, LowersLink, MovesNoneInAll, NoneSilent, TurnsLink, UpIsUsed}
+use Rattle.gptp_settling_time.specs.TreeLosses.{CutsAllBeyondFrom, FallsTree, TurnsTreeLink}
+use Rattle.gptp_settling_time.proofs.SamePathsLemmas.{StandSame, same_itself}
+use Rattle.gptp_settling_time.specs.Gains.{HasDelaysWithin}
+use Rattle.gptp_settling_time.proofs.MomentLemmas.{all_at}
+use Rattle.gptp_how_soon_laws.proofs.AnyLossLemmas.{all_losses}
+use Rattle.gptp_how_soon_laws.proofs.ArrivedLemmas.{all_within, has_come_so, longest_within}
+use Rattle.gptp_how_soon_laws.proofs.FailedLemmas.{fails_beside_first, fails_end_first, fails_heard_first, used_up}
+use Rattle.gptp_how_soon_laws.proofs.CutOffLemmas.{cuts_far}
+use Rattle.gptp_how_soon_laws.proofs.MovedTreesLemmas.{fails_trees_first, trees_move_so}
+use Rattle.gptp_how_soon_laws.proofs.LoweredLemmas.{lowers_link, used_on}
+use Rattle.gptp_how_soon_laws.proofs.RepeatLemmas.{Begins, before_repeats, begins, cut_seen, falls_seen, first_same, first_well, joined_seen, paths_seen, turned_seen, turns_seen, used_still, whole, worsens_seen}
+use Rattle.gptp_how_soon_laws.proofs.TreeEventLemmas.{lowers_one_tree, turns_tree_link}
+use Rattle.gptp_how_soon_laws.proofs.TreeWorsenedLemmas.{used_behind, worsens_tree}
+use Rattle.gptp_how_soon_laws.proofs.TurnedLemmas.{turns_link}
+use Rattle.gptp_how_soon_laws.proofs.UnmovedLemmas.{AreWell}
+use Rattle.gptp_how_soon_laws.proofs.WorseningLemmas.{worsening_so}
+use Rattle.gptp_how_soon_laws.proofs.RowReasonLemmas.{ReasonOf, Tests}
+use Rattle.gptp_how_soon_laws.proofs.SilentLemmas.{last_now, none_silent}
+use Rattle.gptp_how_soon_laws.proofs.RowTestLemmas.{HasComeToRest, at_most, counts_joined, failing_takes, lowering_takes}
+use Rattle.gptp_how_soon_laws.proofs.RowLemmas as rows
+use Rattle.gptp_how_soon_laws.proofs.TakenAwayLemmas.{several_taken, several_unmoved}
+use Rattle.gptp_how_soon_laws.proofs.FlightLemmas.{fails_set_none, gone_since, gone_soon, repeats_set_none, set_before}
+use Rattle.gptp_how_soon_laws.proofs.CutsAllLemmas.{all_beyond}
+
+module _ (n : NetworkState) (network : IsNetwork n) (events : List Timed) (b : SettlingTime) (at : ℕ)
+    (late : b.at < at) where
+  abbrev made : List Timed
+  made = events_by b.at events
+
+  abbrev now : List Timed
+  now = events_at at events
+
+  abbrev v : View
+  v = view_at n made now (Some b) at
+
+  abbrev tests : Tests
+  tests = rows.tests n network events b at late
+
+  why : (row : Row) → row_at v ≡ row → ReasonOf tests row
+  why = rows.why n network events b at late
+
+  rest_so : is_from_rest v.longest at v.paths_before v.paths v.told (Some b) ≡ true → HasComeToRest b at
+  rest_so from = (rows.from_rest n network events b at late from).rested
+
+  -- the greatest delay of a link in use gets no greater, no path gets longer, and none had more than 255 systems
+  record KeepsPaths : Type 0 where
+    pub delay : (sync_paths n (made ++ now)).delay ≤ (sync_paths n made).delay
+    pub paths : (sync_paths n (made ++ now)).systems ≤ (sync_paths n made).systems
+    pub few : (sync_paths n made).systems ≤ 255
+
+  keeps_so : keeps_paths v.paths_before v.paths ≡ true → KeepsPaths
+  keeps_so keeps =
+      let few_test : Bool = nat_le v.paths_before.systems 255 in
+      let delay_test : Bool = nat_le v.paths.delay v.paths_before.delay in
+      let paths_test : Bool = nat_le v.paths.systems v.paths_before.systems in
+      let (two, paths) = and_parts (few_test && delay_test) paths_test keeps in
+      let (few, delay) = and_parts few_test delay_test two in
+      record {
+        delay = at_most v.paths.delay v.paths_before.delay delay;
+        paths = at_most v.paths.systems v.paths_before.systems paths;
+        few = at_most v.paths_before.systems 255 few;
+      }
+
+  -- a system fails by the first event, by which no system is moved but such as are cut off
+  record FailsOne : Type 0 where
+    pub one : fails_first v.told ≡ true
+    pub unmoved : moves_joined n made (made ++ now) ≡ false
+    pub keeps : KeepsPaths
+
+  fails_so : (is_failing_followed v.paths_before v.paths v.told && not v.moves.moved) ≡ true → FailsOne
+  fails_so is =
+      let (followed, none) =
+      and_parts (keeps_paths v.paths_before v.paths && fails_first v.told) (not v.moves.moved) is in
+      let (keeps, one) = and_parts (keeps_paths v.paths_before v.paths) (fails_first v.told) followed in
+      record {
+        one = one;
+        unmoved = counts_joined (takes_one v.told) n made (made ++ now) (failing_takes v.told one)
+            (not-true v.moves.moved none);
+        keeps = keeps_so keeps;
+      }
+
+  failing_heard : AreWell n (made ++ now)
+      → (is_failing_followed v.paths_before v.paths v.told && not v.moves.moved) ≡ true → FailsHeardFirst n made now
+  failing_heard well fails =
+      let x = fails_so fails in
+      fails_heard_first n network made now well x.unmoved x.keeps.delay x.keeps.paths x.keeps.few x.one
+
+  -- which is a far end
+  failing_end : AreWell n (made ++ now)
+      → (is_failing_followed v.paths_before v.paths v.told && not v.moves.moved) ≡ true → v.moves.far ≡ true
+      → FailsEndFirst n made now
+  failing_end well fails far =
+      let x = fails_so fails in
+      fails_end_first n network made now well x.unmoved x.keeps.delay x.keeps.paths x.keeps.few x.one far
+
+  -- an event of this kind is the first, and paths get no longer by it
+  pub record GoesFirst (is_kind : Told → Bool) : Type 0 where
+    pub x : Begins n is_kind made now
+    pub delay : (sync_paths n (made ++ x.event ∷ [])).delay ≤ (sync_paths n made).delay
+    pub paths : (sync_paths n (made ++ x.event ∷ [])).systems ≤ (sync_paths n made).systems
+    pub few : (sync_paths n made).systems ≤ 255
+
+  -- what stands behind it stands behind all
+  pub first_stays : (is_kind : Told → Bool) (g : GoesFirst is_kind)
+      → StandSame n (made ++ g.x.event ∷ []) (made ++ now)
+  first_stays is_kind g = first_same n network is_kind made now g.x
+
+  pub same_paths : (is_kind : Told → Bool) (g : GoesFirst is_kind)
+      → sync_paths n (made ++ now) ≡ sync_paths n (made ++ g.x.event ∷ [])
+  same_paths is_kind g = paths_seen n (made ++ g.x.event ∷ []) (made ++ now) (first_stays is_kind g)
+
+  goes_first : (is_kind : Told → Bool) → keeps_paths v.paths_before v.paths ≡ true
+      → begins_with is_kind v.told ≡ true → GoesFirst is_kind
+  goes_first is_kind keeps one =
+      let x = begins n network is_kind made now one in
+      let k = keeps_so keeps in
+      let same = paths_seen n (made ++ x.event ∷ []) (made ++ now) (first_same n network is_kind made now x) in
+      record {
+        x = x;
+        delay = subst (λ (p : SyncPaths). p.delay ≤ (sync_paths n made).delay) same k.delay;
+        paths = subst (λ (p : SyncPaths). p.systems ≤ (sync_paths n made).systems) same k.paths;
+        few = k.few;
+      }
+
+  -- a link goes down by it, by which no system is moved but such as are cut off
+  pub record LowersNone : Type 0 where
+    pub first : GoesFirst is_lowering
+    pub lowers : LowersLink n made first.x.event
+
+  lowers_none : AreWell n (made ++ now)
+      → (is_lowering_followed v.paths_before v.paths v.told && not v.moves.moved) ≡ true
+      → (g : GoesFirst is_lowering) × (moves_joined n made (made ++ g.x.event ∷ []) ≡ false)
+  lowers_none well is =
+      let (followed, none) =
+      and_parts (keeps_paths v.paths_before v.paths && lowers_one v.told) (not v.moves.moved) is in
+      let (keeps, one) = and_parts (keeps_paths v.paths_before v.paths) (lowers_one v.told) followed in
+      let g = goes_first is_lowering keeps one in (
+        g,
+        sym (joined_seen n made (made ++ g.x.event ∷ []) (made ++ now) (first_stays is_lowering g))
+            ∙ counts_joined (takes_one v.told) n made (made ++ now) (lowering_takes v.told one)
+            (not-true v.moves.moved none),
+      )
+
+  lowers_so : AreWell n (made ++ now) → (is_lowering_followed v.paths_before v.paths v.told && not v.moves.moved) ≡ true
+      → LowersNone
+  lowers_so well is =
+      let (g, unmoved) = lowers_none well is in
+      record {
+        first = g;
+        lowers = lowers_link n network made g.x.event (first_well n network is_lowering made now g.x well) unmoved
+            g.delay g.paths g.few g.x.so;
+      }
+
+  -- and it cuts off a far end
+  cuts_so : AreWell n (made ++ now) → (l : LowersNone) → v.moves.cut ≡ true → CutsFarEnd n made l.first.x.event
+  cuts_so well l cut =
+      let g = l.first in
+      cuts_far n network made g.x.event (first_well n network is_lowering made now g.x well)
+      (sym (cut_seen n made (made ++ g.x.event ∷ []) (made ++ now) (first_stays is_lowering g)) ∙ cut) g.x.so l.lowers
+
+  -- the last change is that of the first event then, and that of all
+  moment : (event : Timed) (others : List Timed) → now ≡ event ∷ others
+      → (last_change (made ++ event ∷ []) ≡ at) × (last_change (made ++ now) ≡ at)
+  moment event others split =
+      let each = subst (AllByRecursion (λ (t : Timed). t.at ≡ at)) split (all_at at events) in (
+        last_now at made event [] (each.0, tt),
+        subst (λ es. last_change (made ++ es) ≡ at) (sym split) (last_now at made event others each),
+      )
+
+  -- what was in flight before is gone by then
+  flight_before : (now ≡ [] → ⊥)
+      → FlightIsGoneFrom n made (last_change (made ++ now)) (gone_by n v.paths_before (loss_at v).soon_before)
+  flight_before some = by now refl
+    where
+      by : (es : List Timed) → now ≡ es
+          → FlightIsGoneFrom n made (last_change (made ++ now)) (gone_by n v.paths_before (loss_at v).soon_before)
+      by [] none = absurd (some none)
+      by (event ∷ others) split =
+          subst (λ t. FlightIsGoneFrom n made t (gone_by n v.paths_before (loss_at v).soon_before))
+          (sym (moment event others split).1)
+          (gone_soon n network made made (same_itself n made) (all_within n made) refl at (loss_at v).soon_before refl)
+
+  -- what is in flight behind a link that goes down is
+  flight_behind : (g : GoesFirst is_lowering)
+      → FlightIsGoneFrom n (made ++ g.x.event ∷ []) (last_change (made ++ g.x.event ∷ []))
+      (gone_by n v.paths (loss_at v).soon)
+  flight_behind g =
+      subst (λ t. FlightIsGoneFrom n first t (gone_by n v.paths soon)) (sym (moment g.x.event g.x.others g.x.split).0)
+      (subst (λ (p : SyncPaths). FlightIsGoneFrom n first at (gone_by n p soon)) (sym (same_paths is_lowering g))
+      (gone_soon n network first (made ++ now) (first_stays is_lowering g) within
+      (set_before first g.x.others (repeats_set_none n first g.x.others g.x.each) ∙ ap last_set all_is) at soon refl))
+    where
+      first : List Timed
+      first = made ++ g.x.event ∷ []
+
+      soon : Bool
+      soon = (loss_at v).soon
+
+      all_is : first ++ g.x.others ≡ made ++ now
+      all_is = whole n network is_lowering made now g.x
+
+      within : HasDelaysWithin n first (longest_delay n (made ++ now))
+      within =
+          subst (λ es. HasDelaysWithin n first (longest_delay n es)) all_is (longest_within n first g.x.others)
+
+  -- so it is behind a link that goes down
+  flight_first : (g : GoesFirst is_lowering) → FlightIsGone n (made ++ g.x.event ∷ []) (gone_by n v.paths v.used_before)
+  flight_first g =
+      subst (λ (p : SyncPaths). FlightIsGone n (made ++ g.x.event ∷ []) (gone_by n p v.used_before))
+      (sym (same_paths is_lowering g)) (by v.used_before refl)
+    where
+      by : (used : Bool) → v.used_before ≡ used
+          → FlightIsGone n (made ++ g.x.event ∷ [])
+          (gone_by n (sync_paths n (made ++ g.x.event ∷ [])) used)
+      by true is = inl (used_on n network made g.x.event g.x.so (used_up n network made is), refl)
+      by false is = inr refl
+
+  -- and behind all, where behind the first each link that is up is in use if it was so
+  flight_all : (is_kind : Told → Bool) (g : GoesFirst is_kind)
+      → (UpIsUsed n made → UpIsUsed n (made ++ g.x.event ∷ []))
+      → FlightIsGone n (made ++ now) (gone_by n v.paths v.used_before)
+  flight_all is_kind g behind = by v.used_before refl
+    where
+      by : (used : Bool) → v.used_before ≡ used → FlightIsGone n (made ++ now) (gone_by n v.paths used)
+      by true is =
+          inl (
+            used_still n (made ++ g.x.event ∷ []) (made ++ now) (first_stays is_kind g)
+                (behind (used_up n network made is)),
+            refl,
+          )
+      by false is = inr refl
+
+  -- what stands goes on, as a link goes down and no system is moved
+  pub lowered : AreWell n (made ++ now) → row_at v ≡ Lowered
+      → HasComeToRest b at × ((l : LowersNone)
+      × FlightIsGone n (made ++ l.first.x.event ∷ []) (gone_by n v.paths v.used_before))
+  lowered well row =
+      let (from, lowers) = why Lowered row in
+      let l = lowers_so well lowers in
+      (rest_so from, (l, flight_first l.first))
+
+  -- or it cuts off its far end
+  pub record CutsEnd : Type 0 where
+    pub rested : HasComeToRest b at
+    pub none : LowersNone
+    pub cuts : CutsFarEnd n made none.first.x.event
+    pub flight : FlightIsGoneFrom n (made ++ none.first.x.event ∷ []) (last_change (made ++ none.first.x.event ∷ []))
+        (gone_by n v.paths (loss_at v).soon)
+
+  pub cut_off : AreWell n (made ++ now) → row_at v ≡ CutOff → CutsEnd
+  cut_off well row =
+      let (from, lowers, cut) = why CutOff row in
+      let l = lowers_so well lowers in
+      record {
+        rested = rest_so from;
+        none = l;
+        cuts = cuts_so well l cut;
+        flight = flight_behind l.first;
+      }
+
+  -- or one system turns
+  pub turned : AreWell n (made ++ now) → row_at v ≡ SystemTurned
+      → HasComeToRest b at × ((g : GoesFirst is_lowering) × TurnsLink n made g.x.event)
+  turned well row =
+      let (from, turns) = why SystemTurned row in
+      let (followed, one) = and_parts (is_lowering_followed v.paths_before v.paths v.told) v.moves.turned turns in
+      let (keeps, lowers) = and_parts (keeps_paths v.paths_before v.paths) (lowers_one v.told) followed in
+      let g = goes_first is_lowering keeps lowers in (
+        rest_so from,
+        (
+          g,
+          turns_link n network made g.x.event (first_well n network is_lowering made now g.x well)
+              (sym (turned_seen n made (made ++ g.x.event ∷ []) (made ++ now) (first_stays is_lowering g)) ∙ one)
+              g.delay g.paths g.few g.x.so,
+        ),
+      )
+
+  -- what was in flight as the time before was sound has arrived
+  abbrev pub HasCome : HasComeToRest b at → Type 0
+  HasCome rest =
+      (arrived : ℕ) × HasArrivedBy n made (suc (b.at + rest.settling.sound)) arrived × (arrived ≤ at)
+
+  -- an event of this kind comes then, and others that repeat what stands
+  pub record ComesLate (Is : List Timed → Timed → Type 0) (rest : HasComeToRest b at) : Type 0 where
+    pub lowers : BeforeRepeats n (OneEvent Is) made now
+    pub come : HasCome rest
+
+  -- by which a tree falls back
+  pub record FallsLate (rest : HasComeToRest b at) : Type 0 where
+    pub comes : ComesLate (FallsTree n) rest
+    pub flight : FlightIsGone n (made ++ now) (gone_by n v.paths v.used_before)
+
+  -- events of this kind come then, and paths get no longer
+  late_by : (kind : List Told → Bool) (test : Bool) → (keeps_paths v.paths_before v.paths && kind v.told
+      && (has_come_after n made (Some b) at && test)) ≡ true
+      → (keeps_paths v.paths_before v.paths ≡ true) × (kind v.told ≡ true) × (test ≡ true)
+      × ((rest : HasComeToRest b at) → HasCome rest)
+  late_by kind test is =
+      let come : Bool = has_come_after n made (Some b) at in
+      let (followed, both) = and_parts (keeps_paths v.paths_before v.paths && kind v.told) (come && test) is in
+      let (keeps, one) = and_parts (keeps_paths v.paths_before v.paths) (kind v.told) followed in
+      let (come_is, so) = and_parts come test both in
+      (keeps, one, so, λ rest. has_come_so n made b at rest.settling rest.is come_is)
+
+  -- it is cut off
+  cut_late : AreWell n (made ++ now)
+      → (is_lowering_followed v.paths_before v.paths v.told && v.moves.falls) ≡ true → (rest : HasComeToRest b at)
+      → FallsLate rest
+  cut_late well falls rest =
+      let (keeps, lowers, tree, come) = late_by lowers_one (cuts_tree_after n made (made ++ now)) falls in
+      let g = goes_first is_lowering keeps lowers in
+      let one = lowers_one_tree n network made g.x.event (first_well n network is_lowering made now g.x well) g.delay
+      g.paths g.few g.x.so
+      (sym (falls_seen n made (made ++ g.x.event ∷ []) (made ++ now) (first_stays is_lowering g)) ∙ tree) in
+      record {
+        comes = record {
+          lowers = before_repeats n network is_lowering made now g.x (OneEvent (FallsTree n)) (inl one);
+          come = come rest;
+        };
+        flight = flight_all is_lowering g (used_on n network made g.x.event g.x.so);
+      }
+
+  -- or its best gets worse
+  worsened_late : AreWell n (made ++ now) → ((t : Timed) → In t now → SetsAnOctet t.act)
+      → (is_worsening_followed v.paths_before v.paths v.told && v.moves.worsens) ≡ true → (rest : HasComeToRest b at)
+      → FallsLate rest
+  worsened_late well octets worsens rest =
+      let (keeps, one, tree, come) =
+      late_by worsens_first (worsens_best_after n made (made ++ now) (told_of n made now)) worsens in
+      let g = goes_first is_worsening keeps one in
+      let event : Timed = g.x.event in
+      let told : worsens_best_after n made (made ++ event ∷ []) (told_at n made event.act ∷ []) ≡ true =
+      sym (ap (λ es. worsens_best_after n made (made ++ event ∷ []) (told_of n made es)) g.x.split)
+      ∙ sym (worsens_seen n made (made ++ event ∷ []) (made ++ now) (first_stays is_worsening g) (told_of n made now))
+      ∙ tree in
+      let best = worsens_tree n network made event (first_well n network is_worsening made now g.x well)
+      (octets event (subst (In event) (sym g.x.split) (inl refl))) g.delay g.paths g.few g.x.so told in
+      record {
+        comes = record {
+          lowers = before_repeats n network is_worsening made now g.x (OneEvent (FallsTree n)) (inr best);
+          come = come rest;
+        };
+        flight = flight_all is_worsening g
+            (used_behind n network made event (worsening_so n network made event event.act refl g.x.so));
+      }
+
+  pub tree_falls : AreWell n (made ++ now) → ((t : Timed) → In t now → SetsAnOctet t.act) → row_at v ≡ TreeFalls
+      → (rest : HasComeToRest b at) × FallsLate rest
+  tree_falls well octets row =
+      let (from, falls) = why TreeFalls row in
+      let rest = rest_so from in (
+        rest,
+        elim (or_cases (is_lowering_followed v.paths_before v.paths v.told && v.moves.falls)
+            (is_worsening_followed v.paths_before v.paths v.told && v.moves.worsens) falls) [
+              | inl cut ↦ cut_late well cut rest
+              | inr worse ↦ worsened_late well octets worse rest
+            ],
+      )
+
+  -- or a tree turns
+  pub tree_turned : AreWell n (made ++ now) → row_at v ≡ TreeTurned
+      → (rest : HasComeToRest b at) × ComesLate (TurnsTreeLink n) rest
+  tree_turned well row =
+      let (from, turns) = why TreeTurned row in
+      let (keeps, lowers, tree, come) = late_by lowers_one (turns_tree_after n made (made ++ now)) turns in
+      let rest = rest_so from in
+      let g = goes_first is_lowering keeps lowers in
+      let seen = turns_seen n made (made ++ g.x.event ∷ []) (made ++ now) (first_stays is_lowering g) in
+      let one = turns_tree_link n network made g.x.event (first_well n network is_lowering made now g.x well) g.delay
+      g.paths g.few g.x.so (sym seen ∙ tree) in (
+        rest,
+        record {
+          lowers = before_repeats n network is_lowering made now g.x (OneEvent (TurnsTreeLink n)) one;
+          come = come rest;
+        },
+      )
+
+  -- or a system fails and moves trees
+  pub record FailsLate : Type 0 where
+    pub rest : HasComeToRest b at
+    pub come : HasCome rest
+    pub fails : FailsTreesFirst n made now
+
+  trees_late : is_from_rest v.longest at v.paths_before v.paths v.told (Some b) ≡ true → AreWell n (made ++ now)
+      → is_failing_followed v.paths_before v.paths v.told ≡ true → has_come_after n made (Some b) at ≡ true
+      → trees_move_after n made (made ++ now) ≡ true → FailsLate
+  trees_late from well followed come splits =
+      let (keeps, one) = and_parts (keeps_paths v.paths_before v.paths) (fails_first v.told) followed in
+      let x = keeps_so keeps in
+      let rest = rest_so from in
+      record {
+        rest = rest;
+        come = has_come_so n made b at rest.settling rest.is come;
+        fails = fails_trees_first n network made now well splits x.delay x.paths x.few one;
+      }
+
+  pub failure_cuts : AreWell n (made ++ now) → row_at v ≡ FailureMovesTrees → FailsLate
+  failure_cuts well row =
+      let (from, trees) = why FailureMovesTrees row in
+      let (followed, both) = and_parts (is_failing_followed v.paths_before v.paths v.told) v.moves.trees_move trees in
+      let (come, splits) =
+      and_parts (has_come_after n made (Some b) at) (trees_move_after n made (made ++ now)) both in
+      trees_late from well followed come splits
+
+  -- and so cuts off all that it moves
+  pub record CutsAll : Type 0 where
+    pub trees : FailsLate
+    pub beyond : CutsAllBeyondFrom n made (made ++ now)
+
+  pub all_cut : AreWell n (made ++ now) → (row_at v ≡ FailureCutsOff) ⊎ (row_at v ≡ FailureMovesTrees)
+      → v.moves.cuts_all ≡ true → CutsAll
+  all_cut well which cuts =
+      let come_test : Bool = has_come_after n made (Some b) at in
+      let moves_test : Bool = moves_trees_after n made (made ++ now) in
+      let (both, all) = and_parts (come_test && moves_test) (cuts_all_after n made (made ++ now)) cuts in
+      let (come, splits) = and_parts come_test moves_test both in
+      let (from, followed) = by which in
+      let trees = trees_late from well followed come (trees_move_so n made (made ++ now) splits) in
+      record { trees = trees; beyond = all_beyond n network made now well trees.fails splits all }
+    where
+      by : (row_at v ≡ FailureCutsOff) ⊎ (row_at v ≡ FailureMovesTrees)
+          → (is_from_rest v.longest at v.paths_before v.paths v.told (Some b) ≡ true)
+          × (is_failing_followed v.paths_before v.paths v.told ≡ true)
+      by (inl row) =
+          let (from, fails) = why FailureCutsOff row in
+          (from, (and_parts (is_failing_followed v.paths_before v.paths v.told) (not v.moves.moved) fails).0)
+      by (inr row) =
+          let (from, trees) = why FailureMovesTrees row in
+          (from, (and_parts (is_failing_followed v.paths_before v.paths v.told) v.moves.trees_move trees).0)
+
+  -- what is in flight behind all is gone by then
+  pub flight_now : FailsTreesFirst n made now
+      → FlightIsGoneSince n made (made ++ now) (gone_by n v.paths (loss_at v).soon)
+  flight_now fails =
+      gone_since n made now (gone_by n v.paths (loss_at v).soon) (fails_set_none n made now fails) (by now refl fails)
+    where
+      by : (es : List Timed) → now ≡ es → FailsTreesFirst n made es
+          → FlightIsGoneFrom n (made ++ now) (last_change (made ++ now)) (gone_by n v.paths (loss_at v).soon)
+      by [] split none = absurd none
+      by (event ∷ others) split first =
+          subst (λ t. FlightIsGoneFrom n (made ++ now) t (gone_by n v.paths (loss_at v).soon))
+          (sym (moment event others split).1)
+          (gone_soon n network (made ++ now) (made ++ now) (same_itself n (made ++ now)) (all_within n (made ++ now))
+          refl at (loss_at v).soon refl)
+
+  -- or a far end fails
+  pub failed : AreWell n (made ++ now) → row_at v ≡ FailedEnd
+      → HasComeToRest b at × FailsEndFirst n made now
+      × FlightIsGoneFrom n made (last_change (made ++ now)) (gone_by n v.paths_before (loss_at v).soon_before)
+  failed well row =
+      let (from, which) = why FailedEnd row in
+      let first = by which in
+      (rest_so from, first, flight_before (λ none. subst (FailsEndFirst n made) none first))
+    where
+      followed : Bool
+      followed = is_end_followed v.paths_before v.paths v.told
+
+      by : (((is_failing_followed v.paths_before v.paths v.told && not v.moves.moved) ≡ true) × (v.moves.far ≡ true))
+          ⊎ ((followed && (v.moves.far && not v.moves.any_moved)) ≡ true) → FailsEndFirst n made now
+      by (inl (fails, far)) = failing_end well fails far
+      by (inr ends) =
+          let (end, both) = and_parts followed (v.moves.far && not v.moves.any_moved) ends in
+          let (keeps, beside) = and_parts (keeps_paths v.paths_before v.paths) (fails_beside_idle v.told) end in
+          let (far, still) = and_parts v.moves.far (not v.moves.any_moved) both in
+          let x = keeps_so keeps in
+          fails_beside_first n network made now well (not-true v.moves.any_moved still) x.delay x.paths x.few beside far
+
+  -- or a system that others heard
+  pub heard : AreWell n (made ++ now) → (row_at v ≡ FailedHeard) ⊎ (row_at v ≡ FailureCutsOff)
+      → HasComeToRest b at × FailsHeardFirst n made now
+  heard well which =
+      let (from, fails) = by which in
+      (rest_so from, failing_heard well fails)
+    where
+      by : (row_at v ≡ FailedHeard) ⊎ (row_at v ≡ FailureCutsOff) → ReasonOf tests FailedHeard
+      by (inl row) = why FailedHeard row
+      by (inr row) = why FailureCutsOff row
+
+  -- no lost link is left silent
+  pub none_left : v.silent ≡ false → NoneSilent n made (made ++ now)
+  none_left = none_silent n made (made ++ now)
+
+  -- Or several are taken away, no system is moved in all, and no lost link is left silent.
+  pub record TakesSome : Type 0 where
+    pub rested : HasComeToRest b at
+    pub takes : TakesSeveral n made now
+    pub moves : MovesNoneInAll n made (made ++ now)
+    pub few : (sync_paths n made).systems ≤ 255
+    pub none : NoneSilent n made (made ++ now)
+
+  pub taken : AreWell n (made ++ now) → row_at v ≡ TakenAway → TakesSome
+  taken well row =
+      let (from, is) = why TakenAway row in
+      let (followed, both) =
+      and_parts (is_taking_followed v.paths_before v.paths v.told) v.moves.taken is in
+      let (keeps, several) = and_parts (keeps_paths v.paths_before v.paths) (takes_several v.told) followed in
+      let (still, spoken) = and_parts (not (moves_some n made (made ++ now))) (not v.silent) both in
+      let x = keeps_so keeps in
+      let takes = several_taken n network made now several in
+      record {
+        rested = rest_so from;
+        takes = takes;
+        moves = several_unmoved n network made now well takes (not-true (moves_some n made (made ++ now)) still)
+            x.delay x.paths;
+        few = x.few;
+        none = none_left (not-true v.silent spoken);
+      }
+
+  -- Or there are losses, and nothing is brought. Then roles stand with the choice; or, where a lost link is silent, no
+  -- sooner than the port at its live end isn't capable any more.
+  abbrev pub LosesSome : Type 0
+  LosesSome =
+      HasComeToRest b at × LosesEvents n made now
+      × ((choice : ℕ) → RolesAfterLoss n made now choice (quiet_by n (loss_at v) choice))
+
+  loses_some : is_from_rest v.longest at v.paths_before v.paths v.told (Some b) ≡ true
+      → list_all brings_nothing v.told ≡ true → list_any is_loss v.told ≡ true → LosesSome
+  loses_some from only loss =
+      (rest_so from, all_losses n network made now only loss, by v.silent refl)
+    where
+      by : (silent : Bool) → v.silent ≡ silent → (choice : ℕ)
+          → RolesAfterLoss n made now choice (if silent then max choice (silence_span (pace_of n)) else choice)
+      by true is choice = inr refl
+      by false is choice = inl (none_left is, refl)
+
+  pub losses : row_at v ≡ AnyLosses → LosesSome
+  losses row = let (from, loss, only) = why AnyLosses row in loses_some from only loss

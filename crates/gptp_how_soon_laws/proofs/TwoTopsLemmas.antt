@@ -1,0 +1,489 @@
+-- Where the tests of a tree with two tops hold, all systems that are moved are such a tree from one snapshot to the
+-- other.
+use Rattle.std.proofs.Common.{◌≡◌, ◌<◌, ◌⊎◌, inl, inr, ◌+◌, ℕ, Bool, true, false, List, [], ◌∷◌, filter, Option, Some, None, length, slice_get, refl, sym, ap, subst, ◌∙◌, arith}
+use Rattle.std.specs.Prelude.{◌==◌, ◌&&◌, if◌then◌else◌, max, min, nat_lt, not}
+use Rattle.std.specs.List.{list_all, range_with_len}
+use Rattle.std.proofs.lemmas.Bool.{and_from, and_parts, eq-eqb, eqb-true, or_cases, or_left, or_right}
+use Rattle.std.proofs.lemmas.Bool.Decides.{nat_tests}
+use Rattle.gptp_lists.specs.Members.{In}
+use Rattle.gptp_lists.proofs.MappedLemmas.{mapped_there}
+use Rattle.gptp_lists.proofs.SystemSpecLemmas.{In-slice_get, from_map, slice_get-In}
+use Rattle.gptp_bmca_machine.specs.TwoTops.{First, Second, Side, TopsTree}
+use Rattle.gptp_graph.specs.Best.{IsBest}
+use Rattle.gptp_graph.specs.Distance.{IsDistance}
+use Rattle.gptp_graph.specs.Snapshot.{Adjacent, IsWellFormed, Snapshot, System, clocks, port_of}
+use Rattle.gptp_graph.proofs.BestLemmas.{IsBest-unique}
+use Rattle.gptp_graph.proofs.LinkLemmas.{Adjacent-clock}
+use Rattle.gptp_graph.proofs.SystemLemmas.{In-clocks}
+use Rattle.gptp_network.specs.Snapshot.{StandsAfter}
+use Rattle.gptp_network.proofs.InUseLemmas.{live_there}
+use Rattle.gptp_network.proofs.PassLemmas.{kept, passes, passes_at}
+use Rattle.gptp_network.proofs.SnapshotLemmas.{from_filter, with_clock}
+use Rattle.gptp_roles.specs.Selection.{clock_of}
+use Rattle.gptp_scenario.specs.Change.{system_after}
+use Rattle.gptp_scenario.specs.InUse.{lives}
+use Rattle.gptp_scenario.specs.Network.{IsNetwork, NetworkState}
+use Rattle.gptp_scenario.specs.declared.change.Timed.{Timed}
+use Rattle.gptp_scenario.specs.declared.network.SystemSpec.{SystemSpec}
+use Rattle.gptp_topology.specs.After.{system_then, systems_after}
+use Rattle.gptp_topology.specs.declared.nodes.System as ours
+use Rattle.gptp_how_soon.specs.Chosen.{chosen_after, differs, ends_at, ends_of, is_joined, is_joined_moved_at, is_moved, is_moved_at, lost_ends, used_ends}
+use Rattle.gptp_how_soon.specs.Links.{is_lost}
+use Rattle.gptp_how_soon.specs.Tree.{chose_itself, has_better_root, has_no_more_steps, has_one_nearer, has_same_root, is_below, leads_one_on}
+use Rattle.gptp_how_soon.specs.TwoTops.{chosen_from, falls_below_tops, falls_twice, is_below_both, is_both_or_apart, is_by_nearer, top_places}
+use Rattle.gptp_how_soon.specs.declared.chosen.Chosen.{Chosen}
+use Rattle.gptp_how_soon.specs.declared.chosen.Ends.{Ends}
+use Rattle.gptp_how_soon.proofs.ChosenLemmas.{IsAt, at_clock, at_port, chosen_there, one_clock}
+use Rattle.gptp_settling_time.specs.TreeLosses.{IsTreeCutTwice, IsUnmovedOrInTree}
+use Rattle.gptp_how_soon_laws.proofs.FailedLemmas.{each_is}
+use Rattle.gptp_how_soon_laws.proofs.LivesOnLemmas.{LivesOn, on_at, on_of}
+use Rattle.gptp_how_soon_laws.proofs.LostLinkLemmas.{ends_are, stands_or_lost}
+use Rattle.gptp_how_soon_laws.proofs.TreeByLemmas.{IsOfTree, depth, depth_there, single_so, steps_of, steps_so}
+use Rattle.gptp_how_soon_laws.proofs.TreeTestLemmas.{better_so, same_back, same_so}
+use Rattle.gptp_how_soon_laws.proofs.UnmovedLemmas.{asked_of, unmoved_at}
+use Rattle.gptp_how_soon_laws.proofs.WorseningLemmas.{same_system}
+
+-- two that have one root have chosen
+own_of : (a b : Option Chosen) → has_same_root a b ≡ true → (c : Chosen) × (b ≡ Some c)
+own_of None b is = absurd cc
+own_of (Some a) None is = absurd cc
+own_of (Some a) (Some b) is = (b, refl)
+
+-- what the tests of steps say
+by_steps : (t o f s : Chosen) → is_by_nearer (Some t) (Some o) (Some f) (Some s) ≡ true
+    → (o.steps ≡ t.steps + min f.steps s.steps) × (t.steps + max f.steps s.steps < 255)
+by_steps t o f s is =
+    let (own, near) = and_parts (o.steps == t.steps + min f.steps s.steps)
+    (nat_lt (t.steps + max f.steps s.steps) 255) is in
+    (eqb-true o.steps (t.steps + min f.steps s.steps) own, below (t.steps + max f.steps s.steps) near)
+  where
+    below : (a : ℕ) → nat_lt a 255 ≡ true → a < 255
+    below a test = grind (arith, nat_tests)
+
+module _ (n : NetworkState) (network : IsNetwork n) (made events : List Timed) where
+  abbrev before : List Chosen
+  before = chosen_after n made
+
+  abbrev now : List Chosen
+  now = chosen_after n events
+
+  abbrev systems : List ours.System
+  systems = systems_after n events
+
+  abbrev links : List Ends
+  links = used_ends n events
+
+  abbrev lost : List Ends
+  lost = lost_ends n made events
+
+  abbrev is_moved_there : ℕ → Bool
+  is_moved_there = is_moved_at systems before now
+
+  abbrev from_top : ℕ → List Chosen
+  from_top = chosen_from systems links
+
+  -- the tests hold of two tops
+  pub record Twice : Type 0 where
+    pub first : ℕ
+    pub second : ℕ
+    pub tops : top_places systems lost before now ≡ first ∷ second ∷ []
+    pub worse : has_better_root (slice_get before first) (slice_get now first) ≡ true
+    pub first_itself : chose_itself (slice_get (from_top first) first) ≡ true
+    pub second_itself : chose_itself (slice_get (from_top second) second) ≡ true
+    pub all : list_all
+        (is_both_or_apart systems links before now (from_top first) (from_top second) first second)
+        (range_with_len 0 (length systems)) ≡ true
+
+  pub twice : falls_twice systems lost links before now ≡ true → Twice
+  twice is = by (top_places systems lost before now) refl is
+    where
+      by : (places : List ℕ) → top_places systems lost before now ≡ places
+          → falls_below_tops systems links before now places ≡ true → Twice
+      by [] same falls = absurd cc
+      by (first ∷ []) same falls = absurd cc
+      by (first ∷ second ∷ []) same falls =
+          let worse_test : Bool = has_better_root (slice_get before first) (slice_get now first) in
+          let first_test : Bool = chose_itself (slice_get (from_top first) first) in
+          let second_test : Bool = chose_itself (slice_get (from_top second) second) in
+          let all_test : Bool =
+          list_all (is_both_or_apart systems links before now (from_top first) (from_top second) first second)
+          (range_with_len 0 (length systems)) in
+          let (three, all) = and_parts (worse_test && first_test && second_test) all_test falls in
+          let (two, second_is) = and_parts (worse_test && first_test) second_test three in
+          let (worse, first_is) = and_parts worse_test first_test two in
+          record {
+            first = first;
+            second = second;
+            tops = same;
+            worse = worse;
+            first_itself = first_is;
+            second_itself = second_is;
+            all = all;
+          }
+      by (first ∷ second ∷ third ∷ others) same falls = absurd cc
+
+  module _ (t : Twice) where
+    abbrev in_tree : ℕ → Bool
+    in_tree i = has_same_root (slice_get now t.first) (slice_get now i)
+
+    side_place : Side → ℕ
+    side_place First = t.first
+    side_place Second = t.second
+
+    abbrev below_there : ℕ → Bool
+    below_there = is_below_both links before now (from_top t.first) (from_top t.second) t.first t.second
+
+    -- by whether the system at a place is moved
+    told_by : (i v : ℕ) → IsAt n i v → (moved : Bool) → is_moved_there i ≡ moved
+        → (if moved then below_there i else not (in_tree i)) ≡ true
+    told_by i v at moved is =
+        ap (λ b. if b then below_there i else not (in_tree i)) (sym is)
+        ∙ each_is (is_both_or_apart systems links before now (from_top t.first) (from_top t.second) t.first t.second)
+        (range_with_len 0 (length systems)) i t.all (asked_of n events i at.system at.there)
+
+    moved_so : (i v : ℕ) → IsAt n i v → in_tree i ≡ true
+        → (is_moved_there i ≡ true) × (below_there i ≡ true)
+    moved_so i v at inside = by (is_moved_there i) refl
+      where
+        by : (moved : Bool) → is_moved_there i ≡ moved → (is_moved_there i ≡ true) × (below_there i ≡ true)
+        by true is = (is, told_by i v at true is)
+        by false is = let no : false ≡ true = ap not (sym inside) ∙ told_by i v at false is in absurd cc
+
+    -- what that says
+    record Below (i : ℕ) : Type 0 where
+      by : (side : Side) → is_below links (from_top (side_place side)) now (side_place side) i ≡ true
+      root : has_same_root (slice_get before t.first) (slice_get before i) ≡ true
+      steps : is_by_nearer (slice_get before t.first) (slice_get before i) (slice_get (from_top t.first) i)
+          (slice_get (from_top t.second) i) ≡ true
+
+    below_so : (i : ℕ) → below_there i ≡ true → Below i
+    unfolding side_place
+    below_so i is =
+        let first_test : Bool = is_below links (from_top t.first) now t.first i in
+        let second_test : Bool = is_below links (from_top t.second) now t.second i in
+        let root_test : Bool = has_same_root (slice_get before t.first) (slice_get before i) in
+        let (three, steps) = and_parts (first_test && second_test && root_test)
+        (is_by_nearer (slice_get before t.first) (slice_get before i) (slice_get (from_top t.first) i)
+        (slice_get (from_top t.second) i)) is in
+        let (two, root) = and_parts (first_test && second_test) root_test three in
+        let (first, second) = and_parts first_test second_test two in
+        record { by = λ side. sides first second side; root = root; steps = steps }
+      where
+        sides : is_below links (from_top t.first) now t.first i ≡ true
+            → is_below links (from_top t.second) now t.second i ≡ true → (side : Side)
+            → is_below links (from_top (side_place side)) now (side_place side) i ≡ true
+        sides first second First = first
+        sides first second Second = second
+
+    in_below : (i v : ℕ) → IsAt n i v → in_tree i ≡ true → Below i
+    in_below i v at inside = below_so i (moved_so i v at inside).1
+
+    -- who is below both has the root of the first
+    below_inside : (i : ℕ) → below_there i ≡ true → in_tree i ≡ true
+    unfolding side_place
+    below_inside i is =
+        let cs : List Chosen = from_top t.first in
+        let root_test : Bool = has_same_root (slice_get cs t.first) (slice_get cs i) in
+        let steps_test : Bool = has_no_more_steps (slice_get cs t.first) (slice_get cs i) in
+        let single_test : Bool = has_one_nearer cs links i in
+        let on_test : Bool = list_all (leads_one_on cs i) links in
+        let four =
+        (and_parts (root_test && steps_test && in_tree i && single_test) on_test ((below_so i is).by First)).0 in
+        let three = (and_parts (root_test && steps_test && in_tree i) single_test four).0 in
+        (and_parts (root_test && steps_test) (in_tree i) three).1
+
+    -- a system that is moved, at a link that is lost, is a top
+    is_top : (i v : ℕ) → IsAt n i v → is_moved_there i ≡ true → (e : Ends) → In e lost → (e.a ≡ i) ⊎ (e.b ≡ i)
+        → (side : Side) × (i ≡ side_place side)
+    unfolding side_place
+    is_top i v at moved e listed end =
+        elim (subst (In i) t.tops
+        (kept (is_joined_moved_at systems lost before now) i (range_with_len 0 (length systems))
+        (asked_of n events i at.system at.there) (and_from (is_joined lost i) (is_moved_there i) joined moved))) [
+          | inl first ↦ (First, first)
+          | inr behind ↦ elim behind [ inl second ↦ (Second, second) | inr none ↦ absurd none ]
+        ]
+      where
+        joined : is_joined lost i ≡ true
+        joined = passes_at (ends_at i) lost e listed (elim end [
+          | inl a ↦ or_left (e.a == i) (e.b == i) (eq-eqb e.a i a)
+          | inr b ↦ or_right (e.a == i) (e.b == i) (eq-eqb e.b i b)
+        ])
+
+    -- each top is moved, and at a link that is lost
+    top_so : (side : Side) → (is_joined lost (side_place side) ≡ true) × (is_moved_there (side_place side) ≡ true)
+    unfolding side_place
+    top_so side =
+        and_parts (is_joined lost (side_place side)) (is_moved_there (side_place side))
+        (from_filter (is_joined_moved_at systems lost before now) (side_place side) (range_with_len 0 (length systems))
+        (subst (In (side_place side)) (sym t.tops) (listed side))).1
+      where
+        listed : (s : Side) → In (side_place s) (t.first ∷ t.second ∷ [])
+        listed First = inl refl
+        listed Second = inr (inl refl)
+
+    -- ---- between two snapshots
+
+    module _ (g h : Snapshot) (stands : StandsAfter n made g) (stands' : StandsAfter n events h)
+        (well : IsWellFormed g) (well' : IsWellFormed h) (lived : (v : ℕ) → In v (clocks h) → In v (clocks g)) where
+      abbrev On : ℕ → ℕ → Type 0
+      On = LivesOn n network made events g h stands stands' well well' lived
+
+      on : (v : ℕ) → In v (clocks h) → (i : ℕ) × On i v
+      on = on_of n network made events g h stands stands' well well' lived
+
+      -- who is moved lives
+      moved_lives : (i v : ℕ) → IsAt n i v → is_moved_there i ≡ true → In v (clocks h)
+      moved_lives i v at moved =
+          let (b, there0) = chosen_there n network made g stands well i v at in
+          let (c, therek) = chosen_there n network events h stands' well' i v at in
+          let o : ours.System = system_then events at.system in
+          let there : slice_get systems i ≡ Some o =
+          mapped_there (system_then events) n.systems i at.system at.there in
+          let here : (o.lives && differs b c) ≡ true =
+          (λ k. is_moved (sym there k) (sym there0 k) (sym therek k)) ∙ moved in
+          let live : (system_after events at.system).live ≡ true = (and_parts o.lives (differs b c) here).0 in
+          let lives_so : lives n.systems events v ≡ true =
+          passes_at (λ (m : SystemSpec). (clock_of m.identity == v) && (system_after events m).live) n.systems
+          at.system (In-slice_get at.system n.systems i at.there)
+          (and_from (clock_of at.system.identity == v) (system_after events at.system).live
+          (eq-eqb (clock_of at.system.identity) v at.clock) live) in
+          let (s, known, same) = with_clock h.systems v (live_there n network events h stands' v lives_so) in
+          subst (λ c. In c (clocks h)) same (In-clocks h s known)
+
+      -- the system at an end of a link that is lost
+      at_end : (i : ℕ) → is_joined lost i ≡ true → (v : ℕ) × IsAt n i v
+      at_end i is =
+          let (e, listed, end) = passes (ends_at i) lost is in
+          let (w, member, of) = from_map (ends_of n) e (filter (is_lost n made events) n.links) listed in
+          let known = (from_filter (is_lost n made events) w n.links member).0 in
+          let (place, there) = slice_get-In w n.links known in
+          let wire = network.links place w there in
+          elim (or_cases (e.a == i) (e.b == i) end) [
+            | inl a ↦ (
+              w.a.clock,
+              subst (λ k. IsAt n k w.a.clock) (ap (λ (d : Ends). d.a) of ∙ eqb-true e.a i a)
+                  (at_port n network made g stands well w.a wire.a),
+            )
+            | inr b ↦ (
+              w.b.clock,
+              subst (λ k. IsAt n k w.b.clock) (ap (λ (d : Ends). d.b) of ∙ eqb-true e.b i b)
+                  (at_port n network made g stands well w.b wire.b),
+            )
+          ]
+
+      abbrev top_at : (side : Side) → (v : ℕ) × IsAt n (side_place side) v
+      top_at side = at_end (side_place side) (top_so side).0
+
+      top_clock : Side → ℕ
+      top_clock side = (top_at side).0
+
+      first_on : On t.first (top_clock First)
+      unfolding side_place top_clock
+      first_on =
+          on_at n network made events g h stands stands' well well' lived t.first (top_clock First) (top_at First).1
+          (moved_lives t.first (top_clock First) (top_at First).1 (top_so First).1)
+
+      abbrev best : System
+      best = first_on.chose.best
+
+      abbrev next : System
+      next = first_on.chooses.best
+
+      abbrev base : ℕ
+      base = first_on.was.steps
+
+      -- ---- who is of the tree
+
+      inside_so : (i v : ℕ) (s : On i v) → IsBest h v next → in_tree i ≡ true
+      inside_so i v s in_v = same_back now t.first i first_on.is s.is first_on.is_there s.is_there one
+        where
+          one : first_on.is.root ≡ s.is.root
+          one =
+              let same : next ≡ s.chooses.best = IsBest-unique h v next s.chooses.best well' in_v s.chooses.is_best in
+              first_on.chooses.root ∙ ap (λ (b : System). b.identity) same ∙ sym s.chooses.root
+
+      best_so : (i v : ℕ) (s : On i v) → in_tree i ≡ true → IsBest h v next
+      best_so i v s inside =
+          let root = same_so now t.first i first_on.is s.is first_on.is_there s.is_there inside in
+          let one : s.chooses.best ≡ next =
+          same_system n network events events h h stands' stands' s.chooses.best next s.chooses.is_best.live
+          first_on.chooses.is_best.live (sym s.chooses.root ∙ sym root ∙ first_on.chooses.root) in
+          subst (IsBest h v) one s.chooses.is_best
+
+      below_of : (i v : ℕ) (s : On i v) → IsBest h v next → Below i
+      below_of i v s in_v = in_below i v s.at (inside_so i v s in_v)
+
+      of_tree : (side : Side) (i v : ℕ) → IsAt n i v → IsBest h v next
+          → IsOfTree n network events h stands' well' next (from_top (side_place side)) i
+      of_tree side i v at in_v =
+          let cs : List Chosen = from_top (side_place side) in
+          let top : ℕ = side_place side in
+          let root_test : Bool = has_same_root (slice_get cs top) (slice_get cs i) in
+          let steps_test : Bool = has_no_more_steps (slice_get cs top) (slice_get cs i) in
+          let same_test : Bool = has_same_root (slice_get now top) (slice_get now i) in
+          let single_test : Bool = has_one_nearer cs links i in
+          let on_test : Bool = list_all (leads_one_on cs i) links in
+          let s = on_at n network made events g h stands stands' well well' lived i v at in_v.reached.1.begins in
+          let b = below_of i v s in_v in
+          let (four, on_so) = and_parts (root_test && steps_test && same_test && single_test) on_test (b.by side) in
+          let (three, single) = and_parts (root_test && steps_test && same_test) single_test four in
+          let two = (and_parts (root_test && steps_test) same_test three).0 in
+          let (own, there) = own_of (slice_get cs top) (slice_get cs i) (and_parts root_test steps_test two).0 in
+          record { own = own; there = there; single = single; on = on_so }
+
+      abbrev deep : Side → ℕ → ℕ
+      deep side = depth n network events h stands' well' next (from_top (side_place side))
+
+      in_top : (side : Side) → IsBest h (top_clock side) next
+      unfolding top_clock
+      in_top side =
+          let at = (top_at side).1 in
+          let moved = (top_so side).1 in
+          let s = on_at n network made events g h stands stands' well well' lived (side_place side) (top_clock side) at
+          (moved_lives (side_place side) (top_clock side) at moved) in
+          best_so (side_place side) (top_clock side) s
+          (below_inside (side_place side) (told_by (side_place side) (top_clock side) at true moved))
+
+      -- ---- steps
+
+      record Steps (v : ℕ) : Type 0 where
+        was : IsDistance g v (base + min (deep First v) (deep Second v))
+        near : base + max (deep First v) (deep Second v) < 255
+
+      steps_at : (v : ℕ) → IsBest h v next → Steps v
+      unfolding side_place
+      steps_at v in_v =
+          let (i, s) = on v in_v.reached.1.begins in
+          let f = of_tree First i v s.at in_v in
+          let z = of_tree Second i v s.at in_v in
+          let (own, near) = by_steps first_on.was s.was f.own z.own
+          ((λ k. is_by_nearer (sym first_on.was_there k) (sym s.was_there k) (sym f.there k) (sym z.there k))
+          ∙ (below_of i v s in_v).steps) in
+          let first_is : deep First v ≡ f.own.steps = deep_is First i v s.at f in
+          let second_is : deep Second v ≡ z.own.steps = deep_is Second i v s.at z in
+          record {
+            was = subst (IsDistance g v) (let one : s.was.steps ≡ base + min (deep First v) (deep Second v) =
+                omega (arith, own, first_is, second_is) in one) s.chose.far;
+            near = omega (arith, near, first_is, second_is);
+          }
+        where
+          deep_is : (side : Side) (i w : ℕ) → IsAt n i w
+              → (o : IsOfTree n network events h stands' well' next (from_top (side_place side)) i)
+              → deep side w ≡ o.own.steps
+          deep_is side i w at o =
+              depth_there n network events h stands' well' next (from_top (side_place side)) i w at
+              ∙ ap steps_of o.there
+
+      -- ---- the tree
+
+      abbrev tree : TopsTree
+      tree = record { top = top_clock; next = next; base = base; depth = deep }
+
+      -- a link is lost at the tops alone
+      lost_so : (v u : ℕ) → IsBest h v next → Adjacent g v u
+          → Adjacent h v u ⊎ ((side : Side) × (v ≡ top_clock side))
+      unfolding top_clock
+      lost_so v u in_v (p, q, joins) =
+          let (i, s) = on v in_v.reached.1.begins in
+          let known_u = Adjacent-clock g v u well (p, q, joins) in
+          let (j, at_u) = at_clock n network made g stands well u known_u in
+          elim joins [
+            | inl member ↦
+                elim (stands_or_lost n network made g stands well events h stands' well'
+                (record { a = port_of v p; b = port_of u q }) member) [
+                  | inl still ↦ inl (p, q, inl still)
+                  | inr (w, same, listed) ↦
+                      let ends =
+                      ends_are n network made g stands well w v u i j (record { a = port_of v p; b = port_of u q })
+                      same refl refl s.at at_u in
+                      inr (only i s (ends_of n w) listed (inl (ap (λ (e : Ends). e.a) ends)))
+                ]
+            | inr member ↦
+                elim (stands_or_lost n network made g stands well events h stands' well'
+                (record { a = port_of u q; b = port_of v p }) member) [
+                  | inl still ↦ inl (p, q, inr still)
+                  | inr (w, same, listed) ↦
+                      let ends =
+                      ends_are n network made g stands well w u v j i (record { a = port_of u q; b = port_of v p })
+                      same refl refl at_u s.at in
+                      inr (only i s (ends_of n w) listed (inr (ap (λ (e : Ends). e.b) ends)))
+                ]
+          ]
+        where
+          only : (i : ℕ) (s : On i v) (e : Ends) → In e lost → (e.a ≡ i) ⊎ (e.b ≡ i)
+              → (side : Side) × (v ≡ top_clock side)
+          only i s e listed end =
+              let moved = (moved_so i v s.at (inside_so i v s in_v)).0 in
+              let (side, is) = is_top i v s.at moved e listed end in (
+                side,
+                one_clock n network made g stands well (side_place side) v (top_clock side)
+                    (subst (λ k. IsAt n k v) is s.at) (top_at side).1,
+              )
+
+      first_zero : (side : Side) → deep side (top_clock side) ≡ 0
+      unfolding top_clock side_place
+      first_zero side =
+          depth_there n network events h stands' well' next (from_top (side_place side)) (side_place side)
+          (top_clock side) (top_at side).1
+          ∙ zero_so (slice_get (from_top (side_place side)) (side_place side)) (itself side)
+        where
+          itself : (s : Side) → chose_itself (slice_get (from_top (side_place s)) (side_place s)) ≡ true
+          itself First = t.first_itself
+          itself Second = t.second_itself
+
+          zero_so : (a : Option Chosen) → chose_itself a ≡ true → steps_of a ≡ 0
+          zero_so None is = absurd cc
+          zero_so (Some a) is = eqb-true a.steps 0 is
+
+      worse : best.identity < next.identity
+      worse =
+          let so = better_so first_on.was first_on.is
+          ((λ k. has_better_root (sym first_on.was_there k) (sym first_on.is_there k)) ∙ t.worse) in
+          let first = first_on.chose.root in
+          let last = first_on.chooses.root in
+          omega (arith, so, first, last)
+
+      was_best : (v : ℕ) → IsBest h v next → IsBest g v best
+      was_best v in_v =
+          let (i, s) = on v in_v.reached.1.begins in
+          let root =
+          same_so before t.first i first_on.was s.was first_on.was_there s.was_there (below_of i v s in_v).root in
+          let one : s.chose.best ≡ best =
+          same_system n network made made g g stands stands s.chose.best best s.chose.is_best.live
+          first_on.chose.is_best.live (sym s.chose.root ∙ sym root ∙ first_on.chose.root) in
+          subst (IsBest g v) one s.chose.is_best
+
+      near_side : (side : Side) (v : ℕ) → IsBest h v next → base + deep side v < 255
+      near_side First v in_v = let near = (steps_at v in_v).near in omega (arith, near)
+      near_side Second v in_v = let near = (steps_at v in_v).near in omega (arith, near)
+
+      cut_twice : IsTreeCutTwice g h best tree
+      cut_twice = record {
+        in_top = in_top;
+        worse = worse;
+        was_best = was_best;
+        was = λ v in_v. (steps_at v in_v).was;
+        near = near_side;
+        first = first_zero;
+        lost = lost_so;
+        steps = λ side v u in_v joined.
+            steps_so n network events h stands' well' next (from_top (side_place side)) (of_tree side) v u in_v joined;
+        single = λ side v p q a b in_v first second less less'.
+            single_so n network events h stands' well' next (from_top (side_place side)) (of_tree side) v p q a b in_v
+            first second less less';
+      }
+
+      -- each system is unmoved, or of the tree
+      each : (v : ℕ) → In v (clocks h) → IsUnmovedOrInTree g h best v
+      each v known = let (i, s) = on v known in by i s (is_moved_there i) refl
+        where
+          by : (i : ℕ) (s : On i v) (moved : Bool) → is_moved_there i ≡ moved → IsUnmovedOrInTree g h best v
+          by i s true moved =
+              let inside = below_inside i (told_by i v s.at true moved) in
+              inr (inr (inr (tree, cut_twice, best_so i v s inside)))
+          by i s false moved =
+              inl (unmoved_at n network made events g h stands stands' well well' v (lived v known) known i s.at moved)
+
+      pub twice_so : (b : System) × ((v : ℕ) → In v (clocks h) → IsUnmovedOrInTree g h b v)
+      twice_so = (best, each)

@@ -1,0 +1,39 @@
+-- A link since its port sent a first request that found nothing old in flight.
+use Rattle.std.specs.Prelude.{◌≡◌, ◌≢◌, ◌<◌, ◌+◌, ◌*◌, ℕ, false, Some, slice_get}
+use Rattle.gptp_pdelay_machine.specs.Facts.{Facts}
+use Rattle.gptp_pdelay_machine.specs.First.{InvFirst}
+use Rattle.gptp_pdelay_machine.specs.FirstLaws.{exchange_span}
+use Rattle.gptp_setup.specs.Intervals.{interval_of}
+use Rattle.gptp_model.specs.World.{Channel, WorldState, receiver, sender}
+use Rattle.gptp_invariants.specs.DelayMeasured.{StationIsLiveAt}
+use Rattle.gptp_invariants.specs.DelayLinkView.{IsGoodBetween, IsLinkOf, LinkPlace, reads_as_request, least_delay, meter, pair, reads_as_reply, link_setting}
+
+-- The port that asks sent it at this time: since then exchanges are in their phases, and what they had to measure is
+-- measured.
+pub record IsFirstAt (first : ℕ) (at : LinkPlace) (w : WorldState) : Type 0 where
+  pub link : IsLinkOf at w
+  pub short : exchange_span (link_setting at w link) < (link_setting at w link).period
+  pub facts : Facts (link_setting at w link) first (pair at w link)
+  pub inv : InvFirst (link_setting at w link) (least_delay at w link) reads_as_request reads_as_reply first
+      (meter at w link)
+
+-- the port that asks sent its first request at this time, with nothing old in flight, and one interval between requests
+-- and one exchange after it are over before this start
+abbrev pub IsFirstBy : ℕ → ℕ → LinkPlace → WorldState → Type 0
+IsFirstBy first start at w =
+    (l : IsFirstAt first at w)
+    × (first + (link_setting at w l.link).period + exchange_span (link_setting at w l.link) < start)
+
+-- At this place stands a link that is down, loses nothing and is good, and at its ends two live stations; the pdelay
+-- interval leaves an exchange over it its time.
+pub record StandsDown (at : LinkPlace) (w : WorldState) : Type 0 where
+  pub channel : Channel
+  pub here : slice_get w.net.channels at.link ≡ Some channel
+  pub down : channel.up ≡ false
+  pub lossless : channel.bounds.loss ≡ 0
+  pub asking : StationIsLiveAt at.asking (sender at.direction channel).clock w
+  pub answering : StationIsLiveAt at.answering (receiver at.direction channel).clock w
+  pub apart : at.asking ≢ at.answering
+  pub good : IsGoodBetween channel.bounds.max asking.station.setup.params answering.station.setup.params
+  pub short : 2 * asking.station.setup.params.threshold + answering.station.setup.params.turnaround
+      < interval_of asking.station.setup.params.pdelay

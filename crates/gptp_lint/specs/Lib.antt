@@ -1,0 +1,17 @@
+pub mod Graph
+pub mod Labels
+pub mod Components
+pub mod Moments
+pub mod Trouble
+pub mod Unlinked
+pub mod Findings
+pub mod Outline
+pub mod Unread
+pub mod Nearest
+pub mod Keys
+pub mod UnreadKeys
+pub mod Why
+pub mod Ending
+pub mod Refusal
+pub mod LintText
+pub mod Laws

@@ -1,0 +1,4 @@
+pub mod SystemSpecLemmas
+pub mod PlaceLemmas
+pub mod MappedLemmas
+pub mod ReverseLemmas

@@ -1,0 +1,5 @@
+pub mod PathLemmas
+pub mod TlvLemmas
+pub mod GrammarLemmas
+mod ReadingLemmas
+pub mod WrittenLemmas

@@ -1,0 +1,11 @@
+pub mod Frame
+pub mod Refused
+pub mod MessageType
+pub mod Head
+pub mod Timestamp
+pub mod Path
+pub mod Tlv
+pub mod Announce
+pub mod PeerDelay
+pub mod FollowUp
+pub mod Grammar

@@ -1,0 +1,5 @@
+mod ValueLemmas
+mod RowLemmas
+pub mod OutlineLemmas
+mod CounterLemmas
+mod InlineLemmas

@@ -1,0 +1,13 @@
+pub mod Clock
+pub mod Earlier
+pub mod EarlierFields
+pub mod PackedFields
+pub mod Exchange
+pub mod GoodLink
+pub mod Progress
+pub mod Peer
+pub mod PeerFields
+pub mod Past
+pub mod Capability
+pub mod Late
+pub mod Measured

@@ -1,0 +1,9 @@
+pub mod EntryLemmas
+pub mod TableLemmas
+pub mod OrderLemmas
+pub mod OptionLemmas
+pub mod PartLemmas
+pub mod QueueLemmas
+pub mod BothLemmas
+pub mod SlotLemmas
+pub mod RingLemmas

@@ -1,0 +1,4 @@
+use Rattle.gptp_queue.proofs.far.Far.first.Goals as goal
+
+pub returns-clause-least : goal.returns-clause-least
+returns-clause-least c = rw (← c.self.view_is) c.self.invariant.least

@@ -1,0 +1,16 @@
+pub mod HopLemmas
+pub mod WayLemmas
+pub mod TellingLemmas
+pub mod UsedLemmas
+pub mod ExactLemmas
+pub mod RunLemmas
+pub mod BaseLemmas
+pub mod AgeLemmas
+pub mod LapseLemmas
+pub mod OffsetLemmas
+pub mod EachLemmas
+pub mod HeardLemmas
+pub mod KnownLemmas
+pub mod LastingLemmas
+pub mod LatelyLemmas
+pub mod HeldLemmas

@@ -1,0 +1,4 @@
+pub mod Reading
+pub mod ReadingLaws
+pub mod Readings
+pub mod Age

@@ -1,0 +1,3 @@
+pub mod Qualification
+pub mod Held
+pub mod Span

@@ -1,0 +1,4 @@
+pub mod LineLemmas
+pub mod ReportLemmas
+pub mod RunLemmas
+pub mod FrameLemmas

@@ -1,0 +1,5 @@
+pub mod ChoiceLemmas
+pub mod EachLemmas
+pub mod RoleLemmas
+pub mod RestLemmas
+pub mod SlaveLemmas

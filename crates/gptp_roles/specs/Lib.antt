@@ -1,0 +1,4 @@
+pub mod Choice
+pub mod Role
+pub mod Selection
+pub mod SystemTrace

@@ -1,0 +1,5 @@
+use Rattle.gptp_scaled.proofs.TimeStampLemmas.{time_stamp_is_shown}
+use Rattle.gptp_scaled.proofs.laws.time_stamp_is_shown.Goals as goal
+
+pub returns : goal.returns
+returns c = time_stamp_is_shown

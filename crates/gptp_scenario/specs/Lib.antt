@@ -1,0 +1,11 @@
+pub mod Params
+pub mod Faults
+pub mod Network
+pub mod Change
+pub mod InUse
+pub mod SyncWait
+pub mod Calm
+pub mod SettlingTime
+pub mod SettlingAtOnce
+pub mod Prompt
+pub mod Allowed

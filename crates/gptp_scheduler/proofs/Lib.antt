@@ -1,0 +1,10 @@
+pub mod SlotLemmas
+pub mod NumberLemmas
+pub mod ChainLemmas
+pub mod PlaceLemmas
+pub mod WheelLemmas
+pub mod EarliestLemmas
+pub mod EntryLemmas
+pub mod FiledLemmas
+pub mod AgendaLemmas
+pub mod FirstLemmas

@@ -1,0 +1,87 @@
+-- What is known of each state since links or systems were taken away, whoever is moved: all that is held and in flight
+-- fits the snapshot of before, each system that is unmoved keeps its root and steps and tells them, and what names the
+-- best in no steps names it alone.
+use Rattle.std.proofs.Common.{◌≤◌, ℕ, suc, subst, inl, inr, arith}
+use Rattle.gptp_lists.specs.Members.{In}
+use Rattle.gptp_graph.specs.Snapshot.{IsWellFormed, Joins, PortIdentity, Snapshot, System}
+use Rattle.gptp_bmca_machine.specs.Acts.{MachineSteps}
+use Rattle.gptp_bmca_machine.specs.Frame.{Spelling}
+use Rattle.gptp_bmca_machine.specs.LossLaws.{EverythingFits, IsAfterLoss, IsWhatIsLeft}
+use Rattle.gptp_bmca_machine.specs.Network.{Network}
+use Rattle.gptp_bmca_machine.specs.RestLaws.{SameWiring}
+use Rattle.gptp_bmca_machine.specs.Station.{MachineState}
+use Rattle.gptp_bmca_machine.proofs.LossLemmas.{fits_kept}
+use Rattle.gptp_bmca_machine.proofs.StillLemmas.{StillSettles, levels_below}
+use Rattle.gptp_bmca_machine.proofs.RestLemmas.{left_of}
+use Rattle.gptp_settling_time.proofs.AgingStillLemmas.{IsEmptied, still_emptied}
+use Rattle.gptp_settling_time.proofs.BetweenUnmovedLemmas.{known_on, unmoved_between}
+use Rattle.gptp_settling_time.proofs.NamesItselfLemmas.{AllNameItself, itself_kept}
+
+pub record IsTakenSeen (says : Spelling) (g : Snapshot) (n : Network) (w : MachineState) : Type 0 where
+  pub fits : EverythingFits says g n w
+  pub still : (d : ℕ) → StillSettles says g n d w
+  pub itself : AllNameItself says n g w
+
+-- every step keeps that
+pub taken_kept : (says : Spelling) (g : Snapshot) (n : Network) (w w' : MachineState) → IsWellFormed n.graph
+    → IsWhatIsLeft g n → IsAfterLoss n w → IsAfterLoss n w' → MachineSteps says w w' → IsTakenSeen says g n w
+    → IsTakenSeen says g n w'
+taken_kept says g n w w' well' less was after step seen = record {
+  fits = fits;
+  still = λ d.
+      levels_below says g n well' less w w' was after seen.fits.stations fits.stations step seen.still (suc d) d
+      (omega arith);
+  itself = itself_kept says n g w w' was.calm after.calm step seen.itself;
+}
+  where
+    fits : EverythingFits says g n w'
+    fits = fits_kept says g n less w w' was.calm after.calm step seen.fits
+
+-- So it is kept where systems or links are taken away, and nothing else happens but that lanes are emptied.
+module _ (says : Spelling) (g : Snapshot) (n n' : Network) (well' : IsWellFormed n'.graph) (same : SameWiring n n')
+    (well : IsWellFormed g) (first_systems : (s : System) → In s n.graph.systems → In s g.systems)
+    (first_links : (p q : PortIdentity) → Joins n.graph p q → Joins g p q)
+    (systems : (s : System) → In s n'.graph.systems → In s n.graph.systems)
+    (links : (p q : PortIdentity) → Joins n'.graph p q → Joins n.graph p q) (w w' : MachineState)
+    (emptied : IsEmptied w w') (late : n.most ≤ w.time) (after' : IsAfterLoss n' w') (seen : IsTakenSeen says g n w)
+  where
+    less : IsWhatIsLeft g n
+    less = left_of g n well first_systems first_links
+
+    less_left : IsWhatIsLeft g n'
+    less_left = record {
+      graph = less.graph;
+      systems = λ s member. less.systems s (systems s member);
+      links = λ a b joins. less.links a b (links a b joins);
+    }
+
+    fits' : EverythingFits says g n' w'
+    fits' = record {
+      lanes = λ j l f a there flies said known. elim (emptied.lanes j l there) [
+        | inl stood ↦
+            seen.fits.lanes j l f a stood flies said (known_on n'.graph n.graph systems links l.to.clock known)
+        | inr (none, down) ↦ absurd (subst (In f) none flies)
+      ];
+      stations = λ i s place r at live holds.
+          seen.fits.stations i s place r (emptied.stations i s at live) live holds;
+    }
+
+    itself' : AllNameItself says n' g w'
+    itself' = record {
+      lanes = λ j l f a there flies said known. elim (emptied.lanes j l there) [
+        | inl stood ↦
+            seen.itself.lanes j l f a stood flies said (known_on n'.graph n.graph systems links l.to.clock known)
+        | inr (none, down) ↦ absurd (subst (In f) none flies)
+      ];
+      stations = λ i s at live place r holds.
+          seen.itself.stations i s (emptied.stations i s at live) live place r holds;
+    }
+
+    pub taken_emptied : IsTakenSeen says g n' w'
+    taken_emptied = record {
+      fits = fits';
+      itself = itself';
+      still = still_emptied says g n n' well' same links
+          (λ v is. unmoved_between g n n' well' first_systems first_links systems links v is)
+          less_left w w' emptied late after' fits' seen.still;
+    }

@@ -1,0 +1,77 @@
+-- Worlds of documents since a link went down by which a tree turned to its one way out.
+use Rattle.std.proofs.Common.{◌≤◌, ◌+◌, ◌*◌, ℕ, pred, Option, List}
+use Rattle.gptp_graph.specs.PathBound.{path_bound}
+use Rattle.gptp_graph.specs.Snapshot.{Snapshot}
+use Rattle.gptp_links.specs.declared.bounds.Bounds.{Bounds}
+use Rattle.gptp_scenario.specs.Calm.{IsCalm, NothingLapses}
+use Rattle.gptp_scenario.specs.Network.{pace_of}
+use Rattle.gptp_scenario.specs.declared.change.Timed.{Timed}
+use Rattle.gptp_model.specs.Acts.{at}
+use Rattle.gptp_model.specs.Course.{WasDone}
+use Rattle.gptp_model.specs.Pending.{NothingBefore}
+use Rattle.gptp_model.specs.Views.{IsNextAct}
+use Rattle.gptp_model.specs.World.{WorldState}
+use Rattle.gptp_world.specs.Transitions.{ActTrace}
+use Rattle.gptp_world.proofs.SettlingInvariantLemmas.{next_octet}
+use Rattle.gptp_network.specs.Document.{DocumentState}
+use Rattle.gptp_invariants.specs.ChoiceCalm.{delay_in}
+use Rattle.gptp_invariants.specs.ChoiceSettled.{Settled}
+use Rattle.gptp_invariants.specs.WorldBounded.{IsBoundedWorld}
+use Rattle.gptp_invariants.specs.WorldStanding.{snapshot_of}
+use Rattle.gptp_theorem.specs.PlayedLaws.{IsPlayable}
+use Rattle.gptp_theorem.proofs.CalmLemmas.{quiet_stands}
+use Rattle.gptp_theorem.proofs.CalmKeptLemmas.{no_change}
+use Rattle.gptp_settling_time.specs.Rests.{HasToldAnew}
+use Rattle.gptp_settling_time.proofs.ClaimedToLemmas.{IsClaimedTo}
+use Rattle.gptp_settling_time.proofs.KeptToLemmas.{KeepsTo, keeps_act, keeps_later}
+use Rattle.gptp_settling_time.proofs.TurnedToLemmas.{anew_claimed}
+use Rattle.gptp_settling_time.proofs.TurnedTreeLemmas.{turned_tree_settles}
+use Rattle.gptp_settling_time.proofs.TurnedTreeRestLemmas.{IsTurnedTreeAnew, tree_anew_acts, tree_anew_claimed, tree_anew_later}
+
+-- A world of a document after these events, by the last of which a tree turned at a time; ports without a link
+-- aren't capable from a time on.
+pub record IsTurnedTreeTo (d : DocumentState) (events : List Timed) (silent time : ℕ) (w : WorldState) : Type 0 where
+  pub keeps : KeepsTo d events w
+  pub before : Snapshot
+  pub since : IsTurnedTreeAnew (pace_of d.network) before silent time w
+
+module _ (d : DocumentState) (events : List Timed) (silent time : ℕ) where
+  pub turned_tree_to_later : (w : WorldState) (now : ℕ) → w.time ≤ now → NothingBefore now w.net.pending
+      → IsTurnedTreeTo d events silent time w → IsTurnedTreeTo d events silent time (at now w)
+  turned_tree_to_later w now later first so = record {
+    keeps = keeps_later d events w now later first so.keeps;
+    before = so.before;
+    since = tree_anew_later (pace_of d.network) so.before silent time now w later first so.since;
+  }
+
+  pub turned_tree_to_act : {F : Type 0} (answers : Bounds → ℕ → F → Option ℕ → F → Type 0) (t : ActTrace)
+      (fate drawn : F) (w : WorldState) → IsNextAct w t.told.timed
+      → WasDone answers t.told.timed fate drawn w t.after t.told.done
+      → IsTurnedTreeTo d events silent time w → IsTurnedTreeTo d events silent time t.after
+  turned_tree_to_act answers t fate drawn w next was so =
+      let timed = t.told.timed in
+      let p = pace_of d.network in
+      let then = tree_anew_later p so.before silent time timed.at w was.ready.timely.now was.ready.timely.first
+      so.since in
+      record {
+        keeps = keeps_act d events answers t fate drawn w next was so.keeps;
+        before = so.before;
+        since = tree_anew_acts p so.before silent time timed.act (at timed.at w) was.draws t.told.done t.after
+            (no_change next.item timed.act w next.act) (next_octet next.item timed.act w next.act) was.acts then;
+      }
+
+  -- it has settled
+  pub turned_tree_to_settled : (w : WorldState) → IsTurnedTreeTo d events silent time w → IsPlayable d
+      → IsCalm d.network events → NothingLapses d.network.params
+      → time + 1 + 2 * (pred (path_bound (snapshot_of w)) * delay_in w) ≤ w.time
+      → Settled w × IsBoundedWorld w
+  turned_tree_to_settled w so playable calm off late =
+      turned_tree_settles (pace_of d.network) so.before silent time w so.since.tree
+      (quiet_stands d.network events w playable.network so.keeps.stands so.keeps.claim.world.sound calm).links off late
+
+  -- once traces are told anew claims are made of all links always
+  pub turned_tree_to_claimed : (w : WorldState) (start : ℕ) → IsTurnedTreeTo d events silent time w → IsPlayable d
+      → HasToldAnew d.network events time start w.time → IsClaimedTo d events start w
+  turned_tree_to_claimed w start so playable rest =
+      anew_claimed d events time start w so.keeps playable rest (λ quiet over later.
+      tree_anew_claimed (pace_of d.network) so.before silent time w so.since quiet rest.off over start later)

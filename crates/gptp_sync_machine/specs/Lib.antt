@@ -1,0 +1,12 @@
+pub mod Right
+pub mod RightLaws
+pub mod Messages
+pub mod Follower
+pub mod Flows
+pub mod Acts
+pub mod Invariant
+pub mod Runs
+pub mod FollowerLaws
+pub mod Tree
+pub mod TreeLaws
+pub mod Example

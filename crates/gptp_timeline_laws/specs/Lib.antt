@@ -1,0 +1,9 @@
+pub mod Looks
+pub mod Moments
+pub mod Exact
+pub mod ExactSoon
+pub mod Sources
+pub mod Age
+pub mod Apart
+pub mod Right
+pub mod Soon

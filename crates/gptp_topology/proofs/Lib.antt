@@ -1,0 +1,9 @@
+pub mod SystemSpecLemmas
+pub mod PlaceLemmas
+pub mod LivesLemmas
+pub mod NamedLemmas
+pub mod CourseLemmas
+pub mod RestLemmas
+pub mod StandingLemmas
+pub mod BoundLemmas
+pub mod PassedLemmas

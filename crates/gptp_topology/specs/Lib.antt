@@ -1,0 +1,5 @@
+pub mod Course
+pub mod Trouble
+pub mod Tables
+pub mod After
+pub mod Times

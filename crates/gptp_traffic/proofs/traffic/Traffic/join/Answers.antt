@@ -1,0 +1,17 @@
+use Rattle.std.proofs.Common.{ap, sym, arith}
+use Rattle.gptp_traffic.specs.Traffic.{join_of}
+use Rattle.gptp_traffic.proofs.TrafficLemmas.{channel_is, lent_link, many-channels}
+use Rattle.gptp_traffic.proofs.traffic.Traffic.join.Goals as goal
+
+pub index-requires : goal.index-requires
+index-requires c =
+    let t = c.self.inside in let many = many-channels t.pending.frames 0 t.links.items in let long = t.links.ok.0 in
+    let within = rw (← c.self.view_is) at c.requires in omega (arith, many, long, within)
+
+pub returns : goal.returns
+returns c = λ channel here.
+    let t = c.self.inside in let one = c.index.result.now in
+    let there = lent_link t.pending.frames t.links.items c.args.link one (rw (← c.self.view_is) at c.requires)
+    c.index.ensures in
+    ap join_of
+    (sym (channel_is t.pending.frames t.links.items c.args.link one channel there (rw (← c.self.view_is) at here)))

@@ -1,0 +1,4 @@
+pub mod Flight
+pub mod Pending
+pub mod PendingIndex
+pub mod Traffic

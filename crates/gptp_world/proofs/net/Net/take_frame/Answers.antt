@@ -1,0 +1,14 @@
+use Rattle.std.proofs.Common.{◌∙◌, refl, arith}
+use Rattle.gptp_world.proofs.net.Net.take_frame.Goals as goal
+
+pub returns-clause-net : goal.returns-clause-net
+returns-clause-net c = record { joins = c.take.ensures.joins ∙ c.requires.net.joins }
+
+pub returns-clause-uses : goal.returns-clause-uses
+returns-clause-uses c =
+    let e = c.take.ensures in record {
+      directory = refl;
+      systems = e.systems;
+      entries = omega (arith, e.room);
+      buffers = omega arith;
+    }

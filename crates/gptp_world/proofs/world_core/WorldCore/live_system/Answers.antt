@@ -1,0 +1,16 @@
+use Rattle.std.proofs.Common.{subst, sym}
+use Rattle.std.proofs.lemmas.Option.{none-some}
+use Rattle.gptp_model.specs.Acts.{AtSystem}
+use Rattle.gptp_world.specs.WorldParts.{world_of}
+use Rattle.gptp_model.specs.Views.{IsLiveSystem}
+use Rattle.gptp_world.proofs.ActTargetLemmas.{no_system}
+use Rattle.gptp_world.proofs.world_core.WorldCore.live_system.Goals as goal
+
+pub returns-in-None-clause-none : goal.returns-in-None-clause-none
+returns-in-None-clause-none c = λ shown.
+    let parts = c.self.inside.parts in
+    let at : AtSystem c.args.clock (world_of parts) IsLiveSystem =
+    subst (λ w. AtSystem c.args.clock w IsLiveSystem) (sym c.self.view_is) shown in
+    no_system parts c.args.clock c.self.invariant.stage_kept
+    (λ place there. none-some place (c.in-None.ensures.only place there))
+    (record { place = at.place; station = at.station; is = at.is; so = tt })
