@@ -19,7 +19,7 @@ use Rattle.gptp_bmca_machine.proofs.MovedTreeLemmas.{Around, IsBeyond, LeadsDown
 use Rattle.gptp_bmca_machine.proofs.FallLeaveLemmas.{TreeAnswers, answers_or_stands, leaves_old, tells_new}
 use Rattle.gptp_bmca_machine.proofs.FallHeldLemmas.{holds_by, holds_in_tree, old_in_time}
 use Rattle.gptp_bmca_machine.proofs.FallLemmas.{DownStage, FollowsOld, HasChoice, choice_dec, HasLeft, HoldsInTree, HoldsLeft, IsAftermath, IsFalling, IsFreeAt, IsLed, IsLeft, IsNewTold, IsOld, IsToldAtTop, IsToldByNearer, UnlinkedDrop, UnlinkedHoldNone, falls_by, follows_old, is_moved, not_free_old, old_by_held, old_by_steps, told_nearer, own_new, says_whole, was_clear}
-use Rattle.gptp_bmca_machine.proofs.FallStepLemmas.{SaysSo, free_held, free_kept, old_kept, old_or_free}
+use Rattle.gptp_bmca_machine.proofs.FallStepLemmas.{SaysSo, free_held, free_kept, old_or_free}
 use Rattle.gptp_bmca_machine.proofs.ClearLemmas.{tells_clear, weaker_clear}
 use Rattle.gptp_bmca_machine.proofs.LinkEndsLemmas.{ShowEnds, ends_by, hearer_known, telling_kept, teller_on}
 use Rattle.gptp_bmca_machine.proofs.LinkStageLemmas.{settled}
@@ -394,9 +394,7 @@ module _ (says : Spelling) (g : Snapshot) (n : Network) (Tree : ℕ → Type 0) 
             by (inr (inl (not, told))) =
                 let not' = left_stays not in
                 elim (old_or_free says g n Tree Out top best next base depth t w w' m m' step v p u q joins in_v leads
-                (falls_by n start (suc (depth v))) (new_then not')
-                (old_kept says g n Tree Out top best next base depth t w w' m m' step v p u q joins in_v leads
-                (falls_by n start (suc (depth v))) (new_then not') told)) [
+                (falls_by n start (suc (depth v))) (new_then not') told) [
                   | inl old ↦ inr (inl (not', old))
                   | inr free ↦ inr (inr (not', free))
                 ]

@@ -3,7 +3,7 @@ use Rattle.std.proofs.Common.{◌≡◌, ◌≢◌, ◌<◌, ◌≤◌, ◌+◌,
 use Rattle.gptp_lists.specs.Members.{In}
 use Rattle.gptp_graph.specs.Best.{IsBest}
 use Rattle.gptp_graph.specs.Distance.{IsDistance}
-use Rattle.gptp_graph.specs.Snapshot.{IsWellFormed, Joins, Snapshot, System, clocks, port_of}
+use Rattle.gptp_graph.specs.Snapshot.{IsLinked, IsWellFormed, Joins, Snapshot, System, clocks, port_of}
 use Rattle.gptp_graph.proofs.BestLemmas.{IsBest-neighbour}
 use Rattle.gptp_graph.proofs.LinkLemmas.{Joins-clock, Joins-sym}
 use Rattle.gptp_graph.proofs.PathBoundLemmas.{IsDistance-within}
@@ -13,7 +13,7 @@ use Rattle.gptp_bmca_machine.specs.Levels.{LeadsFarther}
 use Rattle.gptp_bmca_machine.specs.LinkStage.{FinalAnnounceStays}
 use Rattle.gptp_bmca_machine.specs.LossLaws.{IsAfterLoss, IsLoss}
 use Rattle.gptp_bmca_machine.specs.Network.{IsSettlingNetwork, Network}
-use Rattle.gptp_bmca_machine.specs.Station.{Disabled, MachineState, Port, Received, Reception, Station}
+use Rattle.gptp_bmca_machine.specs.Station.{Disabled, HoldsAt, MachineState, Port, Received, Reception, Station}
 use Rattle.gptp_bmca_machine.proofs.EndsLemmas.{clear_at, is_station, station_of}
 use Rattle.gptp_bmca_machine.proofs.LevelLemmas.{port_there}
 use Rattle.gptp_bmca_machine.proofs.LinkStepLemmas.{lives_at}
@@ -22,6 +22,18 @@ use Rattle.gptp_bmca_machine.proofs.PlaceLemmas.{same_there}
 use Rattle.gptp_bmca_machine.proofs.RestLemmas.{Chooses, is_master}
 use Rattle.gptp_bmca_machine.proofs.RestingLemmas.{all_choose, by_then_at, links_stay, stays_so}
 use Rattle.gptp_bmca_machine.proofs.StillLemmas.{still, still_stays}
+
+-- what a system holds came over a link of before
+pub bare_begins : (says : Spelling) (n0 n : Network) (w w' : MachineState) → IsLoss says n0 n w w' → IsAfterLoss n w'
+    → (x : ℕ) → In x (clocks n.graph) → (s : Station) (i : ℕ) (r : Reception)
+    → slice_get w'.stations (n.place x) ≡ Some s → HoldsAt s i r → IsLinked n0.graph (port_of x (suc i))
+bare_begins says n0 n w w' loss kept' x known s i r at holds =
+    let is = lives_at n w' kept'.calm x known s at in
+    let came = loss.rests.whole.stations (n.place x) s i r (loss.stations (n.place x) s at is.0) is.0 holds in (
+      came.from,
+      subst (λ c. Joins n0.graph (port_of c (suc i)) came.from) is.1
+          (Joins-sym n0.graph came.from (port_of s.clock (suc i)) came.joins),
+    )
 
 module _ (says : Spelling) (n0 n : Network) (net0 : IsSettlingNetwork n0) (w w' : MachineState)
     (loss : IsLoss says n0 n w w') (kept' : IsAfterLoss n w') (wf : IsWellFormed n0.graph) (lost x : ℕ)
@@ -142,21 +154,6 @@ module _ (says : Spelling) (n0 n : Network) (net0 : IsSettlingNetwork n0) (w w' 
                     lane = lane;
                   })));
             }
-
-    -- how long it stays says the interval that it names
-    pub long_at_rest : (s : Station) (pu : Port) (l : Lane) → slice_get w.stations (n0.place x) ≡ Some s
-        → slice_get s.ports i ≡ Some pu → slice_get w.lanes (n0.lane (port_of lost (suc p))) ≡ Some l
-        → n.interval_of (port_of lost (suc p)) + n0.most < stay (n.log_of (port_of lost (suc p)))
-    long_at_rest s pu l at there lane =
-        let told = told_at_rest s pu l at there lane in
-        let r = told.stays.what in
-        let final = told.stays.final in
-        let log = loss.same.log (port_of lost (suc p)) in
-        let interval = loss.same.interval (port_of lost (suc p)) in
-        let more = stays_long s at pu there r told.stays.holds final.source (final.log ∙ log) in
-        let spans = named (n0.place x) s i r at (is_x s at pu there).0 (pu, there, told.stays.holds)
-        ∙ ap stay final.log in
-        omega (arith, more, spans, interval)
 
     -- so the port holds what was told last
     pub last_begins : (s : Station) (pu : Port) (l : Lane) → slice_get w'.stations (n.place x) ≡ Some s

@@ -36,7 +36,7 @@ module _ (says : Spelling) (g : Snapshot) (n : Network) (Tree : ℕ → Type 0) 
   known : In top (clocks n.graph)
   known = t.lives top in_top
 
-  top_far : (d : ℕ) → base ≡ d → IsDistance g top d
+  pub top_far : (d : ℕ) → base ≡ d → IsDistance g top d
   top_far d is = subst (IsDistance g top) (let none = t.first in omega (arith, is, none)) (t.was top in_top)
 
   -- the top wasn't the best of before

@@ -7,10 +7,9 @@ use Rattle.gptp_bmca_machine.specs.CutTree.{LosesSystem}
 use Rattle.gptp_bmca_machine.specs.Frame.{Lane, Spelling}
 use Rattle.gptp_bmca_machine.specs.LossLaws.{IsAfterLoss, IsLoss}
 use Rattle.gptp_bmca_machine.specs.Network.{IsSettlingNetwork, Network}
-use Rattle.gptp_bmca_machine.specs.Station.{HoldsAt, MachineState, Reception, Station}
+use Rattle.gptp_bmca_machine.specs.Station.{MachineState}
 use Rattle.gptp_bmca_machine.specs.TwoTops.{Side, CutsOffTwice}
-use Rattle.gptp_bmca_machine.proofs.LinkStepLemmas.{lives_at}
-use Rattle.gptp_bmca_machine.proofs.LostLinkLemmas.{last_begins}
+use Rattle.gptp_bmca_machine.proofs.LostLinkLemmas.{bare_begins, last_begins}
 use Rattle.gptp_bmca_machine.proofs.LostPortLemmas.{StaysAsNamed}
 use Rattle.gptp_bmca_machine.proofs.LostTopsLemmas.{HoldsOrNot, TopsHold, base_some, far_lost, lost_at}
 use Rattle.gptp_bmca_machine.proofs.TwoTopsWayLemmas.{lost_far}
@@ -28,19 +27,11 @@ module _ (says : Spelling) (n0 n : Network) (net0 : IsSettlingNetwork n0) (w w' 
   abbrev g : Snapshot
   g = n0.graph
 
-  -- other ports hold nothing
-  bare_begins : (x : ℕ) → IsBest n.graph x next → (s : Station) (i : ℕ) (r : Reception)
-      → slice_get w'.stations (n.place x) ≡ Some s → HoldsAt s i r → IsLinked g (port_of x (suc i))
-  bare_begins x in_x s i r at holds =
-      let is = lives_at n w' kept'.calm x in_x.reached.1.begins s at in
-      let came = loss.rests.whole.stations (n.place x) s i r (loss.stations (n.place x) s at is.0) is.0 holds in (
-        came.from,
-        subst (λ k. Joins g (port_of k (suc i)) came.from) is.1
-            (Joins-sym g came.from (port_of s.clock (suc i)) came.joins),
-      )
-
   pub tops_begin : TopsHold says g n lost top best next base depth loses c stay w.time n0.most shorter long w'
-  tops_begin = record { last = λ x p i in_x joins bare. last x p i in_x joins bare; bare = bare_begins }
+  tops_begin = record {
+    last = λ x p i in_x joins bare. last x p i in_x joins bare;
+    bare = λ x in_x. bare_begins says n0 n w w' loss kept' x in_x.reached.1.begins;
+  }
     where
       last : (x p i : ℕ) → IsBest n.graph x next → Joins g (port_of lost (suc p)) (port_of x (suc i))
           → (IsLinked n.graph (port_of x (suc i)) → ⊥)

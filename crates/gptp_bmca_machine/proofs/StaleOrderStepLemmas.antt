@@ -264,7 +264,7 @@ module _ (says : Spelling) (n : Network) (next : System) (top : Side → ℕ) (d
             → AtLink says n v p u q (HoldsTold says (still n d root_then v p u q)
             (IsNewTold n.graph (port_of v (suc p)) u) last) w' ⊎ IsFreeAt says n.graph n v p u q w'
         told_then =
-            told_on says n t.well d root_then v p u q joins last w w' m.kept kept' step
+            told_on says n t.well n.graph d root_then v p u q joins last w w' m.kept kept' step
             (hears_old v p u q in_v joins strong w m.kept m.dark m.mixed)
             (hears_old v p u q in_v joins strong w' kept' dark' mixed')
             (new_said says n next top depth t old base worse w w' m.kept kept' dark' step m.mixed ordered v p u q in_v

@@ -1,7 +1,7 @@
 -- A link over which what was told before is held until what is told since comes: what a step makes of it.
 use Rattle.std.proofs.Common.{◌≡◌, ◌≢◌, ◌⊎◌, ◌≤◌, ◌+◌, ℕ, suc, List, ◌∷◌, Some, slice_get, refl, sym, subst, ◌∙◌, inl, inr, arith}
 use Rattle.gptp_lists.specs.Members.{In}
-use Rattle.gptp_graph.specs.Snapshot.{IsWellFormed, Joins, System, port_of}
+use Rattle.gptp_graph.specs.Snapshot.{IsWellFormed, Joins, Snapshot, System, port_of}
 use Rattle.gptp_graph.proofs.LinkLemmas.{Joins-sym}
 use Rattle.gptp_bmca_machine.specs.Acts.{MachineSteps, StationAnswers}
 use Rattle.gptp_bmca_machine.specs.Clean.{Whole}
@@ -20,19 +20,19 @@ use Rattle.gptp_bmca_machine.proofs.StandsLemmas.{at_either, due_by, port_on}
 use Rattle.gptp_bmca_machine.proofs.StillLemmas.{still}
 use Rattle.gptp_bmca_machine.proofs.ToldLemmas.{HoldsTold, IsTold, all_more, old_hears, old_misses, old_more, told_front}
 
-module _ (says : Spelling) (n : Network) (wf : IsWellFormed n.graph) (d : ℕ) (best : System) (v p u q : ℕ)
-    (joins : Joins n.graph (port_of v (suc p)) (port_of u (suc q))) (last : ℕ) (w w' : MachineState)
+module _ (says : Spelling) (n : Network) (wf : IsWellFormed n.graph) (ways : Snapshot) (d : ℕ) (best : System)
+    (v p u q : ℕ) (joins : Joins n.graph (port_of v (suc p)) (port_of u (suc q))) (last : ℕ) (w w' : MachineState)
     (kept : IsAfterLoss n w) (kept' : IsAfterLoss n w') (step : MachineSteps says w w')
     (settled : (pu : Port) → StandsAtEnd says n v p u q w pu → HearsSettled (still n d best v p u q) pu)
     (settled' : (pu : Port) → StandsAtEnd says n v p u q w' pu → HearsSettled (still n d best v p u q) pu)
     (new : (touch : StationTouch) (mid : MachineState) (call : StationAnswers says touch mid w') (z : Send)
     (a : Announce) → In z call.sends → port_of v (suc p) ≡ port_of call.s.clock z.port → says z.octets a
-    → IsNewTold n.graph (port_of v (suc p)) u a) where
+    → IsNewTold ways (port_of v (suc p)) u a) where
   abbrev k : Wiring
   k = still n d best v p u q
 
   abbrev New : Announce → Type 0
-  New = IsNewTold n.graph (port_of v (suc p)) u
+  New = IsNewTold ways (port_of v (suc p)) u
 
   abbrev Holds : Held → List AnnounceFrame → Type 0
   Holds held fs = HoldsTold says k New last held fs
@@ -77,7 +77,7 @@ module _ (says : Spelling) (n : Network) (wf : IsWellFormed n.graph) (d : ℕ) (
       (fs : List AnnounceFrame) (a : Announce) → StandsAtEnd says n v p u q w pu → StandsAtEnd says n v p u q w' pu'
       → now ≡ w.time → slice_get w.lanes (n.lane (port_of v (suc p))) ≡ Some l → l.frames ≡ f ∷ fs
       → says f.octets a → PortStep says u (suc q) now (Hear (suc q) a) root steps pu pu' sends
-      → Holds pu.held (f ∷ fs) → Holds pu'.held fs ⊎ IsFree says n.graph v u pu'.held fs
+      → Holds pu.held (f ∷ fs) → Holds pu'.held fs ⊎ IsFree says ways v u pu'.held fs
   hears_next now root steps pu pu' sends l f fs a end end' time at frames said answer old =
       elim (told_front says k New last f fs a said old.told) [
         | inl (fresh, all) ↦ inr (record {
@@ -89,7 +89,7 @@ module _ (says : Spelling) (n : Network) (wf : IsWellFormed n.graph) (d : ℕ) (
       ]
     where
       heard_new : New a → (r : Reception) → pu'.held ≡ Received r
-          → HeldInTouch u (suc q) (Hear (suc q) a) now pu.held answer.mid → Whole n.graph v r.said
+          → HeldInTouch u (suc q) (Hear (suc q) a) now pu.held answer.mid → Whole ways v r.said
       heard_new fresh r holds (inr (apart, is)) = absurd (apart refl)
       heard_new fresh r holds (inl (same, on, inr refuses)) =
           absurd (refuses.fails fresh.usable
@@ -100,7 +100,7 @@ module _ (says : Spelling) (n : Network) (wf : IsWellFormed n.graph) (d : ℕ) (
             let both : Received (record { said = a; at = now; span = takes.span }) ≡ Received r =
             sym takes.is ∙ sym stays ∙ holds in
             let one : a ≡ r.said = cc in
-            subst (Whole n.graph v) one fresh.whole
+            subst (Whole ways v) one fresh.whole
       ]
 
       soon : (h : AnnounceFrame) → In h fs → h.due ≤ now + n.most
@@ -120,13 +120,13 @@ module _ (says : Spelling) (n : Network) (wf : IsWellFormed n.graph) (d : ℕ) (
 
   -- so it is held, or the link is free
   pub told_on : AtLink says n v p u q (HoldsTold says (still n d best v p u q)
-      (IsNewTold n.graph (port_of v (suc p)) u) last) w
-      → AtLink says n v p u q (HoldsTold says (still n d best v p u q) (IsNewTold n.graph (port_of v (suc p)) u) last)
-      w' ⊎ IsFreeAt says n.graph n v p u q w'
+      (IsNewTold ways (port_of v (suc p)) u) last) w
+      → AtLink says n v p u q (HoldsTold says (still n d best v p u q) (IsNewTold ways (port_of v (suc p)) u) last)
+      w' ⊎ IsFreeAt says ways n v p u q w'
   told_on is =
-      at_either n wf w' kept' says v p u q joins Holds (IsFree says n.graph v u)
+      at_either n wf w' kept' says v p u q joins Holds (IsFree says ways v u)
       (link_steps says n v p u q wf joins w w' kept.calm kept'.calm is_on kept.lapses Holds
-      (λ held fs. Holds held fs ⊎ IsFree says n.graph v u held fs) New
+      (λ held fs. Holds held fs ⊎ IsFree says ways v u held fs) New
       (record {
         news = new;
         stays = λ held fs old. inl old;
@@ -134,7 +134,7 @@ module _ (says : Spelling) (n : Network) (wf : IsWellFormed n.graph) (d : ℕ) (
           | inl old ↦ inl (old_more says k New last held fs news entered old)
           | inr free ↦ inr (record {
             hears = free.hears;
-            flight = all_more says (λ a. Whole n.graph v a ⊎ In u a.path) fs news free.flight
+            flight = all_more says (λ a. Whole ways v a ⊎ In u a.path) fs news free.flight
                 (λ f a among said. inl (entered f a among said).whole);
           })
         ];

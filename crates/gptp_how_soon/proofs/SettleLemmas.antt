@@ -17,7 +17,7 @@ use Rattle.gptp_how_soon.specs.Silent.{any_silent}
 use Rattle.gptp_how_soon.specs.Times.{settling_time}
 use Rattle.gptp_how_soon.specs.Walk.{moves_seen, view_seen}
 use Rattle.gptp_how_soon.specs.declared.bounds.Row.{Row}
-use Rattle.gptp_how_soon.specs.declared.bounds.Row.TheVariants.{AnyLosses, AnyPast, CutOff, FailedEnd, FailedHeard, FailureCutsOff, FailureMovesTrees, Gained, Lowered, SystemTurned, TakenAway, TreeFalls, TreeTurned, Unchanged}
+use Rattle.gptp_how_soon.specs.declared.bounds.Row.TheVariants.{AnyLosses, AnyPast, CutOff, FailedEnd, FailedHeard, FailureCutsOff, FailureMovesTrees, Gained, Lowered, SystemTurned, TakenApart, TakenAway, TreeFalls, TreeTurned, Unchanged}
 use Rattle.gptp_how_soon.specs.declared.bounds.SettlingTime.{SettlingTime}
 use Rattle.gptp_how_soon.specs.declared.kinds.Told.{Told}
 use Rattle.gptp_how_soon.specs.declared.rest.Moves.{Moves}
@@ -45,6 +45,7 @@ row_by rest first idle followed lowering failing ending taking worse loses losse
     else if failing && not moves.moved then failed_row moves.far moves.any_moved
     else if failing && moves.trees_move then FailureMovesTrees
     else if ending && (moves.far && not moves.any_moved) then FailedEnd
+    else if taking && moves.apart then TakenApart
     else if taking && moves.taken then TakenAway
     else if loses then if losses then AnyLosses else AnyPast
     else Gained
@@ -111,9 +112,10 @@ held_asked from_rest first before paths told moves =
 
 module _ (n : NetworkState) (at arrived : ℕ) (paths_before paths : SyncPaths)
     (used_before used soon soon_before silent calm sets : Bool) (gained : ℕ) where
-  -- what is told where others hold something for so long, and all that is moved is cut off or isn't
-  abbrev time_by : ℕ → Bool → Row → SettlingTime
-  time_by held cuts_all row =
+  -- What is told where others hold something for so long, all that is moved is cut off or isn't, and each is left alone
+  -- or isn't.
+  abbrev time_by : ℕ → Bool → Bool → Row → SettlingTime
+  time_by held cuts_all alone row =
       times_by n at arrived (record {
         paths_before = paths_before;
         used_before = used_before;
@@ -121,40 +123,44 @@ module _ (n : NetworkState) (at arrived : ℕ) (paths_before paths : SyncPaths)
         soon = soon;
         soon_before = soon_before;
         cuts_all = cuts_all;
+        alone = alone;
         silent = silent;
         held = held;
       }) paths calm sets row gained
 
-  held_apart : (row : Row) (held other : ℕ) (all some : Bool) → counts_held row ≡ false
-      → time_by held all row ≡ time_by other some row
-  held_apart AnyPast held other all some is = refl
-  held_apart Unchanged held other all some is = refl
-  held_apart Lowered held other all some is = refl
-  held_apart CutOff held other all some is = refl
-  held_apart FailedEnd held other all some is = refl
-  held_apart FailedHeard held other all some is = absurd cc
-  held_apart FailureCutsOff held other all some is = absurd cc
-  held_apart SystemTurned held other all some is = refl
-  held_apart TreeFalls held other all some is = refl
-  held_apart TreeTurned held other all some is = refl
-  held_apart FailureMovesTrees held other all some is = absurd cc
-  held_apart TakenAway held other all some is = refl
-  held_apart AnyLosses held other all some is = refl
-  held_apart Gained held other all some is = refl
+  held_apart : (row : Row) (held other : ℕ) (all some one any : Bool) → counts_held row ≡ false
+      → time_by held all one row ≡ time_by other some any row
+  held_apart AnyPast held other all some one any is = refl
+  held_apart Unchanged held other all some one any is = refl
+  held_apart Lowered held other all some one any is = refl
+  held_apart CutOff held other all some one any is = refl
+  held_apart FailedEnd held other all some one any is = refl
+  held_apart FailedHeard held other all some one any is = absurd cc
+  held_apart FailureCutsOff held other all some one any is = absurd cc
+  held_apart SystemTurned held other all some one any is = refl
+  held_apart TreeFalls held other all some one any is = refl
+  held_apart TreeTurned held other all some one any is = refl
+  held_apart FailureMovesTrees held other all some one any is = absurd cc
+  held_apart TakenAway held other all some one any is = refl
+  held_apart TakenApart held other all some one any is = refl
+  held_apart AnyLosses held other all some one any is = refl
+  held_apart Gained held other all some one any is = refl
 
   same_held : (from_rest first : Bool) (told : List Told) (moves : Moves) (row : Row)
       → row ≡ row_of from_rest first paths_before paths told moves
       → time_by (if asks_who_is_moved from_rest paths_before paths told then moves else no_moves).held
-      (if asks_who_is_moved from_rest paths_before paths told then moves else no_moves).cuts_all row
-      ≡ time_by moves.held moves.cuts_all row
+      (if asks_who_is_moved from_rest paths_before paths told then moves else no_moves).cuts_all
+      (if asks_who_is_moved from_rest paths_before paths told then moves else no_moves).alone row
+      ≡ time_by moves.held moves.cuts_all moves.alone row
   same_held from_rest first told moves row is = by (asks_who_is_moved from_rest paths_before paths told) refl
     where
       by : (asked : Bool) → asks_who_is_moved from_rest paths_before paths told ≡ asked
-          → time_by (if asked then moves else no_moves).held (if asked then moves else no_moves).cuts_all row
-          ≡ time_by moves.held moves.cuts_all row
+          → time_by (if asked then moves else no_moves).held (if asked then moves else no_moves).cuts_all
+          (if asked then moves else no_moves).alone row
+          ≡ time_by moves.held moves.cuts_all moves.alone row
       by true asks = refl
       by false asks =
-          held_apart row 0 moves.held false moves.cuts_all
+          held_apart row 0 moves.held false moves.cuts_all false moves.alone
           (ap counts_held is ∙ held_asked from_rest first paths_before paths told moves asks)
 
 pub settled_so : (n : NetworkState) (w : Walk) (at : ℕ)
@@ -169,6 +175,7 @@ pub settled_so : (n : NetworkState) (w : Walk) (at : ℕ)
       soon = comes;
       soon_before = came;
       cuts_all = moves.cuts_all;
+      alone = moves.alone;
       silent = silent;
       held = moves.held;
     }) paths calm sets row (soon + heard + way)
@@ -204,7 +211,7 @@ settled_so n w at first followed from_rest calm sets used_now longer comes came 
     let time_is =
     e0
     ∙ ap (λ (m : Moves). time_by n at arrived w.paths_before paths w.all_used_before used_now comes came silent calm
-    sets (soon + heard + way) m.held m.cuts_all row) e2
+    sets (soon + heard + way) m.held m.cuts_all m.alone row) e2
     ∙ same_held n at arrived w.paths_before paths w.all_used_before used_now comes came silent calm sets
     (soon + heard + way) from_rest first told (moves_seen n w at) row row_is in
     rw (time_is, ec, eb, el, ew, ea, eu, es, row_is, e3, e4, e5, e6, e7, e8, e9, e10, e11, e12, e13, e14, e15) refl

@@ -33,14 +33,14 @@ use Rattle.gptp_setup.proofs.IntervalLemmas.{interval_most}
 use Rattle.gptp_topology.specs.After.{standings_after}
 use Rattle.gptp_topology.specs.Times.{times_from, times_of}
 use Rattle.gptp_topology.specs.declared.course.Cable.{Cable}
-use Rattle.gptp_how_soon.specs.Bounds.{aged_by, aged_echo_span, any_loss_span, arrived_by, asked_again, choice_of_row, echo_if_kept, echo_of_row, exact_span, gone_by, is_again, needed_watch, quiet_by, ready, retold_by, roles_by, roles_of_row, set_span, settling_by, sound_by, sound_of_row, two_exchanges, watch}
+use Rattle.gptp_how_soon.specs.Bounds.{aged_by, aged_echo_span, any_loss_span, apart_by, arrived_by, asked_again, choice_of_row, echo_if_kept, echo_of_row, exact_span, gone_by, is_again, needed_watch, quiet_by, ready, retold_by, roles_by, roles_of_row, set_span, settling_by, sound_by, sound_of_row, two_exchanges, watch}
 use Rattle.gptp_how_soon.specs.Kinds.{sets_bounds, sets_link}
 use Rattle.gptp_how_soon.specs.Links.{longest_delay}
 use Rattle.gptp_how_soon.specs.Silent.{is_heard_link, own_intervals}
 use Rattle.gptp_how_soon.specs.Times.{IsWatchedShortly, View, events_at, events_before, gained_at, heard_at, last_of, last_set, loss_at, row_at, settling_time, settling_times, settling_times_from, time_at, view_at}
 use Rattle.gptp_how_soon.specs.declared.bounds.Loss.{Loss}
 use Rattle.gptp_how_soon.specs.declared.bounds.Row.{Row}
-use Rattle.gptp_how_soon.specs.declared.bounds.Row.TheVariants.{AnyLosses, AnyPast, CutOff, FailedEnd, FailedHeard, FailureCutsOff, FailureMovesTrees, Gained, Lowered, SystemTurned, TakenAway, TreeFalls, TreeTurned, Unchanged}
+use Rattle.gptp_how_soon.specs.declared.bounds.Row.TheVariants.{AnyLosses, AnyPast, CutOff, FailedEnd, FailedHeard, FailureCutsOff, FailureMovesTrees, Gained, Lowered, SystemTurned, TakenApart, TakenAway, TreeFalls, TreeTurned, Unchanged}
 use Rattle.gptp_how_soon.specs.declared.bounds.SettlingTime.{SettlingTime}
 use Rattle.gptp_how_soon.specs.declared.kinds.Told.{Told}
 use Rattle.gptp_how_soon.proofs.SilentLemmas.{held_within}
@@ -163,6 +163,7 @@ module _ (n : NetworkState) (network : IsNetwork n) (paths : SyncPaths) (few : p
         by TreeTurned = let w = way in omega (arith, w)
         by FailureMovesTrees = cut_most
         by TakenAway = omega arith
+        by TakenApart = quiet 0 (omega arith)
         by AnyLosses = roles_lost
         by Gained = early
 
@@ -178,6 +179,13 @@ module _ (n : NetworkState) (network : IsNetwork n) (paths : SyncPaths) (few : p
             either_most loss.used (max (echo_span (pace_of n) paths) paths.delay) _ 195000000000000
             (omega (arith, e, short)) (omega (arith, s, e, l, a))
 
+        apart : apart_by n loss paths ≤ 110000000000000
+        apart =
+            let w = way in let a = aged_most in let g = gone paths loss.soon short in
+            either_most loss.alone (max (aged_by loss + 2 * way_span paths) loss.paths_before.delay)
+            (aged_by loss + 2 * way_span paths + gone_by n paths loss.soon) 110000000000000 (omega (arith, w, a, soon))
+            (omega (arith, w, a, g))
+
         by : (r : Row) → sound_of_row n loss paths r gained ≤ 195000000000000
         by AnyPast = at_once
         by Unchanged = omega arith
@@ -188,27 +196,26 @@ module _ (n : NetworkState) (network : IsNetwork n) (paths : SyncPaths) (few : p
             quiet (gone_by n loss.paths_before loss.soon_before) (omega (arith, g))
         by FailedHeard = aged
         by FailureCutsOff =
-            let w = way in let a = aged in let b = aged_most in let g = gone paths loss.soon short in
-            either_most loss.cuts_all (quiet_by n loss (aged_by loss + 2 * way_span paths + gone_by n paths loss.soon))
+            let w = way in let a = aged in let b = aged_most in let p = apart in
+            either_most loss.cuts_all (quiet_by n loss (apart_by n loss paths))
             (max (aged_by loss + 2 * way_span paths) (aged_echo_span n loss paths)) 195000000000000
-            (quiet (aged_by loss + 2 * way_span paths + gone_by n paths loss.soon) (omega (arith, w, b, g)))
-            (omega (arith, w, a, b))
+            (quiet (apart_by n loss paths) (omega (arith, p))) (omega (arith, w, a, b))
         by SystemTurned = let w = way in let e = echo in omega (arith, w, e)
         by TreeFalls = let w = way in let g = gone paths loss.used_before short in omega (arith, w, g)
         by TreeTurned = let w = way in let e = echo in omega (arith, w, e)
         by FailureMovesTrees =
-            let w = way in let e = echo in let l = largest in let a = aged_most in let g = gone paths loss.soon short in
+            let w = way in let e = echo in let l = largest in let a = aged_most in let p = apart in
             let told : ℕ = max (echo_span (pace_of n) paths) (largest_interval (pace_of n)) in
-            let later : (if loss.cuts_all then gone_by n paths loss.soon else told) ≤ 32384000000000 =
-            either_most loss.cuts_all (gone_by n paths loss.soon) told 32384000000000 (omega (arith, g))
-            (omega (arith, e, l)) in
-            quiet
-            (aged_by loss + 2 * way_span paths + (if loss.cuts_all then gone_by n paths loss.soon else told))
-            (omega (arith, w, a, later))
+            quiet (if loss.cuts_all then apart_by n loss paths else aged_by loss + 2 * way_span paths + told)
+            (either_most loss.cuts_all (apart_by n loss paths) (aged_by loss + 2 * way_span paths + told)
+            195000000000000 (omega (arith, p)) (omega (arith, w, e, l, a)))
         by TakenAway =
             let e = echo in let l = losses loss soon in
             either_most loss.used (max (echo_span (pace_of n) paths) paths.delay) (any_loss_span n loss paths)
             195000000000000 (omega (arith, e, short)) (omega (arith, l))
+        by TakenApart =
+            let w = way in let g = gone paths loss.used short in
+            quiet (max (way_span paths) (gone_by n paths loss.used)) (omega (arith, w, g))
         by AnyLosses = roles_lost
         by Gained = early
 
@@ -236,6 +243,7 @@ module _ (n : NetworkState) (network : IsNetwork n) (paths : SyncPaths) (few : p
         by true TreeTurned = let w = way in let e = echo in omega (arith, w, e)
         by true FailureMovesTrees = let w = way in let e = kept in let a = aged_most in omega (arith, w, e, a)
         by true TakenAway = let e = echo in omega (arith, e)
+        by true TakenApart = omega arith
         by true AnyLosses = let l = losses loss soon in omega (arith, l)
         by true Gained = omega (arith, early)
 

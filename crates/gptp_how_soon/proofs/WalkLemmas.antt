@@ -143,7 +143,9 @@ module _ (n : NetworkState) (network : IsNetwork n) where
       let systems_before = so.systems_before in
       let systems = systems_are n (made ++ now) w.tables so.tables in
       let standings = so.tables.standings in
+      let all_used = so.all_used in
       rw (
+        all_used,
         used,
         paths,
         set,

@@ -13,7 +13,7 @@ use Rattle.gptp_how_soon.specs.Kinds.{recovers}
 use Rattle.gptp_how_soon.specs.Links.{varies}
 use Rattle.gptp_how_soon.specs.declared.bounds.Loss.{Loss}
 use Rattle.gptp_how_soon.specs.declared.bounds.Row.{Row}
-use Rattle.gptp_how_soon.specs.declared.bounds.Row.TheVariants.{AnyLosses, AnyPast, CutOff, FailedEnd, FailedHeard, FailureCutsOff, FailureMovesTrees, Gained, Lowered, SystemTurned, TakenAway, TreeFalls, TreeTurned, Unchanged}
+use Rattle.gptp_how_soon.specs.declared.bounds.Row.TheVariants.{AnyLosses, AnyPast, CutOff, FailedEnd, FailedHeard, FailureCutsOff, FailureMovesTrees, Gained, Lowered, SystemTurned, TakenApart, TakenAway, TreeFalls, TreeTurned, Unchanged}
 use Rattle.gptp_how_soon.specs.declared.bounds.Settling.{Settling}
 use Rattle.gptp_how_soon.specs.declared.bounds.SettlingTime.{SettlingTime}
 use Rattle.gptp_how_soon.specs.declared.kinds.Told.{Told}
@@ -82,6 +82,7 @@ choice_of_row n loss paths TreeFalls gained = 2 * way_span paths
 choice_of_row n loss paths TreeTurned gained = 2 * way_span paths
 choice_of_row n loss paths FailureMovesTrees gained = aged_by loss + 2 * way_span paths
 choice_of_row n loss paths TakenAway gained = 0
+choice_of_row n loss paths TakenApart gained = 0
 choice_of_row n loss paths AnyLosses gained = any_loss_span n loss paths
 choice_of_row n loss paths Gained gained = gained
 
@@ -105,6 +106,7 @@ roles_of_row n loss paths TreeTurned gained = choice_of_row n loss paths TreeTur
 roles_of_row n loss paths FailureMovesTrees gained =
     quiet_by n loss (choice_of_row n loss paths FailureMovesTrees gained)
 roles_of_row n loss paths TakenAway gained = 0
+roles_of_row n loss paths TakenApart gained = quiet_by n loss 0
 roles_of_row n loss paths AnyLosses gained = quiet_by n loss (any_loss_span n loss paths)
 roles_of_row n loss paths Gained gained = gained
 
@@ -133,6 +135,14 @@ abbrev pub taken_echo_span : NetworkState → Loss → SyncPaths → ℕ
 taken_echo_span n loss paths =
     if loss.used then max (echo_span (pace_of n) paths) paths.delay else any_loss_span n loss paths
 
+-- How much later than a failure that cuts off all that it moves what was in flight is gone: as above since the trees
+-- have settled. Where each live system is left alone, which was at one link at most, and each link that was up before
+-- was in use, nothing told since is in flight, and what was is gone by the greatest delay of before.
+abbrev pub apart_by : NetworkState → Loss → SyncPaths → ℕ
+apart_by n loss paths =
+    if loss.alone then max (aged_by loss + 2 * way_span paths) loss.paths_before.delay
+    else aged_by loss + 2 * way_span paths + gone_by n paths loss.soon
+
 -- By when all that is held and in flight is sound: as soon as the choice stands, but after a loss it may name what is
 -- gone. After a far end is cut off, a tree falls back, or a far end fails, only what was in flight does; of one that
 -- fails by links of before too. So it is once the choice stands where a failure cuts off all that it moves. After a
@@ -148,17 +158,17 @@ sound_of_row n loss paths CutOff gained = max (2 * way_span paths) (gone_by n pa
 sound_of_row n loss paths FailedEnd gained = quiet_by n loss (gone_by n loss.paths_before loss.soon_before)
 sound_of_row n loss paths FailedHeard gained = aged_echo_span n loss paths
 sound_of_row n loss paths FailureCutsOff gained =
-    if loss.cuts_all then quiet_by n loss (aged_by loss + 2 * way_span paths + gone_by n paths loss.soon)
+    if loss.cuts_all then quiet_by n loss (apart_by n loss paths)
     else max (aged_by loss + 2 * way_span paths) (aged_echo_span n loss paths)
 sound_of_row n loss paths SystemTurned gained = 2 * way_span paths + echo_span (pace_of n) paths
 sound_of_row n loss paths TreeFalls gained = max (2 * way_span paths) (gone_by n paths loss.used_before)
 sound_of_row n loss paths TreeTurned gained = 2 * way_span paths + echo_span (pace_of n) paths
 sound_of_row n loss paths FailureMovesTrees gained =
     quiet_by n loss
-    (aged_by loss + 2 * way_span paths
-    + (if loss.cuts_all then gone_by n paths loss.soon
-    else max (echo_span (pace_of n) paths) (largest_interval (pace_of n))))
+    (if loss.cuts_all then apart_by n loss paths
+    else aged_by loss + 2 * way_span paths + max (echo_span (pace_of n) paths) (largest_interval (pace_of n)))
 sound_of_row n loss paths TakenAway gained = taken_echo_span n loss paths
+sound_of_row n loss paths TakenApart gained = quiet_by n loss (max (way_span paths) (gone_by n paths loss.used))
 sound_of_row n loss paths AnyLosses gained = quiet_by n loss (any_loss_span n loss paths)
 sound_of_row n loss paths Gained gained = gained
 

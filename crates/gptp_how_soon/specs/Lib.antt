@@ -1,13 +1,15 @@
 pub mod Kinds
+pub mod Losses
 pub mod Links
 pub mod Chosen
 pub mod Far
 pub mod Turned
 pub mod Tree
 pub mod TurnedTree
-pub mod MovedTrees
 pub mod TwoTops
+pub mod MovedTrees
 pub mod Silent
+pub mod Alone
 pub mod Bounds
 pub mod Rest
 pub mod Times

@@ -23,17 +23,18 @@ use Rattle.gptp_topology.specs.Times.{times_of}
 use Rattle.gptp_topology.specs.declared.course.Cable.{Cable}
 use Rattle.gptp_topology.specs.declared.course.Standing.{Standing}
 use Rattle.gptp_how_soon.specs.Bounds.{arrived_by, heard_by, ready, times_by}
+use Rattle.gptp_how_soon.specs.Alone.{leaves_alone_after}
 use Rattle.gptp_how_soon.specs.Chosen.{moves_counted, moves_some}
 use Rattle.gptp_how_soon.specs.Far.{are_far_after, cut_far_ends_after, none_up_longer, up_is_used}
-use Rattle.gptp_how_soon.specs.Kinds.{sets_bounds, sets_link, takes_one, told_by}
+use Rattle.gptp_how_soon.specs.Kinds.{sets_bounds, sets_link, told_by}
+use Rattle.gptp_how_soon.specs.Losses.{takes_one}
 use Rattle.gptp_how_soon.specs.Links.{longest_delay, new_links}
-use Rattle.gptp_how_soon.specs.MovedTrees.{cuts_all_after, moves_trees_after}
+use Rattle.gptp_how_soon.specs.MovedTrees.{cuts_all_after, far_ends_move_after, moves_trees_after}
 use Rattle.gptp_how_soon.specs.Rest.{comes_soon, has_come, heard_at_once, is_from_rest, row_of}
 use Rattle.gptp_how_soon.specs.Silent.{held_after, own_intervals, silent_after}
 use Rattle.gptp_how_soon.specs.Tree.{cuts_tree_after, worsens_best_after}
 use Rattle.gptp_how_soon.specs.Turned.{turns_one_after}
 use Rattle.gptp_how_soon.specs.TurnedTree.{turns_tree_after}
-use Rattle.gptp_how_soon.specs.TwoTops.{trees_move_after}
 use Rattle.gptp_how_soon.specs.declared.bounds.Loss.{Loss}
 use Rattle.gptp_how_soon.specs.declared.bounds.SettlingTime.{SettlingTime}
 use Rattle.gptp_how_soon.specs.declared.bounds.Row.{Row}
@@ -97,6 +98,7 @@ loss_at v = record {
   soon = comes_soon v.used v.none_longer v.paths.delay (arrived_by v.longest v.last_set) v.at;
   soon_before = comes_soon v.used_before v.none_longer_before v.paths_before.delay v.arrived_before v.at;
   cuts_all = v.moves.cuts_all;
+  alone = v.moves.alone;
   silent = v.silent;
   held = v.moves.held;
 }
@@ -148,10 +150,12 @@ moves_at n made now before at = record {
   falls = has_come_after n made before at && cuts_tree_after n made (made ++ now);
   worsens = has_come_after n made before at && worsens_best_after n made (made ++ now) (told_of n made now);
   tree_turns = has_come_after n made before at && turns_tree_after n made (made ++ now);
-  trees_move = has_come_after n made before at && trees_move_after n made (made ++ now);
+  trees_move = has_come_after n made before at && moves_trees_after n made (made ++ now);
   taken = not (moves_some n made (made ++ now)) && not (silent_after n made (made ++ now));
+  apart = not (moves_some n made (made ++ now)) && far_ends_move_after n made (made ++ now);
   cuts_all = (has_come_after n made before at && moves_trees_after n made (made ++ now))
       && cuts_all_after n made (made ++ now);
+  alone = up_is_used (standings_after n made) && leaves_alone_after n made (made ++ now);
   far = are_far_after n made (told_of n made now);
   held = held_after n (own_intervals n before at) made (made ++ now);
 }

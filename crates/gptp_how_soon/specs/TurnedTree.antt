@@ -19,10 +19,19 @@ abbrev pub is_turned_at : List System → List Chosen → List Chosen → ℕ �
 is_turned_at systems before now place =
     is_moved_at systems before now place && goes_farther (slice_get before place) (slice_get now place)
 
+-- it is moved, and doesn't turn
+abbrev pub falls_at : List System → List Chosen → List Chosen → ℕ → Bool
+falls_at systems before now place = is_moved_at systems before now place && not (is_turned_at systems before now place)
+
+-- It turns, and has the name of the system at the top. By names parts are told apart of which each turns by itself.
+abbrev pub is_in_part : List System → List Chosen → List Chosen → List Chosen → ℕ → ℕ → Bool
+is_in_part systems before now names top place =
+    is_turned_at systems before now place && has_same_root (slice_get names top) (slice_get names place)
+
 -- it is so if it is moved
-abbrev pub stays_or_is_turned : List System → List Chosen → List Chosen → ℕ → Bool
-stays_or_is_turned systems before now place =
-    not (is_moved_at systems before now place) || is_turned_at systems before now place
+abbrev pub stays_or_is_in_part : List System → List Chosen → List Chosen → List Chosen → ℕ → ℕ → Bool
+stays_or_is_in_part systems before now names top place =
+    not (is_moved_at systems before now place) || is_in_part systems before now names top place
 
 -- ---- links of the tree, by who turns
 
@@ -55,23 +64,24 @@ turns_below turned links before top place =
 abbrev pub stays_or_turns : (ℕ → Bool) → List Ends → List Chosen → ℕ → ℕ → Bool
 stays_or_turns turned links before top place = not (turned place) || turns_below turned links before top place
 
--- The system at the top turns, and each that does is so below it. Links between them lead one step on, and one link
+-- The system at the top turns, and each of its part does so below it. Links between them lead one step on, and one link
 -- leads out.
-abbrev pub tree_turns_at : List System → List Ends → List Chosen → List Chosen → ℕ → Bool
-tree_turns_at systems links before now top =
-    is_turned_at systems before now top
-    && list_all (stays_or_turns (is_turned_at systems before now) links before top) (range_with_len 0 (length systems))
-    && list_all (leads_one_on_within (is_turned_at systems before now) before) links
-    && (count_by (leads_out (is_turned_at systems before now)) links == 1)
+abbrev pub tree_turns_at : List System → List Ends → List Chosen → List Chosen → List Chosen → ℕ → Bool
+tree_turns_at systems links before now names top =
+    is_in_part systems before now names top top
+    && list_all (stays_or_turns (is_in_part systems before now names top) links before top)
+    (range_with_len 0 (length systems))
+    && list_all (leads_one_on_within (is_in_part systems before now names top) before) links
+    && (count_by (leads_out (is_in_part systems before now names top)) links == 1)
 
 -- A link is lost that led from the top to the other, which was nearer and isn't moved. Each system that is moved is one
--- of the tree that turns below the top.
+-- of the tree that turns below the top: all have one root.
 abbrev pub turns_from : List System → List Ends → List Chosen → List Chosen → ℕ → ℕ → Bool
 turns_from systems links before now top other =
     not (is_moved_at systems before now other)
     && has_fewer_steps (slice_get before other) (slice_get before top)
-    && list_all (stays_or_is_turned systems before now) (range_with_len 0 (length systems))
-    && tree_turns_at systems links before now top
+    && list_all (stays_or_is_in_part systems before now now top) (range_with_len 0 (length systems))
+    && tree_turns_at systems links before now now top
 
 -- it is so of one end of the one link that is lost
 abbrev pub turns_tree : List System → List Ends → List Ends → List Chosen → List Chosen → Bool

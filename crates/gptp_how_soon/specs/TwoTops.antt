@@ -1,15 +1,12 @@
--- Whether events cut off one tree of systems that loses links at two of them, its tops (profile).
+-- Whether two systems are the tops of a tree that events cut off: each lost a link (profile).
 --
 -- How far a system is from a top is what it would choose if the top were better than all.
-use Rattle.std.specs.Prelude.{ℕ, ◌+◌, ◌==◌, ◌&&◌, ◌||◌, nat_lt, not, Bool, false, if◌then◌else◌, max, min, List, [], ◌∷◌, length, filter, Option, Some, None, slice_get, slice_set}
+use Rattle.std.specs.Prelude.{ℕ, ◌+◌, ◌==◌, ◌&&◌, ◌||◌, nat_lt, not, Bool, false, max, min, List, length, Option, Some, None, slice_get, slice_set}
 use Rattle.std.specs.List.{list_all, range_with_len}
-use Rattle.gptp_scenario.specs.Network.{NetworkState}
-use Rattle.gptp_scenario.specs.declared.change.Timed.{Timed}
-use Rattle.gptp_topology.specs.After.{systems_after}
 use Rattle.gptp_topology.specs.declared.nodes.System.{System}
-use Rattle.gptp_how_soon.specs.Chosen.{chosen_after, chosen_over, is_joined_moved_at, is_moved_at, lost_ends, used_ends}
-use Rattle.gptp_how_soon.specs.MovedTrees.{moves_trees}
+use Rattle.gptp_how_soon.specs.Chosen.{chosen_over}
 use Rattle.gptp_how_soon.specs.Tree.{chose_itself, has_better_root, has_same_root, is_below}
+use Rattle.gptp_how_soon.specs.TurnedTree.{falls_at}
 use Rattle.gptp_how_soon.specs.declared.chosen.Chosen.{Chosen}
 use Rattle.gptp_how_soon.specs.declared.chosen.Ends.{Ends}
 
@@ -28,11 +25,6 @@ abbrev pub chosen_from : List System → List Ends → ℕ → List Chosen
 chosen_from systems links place = chosen_over (lowered systems place) links
 
 -- ---- a tree
-
--- the places of its tops: of the systems that are moved, at which a link is lost
-abbrev pub top_places : List System → List Ends → List Chosen → List Chosen → List ℕ
-top_places systems lost before now =
-    filter (is_joined_moved_at systems lost before now) (range_with_len 0 (length systems))
 
 -- Before, a system had as many steps as the nearer top leads to it, from those of the tops on. By way of either it
 -- would be near.
@@ -54,12 +46,13 @@ is_below_both links before now by_first by_second first second place =
     && is_by_nearer (slice_get before first) (slice_get before place) (slice_get by_first place)
     (slice_get by_second place)
 
--- it is moved and so below both, or it has another root now
+-- it falls and so is below both, or it has another root now
 abbrev pub is_both_or_apart : List System → List Ends → List Chosen → List Chosen → List Chosen → List Chosen → ℕ → ℕ
     → ℕ → Bool
 is_both_or_apart systems links before now by_first by_second first second place =
-    if is_moved_at systems before now place then is_below_both links before now by_first by_second first second place
-    else not (has_same_root (slice_get now first) (slice_get now place))
+    not (has_same_root (slice_get now first) (slice_get now place))
+    || (falls_at systems before now place
+    && is_below_both links before now by_first by_second first second place)
 
 -- these two are the tops of a tree, which falls to a worse root
 abbrev pub falls_below_both : List System → List Ends → List Chosen → List Chosen → List Chosen → List Chosen → ℕ → ℕ
@@ -70,26 +63,3 @@ falls_below_both systems links before now by_first by_second first second =
     && chose_itself (slice_get by_second second)
     && list_all (is_both_or_apart systems links before now by_first by_second first second)
     (range_with_len 0 (length systems))
-
-abbrev pub falls_below_tops : List System → List Ends → List Chosen → List Chosen → List ℕ → Bool
-falls_below_tops systems links before now [] = false
-falls_below_tops systems links before now (first ∷ []) = false
-falls_below_tops systems links before now (first ∷ second ∷ []) =
-    falls_below_both systems links before now (chosen_from systems links first) (chosen_from systems links second)
-    first second
-falls_below_tops systems links before now (first ∷ second ∷ third ∷ others) = false
-
-abbrev pub falls_twice : List System → List Ends → List Ends → List Chosen → List Chosen → Bool
-falls_twice systems lost links before now =
-    falls_below_tops systems links before now (top_places systems lost before now)
-
--- all that are moved are trees, or one such tree
-abbrev pub trees_move : List System → List Ends → List Ends → List Chosen → List Chosen → Bool
-trees_move systems lost links before now =
-    moves_trees systems lost links before now || falls_twice systems lost links before now
-
--- between these events and more of them
-abbrev pub trees_move_after : NetworkState → List Timed → List Timed → Bool
-trees_move_after n made events =
-    trees_move (systems_after n events) (lost_ends n made events) (used_ends n events) (chosen_after n made)
-    (chosen_after n events)

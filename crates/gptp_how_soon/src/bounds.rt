@@ -7,7 +7,7 @@ ghost use Rattle.gptp_setup.specs.SettlingParams.{largest_interval};
 ghost use Rattle.gptp_scenario.specs.Network.{pace_of};
 ghost use Rattle.gptp_scenario.specs.SettlingAtOnce.{settling_span_at_once};
 ghost use Rattle.gptp_scenario.specs.SettlingTime.{capability_span, echo_span, silence_span, way_span};
-ghost use Rattle.gptp_how_soon.specs.Bounds.{aged_by, aged_echo_span, any_loss_span, arrived_by, asked_again, choice_by, exact_from, exact_span, gone_by, heard_by, is_again, is_hard_to_hear, quiet_by, ready, retold_by, roles_by, set_span, settled, sound_by, taken_echo_span, times_by, two_exchanges, watch};
+ghost use Rattle.gptp_how_soon.specs.Bounds.{aged_by, aged_echo_span, any_loss_span, apart_by, arrived_by, asked_again, choice_by, exact_from, exact_span, gone_by, heard_by, is_again, is_hard_to_hear, quiet_by, ready, retold_by, roles_by, set_span, settled, sound_by, taken_echo_span, times_by, two_exchanges, watch};
 
 use crate::kinds::{Told, recovers};
 use crate::links::varies;
@@ -55,6 +55,9 @@ pub struct Loss {
     pub soon_before: bool,
     /// Whether each system that is moved gets a worse root, and so does each live far end of a link that is lost.
     pub cuts_all: bool,
+    /// Whether each live system is left alone, which was at one link in use at most, and each link that was up before
+    /// was in use.
+    pub alone: bool,
     /// Whether a link is left silent: it was in use, and is up, but one of its ends has failed.
     pub silent: bool,
     /// For how long it counts what others hold of a system that fails, in ns; 0 where no link is left silent whose far
@@ -92,6 +95,8 @@ pub enum Row {
     /// an end has failed, or they repeat what stands. All together move no system, also none that is cut off, and leave
     /// no link silent.
     TakenAway,
+    /// So it is, and links may be left silent; but no live system lost its link to a nearer one.
+    TakenApart,
     /// Some of its events are losses, the others make nothing of what stands, and no other row of a loss is so.
     AnyLosses,
     /// None of its events is a loss.
@@ -283,7 +288,7 @@ fn choice_by(network: &Network, loss: Loss, paths: SyncPaths, row: Row, gained: 
     }
     match row {
         Row::AnyPast => settling_span_at_once(network, paths),
-        Row::Unchanged | Row::Lowered | Row::FailedEnd | Row::TakenAway => 0,
+        Row::Unchanged | Row::Lowered | Row::FailedEnd | Row::TakenAway | Row::TakenApart => 0,
         Row::FailedHeard => aged_by(loss),
         Row::FailureCutsOff | Row::FailureMovesTrees => aged_by(loss) + 2 * way_span(paths),
         Row::CutOff | Row::SystemTurned | Row::TreeFalls | Row::TreeTurned => 2 * way_span(paths),
@@ -308,7 +313,7 @@ fn roles_by(network: &Network, loss: Loss, paths: SyncPaths, row: Row, gained: u
     match row {
         Row::AnyPast => settling_span_at_once(network, paths),
         Row::Unchanged | Row::Lowered | Row::TakenAway => 0,
-        Row::FailedEnd => quiet_by(network, loss, 0),
+        Row::FailedEnd | Row::TakenApart => quiet_by(network, loss, 0),
         Row::FailedHeard => quiet_by(network, loss, aged_by(loss)),
         Row::FailureCutsOff | Row::FailureMovesTrees => {
             quiet_by(network, loss, aged_by(loss) + 2 * way_span(paths))
@@ -362,6 +367,23 @@ fn aged_echo_span(network: &Network, loss: Loss, paths: SyncPaths) -> u64
     silence_span(network).max(aged_by(loss) + 1 + gone)
 }
 
+/// By how much later than a failure that cuts off all that it moves what was in flight is gone, in ns.
+fn apart_by(network: &Network, loss: Loss, paths: SyncPaths) -> u64
+    requires few { paths.systems ≤ 512 }
+    requires short { paths.delay ≤ 16000000000 }
+    requires short_before { loss.paths_before.delay ≤ 16000000000 }
+    requires held { loss.held ≤ 4112000000000 }
+    ensures is { result ≡ apart_by network.now loss paths }
+    ensures bound { result ≤ 110000000000000 }
+{
+    let settled = aged_by(loss) + 2 * way_span(paths);
+    if loss.alone {
+        settled.max(loss.paths_before.delay)
+    } else {
+        settled + gone_by(network, paths, loss.soon)
+    }
+}
+
 /// By how much later than several are taken away each tells a right trace, in ns, and what was in flight is gone.
 fn taken_echo_span(network: &Network, loss: Loss, paths: SyncPaths) -> u64
     requires few { paths.systems ≤ 512 }
@@ -397,15 +419,19 @@ fn sound_by(network: &Network, loss: Loss, paths: SyncPaths, row: Row, gained: u
         Row::Unchanged => 0,
         Row::Lowered => echo_span(network, paths).max(gone_by(network, paths, loss.used_before)),
         Row::TakenAway => taken_echo_span(network, loss, paths),
+        Row::TakenApart => {
+            let gone = gone_by(network, paths, loss.used);
+            quiet_by(network, loss, way_span(paths).max(gone))
+        }
         Row::CutOff => (2 * way_span(paths)).max(gone),
         Row::TreeFalls => (2 * way_span(paths)).max(gone_by(network, paths, loss.used_before)),
         Row::FailedEnd => quiet_by(network, loss, gone_before),
         Row::FailedHeard => aged_echo_span(network, loss, paths),
         Row::FailureCutsOff => {
-            let aged = aged_by(loss) + 2 * way_span(paths);
             if loss.cuts_all {
-                quiet_by(network, loss, aged + gone)
+                quiet_by(network, loss, apart_by(network, loss, paths))
             } else {
+                let aged = aged_by(loss) + 2 * way_span(paths);
                 aged.max(aged_echo_span(network, loss, paths))
             }
         }
@@ -413,8 +439,12 @@ fn sound_by(network: &Network, loss: Loss, paths: SyncPaths, row: Row, gained: u
         Row::FailureMovesTrees => {
             network.well_formed();
             let told = echo_span(network, paths).max(interval_of(network.largest()));
-            let later = if loss.cuts_all { gone } else { told };
-            quiet_by(network, loss, aged_by(loss) + 2 * way_span(paths) + later)
+            let apart = if loss.cuts_all {
+                apart_by(network, loss, paths)
+            } else {
+                aged_by(loss) + 2 * way_span(paths) + told
+            };
+            quiet_by(network, loss, apart)
         }
         Row::AnyLosses => quiet_by(network, loss, any_loss_span(network, loss, paths)),
         Row::Gained => gained,
@@ -436,7 +466,7 @@ fn retold_by(network: &Network, loss: Loss, paths: SyncPaths, row: Row, gained: 
     }
     match row {
         Row::AnyPast => settling_span_at_once(network, paths),
-        Row::Unchanged | Row::FailedEnd => 0,
+        Row::Unchanged | Row::FailedEnd | Row::TakenApart => 0,
         Row::Lowered | Row::TakenAway => echo_span(network, paths),
         Row::FailedHeard => aged_by(loss) + echo_span(network, paths),
         Row::FailureCutsOff | Row::FailureMovesTrees => {

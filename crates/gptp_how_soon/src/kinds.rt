@@ -2,7 +2,7 @@
 
 ghost use Rattle.std.specs.Prelude.{◌≡◌, ◌++◌, ◌∷◌, [], false, OnOk};
 ghost use Rattle.std.specs.List.{list_all, list_any};
-ghost use Rattle.gptp_how_soon.specs.Kinds.{are_heard, begins_wider, brings_nothing, first_wider_by, is_wider, kind_of_link_set, wider_by, fails_and_recovers, fails_beside_idle, fails_first, is_fail, is_failing, is_recover, is_better, is_down_too, is_failure_of_same, is_gain, is_link_down, is_lowering, is_unused, leaves_links, lowers_one, lowers_unused, makes_nothing, tells_nothing, is_heard_too, is_idle, is_idle_beside, is_loss, is_other, is_priority1, is_worsening, is_link_up, is_recovery, is_recovery_of, kind_of, kind_of_change, kind_of_failure, kind_of_link_down, kind_of_link_up, kind_of_priority1, kind_of_recovery, recovers, repeats, sets_bounds, sets_link, is_link_set, taken_too, takes_any, takes_one, takes_several, told_by, what_of, what_of_change, worsens_first};
+ghost use Rattle.gptp_how_soon.specs.Kinds.{are_heard, begins_wider, brings_nothing, first_wider_by, is_wider, kind_of_link_set, wider_by, fails_and_recovers, is_fail, is_failing, is_recover, is_better, is_failure_of_same, is_gain, is_link_down, is_lowering, is_unused, leaves_links, lowers_unused, makes_nothing, tells_nothing, is_heard_too, is_idle, is_loss, is_other, is_priority1, is_worsening, is_link_up, is_recovery, is_recovery_of, kind_of, kind_of_change, kind_of_failure, kind_of_link_down, kind_of_link_up, kind_of_priority1, kind_of_recovery, recovers, sets_bounds, sets_link, is_link_set, told_by, what_of, what_of_change};
 
 use gptp_scenario::{Act, Change};
 use gptp_topology::{Standing, System, is_used, named};
@@ -251,7 +251,7 @@ pub(crate) fn tell(
     Ok(())
 }
 
-fn is_idle(told: &Told) -> bool
+pub(crate) fn is_idle(told: &Told) -> bool
     ensures { result ≡ is_idle told.now }
 {
     matches!(told.kind, Kind::Idle)
@@ -263,7 +263,7 @@ fn is_unused(told: &Told) -> bool
     matches!(told.kind, Kind::Unused)
 }
 
-fn is_loss(told: &Told) -> bool
+pub(crate) fn is_loss(told: &Told) -> bool
     ensures { result ≡ is_loss told.now }
 {
     matches!(told.kind, Kind::Loss)
@@ -309,7 +309,7 @@ fn is_link_up(told: &Told) -> bool
     matches!(told.what, What::LinkUp)
 }
 
-fn is_priority1(told: &Told) -> bool
+pub(crate) fn is_priority1(told: &Told) -> bool
     ensures { result ≡ is_priority1 told.now }
 {
     matches!(told.what, What::Priority1)
@@ -336,21 +336,21 @@ fn brings_nothing(told: &Told) -> bool
 }
 
 /// Whether a link in use goes down by it.
-fn is_lowering(told: &Told) -> bool
+pub(crate) fn is_lowering(told: &Told) -> bool
     ensures { result ≡ is_lowering told.now }
 {
     is_loss(told) && is_link_down(told)
 }
 
 /// Whether a live system fails by it.
-fn is_failing(told: &Told) -> bool
+pub(crate) fn is_failing(told: &Told) -> bool
     ensures { result ≡ is_failing told.now }
 {
     is_loss(told) && is_fail(told)
 }
 
 /// Whether a live system gets worse by it.
-fn is_worsening(told: &Told) -> bool
+pub(crate) fn is_worsening(told: &Told) -> bool
     ensures { result ≡ is_worsening told.now }
 {
     is_loss(told) && is_priority1(told)
@@ -364,7 +364,7 @@ fn leaves_links(told: &Told) -> bool
 }
 
 /// Whether a link goes down by it that isn't used.
-fn lowers_unused(told: &Told) -> bool
+pub(crate) fn lowers_unused(told: &Told) -> bool
     ensures { result ≡ lowers_unused told.now }
 {
     is_unused(told) && is_link_down(told)
@@ -464,128 +464,6 @@ pub(crate) fn all_leave_links(told: &[Told]) -> bool
     ensures { result ≡ list_all leaves_links told.now }
 {
     told.iter().all(|one| leaves_links(one))
-}
-
-/// Whether it repeats what stands: it changes nothing, and sets no `priority1`.
-fn repeats(told: &Told) -> bool
-    ensures { result ≡ repeats told.now }
-{
-    is_idle(told) && !is_priority1(told)
-}
-
-/// Whether each of these events does.
-fn all_repeat(told: &[Told]) -> bool
-    ensures { result ≡ list_all repeats told.now }
-{
-    told.iter().all(|one| repeats(one))
-}
-
-/// Whether a link in use goes down by the first of these events, and the others repeat what stands.
-pub(crate) fn lowers_one(told: &[Told]) -> bool
-    ensures { result ≡ lowers_one told.now }
-{
-    match told.split_first() {
-        Some((first, others)) => is_lowering(first) && all_repeat(others),
-        None => false,
-    }
-}
-
-/// Whether a live system gets worse by the first of these events, and the others repeat what stands.
-pub(crate) fn worsens_first(told: &[Told]) -> bool
-    ensures { result ≡ worsens_first told.now }
-{
-    match told.split_first() {
-        Some((first, others)) => is_worsening(first) && all_repeat(others),
-        None => false,
-    }
-}
-
-/// Whether a link goes down by it of which an end has failed, or it repeats what stands.
-fn is_down_too(told: &Told) -> bool
-    ensures { result ≡ is_down_too told.now }
-{
-    lowers_unused(told) || repeats(told)
-}
-
-/// Whether each of these events is so.
-fn all_are_down_too(told: &[Told]) -> bool
-    ensures { result ≡ list_all is_down_too told.now }
-{
-    told.iter().all(|one| is_down_too(one))
-}
-
-/// Whether a live system fails by the first of these events, and by the others links go down of which an end has
-/// failed, or they repeat what stands.
-pub(crate) fn fails_first(told: &[Told]) -> bool
-    ensures { result ≡ fails_first told.now }
-{
-    match told.split_first() {
-        Some((first, others)) => is_failing(first) && all_are_down_too(others),
-        None => false,
-    }
-}
-
-/// Whether a link goes down by it of which an end has failed, or it changes nothing.
-fn is_idle_beside(told: &Told) -> bool
-    ensures { result ≡ is_idle_beside told.now }
-{
-    lowers_unused(told) || is_idle(told)
-}
-
-/// Whether each of these events is so.
-fn all_are_idle_beside(told: &[Told]) -> bool
-    ensures { result ≡ list_all is_idle_beside told.now }
-{
-    told.iter().all(|one| is_idle_beside(one))
-}
-
-/// Whether a live system fails by the first of these events, and by the others links go down of which an end has
-/// failed, or they change nothing.
-pub(crate) fn fails_beside_idle(told: &[Told]) -> bool
-    ensures { result ≡ fails_beside_idle told.now }
-{
-    match told.split_first() {
-        Some((first, others)) => is_failing(first) && all_are_idle_beside(others),
-        None => false,
-    }
-}
-
-/// Whether one link or one system is taken away by these events.
-pub(crate) fn takes_one(told: &[Told]) -> bool
-    ensures { result ≡ takes_one told.now }
-{
-    lowers_one(told) || fails_first(told)
-}
-
-/// Whether a link in use goes down by it, or a live system fails.
-fn takes_any(told: &Told) -> bool
-    ensures { result ≡ takes_any told.now }
-{
-    is_loss(told) && !is_priority1(told)
-}
-
-/// Whether it is so, or a link goes down by it of which an end has failed, or it repeats what stands.
-fn taken_too(told: &Told) -> bool
-    ensures { result ≡ taken_too told.now }
-{
-    takes_any(told) || is_down_too(told)
-}
-
-/// Whether each of these events is so.
-fn all_taken_too(told: &[Told]) -> bool
-    ensures { result ≡ list_all taken_too told.now }
-{
-    told.iter().all(|one| taken_too(one))
-}
-
-/// Whether links and systems are taken away by these events, one by the first of several.
-pub(crate) fn takes_several(told: &[Told]) -> bool
-    ensures { result ≡ takes_several told.now }
-{
-    match told.split_first() {
-        Some((first, others)) => !others.is_empty() && takes_any(first) && all_taken_too(others),
-        None => false,
-    }
 }
 
 /// Whether each of these events changes nothing.

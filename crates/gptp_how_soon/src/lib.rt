@@ -4,6 +4,7 @@
 //! its events do says how soon. [`settling_times`] tells both for all times, [`settling_at`] finds one of them.
 #![tactic(auto)]
 
+mod alone;
 mod bounds;
 mod chosen;
 #[cfg(test)]
@@ -17,6 +18,7 @@ mod kinds;
 #[cfg(test)]
 mod link_tests;
 mod links;
+mod losses;
 mod moved_trees;
 mod rest;
 #[cfg(test)]

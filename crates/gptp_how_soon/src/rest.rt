@@ -8,9 +8,9 @@ use crate::bounds::{Row, SettlingTime, way_span};
 use crate::kinds::{
     Told, all_bring_nothing, all_leave_links, all_make_nothing, all_tell_nothing, any_better,
     any_gain, any_loss, any_lowers_unused, any_other, any_recovery, any_wider, are_heard,
-    begins_wider, fails_and_recovers, fails_beside_idle, fails_first, first_wider_by, lowers_one,
-    takes_several, worsens_first,
+    begins_wider, fails_and_recovers, first_wider_by,
 };
+use crate::losses::{fails_beside_idle, fails_first, lowers_one, takes_several, worsens_first};
 use gptp_scenario::SyncPaths;
 
 /// Whom the events of a time move.
@@ -34,8 +34,14 @@ pub struct Moves {
     pub trees_move: bool,
     /// Whether they move none, also none that is cut off, and leave no link silent.
     pub taken: bool,
-    /// Whether then each system of these trees gets a worse root, and each live far end of a link that is lost is moved.
+    /// Whether they move none, also none that is cut off, and no live system lost its link to a nearer one.
+    pub apart: bool,
+    /// Whether then each system of these trees gets a worse root, and each live far end of a link that is lost is
+    /// moved.
     pub cuts_all: bool,
+    /// Whether each live system is alone then, which was at one link in use at most, and each link that was up was in
+    /// use.
+    pub alone: bool,
     /// Whether those that they name were far ends.
     pub far: bool,
     /// For how long it counts what others hold of a system that fails, in ns; 0 where no link is left silent whose far
@@ -288,6 +294,8 @@ fn other_row(paths_before: SyncPaths, paths: SyncPaths, told: &[Told], moves: Mo
 {
     if is_end_followed(paths_before, paths, told) && (moves.far && !moves.any_moved) {
         Row::FailedEnd
+    } else if is_taking_followed(paths_before, paths, told) && moves.apart {
+        Row::TakenApart
     } else if is_taking_followed(paths_before, paths, told) && moves.taken {
         Row::TakenAway
     } else if any_loss(told) {

@@ -145,7 +145,7 @@ fn held_over(network: &Network, own: bool, standing: &Standing) -> u64
 }
 
 /// Whether the system at a place is there, and lives.
-fn is_live(systems: &[System], place: usize) -> bool
+pub(crate) fn is_live(systems: &[System], place: usize) -> bool
     ensures { result ≡ is_live (slice_get systems.now place) }
 {
     match systems.get(place) {

@@ -1,6 +1,6 @@
 //! Whether events move one system alone, which keeps its root and turns to others for it.
 
-ghost use Rattle.std.specs.Prelude.{◌≡◌, ◌++◌, ◌∷◌, [], if◌then◌else◌, IfOk, OnOk, slice_get};
+ghost use Rattle.std.specs.Prelude.{◌≡◌, ◌++◌, ◌∷◌, ◌&&◌, [], if◌then◌else◌, IfOk, OnOk, slice_get};
 ghost use Rattle.std.specs.List.{list_all};
 ghost use Rattle.gptp_how_soon.specs.Turned.{are_different, are_far_ends, goes_farther, goes_one_farther, has_fewer_steps, is_once, leads_nearer, moved_places, neighbour_places, other_end, turns_at, turns_one};
 
@@ -8,6 +8,13 @@ use crate::chosen::{Chosen, Ends, ends_at, is_moved_at};
 use crate::far::is_far_end;
 use gptp_topology::System;
 use std::alloc::{AllocError, Global};
+
+/// Whether two things are so, each of which is told.
+pub(crate) fn both(one: bool, other: bool) -> bool
+    ensures { result ≡ (one && other) }
+{
+    one && other
+}
 
 /// Puts a place after others, where it is wanted.
 pub(crate) fn push_if(places: &mut Vec<usize>, place: usize, wanted: bool) -> Result<(), AllocError>

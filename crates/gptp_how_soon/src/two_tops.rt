@@ -1,12 +1,12 @@
-//! Whether events cut off one tree of systems that loses links at two of them, its tops.
+//! Whether two systems are the tops of a tree that events cut off: each lost a link.
 
-ghost use Rattle.std.specs.Prelude.{◌≡◌, ◌||◌, IfOk, Some, length, slice_get};
+ghost use Rattle.std.specs.Prelude.{◌≡◌, IfOk, Some, length, slice_get};
 ghost use Rattle.std.specs.List.{list_all, range_with_len};
-ghost use Rattle.gptp_how_soon.specs.TwoTops.{chosen_from, falls_below_both, falls_below_tops, falls_twice, is_below_both, is_both_or_apart, is_by_nearer, lowered, top_places};
+ghost use Rattle.gptp_how_soon.specs.TwoTops.{chosen_from, falls_below_both, is_below_both, is_both_or_apart, is_by_nearer, lowered};
 
-use crate::chosen::{Chosen, Ends, choose, is_joined_moved_at, is_moved_at};
+use crate::chosen::{Chosen, Ends, choose};
 use crate::tree::{chose_itself, had_better_root, has_same_root, is_below};
-use crate::turned::push_if;
+use crate::turned_tree::falls_at;
 use gptp_topology::System;
 use gptp_vector::Identity;
 use std::alloc::{AllocError, Global};
@@ -30,7 +30,7 @@ fn lowered(alloc: Global, systems: &[System], place: usize) -> Result<Vec<System
 }
 
 /// What each system would choose if that at a place were better than all: how far it is from it.
-fn choose_from(
+pub(crate) fn choose_from(
     alloc: Global,
     systems: &[System],
     links: &[Ends],
@@ -40,27 +40,6 @@ fn choose_from(
 {
     let lowered = lowered(alloc, systems, place)?;
     choose(alloc, &lowered, links)
-}
-
-/// The places of the systems that live and have another choice, and at which one of these links ends.
-fn top_places(
-    alloc: Global,
-    systems: &[System],
-    lost: &[Ends],
-    before: &[Chosen],
-    now: &[Chosen],
-) -> Result<Vec<usize>, AllocError>
-    ensures { IfOk result (λ places. places.items ≡ top_places systems.now lost.now before.now now.now) }
-{
-    let mut places = Vec::new(alloc);
-    for place in 0..systems.len() {
-        push_if(
-            &mut places,
-            place,
-            is_joined_moved_at(systems, lost, before, now, place),
-        )?;
-    }
-    Ok(places)
 }
 
 /// Whether a system that chose so had as many steps as the nearer of two tops that chose so leads to it, and would be
@@ -120,7 +99,7 @@ fn is_below_both(
         && is_by_nearer(before, by_first, by_second, first, place)
 }
 
-/// Whether it is so if it is moved, and has another root if not.
+/// Whether it has another root than the first top, or falls and is so below both.
 fn is_both_or_apart(
     systems: &[System],
     links: &[Ends],
@@ -135,13 +114,11 @@ fn is_both_or_apart(
     ensures { result
         ≡ is_both_or_apart systems.now links.now before.now now.now by_first.now by_second.now first second place }
 {
-    if is_moved_at(systems, before, now, place) {
-        is_below_both(
-            links, before, now, by_first, by_second, first, second, place,
-        )
-    } else {
-        !has_same_root(now, first, place)
-    }
+    !has_same_root(now, first, place)
+        || (falls_at(systems, before, now, place)
+            && is_below_both(
+                links, before, now, by_first, by_second, first, second, place,
+            ))
 }
 
 /// Whether each system is so.
@@ -167,7 +144,7 @@ fn all_are_both_or_apart(
 }
 
 /// Whether these two are the tops of a tree, which falls to a worse root.
-fn falls_below_both(
+pub(crate) fn falls_below_both(
     systems: &[System],
     links: &[Ends],
     before: &[Chosen],
@@ -186,60 +163,4 @@ fn falls_below_both(
         && all_are_both_or_apart(
             systems, links, before, now, by_first, by_second, first, second,
         )
-}
-
-/// Whether these places are those of two such tops.
-fn falls_below_tops(
-    alloc: Global,
-    systems: &[System],
-    links: &[Ends],
-    before: &[Chosen],
-    now: &[Chosen],
-    tops: &[usize],
-) -> Result<bool, AllocError>
-    ensures { IfOk result (λ falls. falls ≡ falls_below_tops systems.now links.now before.now now.now tops.now) }
-{
-    match *tops {
-        [first, second] => {
-            let by_first = choose_from(alloc, systems, links, first)?;
-            let by_second = choose_from(alloc, systems, links, second)?;
-            Ok(falls_below_both(
-                systems, links, before, now, &by_first, &by_second, first, second,
-            ))
-        }
-        _ => Ok(false),
-    }
-}
-
-/// Whether all systems that are moved are one tree that is cut off, at two of which these links are lost.
-fn falls_twice(
-    alloc: Global,
-    systems: &[System],
-    lost: &[Ends],
-    links: &[Ends],
-    before: &[Chosen],
-    now: &[Chosen],
-) -> Result<bool, AllocError>
-    ensures { IfOk result (λ falls. falls ≡ falls_twice systems.now lost.now links.now before.now now.now) }
-{
-    let tops = top_places(alloc, systems, lost, before, now)?;
-    falls_below_tops(alloc, systems, links, before, now, &tops)
-}
-
-/// Whether all systems that are moved are trees, or one such tree.
-pub(crate) fn or_falls_twice(
-    alloc: Global,
-    moves: bool,
-    systems: &[System],
-    lost: &[Ends],
-    links: &[Ends],
-    before: &[Chosen],
-    now: &[Chosen],
-) -> Result<bool, AllocError>
-    ensures { IfOk result (λ either. either ≡ (moves || falls_twice systems.now lost.now links.now before.now now.now)) }
-{
-    if moves {
-        return Ok(true);
-    }
-    falls_twice(alloc, systems, lost, links, before, now)
 }

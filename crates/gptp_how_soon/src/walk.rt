@@ -1,12 +1,13 @@
 //! How a document stands at each time, as its events come.
 
-ghost use Rattle.std.specs.Prelude.{◌≡◌, ◌≤◌, ◌&&◌, if◌then◌else◌, IfOk, IfSome, OnOk};
+ghost use Rattle.std.specs.Prelude.{◌≡◌, ◌≤◌, if◌then◌else◌, IfOk, IfSome, OnOk};
 ghost use Rattle.gptp_network.specs.declared.keys.TheConstants.{LATEST_EVENT};
 ghost use Rattle.gptp_topology.specs.Tables.{AreMarked, marked_paths};
 ghost use Rattle.gptp_how_soon.specs.Times.{settling_time};
 ghost use Rattle.gptp_how_soon.specs.Rest.{no_moves};
 ghost use Rattle.gptp_how_soon.specs.Walk.{IsFirstWalk, WalkGoesOn, WalkPasses, moves_seen, view_seen};
 
+use crate::alone::leaves_alone;
 use crate::bounds::{
     Loss, SettlingTime, announce_interval, arrived_before, arrived_by, heard, ready, times_by,
     way_span,
@@ -15,17 +16,17 @@ use crate::chosen::{
     Chosen, Ends, any_counted, any_moved, choose, copy_systems, ends_in_use, ends_of,
 };
 use crate::far::{all_cut_far_ends, are_far, none_up_longer, up_is_used};
-use crate::kinds::{Told, sets_bounds, sets_link, takes_one, tell};
+use crate::kinds::{Told, sets_bounds, sets_link, tell};
 use crate::links::{delay_set, longest_among, lost_among, mark_used, new_links};
-use crate::moved_trees::{cuts_all, moves_trees};
+use crate::losses::takes_one;
+use crate::moved_trees::{all_far_ends_move, cuts_all, moves_trees};
 use crate::rest::{
     Moves, asks_who_is_moved, comes_soon, has_come, heard_at_once, is_from_rest, row_of,
 };
 use crate::silent::{any_silent, heard_links, held_among, own_intervals};
 use crate::tree::{cuts_tree, worsens_best};
-use crate::turned::turns_one;
+use crate::turned::{both, turns_one};
 use crate::turned_tree::turns_tree;
-use crate::two_tops::or_falls_twice;
 use gptp_scenario::{Act, Network, SyncPaths};
 use gptp_topology::{System, Tables, cables_of};
 use std::alloc::{AllocError, Global};
@@ -55,13 +56,6 @@ pub(crate) struct Walk {
     pub all_used_before: bool,
     /// Whether none that was up took longer than those in use.
     pub none_longer_before: bool,
-}
-
-/// Whether two things are so, each of which is told.
-fn both(one: bool, other: bool) -> bool
-    ensures { result ≡ (one && other) }
-{
-    one && other
 }
 
 impl Walk {
@@ -155,8 +149,7 @@ impl Walk {
         let heard = heard_links(alloc, &systems, &before, &self.used_before, &self.ends)?;
         let any_moved = any_moved(&systems, &before, &now);
         let silent = any_silent(&self.used_before, &self.tables.standings);
-        let moves = moves_trees(&systems, &lost, &links, &before, &now);
-        let trees = or_falls_twice(alloc, moves, &systems, &lost, &links, &before, &now)?;
+        let trees = moves_trees(alloc, &systems, &lost, &links, &before, &now)?;
         Ok(Moves {
             moved: any_counted(joined, &systems, &links, &before, &now),
             any_moved,
@@ -170,7 +163,15 @@ impl Walk {
             tree_turns: both(come, turns_tree(&systems, &lost, &links, &before, &now)),
             trees_move: both(come, trees),
             taken: both(!any_moved, !silent),
-            cuts_all: both(both(come, moves), cuts_all(&systems, &lost, &before, &now)),
+            apart: both(
+                !any_moved,
+                all_far_ends_move(&systems, &lost, &before, &now),
+            ),
+            cuts_all: both(both(come, trees), cuts_all(&systems, &lost, &before, &now)),
+            alone: both(
+                self.all_used_before,
+                leaves_alone(&systems, &links_before, &links),
+            ),
             far: are_far(&self.systems_before, &before, &links_before, &self.told),
             held: held_among(network, own, &heard, &self.tables.standings),
         })
@@ -200,7 +201,9 @@ impl Walk {
                 tree_turns: false,
                 trees_move: false,
                 taken: false,
+                apart: false,
                 cuts_all: false,
+                alone: false,
                 far: false,
                 held: 0,
             })
@@ -253,6 +256,7 @@ impl Walk {
             soon,
             soon_before,
             cuts_all: moves.cuts_all,
+            alone: moves.alone,
             silent: any_silent(used, standings),
             held: moves.held,
         };

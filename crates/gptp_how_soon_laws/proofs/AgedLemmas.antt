@@ -17,7 +17,8 @@ use Rattle.gptp_how_soon.specs.declared.bounds.Loss.{Loss}
 use Rattle.gptp_how_soon.specs.declared.bounds.SettlingTime.{SettlingTime}
 use Rattle.gptp_settling_time.specs.HowSoon.{BoundsAging, HeldFor, RestsSplit}
 use Rattle.gptp_settling_time.proofs.MomentLemmas.{all_at, last_by}
-use Rattle.gptp_settling_time.specs.TreeLosses.{CutsAllBeyondFrom}
+use Rattle.gptp_settling_time.specs.Losses.{UpIsUsed}
+use Rattle.gptp_settling_time.specs.TreeLosses.{CutsAllBeyondFrom, LeavesAloneFrom}
 use Rattle.gptp_settling_time.specs.Rests.{FlightIsGoneSince}
 use Rattle.gptp_how_soon_laws.proofs.RowLossLemmas.{none_left}
 use Rattle.gptp_how_soon_laws.proofs.SilentLemmas.{held_for, last_now, none_ages}
@@ -29,6 +30,12 @@ below a b is = grind (arith, nat_tests)
 rested_late : (aged ways echo quiet sound : ℕ) → sound ≡ max (aged + (ways + echo)) quiet
     → max (max (aged + ways) quiet) (aged + ways + echo) ≤ sound
 rested_late aged ways echo quiet sound is = omega (arith, is)
+
+rested_alone : (silent : Bool) (aged ways delay quiet sound : ℕ)
+    → sound ≡ (if silent then max (max (aged + ways) delay) quiet else max (aged + ways) delay)
+    → max (max (aged + ways) (if silent then max aged quiet else aged)) delay ≤ sound
+rested_alone true aged ways delay quiet sound is = omega (arith, is)
+rested_alone false aged ways delay quiet sound is = omega (arith, is)
 
 module _ (n : NetworkState) (network : IsNetwork n) (all : List Timed) (b : SettlingTime) (at : ℕ)
     (late : b.at < at) where
@@ -104,8 +111,21 @@ module _ (n : NetworkState) (network : IsNetwork n) (all : List Timed) (b : Sett
     Enough sound choice roles =
         (max roles (choice + max (echo_span (pace_of n) (sync_paths n (made ++ now))) (largest_interval (pace_of n)))
         ≤ sound)
-        ⊎ (CutsAllBeyondFrom n made (made ++ now) × (flight : ℕ) × FlightIsGoneSince n made (made ++ now) flight
+        ⊎ ((CutsAllBeyondFrom n made (made ++ now) × (flight : ℕ) × FlightIsGoneSince n made (made ++ now) flight
         × (max roles (choice + flight) ≤ sound))
+        ⊎ (LeavesAloneFrom n made (made ++ now) × UpIsUsed n made × (max roles (sync_paths n made).delay ≤ sound)))
+
+    -- where so much is, it has come to rest
+    split_enough : (sound : ℕ) → (now ≡ [] → ⊥)
+        → Enough sound (aged_by loss + 2 * way_span v.paths)
+        (max (aged_by loss + 2 * way_span v.paths) (quiet_by n loss (aged_by loss)))
+        → RestsSplit n sound made now
+    split_enough sound some enough = (
+      aged_by loss + 2 * way_span v.paths,
+      max (aged_by loss + 2 * way_span v.paths) (quiet_by n loss (aged_by loss)),
+      (aged_by loss, quiet_by n loss (aged_by loss), aging some, refl, refl),
+      enough,
+    )
 
     -- so it has come to rest by so much later than the choice stands, where that is enough
     pub split_rests : (sound more : ℕ) → (now ≡ [] → ⊥)
@@ -121,15 +141,14 @@ module _ (n : NetworkState) (network : IsNetwork n) (all : List Timed) (b : Sett
         omega arith in
         let later = rested_late (aged_by loss) (2 * way_span v.paths) more (quiet_by n loss (aged_by loss)) sound
         (told ∙ ap (quiet_by n loss) same
-        ∙ quiet_later (2 * way_span v.paths + more)) in (
-          aged_by loss + 2 * way_span v.paths,
-          max (aged_by loss + 2 * way_span v.paths) (quiet_by n loss (aged_by loss)),
-          (
-            aged_by loss,
-            quiet_by n loss (aged_by loss),
-            aging some,
-            refl,
-            refl,
-          ),
-          enough later,
-        )
+        ∙ quiet_later (2 * way_span v.paths + more)) in
+        split_enough sound some (enough later)
+
+    -- it has by the greatest delay of before where each live system is left alone
+    pub alone_rests : (sound : ℕ) → (now ≡ [] → ⊥)
+        → sound ≡ quiet_by n loss (max (aged_by loss + 2 * way_span v.paths) v.paths_before.delay)
+        → LeavesAloneFrom n made (made ++ now) → UpIsUsed n made → RestsSplit n sound made now
+    alone_rests sound some told leaves used =
+        let over = rested_alone loss.silent (aged_by loss) (2 * way_span v.paths) v.paths_before.delay
+        (silence_span (pace_of n)) sound told in
+        split_enough sound some (inr (inr (leaves, used, over)))

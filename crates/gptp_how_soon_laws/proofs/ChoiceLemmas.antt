@@ -21,10 +21,10 @@ use Rattle.gptp_how_soon.specs.Links.{longest_delay}
 use Rattle.gptp_how_soon.specs.Times.{View, events_at, gained_at, last_set, loss_at, ready_at, row_at, settling_time, settling_times, settling_times_from, time_at, view_at}
 use Rattle.gptp_how_soon.specs.declared.bounds.Loss.{Loss}
 use Rattle.gptp_how_soon.specs.declared.bounds.Row.{Row}
-use Rattle.gptp_how_soon.specs.declared.bounds.Row.TheVariants.{AnyLosses, AnyPast, CutOff, FailedEnd, FailedHeard, FailureCutsOff, FailureMovesTrees, Gained, Lowered, SystemTurned, TakenAway, TreeFalls, TreeTurned, Unchanged}
+use Rattle.gptp_how_soon.specs.declared.bounds.Row.TheVariants.{AnyLosses, AnyPast, CutOff, FailedEnd, FailedHeard, FailureCutsOff, FailureMovesTrees, Gained, Lowered, SystemTurned, TakenApart, TakenAway, TreeFalls, TreeTurned, Unchanged}
 use Rattle.gptp_how_soon.specs.declared.bounds.Settling.{Settling}
 use Rattle.gptp_how_soon.specs.declared.bounds.SettlingTime.{SettlingTime}
-use Rattle.gptp_settling_time.specs.HowSoon.{BeforeRepeats, BoundsAnyLoss, BoundsChoice, BoundsEvents, BoundsLoss, BoundsSplit, BoundsStart, BoundsTree, FailsTreesFirst, IsChoiceBoundAfter, IsLossBoundAfter, IsRestBoundAfter, NoneBetween, RestsAfterAnyLoss, RestsAfterLoss, RestsOnceTold, RestsSplit, RestsTaken, RestsTree, RolesAfterFailure, TreeNext}
+use Rattle.gptp_settling_time.specs.HowSoon.{BeforeRepeats, BoundsAnyLoss, BoundsChoice, BoundsEvents, BoundsLoss, BoundsSplit, BoundsTree, FailsTreesFirst, IsChoiceBoundAfter, IsLossBoundAfter, IsRestBoundAfter, NoneBetween, RestsAfterAnyLoss, RestsAfterLoss, RestsOnceTold, RestsSplit, RestsTaken, RestsTree, RolesAfterFailure, TreeNext}
 use Rattle.gptp_settling_time.specs.EventKinds.{FlightIsGoneFrom}
 use Rattle.gptp_settling_time.specs.Rests.{turned_echo_span}
 use Rattle.gptp_settling_time.specs.Losses.{NoneSilent}
@@ -36,16 +36,17 @@ use Rattle.gptp_how_soon_laws.specs.Choice.{SettlingsAreChoiceBounds}
 use Rattle.gptp_how_soon_laws.proofs.FailedLemmas.{used_up}
 use Rattle.gptp_how_soon_laws.proofs.RowBoundLemmas.{HasOwnBounds, IsSoundSooner, IsTelling, bounds_choice, choice_or_own, past_row, sound_or_sooner, tells}
 use Rattle.gptp_how_soon_laws.proofs.RowLemmas.{gained, unchanged}
-use Rattle.gptp_how_soon_laws.proofs.RowLossLemmas.{ComesLate, FailsLate, FallsLate, GoesFirst, TakesSome, all_cut, cut_off, failed, failure_cuts, flight_now, heard, losses, lowered, none_left, same_paths, taken, tree_falls, tree_turned, turned}
-use Rattle.gptp_how_soon_laws.proofs.AgedLemmas.{aged, aging, quiet_later, split_rests}
+use Rattle.gptp_how_soon_laws.proofs.RowApartLemmas.{apart_bounds, apart_rests, taken_apart}
+use Rattle.gptp_how_soon_laws.proofs.RowLossLemmas.{ComesLate, CutsAll, FailsLate, FallsLate, GoesFirst, TakesSome, all_cut, cut_off, failed, failure_cuts, flight_now, heard, left_alone, losses, lowered, none_left, same_paths, taken, tree_falls, tree_turned, turned}
+use Rattle.gptp_how_soon_laws.proofs.AgedLemmas.{aged, aging, alone_rests, quiet_later, split_rests}
 use Rattle.gptp_how_soon_laws.proofs.LossBoundLemmas.{beside, greater, no_later, some_before, some_heard, some_lost, some_rested, some_trees}
 use Rattle.gptp_how_soon_laws.proofs.RepeatLemmas.{before_repeats}
 use Rattle.gptp_how_soon_laws.proofs.RowTestLemmas.{HasComeToRest}
-use Rattle.gptp_how_soon_laws.proofs.StartRowLemmas.{first_past, first_roles, first_sound, never_unchanged, started}
 use Rattle.gptp_how_soon_laws.proofs.UnmovedLemmas.{AreWell}
 use Rattle.gptp_how_soon_laws.proofs.TreeWorsenedLemmas.{octets_at}
-use Rattle.gptp_how_soon_laws.proofs.TimesLemmas.{AreTimes, begin_at, later_times, times_after, times_parts}
+use Rattle.gptp_how_soon_laws.proofs.TimesLemmas.{AreTimes, later_times, times_after, times_parts}
 use Rattle.gptp_how_soon_laws.proofs.TakenAwayLemmas.{several_lost}
+use Rattle.gptp_how_soon_laws.proofs.FirstTimeLemmas.{IsSo, TellsSo, first_so}
 
 module _ (d : DocumentState) (playable : IsPlayable d) where
   abbrev n : NetworkState
@@ -54,55 +55,8 @@ module _ (d : DocumentState) (playable : IsPlayable d) where
   abbrev all : List Timed
   all = d.events
 
-  -- what is told of a time is so, by the times before it
-  pub record IsSo (earlier : List ℕ) (at : ℕ) (s : Settling) : Type 0 where
-    pub bounds : IsChoiceBoundAfter n all earlier at s.roles
-        ⊎ ((alone : ℕ) × IsLossBoundAfter n all earlier at alone s.roles)
-    pub choice : IsChoiceBoundAfter n all earlier at s.choice
-        ⊎ ((roles : ℕ) × IsLossBoundAfter n all earlier at s.choice roles)
-    pub sooner : s.choice ≤ s.roles
-    pub sound : IsRestBoundAfter n all earlier at s.sound
-    pub rest : s.sound ≤ s.rest
-    pub exact : max (at + s.choice) (arrived_by (longest_delay n (events_by at all)) (last_set (events_by at all)))
-        + window_span n.params + (sync_paths n (events_by at all)).systems * (n.params.threshold + n.params.residence)
-        ≤ s.exact_from
-
-  abbrev pub TellsSo : List ℕ → SettlingTime → Type 0
-  TellsSo earlier t = (s : Settling) → t.settling ≡ Some s → IsSo earlier t.at s
-
-  first_so : TellsSo [] (time_at d None 0)
-  first_so s is =
-      let now : List Timed = events_at 0 all in
-      let v : View = view_at n [] now None 0 in
-      let it = tells n v s is in
-      let bound =
-      bounds_choice n (λ choice. BoundsStart n now choice) (loss_at v) now (row_at v) (gained_at n v) it.calm
-      (λ row. absurd (never_unchanged n now row)) (λ row off. started n now row) in
-      let same : s.choice ≡ choice_by n (loss_at v) v.paths (past_row (row_at v)) (gained_at n v) =
-      it.choice ∙ ap (λ row. choice_by n (loss_at v) v.paths row (gained_at n v)) (first_past n now) in
-      let chosen : IsChoiceBoundAfter n all [] 0 s.choice = (
-        refl,
-        subst (λ es. BoundsChoice n (BoundsStart n es s.choice) es s.choice) (sym (begin_at all))
-            (subst (λ choice. BoundsChoice n (BoundsStart n now choice) now choice) (sym same) bound),
-      ) in
-      let sound_same : s.choice ≡ s.sound =
-      it.choice ∙ sym (first_sound n now (loss_at v) v.paths (gained_at n v)) ∙ sym it.sound in
-      let roles_same : s.choice ≡ s.roles =
-      it.choice ∙ sym (first_roles n now (loss_at v) v.paths (gained_at n v))
-      ∙ sym it.roles in
-      record {
-        bounds = inl (subst (IsChoiceBoundAfter n all [] 0) roles_same chosen);
-        choice = inl chosen;
-        sooner = omega (arith, roles_same);
-        sound = subst (IsChoiceBoundAfter n all [] 0) sound_same chosen;
-        rest = it.rest;
-        exact = subst (λ es. max (0 + s.choice) (arrived_by (longest_delay n es) (last_set es)) + window_span n.params
-            + (sync_paths n es).systems * (n.params.threshold + n.params.residence)
-            ≤ s.exact_from) (sym (begin_at all)) it.exact;
-      }
-
   module _ (b : SettlingTime) (earlier : List ℕ) (at : ℕ) (late : b.at < at) (between : NoneBetween all b.at at)
-      (so : TellsSo earlier b) where
+      (so : TellsSo d playable earlier b) where
     abbrev made : List Timed
     made = events_by b.at all
 
@@ -321,15 +275,33 @@ module _ (d : DocumentState) (playable : IsPlayable d) where
           split_rests n playable.network all b at late well sound echo (some_trees n made now x.fails) (told ∙ is)
               (λ later. inl later),
         )))
-    rests_by sound told (inr (inr (inr (inr (inr (inr (inr (inr (inr (which, cuts, is)))))))))) =
+    rests_by sound told (inr (inr (inr (inr (inr (inr (inr (inr (inr (inr (which, cuts, is))))))))))) =
         let x = all_cut n playable.network all b at late well which cuts in
-        let gone : ℕ = gone_by n v.paths loss.soon in
-        let flight = flight_now n playable.network all b at late x.trees.fails in
-        inr (inr (inr (
-          x.trees,
-          split_rests n playable.network all b at late well sound gone (some_trees n made now x.trees.fails) (told ∙ is)
-              (λ later. inr (x.beyond, gone, flight, later)),
-        )))
+        inr (inr (inr (x.trees, by x loss.alone refl (told ∙ is))))
+      where
+        gone : ℕ
+        gone = gone_by n v.paths loss.soon
+
+        fallen : ℕ
+        fallen = aged_by loss + 2 * way_span v.paths
+
+        by : CutsAll n playable.network all b at late → (apart : Bool) → loss.alone ≡ apart
+            → sound ≡ quiet_by n loss (if apart then max fallen v.paths_before.delay else fallen + gone)
+            → RestsSplit n sound made now
+        by x false some same =
+            let flight = flight_now n playable.network all b at late x.trees.fails in
+            split_rests n playable.network all b at late well sound gone (some_trees n made now x.trees.fails) same
+            (λ later. inr (inl (x.beyond, gone, flight, later)))
+        by x true apart same =
+            let (leaves, used) = left_alone n playable.network all b at late well apart in
+            alone_rests n playable.network all b at late well sound (some_trees n made now x.trees.fails) same leaves
+            used
+    rests_by sound told (inr (inr (inr (inr (inr (inr (inr (inr (inr (inl (row, is))))))))))) =
+        let x = taken_apart n playable.network all b at late well row in
+        inl (
+          x.rested,
+          alone (Resting sound) (inr (inr (apart_rests n playable.network all b at late x sound (told ∙ is)))),
+        )
     rests_by sound told (inr (inr (inr (inr (inr (inr (inr (inr (inl (row, is)))))))))) =
         let x = taken n playable.network all b at late well row in
         inl (x.rested, alone (Resting sound) (inr (by x v.used refl (told ∙ is))))
@@ -341,7 +313,7 @@ module _ (d : DocumentState) (playable : IsPlayable d) where
             → sound ≡ (if used then max (echo_span (pace_of n) v.paths) v.paths.delay else span)
             → RestsAfterAnyLoss n made now sound ⊎ RestsTaken n made now sound
         by x true used same =
-            inr (x.takes, x.moves, x.few, used_up n playable.network (made ++ now) used, omega (arith, same))
+            inr (x.takes, x.moves, x.few, inl (used_up n playable.network (made ++ now) used, omega (arith, same)))
         by x false used same =
             inl (span, (several_lost n playable.network made now x.takes, refl, inl (x.none, same)))
 
@@ -497,7 +469,14 @@ module _ (d : DocumentState) (playable : IsPlayable d) where
         ))
     asks_by TakenAway row own =
         let x = taken n playable.network all b at late well row in
-        inl (x.rested, alone (Losing 0 0) (inr (inr (inr (inr (inr (x.takes, x.moves, x.none, refl, refl)))))))
+        inl (x.rested, alone (Losing 0 0) (inr (inr (inr (inr (inr (x.takes, x.moves, refl, inl (x.none, refl))))))))
+    asks_by TakenApart row own =
+        let x = taken_apart n playable.network all b at late well row in
+        inl (
+          x.rested,
+          alone (Losing 0 (quiet_by n loss 0))
+              (inr (inr (inr (inr (inr (apart_bounds n playable.network all b at late x)))))),
+        )
     asks_by AnyLosses row own =
         let (rest, loses, roles) = losses n playable.network all b at late row in
         let span : ℕ = any_loss_span n loss v.paths in
@@ -527,7 +506,7 @@ module _ (d : DocumentState) (playable : IsPlayable d) where
           }
     ]
 
-    later_so : TellsSo (b.at ∷ earlier) (time_at d (Some b) at)
+    later_so : TellsSo d playable (b.at ∷ earlier) (time_at d (Some b) at)
     later_so s is =
         let it = tells n v s is in
         let settles = settles_so s is in
@@ -544,24 +523,24 @@ module _ (d : DocumentState) (playable : IsPlayable d) where
         }
 
   -- so it is of each time after one
-  each_so : (b : SettlingTime) (earlier ats : List ℕ) → AreTimes all b.at ats → TellsSo earlier b
-      → (t : SettlingTime) → In t (settling_times_from d (Some b) ats) → (before : List ℕ) × TellsSo before t
+  each_so : (b : SettlingTime) (earlier ats : List ℕ) → AreTimes all b.at ats → TellsSo d playable earlier b
+      → (t : SettlingTime) → In t (settling_times_from d (Some b) ats) → (before : List ℕ) × TellsSo d playable before t
   each_so b earlier [] times so t member = absurd member
   each_so b earlier (at ∷ ats) (late, between, times) so t (inl same) =
-      (b.at ∷ earlier, subst (TellsSo (b.at ∷ earlier)) (sym same) (later_so b earlier at late between so))
+      (b.at ∷ earlier, subst (TellsSo d playable (b.at ∷ earlier)) (sym same) (later_so b earlier at late between so))
   each_so b earlier (at ∷ ats) (late, between, times) so t (inr member) =
       each_so (time_at d (Some b) at) (b.at ∷ earlier) ats times (later_so b earlier at late between so) t member
 
   all_so : (t : SettlingTime) → In t (settling_times_from d None (0 ∷ later_times 0 all))
-      → (before : List ℕ) × TellsSo before t
-  all_so t (inl same) = ([], subst (TellsSo []) (sym same) first_so)
+      → (before : List ℕ) × TellsSo d playable before t
+  all_so t (inl same) = ([], subst (TellsSo d playable []) (sym same) (first_so d playable))
   all_so t (inr member) =
       each_so (time_at d None 0) [] (later_times 0 all)
       (times_after all 0 all playable.events.in_order (λ event among. omega arith) (λ event among behind. among))
-      first_so t member
+      (first_so d playable) t member
 
   pub time_so : (t : SettlingTime) (s : Settling) → In t (settling_times d) → t.settling ≡ Some s
-      → (before : List ℕ) × IsSo before t.at s
+      → (before : List ℕ) × IsSo d playable before t.at s
   time_so t s member is =
       let (before, so) =
       all_so t (subst (λ ats. In t (settling_times_from d None ats)) (times_parts 0 all) member) in

@@ -30,7 +30,8 @@ use Rattle.gptp_settling_time.proofs.ChoiceBoundLemmas.{choice_bounds_are_exact,
 use Rattle.gptp_settling_time.proofs.ExactInTurnLemmas.{IsCarried}
 use Rattle.gptp_how_soon_laws.specs.Exact.{IsExact, IsExactSoon}
 use Rattle.gptp_how_soon_laws.proofs.ArrivedLemmas.{all_within, same_set}
-use Rattle.gptp_how_soon_laws.proofs.ChoiceLemmas.{IsSo, time_so}
+use Rattle.gptp_how_soon_laws.proofs.ChoiceLemmas.{time_so}
+use Rattle.gptp_how_soon_laws.proofs.FirstTimeLemmas.{IsSo}
 use Rattle.gptp_how_soon_laws.proofs.StepLemmas.{IsKept, kept_alone}
 
 -- ---- lists

@@ -11,7 +11,7 @@ use Rattle.std.proofs.lemmas.Bool.Decides.{nat_tests}
 use Rattle.gptp_lists.specs.Members.{In}
 use Rattle.gptp_lists.proofs.MappedLemmas.{mapped_there}
 use Rattle.gptp_lists.proofs.SystemSpecLemmas.{In-map, In-slice_get, slice_get-In}
-use Rattle.gptp_graph.specs.Snapshot.{IsWellFormed, Snapshot, System, clocks, Link}
+use Rattle.gptp_graph.specs.Snapshot.{IsWellFormed, Snapshot, clocks, Link}
 use Rattle.gptp_graph.proofs.DistanceLemmas.{IsDistance-unique}
 use Rattle.gptp_graph.proofs.LinkLemmas.{Adjacent-clock, Adjacent-sym}
 use Rattle.gptp_roles.specs.Selection.{clock_of}
@@ -29,7 +29,8 @@ use Rattle.gptp_topology.specs.After.{system_then, systems_after, standing_then,
 use Rattle.gptp_topology.specs.declared.nodes.System as ours
 use Rattle.gptp_how_soon.specs.Chosen.{chosen_after, is_joined, is_moved_at, moves_joined, moves_some, place_of, used_ends}
 use Rattle.gptp_how_soon.specs.Far.{are_far_after, has_lower_clock, is_far_end, is_far_over, is_nearer, is_nearer_at, is_down_or_used, is_far_named, up_is_used}
-use Rattle.gptp_how_soon.specs.Kinds.{fails_beside_idle, fails_first, is_down_too, is_fail, is_failing, is_idle, is_idle_beside, is_loss, lowers_unused, makes_nothing, repeats}
+use Rattle.gptp_how_soon.specs.Kinds.{is_fail, is_failing, is_idle, is_loss, lowers_unused, makes_nothing}
+use Rattle.gptp_how_soon.specs.Losses.{fails_beside_idle, fails_first, is_down_too, is_idle_beside, repeats}
 use Rattle.gptp_how_soon.specs.Times.{told_at, told_of}
 use Rattle.gptp_how_soon.specs.declared.chosen.Chosen.{Chosen}
 use Rattle.gptp_how_soon.proofs.ChosenLemmas.{IsAt, at_clock, chosen_there, place_is, settled_choice, touched}

@@ -22,11 +22,12 @@ mod FallsBelowLemmas
 mod TreeLemmas
 mod TreeWorsenedLemmas
 mod TreeByLemmas
-mod TwoTopsLemmas
 mod TurnedTreeTestLemmas
 mod TurnsBelowLemmas
 mod TurnedTreeLemmas
 mod MovedTreesTestLemmas
+mod LostEndLemmas
+mod TwoTopsLemmas
 mod MovedTreesLemmas
 mod TreeEventLemmas
 mod TurnedLemmas
@@ -40,11 +41,14 @@ mod ArrivedLemmas
 mod FlightLemmas
 mod RowLemmas
 mod TakenAwayLemmas
+mod AloneLemmas
 mod CutsAllLemmas
 mod RowLossLemmas
+mod RowApartLemmas
 mod AnyLossLemmas
 mod AgedLemmas
 mod LossBoundLemmas
+pub mod FirstTimeLemmas
 pub mod ChoiceLemmas
 pub mod StepLemmas
 mod SettledLemmas

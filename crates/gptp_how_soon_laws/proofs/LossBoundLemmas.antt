@@ -1,5 +1,5 @@
 -- A bound after a loss comes with an event, and by it the choice stands no later than the roles.
-use Rattle.std.proofs.Common.{◌≡◌, ◌≤◌, inl, inr, ◌+◌, max, ℕ, List, [], ◌∷◌, ◌++◌, refl, sym, ap, subst, ◌∙◌, arith}
+use Rattle.std.proofs.Common.{◌≡◌, ◌≤◌, inl, inr, max, ℕ, List, [], ◌∷◌, ◌++◌, refl, sym, ap, subst, ◌∙◌, arith}
 use Rattle.std.specs.Prelude.{min}
 use Rattle.gptp_scenario.specs.Network.{NetworkState, pace_of}
 use Rattle.gptp_scenario.specs.SettlingTime.{silence_span}
@@ -55,7 +55,7 @@ module _ (n : NetworkState) (made now : List Timed) where
       some_of (FailsHeardFirst n made) (λ none. none) events fails
   some_lost choice roles events (inr (inr (inr (inr (inl (loses, is, later)))))) =
       some_of (LosesEvents n made) (λ none. none) events loses
-  some_lost choice roles events (inr (inr (inr (inr (inr (takes, moves, none, is, same)))))) =
+  some_lost choice roles events (inr (inr (inr (inr (inr (takes, moves, is, by)))))) =
       some_of (TakesSeveral n made) (λ none. none) events takes
 
   pub some_rested : (sound : ℕ) (events : List Timed) → RestsAfterLoss n made events sound → events ≡ [] → ⊥
@@ -70,7 +70,7 @@ module _ (n : NetworkState) (made now : List Timed) where
       some_of (FailsHeardFirst n made) (λ none. none) events fails
   some_rested sound events (inr (inl (choice, bounds))) =
       some_of (LosesEvents n made) (λ none. none) events bounds.0
-  some_rested sound events (inr (inr (takes, moves, few, used, later))) =
+  some_rested sound events (inr (inr (takes, moves, few, by))) =
       some_of (TakesSeveral n made) (λ none. none) events takes
 
   -- what ages does no later than ports beside a failed system are off
@@ -90,4 +90,4 @@ module _ (n : NetworkState) (made now : List Timed) where
   no_later choice roles events (inr (inr (inr (inr (inl (loses, is, inl (quiet, same))))))) = omega (arith, same)
   no_later choice roles events (inr (inr (inr (inr (inl (loses, is, inr later)))))) =
       greater choice roles (silence_span (pace_of n)) later
-  no_later choice roles events (inr (inr (inr (inr (inr (takes, moves, none, is, same)))))) = omega (arith, is)
+  no_later choice roles events (inr (inr (inr (inr (inr (takes, moves, is, by)))))) = omega (arith, is)

@@ -19,7 +19,8 @@ use Rattle.gptp_topology.specs.After.{standing_then, standings_after, system_the
 use Rattle.gptp_topology.specs.Course.{cable_is_used, cable_of}
 use Rattle.gptp_how_soon.specs.Chosen.{any_joined_moved, chosen_after, chosen_over, ends_in_use, ends_of, lost_ends, moves_joined, used_ends}
 use Rattle.gptp_how_soon.specs.Far.{all_cut_far_ends, cut_far_ends_after}
-use Rattle.gptp_how_soon.specs.Kinds.{begins_with, is_idle, is_priority1, repeats}
+use Rattle.gptp_how_soon.specs.Kinds.{is_idle, is_priority1}
+use Rattle.gptp_how_soon.specs.Losses.{begins_with, repeats}
 use Rattle.gptp_how_soon.specs.Links.{lost_among}
 use Rattle.gptp_how_soon.specs.Times.{told_at, told_of}
 use Rattle.gptp_how_soon.specs.Tree.{cuts_tree, cuts_tree_after, worsens_best, worsens_best_after}

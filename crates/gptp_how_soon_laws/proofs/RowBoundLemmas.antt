@@ -13,12 +13,12 @@ use Rattle.gptp_scenario.specs.SyncWait.{sync_paths}
 use Rattle.gptp_scenario.specs.declared.change.Timed.{Timed}
 use Rattle.gptp_scenario.specs.declared.sync_wait.SyncPaths.{SyncPaths}
 use Rattle.gptp_topology.specs.After.{is_calm}
-use Rattle.gptp_how_soon.specs.Bounds.{aged_by, aged_echo_span, any_loss_span, arrived_by, choice_by, choice_of_row, gone_by, quiet_by, roles_by, roles_of_row, settled, sound_by, sound_of_row, taken_echo_span}
+use Rattle.gptp_how_soon.specs.Bounds.{aged_by, aged_echo_span, any_loss_span, apart_by, arrived_by, choice_by, choice_of_row, gone_by, quiet_by, roles_by, roles_of_row, settled, sound_by, sound_of_row, taken_echo_span}
 use Rattle.gptp_how_soon.specs.Kinds.{sets_link}
 use Rattle.gptp_how_soon.specs.Times.{View, gained_at, loss_at, row_at, settling_time}
 use Rattle.gptp_how_soon.specs.declared.bounds.Loss.{Loss}
 use Rattle.gptp_how_soon.specs.declared.bounds.Row.{Row}
-use Rattle.gptp_how_soon.specs.declared.bounds.Row.TheVariants.{AnyLosses, AnyPast, CutOff, FailedEnd, FailedHeard, FailureCutsOff, FailureMovesTrees, Gained, Lowered, SystemTurned, TakenAway, TreeTurned, Unchanged, TreeFalls}
+use Rattle.gptp_how_soon.specs.declared.bounds.Row.TheVariants.{AnyLosses, AnyPast, CutOff, FailedEnd, FailedHeard, FailureCutsOff, FailureMovesTrees, Gained, Lowered, SystemTurned, TakenApart, TakenAway, TreeTurned, Unchanged, TreeFalls}
 use Rattle.gptp_how_soon.specs.declared.bounds.Settling.{Settling}
 use Rattle.gptp_settling_time.specs.HowSoon.{BoundsChoice}
 use Rattle.gptp_topology.proofs.RestLemmas.{calm_from}
@@ -37,6 +37,7 @@ past_row TreeFalls = AnyPast
 past_row TreeTurned = AnyPast
 past_row FailureMovesTrees = AnyPast
 past_row TakenAway = AnyPast
+past_row TakenApart = AnyPast
 past_row AnyLosses = AnyPast
 past_row Gained = Gained
 
@@ -69,6 +70,7 @@ bounds_choice n Sharp loss events row gained calm unchanged is_gained =
     by_row off TreeTurned is = inl refl
     by_row off FailureMovesTrees is = inl refl
     by_row off TakenAway is = inl refl
+    by_row off TakenApart is = inl refl
     by_row off AnyLosses is = inl refl
     by_row off Unchanged is = inr (unchanged is)
     by_row off Gained is = inr (is_gained is off)
@@ -123,6 +125,7 @@ choice_or_own n loss paths row gained = by (n.params.sync_timeout == 0) refl row
     by true is TreeTurned = inr (eqb-true n.params.sync_timeout 0 is, tt, refl, refl)
     by true is FailureMovesTrees = inr (eqb-true n.params.sync_timeout 0 is, tt, refl, refl)
     by true is TakenAway = inr (eqb-true n.params.sync_timeout 0 is, tt, refl, refl)
+    by true is TakenApart = inr (eqb-true n.params.sync_timeout 0 is, tt, refl, refl)
     by true is AnyLosses = inr (eqb-true n.params.sync_timeout 0 is, tt, refl, refl)
 
 -- All is sound by that bound. Or nothing lapses, and it is sooner after a loss.
@@ -139,8 +142,9 @@ IsSoundSooner n loss paths row sound =
     × (sound ≡ quiet_by n loss
     (aged_by loss + 2 * way_span paths + max (echo_span (pace_of n) paths) (largest_interval (pace_of n)))))
     ⊎ (((row ≡ TakenAway) × (sound ≡ taken_echo_span n loss paths))
+    ⊎ (((row ≡ TakenApart) × (sound ≡ quiet_by n loss (max (way_span paths) (gone_by n paths loss.used))))
     ⊎ (((row ≡ FailureCutsOff) ⊎ (row ≡ FailureMovesTrees)) × (loss.cuts_all ≡ true)
-    × (sound ≡ quiet_by n loss (aged_by loss + 2 * way_span paths + gone_by n paths loss.soon)))))))))))
+    × (sound ≡ quiet_by n loss (apart_by n loss paths))))))))))))
 
 pub sound_or_sooner : (n : NetworkState) (loss : Loss) (paths : SyncPaths) (row : Row)
     (gained : ℕ)
@@ -154,13 +158,12 @@ sound_or_sooner n loss paths row gained = by (n.params.sync_timeout == 0) refl r
 
     -- after a failure it matters whether all that is moved is cut off
     all : (r : Row) → (r ≡ FailureCutsOff) ⊎ (r ≡ FailureMovesTrees) → loss.cuts_all ≡ true
-        → IsSoundSooner n loss paths r
-        (quiet_by n loss (aged_by loss + 2 * way_span paths + gone_by n paths loss.soon))
-    all r which cuts = inr (inr (inr (inr (inr (inr (inr (inr (inr (which, cuts, refl)))))))))
+        → IsSoundSooner n loss paths r (quiet_by n loss (apart_by n loss paths))
+    all r which cuts = inr (inr (inr (inr (inr (inr (inr (inr (inr (inr (which, cuts, refl))))))))))
 
     cut : (cuts : Bool) → loss.cuts_all ≡ cuts
         → IsSoundSooner n loss paths FailureCutsOff
-        (if cuts then quiet_by n loss (aged_by loss + 2 * way_span paths + gone_by n paths loss.soon)
+        (if cuts then quiet_by n loss (apart_by n loss paths)
         else max (aged_by loss + 2 * way_span paths) (aged_echo_span n loss paths))
     cut true cuts = all FailureCutsOff (inl refl) cuts
     cut false cuts = inr (inr (inr (inr (inl (inr refl, omega arith)))))
@@ -168,9 +171,8 @@ sound_or_sooner n loss paths row gained = by (n.params.sync_timeout == 0) refl r
     moved : (cuts : Bool) → loss.cuts_all ≡ cuts
         → IsSoundSooner n loss paths FailureMovesTrees
         (quiet_by n loss
-        (aged_by loss + 2 * way_span paths
-        + (if cuts then gone_by n paths loss.soon
-        else max (echo_span (pace_of n) paths) (largest_interval (pace_of n)))))
+        (if cuts then apart_by n loss paths
+        else aged_by loss + 2 * way_span paths + max (echo_span (pace_of n) paths) (largest_interval (pace_of n))))
     moved true cuts = all FailureMovesTrees (inr refl) cuts
     moved false cuts = inr (inr (inr (inr (inr (inr (inr (inl (refl, refl))))))))
 
@@ -197,6 +199,10 @@ sound_or_sooner n loss paths row gained = by (n.params.sync_timeout == 0) refl r
     by true is FailureMovesTrees = inr (eqb-true n.params.sync_timeout 0 is, moved loss.cuts_all refl)
     by true is TakenAway =
         inr (eqb-true n.params.sync_timeout 0 is, inr (inr (inr (inr (inr (inr (inr (inr (inl (refl, refl))))))))))
+    by true is TakenApart = inr (
+      eqb-true n.params.sync_timeout 0 is,
+      inr (inr (inr (inr (inr (inr (inr (inr (inr (inl (refl, refl)))))))))),
+    )
     by true is TreeFalls =
         inr (eqb-true n.params.sync_timeout 0 is, inr (inr (inr (inr (inr (inr (inl (refl, refl))))))))
 

@@ -13,7 +13,8 @@ use Rattle.gptp_scenario.specs.SyncWait.{sync_paths}
 use Rattle.gptp_scenario.specs.declared.change.Timed.{Timed}
 use Rattle.gptp_network.specs.Snapshot.{events_by}
 use Rattle.gptp_how_soon.specs.Bounds.{is_hard_to_hear}
-use Rattle.gptp_how_soon.specs.Kinds.{are_heard, brings_nothing, fails_and_recovers, is_better, is_gain, is_idle, is_loss, is_other, is_recovery, leaves_links, lowers_unused, makes_nothing, recovers, takes_one, begins_wider, first_wider_by, is_wider}
+use Rattle.gptp_how_soon.specs.Kinds.{are_heard, brings_nothing, fails_and_recovers, is_better, is_gain, is_idle, is_loss, is_other, is_recovery, leaves_links, lowers_unused, makes_nothing, recovers, begins_wider, first_wider_by, is_wider}
+use Rattle.gptp_how_soon.specs.Losses.{takes_one}
 use Rattle.gptp_how_soon.specs.Rest.{are_events_followed, are_losses_followed, are_recoveries_followed, are_turns_followed, heard_at_once, is_end_followed, is_failing_followed, is_from_rest, is_lowering_followed, is_taking_followed, is_wider_followed, rested, settles_wider_by, is_worsening_followed}
 use Rattle.gptp_how_soon.specs.Times.{View, events_at, gained_at, ready_at, row_at, view_at}
 use Rattle.gptp_how_soon.specs.declared.bounds.Row.{Row}
@@ -59,6 +60,7 @@ module _ (n : NetworkState) (network : IsNetwork n) (events : List Timed) (b : S
     moved = v.moves.any_moved;
     trees = is_failing_followed v.paths_before v.paths v.told && v.moves.trees_move;
     ends = is_end_followed v.paths_before v.paths v.told && (v.moves.far && not v.moves.any_moved);
+    apart = is_taking_followed v.paths_before v.paths v.told && v.moves.apart;
     taken = is_taking_followed v.paths_before v.paths v.told && v.moves.taken;
     loss = list_any is_loss v.told;
     only = list_all brings_nothing v.told;

@@ -14,13 +14,14 @@ use Rattle.gptp_network.specs.Snapshot.{events_by}
 use Rattle.gptp_invariants.specs.WorldEncodableLaws.{SetsAnOctet}
 use Rattle.gptp_how_soon.specs.Bounds.{gone_by, quiet_by}
 use Rattle.gptp_how_soon.specs.Chosen.{moves_joined, moves_some}
-use Rattle.gptp_how_soon.specs.Kinds.{begins_with, brings_nothing, fails_beside_idle, fails_first, is_loss, is_lowering, is_worsening, lowers_one, takes_one, takes_several, worsens_first}
+use Rattle.gptp_how_soon.specs.Kinds.{brings_nothing, is_loss, is_lowering, is_worsening}
+use Rattle.gptp_how_soon.specs.Losses.{begins_with, fails_beside_idle, fails_first, lowers_one, takes_one, takes_several, worsens_first}
+use Rattle.gptp_how_soon.specs.Alone.{leaves_alone_after}
 use Rattle.gptp_how_soon.specs.MovedTrees.{cuts_all_after, moves_trees_after}
-use Rattle.gptp_how_soon.specs.Rest.{is_end_followed, is_failing_followed, is_from_rest, is_lowering_followed, is_taking_followed, is_worsening_followed, keeps_paths, rested}
+use Rattle.gptp_how_soon.specs.Rest.{is_end_followed, is_failing_followed, is_from_rest, is_lowering_followed, is_taking_followed, is_worsening_followed, keeps_paths}
 use Rattle.gptp_how_soon.specs.Times.{View, events_at, has_come_after, loss_at, row_at, told_at, told_of, view_at}
 use Rattle.gptp_how_soon.specs.Tree.{cuts_tree_after, worsens_best_after}
 use Rattle.gptp_how_soon.specs.TurnedTree.{turns_tree_after}
-use Rattle.gptp_how_soon.specs.TwoTops.{trees_move_after}
 use Rattle.gptp_how_soon.specs.declared.bounds.Row.{Row}
 use Rattle.gptp_how_soon.specs.declared.bounds.Row.TheVariants.{AnyLosses, CutOff, FailedEnd, FailedHeard, FailureCutsOff, FailureMovesTrees, Lowered, SystemTurned, TakenAway, TreeFalls, TreeTurned}
 use Rattle.gptp_how_soon.specs.declared.bounds.SettlingTime.{SettlingTime}
@@ -31,7 +32,7 @@ use Rattle.gptp_settling_time.specs.HowSoon.{BeforeRepeats, FailsEndFirst, Fails
 use Rattle.gptp_settling_time.specs.EventKinds.{FlightIsGone, FlightIsGoneFrom}
 use Rattle.gptp_settling_time.specs.Rests.{FlightIsGoneSince}
 use Rattle.gptp_settling_time.specs.Losses.{CutsFarEnd, LowersLink, MovesNoneInAll, NoneSilent, TurnsLink, UpIsUsed}
-use Rattle.gptp_settling_time.specs.TreeLosses.{CutsAllBeyondFrom, FallsTree, TurnsTreeLink}
+use Rattle.gptp_settling_time.specs.TreeLosses.{CutsAllBeyondFrom, FallsTree, LeavesAloneFrom, TurnsTreeLink}
 use Rattle.gptp_settling_time.proofs.SamePathsLemmas.{StandSame, same_itself}
 use Rattle.gptp_settling_time.specs.Gains.{HasDelaysWithin}
 use Rattle.gptp_settling_time.proofs.MomentLemmas.{all_at}
@@ -39,7 +40,7 @@ use Rattle.gptp_how_soon_laws.proofs.AnyLossLemmas.{all_losses}
 use Rattle.gptp_how_soon_laws.proofs.ArrivedLemmas.{all_within, has_come_so, longest_within}
 use Rattle.gptp_how_soon_laws.proofs.FailedLemmas.{fails_beside_first, fails_end_first, fails_heard_first, used_up}
 use Rattle.gptp_how_soon_laws.proofs.CutOffLemmas.{cuts_far}
-use Rattle.gptp_how_soon_laws.proofs.MovedTreesLemmas.{fails_trees_first, trees_move_so}
+use Rattle.gptp_how_soon_laws.proofs.MovedTreesLemmas.{fails_trees_first}
 use Rattle.gptp_how_soon_laws.proofs.LoweredLemmas.{lowers_link, used_on}
 use Rattle.gptp_how_soon_laws.proofs.RepeatLemmas.{Begins, before_repeats, begins, cut_seen, falls_seen, first_same, first_well, joined_seen, paths_seen, turned_seen, turns_seen, used_still, whole, worsens_seen}
 use Rattle.gptp_how_soon_laws.proofs.TreeEventLemmas.{lowers_one_tree, turns_tree_link}
@@ -53,6 +54,7 @@ use Rattle.gptp_how_soon_laws.proofs.RowTestLemmas.{HasComeToRest, at_most, coun
 use Rattle.gptp_how_soon_laws.proofs.RowLemmas as rows
 use Rattle.gptp_how_soon_laws.proofs.TakenAwayLemmas.{several_taken, several_unmoved}
 use Rattle.gptp_how_soon_laws.proofs.FlightLemmas.{fails_set_none, gone_since, gone_soon, repeats_set_none, set_before}
+use Rattle.gptp_how_soon_laws.proofs.AloneLemmas.{all_alone}
 use Rattle.gptp_how_soon_laws.proofs.CutsAllLemmas.{all_beyond}
 
 module _ (n : NetworkState) (network : IsNetwork n) (events : List Timed) (b : SettlingTime) (at : ℕ)
@@ -72,16 +74,16 @@ module _ (n : NetworkState) (network : IsNetwork n) (events : List Timed) (b : S
   why : (row : Row) → row_at v ≡ row → ReasonOf tests row
   why = rows.why n network events b at late
 
-  rest_so : is_from_rest v.longest at v.paths_before v.paths v.told (Some b) ≡ true → HasComeToRest b at
+  pub rest_so : is_from_rest v.longest at v.paths_before v.paths v.told (Some b) ≡ true → HasComeToRest b at
   rest_so from = (rows.from_rest n network events b at late from).rested
 
   -- the greatest delay of a link in use gets no greater, no path gets longer, and none had more than 255 systems
-  record KeepsPaths : Type 0 where
+  pub record KeepsPaths : Type 0 where
     pub delay : (sync_paths n (made ++ now)).delay ≤ (sync_paths n made).delay
     pub paths : (sync_paths n (made ++ now)).systems ≤ (sync_paths n made).systems
     pub few : (sync_paths n made).systems ≤ 255
 
-  keeps_so : keeps_paths v.paths_before v.paths ≡ true → KeepsPaths
+  pub keeps_so : keeps_paths v.paths_before v.paths ≡ true → KeepsPaths
   keeps_so keeps =
       let few_test : Bool = nat_le v.paths_before.systems 255 in
       let delay_test : Bool = nat_le v.paths.delay v.paths_before.delay in
@@ -416,7 +418,7 @@ module _ (n : NetworkState) (network : IsNetwork n) (events : List Timed) (b : S
 
   trees_late : is_from_rest v.longest at v.paths_before v.paths v.told (Some b) ≡ true → AreWell n (made ++ now)
       → is_failing_followed v.paths_before v.paths v.told ≡ true → has_come_after n made (Some b) at ≡ true
-      → trees_move_after n made (made ++ now) ≡ true → FailsLate
+      → moves_trees_after n made (made ++ now) ≡ true → FailsLate
   trees_late from well followed come splits =
       let (keeps, one) = and_parts (keeps_paths v.paths_before v.paths) (fails_first v.told) followed in
       let x = keeps_so keeps in
@@ -432,7 +434,7 @@ module _ (n : NetworkState) (network : IsNetwork n) (events : List Timed) (b : S
       let (from, trees) = why FailureMovesTrees row in
       let (followed, both) = and_parts (is_failing_followed v.paths_before v.paths v.told) v.moves.trees_move trees in
       let (come, splits) =
-      and_parts (has_come_after n made (Some b) at) (trees_move_after n made (made ++ now)) both in
+      and_parts (has_come_after n made (Some b) at) (moves_trees_after n made (made ++ now)) both in
       trees_late from well followed come splits
 
   -- and so cuts off all that it moves
@@ -448,7 +450,7 @@ module _ (n : NetworkState) (network : IsNetwork n) (events : List Timed) (b : S
       let (both, all) = and_parts (come_test && moves_test) (cuts_all_after n made (made ++ now)) cuts in
       let (come, splits) = and_parts come_test moves_test both in
       let (from, followed) = by which in
-      let trees = trees_late from well followed come (trees_move_so n made (made ++ now) splits) in
+      let trees = trees_late from well followed come splits in
       record { trees = trees; beyond = all_beyond n network made now well trees.fails splits all }
     where
       by : (row_at v ≡ FailureCutsOff) ⊎ (row_at v ≡ FailureMovesTrees)
@@ -460,6 +462,13 @@ module _ (n : NetworkState) (network : IsNetwork n) (events : List Timed) (b : S
       by (inr row) =
           let (from, trees) = why FailureMovesTrees row in
           (from, (and_parts (is_failing_followed v.paths_before v.paths v.told) v.moves.trees_move trees).0)
+
+  -- or it leaves each live system alone
+  pub left_alone : AreWell n (made ++ now) → (loss_at v).alone ≡ true
+      → LeavesAloneFrom n made (made ++ now) × UpIsUsed n made
+  left_alone well alone =
+      let (used, leaves) = and_parts v.used_before (leaves_alone_after n made (made ++ now)) alone in
+      (all_alone n network made now well leaves, used_up n network made used)
 
   -- what is in flight behind all is gone by then
   pub flight_now : FailsTreesFirst n made now

@@ -7,7 +7,8 @@ use Rattle.std.proofs.lemmas.Bool.Decides.{nat_tests}
 use Rattle.gptp_scenario.specs.Network.{NetworkState}
 use Rattle.gptp_scenario.specs.declared.change.Timed.{Timed}
 use Rattle.gptp_how_soon.specs.Chosen.{moves_counted, moves_joined, moves_some}
-use Rattle.gptp_how_soon.specs.Kinds.{fails_first, is_down_too, is_failing, is_lowering, leaves_links, lowers_one, repeats, takes_one}
+use Rattle.gptp_how_soon.specs.Kinds.{is_failing, is_lowering, leaves_links}
+use Rattle.gptp_how_soon.specs.Losses.{fails_first, is_down_too, lowers_one, repeats, takes_one}
 use Rattle.gptp_how_soon.specs.Rest.{rested, rested_by}
 use Rattle.gptp_how_soon.specs.declared.bounds.Settling.{Settling}
 use Rattle.gptp_how_soon.specs.declared.bounds.SettlingTime.{SettlingTime}

@@ -18,7 +18,8 @@ use Rattle.gptp_scenario.specs.declared.network.SystemSpec.{SystemSpec}
 use Rattle.gptp_network.specs.Snapshot.{StandsAfter}
 use Rattle.gptp_theorem.proofs.EventLemmas.{system_behind}
 use Rattle.gptp_how_soon.specs.Chosen.{moves_some}
-use Rattle.gptp_how_soon.specs.Kinds.{is_down_too, is_loss, is_priority1, taken_too, takes_any, takes_several}
+use Rattle.gptp_how_soon.specs.Kinds.{is_loss, is_priority1}
+use Rattle.gptp_how_soon.specs.Losses.{is_down_too, taken_too, takes_any, takes_several}
 use Rattle.gptp_how_soon.specs.Times.{told_at, told_of}
 use Rattle.gptp_settling_time.specs.HowSoon.{EachEvent, IsLossToo, IsTakenToo, LosesEvents, TakesSeveral, TurnsUnused}
 use Rattle.gptp_settling_time.specs.Leads.{TakesAny}

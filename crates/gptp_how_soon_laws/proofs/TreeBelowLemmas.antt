@@ -1,6 +1,6 @@
 -- Systems that get one root together, below one of them at the top by what all had chosen, are a tree that is cut off
 -- from one snapshot to the other.
-use Rattle.std.proofs.Common.{◌≡◌, ◌<◌, ◌≤◌, ◌⊎◌, inl, inr, ◌-◌, ◌+◌, ℕ, suc, Bool, true, false, List, [], Option, Some, None, slice_get, refl, sym, ap, subst, ◌∙◌, arith}
+use Rattle.std.proofs.Common.{◌≡◌, ◌<◌, ◌≤◌, ◌⊎◌, inl, inr, ◌-◌, ◌+◌, ℕ, suc, Bool, true, false, List, [], slice_get, refl, sym, ap, subst, ◌∙◌, arith}
 use Rattle.std.specs.Prelude.{◌&&◌, nat_le, if◌then◌else◌}
 use Rattle.std.specs.List.{count_by, list_all}
 use Rattle.std.proofs.lemmas.Bool.{and_parts}
@@ -29,11 +29,8 @@ use Rattle.gptp_how_soon_laws.proofs.FailedLemmas.{each_is}
 use Rattle.gptp_how_soon_laws.proofs.TreeTestLemmas.{apart_so, better_so, fewer_back, nearer_at_first, nearer_at_second, no_more_so, one_on_first, one_on_second, one_same, same_back, same_so}
 use Rattle.gptp_how_soon_laws.proofs.WorseningLemmas.{same_system}
 use Rattle.gptp_how_soon_laws.proofs.LivesOnLemmas.{LivesOn, on_at, on_of}
+use Rattle.gptp_how_soon_laws.proofs.TreeByLemmas.{steps_of}
 use Rattle.gptp_how_soon_laws.proofs.LostLinkLemmas.{IsJoinedBy, ends_are, joined_by, same_port, stands_or_lost, used_links}
-
-abbrev steps_of : Option Chosen → ℕ
-steps_of None = 0
-steps_of (Some c) = c.steps
 
 module _ (n : NetworkState) (network : IsNetwork n) (made events : List Timed) where
   abbrev pub before : List Chosen

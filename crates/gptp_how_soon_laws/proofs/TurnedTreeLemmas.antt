@@ -16,7 +16,7 @@ use Rattle.gptp_topology.specs.After.{systems_after}
 use Rattle.gptp_topology.specs.declared.nodes.System as ours
 use Rattle.gptp_how_soon.specs.Chosen.{chosen_after, ends_of, is_moved_at}
 use Rattle.gptp_how_soon.specs.Turned.{has_fewer_steps}
-use Rattle.gptp_how_soon.specs.TurnedTree.{is_turned_at, stays_or_is_turned}
+use Rattle.gptp_how_soon.specs.TurnedTree.{is_in_part, stays_or_is_in_part}
 use Rattle.gptp_how_soon.specs.declared.chosen.Chosen.{Chosen}
 use Rattle.gptp_how_soon.specs.declared.chosen.Ends.{Ends}
 use Rattle.gptp_how_soon.proofs.ChosenLemmas.{IsAt, at_clock, chosen_there, one_clock, settled_choice}
@@ -27,7 +27,7 @@ use Rattle.gptp_how_soon_laws.proofs.UnmovedLemmas.{asked_of, unmoved_at}
 use Rattle.gptp_how_soon_laws.proofs.LivesOnLemmas.{LivesOn, on_at, on_of}
 use Rattle.gptp_how_soon_laws.proofs.LostLinkLemmas.{ends_are, stands_or_lost}
 use Rattle.gptp_how_soon_laws.proofs.OneLostLemmas.{at_other, at_top, known_ends, lost_between}
-use Rattle.gptp_how_soon_laws.proofs.TurnedTreeTestLemmas.{Turns, less_so, turned_moves}
+use Rattle.gptp_how_soon_laws.proofs.TurnedTreeTestLemmas.{Turns, less_so, part_turns, turned_moves}
 use Rattle.gptp_how_soon_laws.proofs.TurnsBelowLemmas as below
 
 module _ (n : NetworkState) (network : IsNetwork n) (made events : List Timed) where
@@ -43,9 +43,6 @@ module _ (n : NetworkState) (network : IsNetwork n) (made events : List Timed) w
   abbrev moved : ℕ → Bool
   moved = is_moved_at systems before now
 
-  abbrev turned : ℕ → Bool
-  turned = is_turned_at systems before now
-
   -- ---- between two snapshots
 
   module _ (t : Turns n network made events) (g h : Snapshot) (stands : StandsAfter n made g)
@@ -54,6 +51,10 @@ module _ (n : NetworkState) (network : IsNetwork n) (made events : List Timed) w
       (lives : (v : ℕ) → In v (clocks g) → In v (clocks h)) where
     abbrev top : ℕ
     top = t.one.top
+
+    -- all that turn have one root, which names them
+    abbrev turned : ℕ → Bool
+    turned = is_in_part systems before now now top
 
     abbrev top_clock : ℕ
     top_clock = t.one.top_clock
@@ -92,13 +93,13 @@ module _ (n : NetworkState) (network : IsNetwork n) (made events : List Timed) w
 
     abbrev turning : Turning
     turning =
-        below.turning n network made events top top_clock t.tree g h stands stands' well well' lived top_is
+        below.turning n network made events now top top_clock t.tree g h stands stands' well well' lived top_is
 
     abbrev tree : List ℕ
     tree = turning.tree
 
     abbrev has : below.HasTurned n turned g h best turning
-    has = below.has_turned n network made events top top_clock t.tree g h stands stands' well well' lived top_is
+    has = below.has_turned n network made events now top top_clock t.tree g h stands stands' well well' lived top_is
 
     in_tree : (v : ℕ) → In v tree → (i : ℕ) × (s : On i v) × (turned i ≡ true)
     in_tree v listed = let (i, s) = on v (has.lives v listed) in (i, s, has.turned_of i v s.at listed)
@@ -123,7 +124,7 @@ module _ (n : NetworkState) (network : IsNetwork n) (made events : List Timed) w
         by i s false is =
             unmoved_at n network made events g h stands stands' well well' v (lived v known) known i s.at
             (elim (or_cases (not (moved i)) (turned i)
-            (each_is (stays_or_is_turned systems before now) (range_with_len 0 (length systems)) i t.all
+            (each_is (stays_or_is_in_part systems before now now top) (range_with_len 0 (length systems)) i t.all
             (asked_of n events i s.at.system s.at.there))) [
               | inl apart ↦ not-true (moved i) apart
               | inr turns ↦ let no : true ≡ false = sym turns ∙ is in absurd cc
@@ -183,7 +184,7 @@ module _ (n : NetworkState) (network : IsNetwork n) (made events : List Timed) w
               one_clock n network made g stands well other u other_clock (subst (λ k. IsAt n k u) b at_u) other_at,
             )
             | inr (a, b) ↦
-                let moves = turned_moves n network made events i is in
+                let moves = turned_moves n network made events i (part_turns n network made events now top i is) in
                 let no : false ≡ true = ap not (sym (ap moved (sym a) ∙ moves)) ∙ t.stays in
                 absurd cc
           ]

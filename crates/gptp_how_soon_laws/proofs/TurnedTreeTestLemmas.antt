@@ -14,8 +14,9 @@ use Rattle.gptp_how_soon.specs.declared.chosen.Chosen.{Chosen}
 use Rattle.gptp_how_soon.specs.declared.chosen.Ends.{Ends}
 use Rattle.gptp_how_soon_laws.proofs.OneLostLemmas.{OneLost, OneLostBy, one_lost}
 use Rattle.std.proofs.lemmas.List.Sums.{sum_by-cons}
+use Rattle.gptp_how_soon.specs.Tree.{has_same_root}
 use Rattle.gptp_how_soon.specs.Turned.{goes_farther, has_fewer_steps}
-use Rattle.gptp_how_soon.specs.TurnedTree.{is_turned_at, leads_one_on_within, leads_out, stays_or_is_turned, stays_or_turns, tree_turns_at, turns_from, turns_tree, turns_tree_after}
+use Rattle.gptp_how_soon.specs.TurnedTree.{is_in_part, is_turned_at, leads_one_on_within, leads_out, stays_or_is_in_part, stays_or_turns, tree_turns_at, turns_from, turns_tree, turns_tree_after}
 
 -- one of a list passes, where one is counted
 pub one_there : (p : Ends → Bool) (es : List Ends) → count_by p es ≡ 1 → (e : Ends) × In e es × (p e ≡ true)
@@ -60,22 +61,32 @@ module _ (n : NetworkState) (network : IsNetwork n) (made events : List Timed) w
   pub turned_moves : (i : ℕ) → turned i ≡ true → moved i ≡ true
   turned_moves i is = (and_parts (moved i) (goes_farther (slice_get before i) (slice_get now i)) is).0
 
-  -- a tree turns below this top
-  pub record TurnsAt (top : ℕ) : Type 0 where
-    pub turns : turned top ≡ true
-    pub each : list_all (stays_or_turns turned links before top) (range_with_len 0 (length systems)) ≡ true
-    pub on : list_all (leads_one_on_within turned before) links ≡ true
-    pub way : (count_by (leads_out turned) links == 1) ≡ true
+  -- who is of the part of a top, by names
+  abbrev pub part : List Chosen → ℕ → ℕ → Bool
+  part = is_in_part systems before now
 
-  pub turns_at : (top : ℕ) → tree_turns_at systems links before now top ≡ true → TurnsAt top
-  turns_at top is =
+  pub part_turns : (names : List Chosen) (top i : ℕ) → part names top i ≡ true → turned i ≡ true
+  part_turns names top i is =
+      (and_parts (turned i) (has_same_root (slice_get names top) (slice_get names i)) is).0
+
+  -- a tree turns below this top
+  pub record TurnsAt (names : List Chosen) (top : ℕ) : Type 0 where
+    pub turns : part names top top ≡ true
+    pub each : list_all (stays_or_turns (part names top) links before top) (range_with_len 0 (length systems)) ≡ true
+    pub on : list_all (leads_one_on_within (part names top) before) links ≡ true
+    pub way : (count_by (leads_out (part names top)) links == 1) ≡ true
+
+  pub turns_at : (names : List Chosen) (top : ℕ) → tree_turns_at systems links before now names top ≡ true
+      → TurnsAt names top
+  turns_at names top is =
+      let top_test : Bool = part names top top in
       let each_test : Bool =
-      list_all (stays_or_turns turned links before top) (range_with_len 0 (length systems)) in
-      let on_test : Bool = list_all (leads_one_on_within turned before) links in
-      let way_test : Bool = count_by (leads_out turned) links == 1 in
-      let (three, way) = and_parts (turned top && each_test && on_test) way_test is in
-      let (two, on) = and_parts (turned top && each_test) on_test three in
-      let (turns, each) = and_parts (turned top) each_test two in
+      list_all (stays_or_turns (part names top) links before top) (range_with_len 0 (length systems)) in
+      let on_test : Bool = list_all (leads_one_on_within (part names top) before) links in
+      let way_test : Bool = count_by (leads_out (part names top)) links == 1 in
+      let (three, way) = and_parts (top_test && each_test && on_test) way_test is in
+      let (two, on) = and_parts (top_test && each_test) on_test three in
+      let (turns, each) = and_parts top_test each_test two in
       record { turns = turns; each = each; on = on; way = way }
 
   -- a link is lost from the top of such a tree, and no other system is moved
@@ -83,8 +94,8 @@ module _ (n : NetworkState) (network : IsNetwork n) (made events : List Timed) w
     pub one : OneLost n network made events
     pub stays : not (moved one.other) ≡ true
     pub nearer : has_fewer_steps (slice_get before one.other) (slice_get before one.top) ≡ true
-    pub all : list_all (stays_or_is_turned systems before now) (range_with_len 0 (length systems)) ≡ true
-    pub tree : TurnsAt one.top
+    pub all : list_all (stays_or_is_in_part systems before now now one.top) (range_with_len 0 (length systems)) ≡ true
+    pub tree : TurnsAt now one.top
 
   pub turns : turns_tree_after n made events ≡ true → Turns
   turns is = by (lost_ends n made events) refl is
@@ -94,8 +105,9 @@ module _ (n : NetworkState) (network : IsNetwork n) (made events : List Timed) w
           let top : ℕ = x.one.top in
           let stays_test : Bool = not (moved x.one.other) in
           let nearer_test : Bool = has_fewer_steps (slice_get before x.one.other) (slice_get before top) in
-          let all_test : Bool = list_all (stays_or_is_turned systems before now) (range_with_len 0 (length systems)) in
-          let tree_test : Bool = tree_turns_at systems links before now top in
+          let all_test : Bool =
+          list_all (stays_or_is_in_part systems before now now top) (range_with_len 0 (length systems)) in
+          let tree_test : Bool = tree_turns_at systems links before now now top in
           let (three, tree) = and_parts (stays_test && nearer_test && all_test) tree_test x.so in
           let (two, all) = and_parts (stays_test && nearer_test) all_test three in
           let (stays, nearer) = and_parts stays_test nearer_test two in
@@ -104,7 +116,7 @@ module _ (n : NetworkState) (network : IsNetwork n) (made events : List Timed) w
             stays = stays;
             nearer = nearer;
             all = all;
-            tree = turns_at top tree;
+            tree = turns_at now top tree;
           }
 
       by : (es : List Ends) → lost_ends n made events ≡ es → turns_tree systems es links before now ≡ true → Turns

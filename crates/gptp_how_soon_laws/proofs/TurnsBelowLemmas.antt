@@ -22,7 +22,7 @@ use Rattle.gptp_topology.specs.declared.nodes.System as ours
 use Rattle.gptp_how_soon.specs.Chosen.{chosen_after, ends_of, is_moved_at, is_used_then, place_of, used_ends}
 use Rattle.gptp_how_soon.specs.Tree.{has_no_more_steps, has_same_root, is_one_apart}
 use Rattle.gptp_how_soon.specs.Turned.{goes_farther, leads_nearer}
-use Rattle.gptp_how_soon.specs.TurnedTree.{is_turned_at, leads_nearer_within, leads_one_on_within, leads_out, stays_or_turns, turns_below}
+use Rattle.gptp_how_soon.specs.TurnedTree.{is_in_part, leads_nearer_within, leads_one_on_within, leads_out, stays_or_turns, turns_below}
 use Rattle.gptp_how_soon.specs.declared.chosen.Chosen.{Chosen}
 use Rattle.gptp_how_soon.specs.declared.chosen.Ends.{Ends}
 use Rattle.gptp_how_soon.proofs.ChosenLemmas.{IsAt, link_stands, one_clock, place_is}
@@ -33,7 +33,7 @@ use Rattle.gptp_how_soon_laws.proofs.WorseningLemmas.{same_system}
 use Rattle.gptp_how_soon_laws.proofs.LivesOnLemmas.{LivesOn, on_at, on_of}
 use Rattle.gptp_how_soon_laws.proofs.LostLinkLemmas.{IsJoinedBy, joined_by, same_port, used_links}
 use Rattle.gptp_how_soon_laws.proofs.OneLostLemmas.{AreEnds, ends_at_places}
-use Rattle.gptp_how_soon_laws.proofs.TurnedTreeTestLemmas.{TurnsAt, least_so, less_so, one_there}
+use Rattle.gptp_how_soon_laws.proofs.TurnedTreeTestLemmas.{TurnsAt, least_so, less_so, one_there, part_turns}
 
 -- What is so of such a tree, whatever becomes of others and of links of before. Who turns is known by places.
 pub record HasTurned (n : NetworkState) (turned : ℕ → Bool) (g h : Snapshot) (best : System) (t : Turning)
@@ -78,15 +78,16 @@ module _ (n : NetworkState) (network : IsNetwork n) (made events : List Timed) w
   abbrev links : List Ends
   links = used_ends n events
 
-  abbrev pub turned : ℕ → Bool
-  turned = is_turned_at systems before now
-
   -- ---- between two snapshots
 
-  module _ (top top_clock : ℕ) (t : TurnsAt n network made events top) (g h : Snapshot)
+  module _ (names : List Chosen) (top top_clock : ℕ) (t : TurnsAt n network made events names top) (g h : Snapshot)
       (stands : StandsAfter n made g) (stands' : StandsAfter n events h) (well : IsWellFormed g)
       (well' : IsWellFormed h) (lived : (v : ℕ) → In v (clocks h) → In v (clocks g))
       (top_is : LivesOn n network made events g h stands stands' well well' lived top top_clock) where
+    -- who is of the part
+    abbrev pub turned : ℕ → Bool
+    turned = is_in_part systems before now names top
+
     abbrev On : ℕ → ℕ → Type 0
     On = LivesOn n network made events g h stands stands' well well' lived
 
@@ -158,7 +159,8 @@ module _ (n : NetworkState) (network : IsNetwork n) (made events : List Timed) w
         let c = s.is in
         let told : goes_farther (Some b) (Some c) ≡ true =
         (λ k. goes_farther (sym s.was_there k) (sym s.is_there k))
-        ∙ (and_parts (is_moved_at systems before now i) (goes_farther (slice_get before i) (slice_get now i)) is).1 in
+        ∙ (and_parts (is_moved_at systems before now i) (goes_farther (slice_get before i) (slice_get now i))
+        (part_turns n network made events names top i is)).1 in
         let (root, steps) = and_parts (b.root == c.root) (nat_lt b.steps c.steps) told in
         (eqb-true b.root c.root root, less_so b.steps c.steps steps)
 

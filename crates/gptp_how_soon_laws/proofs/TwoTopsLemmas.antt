@@ -1,46 +1,38 @@
--- Where the tests of a tree with two tops hold, all systems that are moved are such a tree from one snapshot to the
+-- Where the tests of a tree with two tops hold, the systems with their root are such a tree from one snapshot to the
 -- other.
-use Rattle.std.proofs.Common.{◌≡◌, ◌<◌, ◌⊎◌, inl, inr, ◌+◌, ℕ, Bool, true, false, List, [], ◌∷◌, filter, Option, Some, None, length, slice_get, refl, sym, ap, subst, ◌∙◌, arith}
-use Rattle.std.specs.Prelude.{◌==◌, ◌&&◌, if◌then◌else◌, max, min, nat_lt, not}
+use Rattle.std.proofs.Common.{◌≡◌, ◌<◌, ◌⊎◌, inl, inr, ◌+◌, ℕ, Bool, true, false, List, Option, Some, None, length, slice_get, refl, sym, ap, subst, ◌∙◌, arith}
+use Rattle.std.specs.Prelude.{◌==◌, ◌&&◌, max, min, nat_lt, not}
 use Rattle.std.specs.List.{list_all, range_with_len}
-use Rattle.std.proofs.lemmas.Bool.{and_from, and_parts, eq-eqb, eqb-true, or_cases, or_left, or_right}
+use Rattle.std.proofs.lemmas.Bool.{and_parts, eqb-true, or_cases}
 use Rattle.std.proofs.lemmas.Bool.Decides.{nat_tests}
 use Rattle.gptp_lists.specs.Members.{In}
-use Rattle.gptp_lists.proofs.MappedLemmas.{mapped_there}
-use Rattle.gptp_lists.proofs.SystemSpecLemmas.{In-slice_get, from_map, slice_get-In}
 use Rattle.gptp_bmca_machine.specs.TwoTops.{First, Second, Side, TopsTree}
 use Rattle.gptp_graph.specs.Best.{IsBest}
 use Rattle.gptp_graph.specs.Distance.{IsDistance}
 use Rattle.gptp_graph.specs.Snapshot.{Adjacent, IsWellFormed, Snapshot, System, clocks, port_of}
 use Rattle.gptp_graph.proofs.BestLemmas.{IsBest-unique}
 use Rattle.gptp_graph.proofs.LinkLemmas.{Adjacent-clock}
-use Rattle.gptp_graph.proofs.SystemLemmas.{In-clocks}
 use Rattle.gptp_network.specs.Snapshot.{StandsAfter}
-use Rattle.gptp_network.proofs.InUseLemmas.{live_there}
-use Rattle.gptp_network.proofs.PassLemmas.{kept, passes, passes_at}
-use Rattle.gptp_network.proofs.SnapshotLemmas.{from_filter, with_clock}
-use Rattle.gptp_roles.specs.Selection.{clock_of}
-use Rattle.gptp_scenario.specs.Change.{system_after}
-use Rattle.gptp_scenario.specs.InUse.{lives}
 use Rattle.gptp_scenario.specs.Network.{IsNetwork, NetworkState}
 use Rattle.gptp_scenario.specs.declared.change.Timed.{Timed}
-use Rattle.gptp_scenario.specs.declared.network.SystemSpec.{SystemSpec}
-use Rattle.gptp_topology.specs.After.{system_then, systems_after}
+use Rattle.gptp_topology.specs.After.{systems_after}
 use Rattle.gptp_topology.specs.declared.nodes.System as ours
-use Rattle.gptp_how_soon.specs.Chosen.{chosen_after, differs, ends_at, ends_of, is_joined, is_joined_moved_at, is_moved, is_moved_at, lost_ends, used_ends}
-use Rattle.gptp_how_soon.specs.Links.{is_lost}
+use Rattle.gptp_how_soon.specs.Chosen.{chosen_after, ends_of, lost_ends, used_ends}
 use Rattle.gptp_how_soon.specs.Tree.{chose_itself, has_better_root, has_no_more_steps, has_one_nearer, has_same_root, is_below, leads_one_on}
-use Rattle.gptp_how_soon.specs.TwoTops.{chosen_from, falls_below_tops, falls_twice, is_below_both, is_both_or_apart, is_by_nearer, top_places}
+use Rattle.gptp_how_soon.specs.TurnedTree.{falls_at}
+use Rattle.gptp_how_soon.specs.TwoTops.{chosen_from, is_below_both, is_both_or_apart, is_by_nearer}
 use Rattle.gptp_how_soon.specs.declared.chosen.Chosen.{Chosen}
 use Rattle.gptp_how_soon.specs.declared.chosen.Ends.{Ends}
-use Rattle.gptp_how_soon.proofs.ChosenLemmas.{IsAt, at_clock, at_port, chosen_there, one_clock}
-use Rattle.gptp_settling_time.specs.TreeLosses.{IsTreeCutTwice, IsUnmovedOrInTree}
+use Rattle.gptp_how_soon.proofs.ChosenLemmas.{IsAt, at_clock, one_clock}
+use Rattle.gptp_settling_time.specs.TreeLosses.{IsTreeCutTwice}
 use Rattle.gptp_how_soon_laws.proofs.FailedLemmas.{each_is}
 use Rattle.gptp_how_soon_laws.proofs.LivesOnLemmas.{LivesOn, on_at, on_of}
+use Rattle.gptp_how_soon_laws.proofs.LostEndLemmas.{at_end, moved_lives}
 use Rattle.gptp_how_soon_laws.proofs.LostLinkLemmas.{ends_are, stands_or_lost}
+use Rattle.gptp_how_soon_laws.proofs.MovedTreesTestLemmas.{TwoTops, falls_moves, in_tops, is_top_there, of_tops, same_on, same_turned, top_parts, tops_there}
 use Rattle.gptp_how_soon_laws.proofs.TreeByLemmas.{IsOfTree, depth, depth_there, single_so, steps_of, steps_so}
 use Rattle.gptp_how_soon_laws.proofs.TreeTestLemmas.{better_so, same_back, same_so}
-use Rattle.gptp_how_soon_laws.proofs.UnmovedLemmas.{asked_of, unmoved_at}
+use Rattle.gptp_how_soon_laws.proofs.UnmovedLemmas.{asked_of}
 use Rattle.gptp_how_soon_laws.proofs.WorseningLemmas.{same_system}
 
 -- two that have one root have chosen
@@ -76,78 +68,32 @@ module _ (n : NetworkState) (network : IsNetwork n) (made events : List Timed) w
   abbrev lost : List Ends
   lost = lost_ends n made events
 
-  abbrev is_moved_there : ℕ → Bool
-  is_moved_there = is_moved_at systems before now
+  abbrev falls_there : ℕ → Bool
+  falls_there = falls_at systems before now
 
   abbrev from_top : ℕ → List Chosen
   from_top = chosen_from systems links
 
-  -- the tests hold of two tops
-  pub record Twice : Type 0 where
-    pub first : ℕ
-    pub second : ℕ
-    pub tops : top_places systems lost before now ≡ first ∷ second ∷ []
-    pub worse : has_better_root (slice_get before first) (slice_get now first) ≡ true
-    pub first_itself : chose_itself (slice_get (from_top first) first) ≡ true
-    pub second_itself : chose_itself (slice_get (from_top second) second) ≡ true
-    pub all : list_all
-        (is_both_or_apart systems links before now (from_top first) (from_top second) first second)
-        (range_with_len 0 (length systems)) ≡ true
-
-  pub twice : falls_twice systems lost links before now ≡ true → Twice
-  twice is = by (top_places systems lost before now) refl is
-    where
-      by : (places : List ℕ) → top_places systems lost before now ≡ places
-          → falls_below_tops systems links before now places ≡ true → Twice
-      by [] same falls = absurd cc
-      by (first ∷ []) same falls = absurd cc
-      by (first ∷ second ∷ []) same falls =
-          let worse_test : Bool = has_better_root (slice_get before first) (slice_get now first) in
-          let first_test : Bool = chose_itself (slice_get (from_top first) first) in
-          let second_test : Bool = chose_itself (slice_get (from_top second) second) in
-          let all_test : Bool =
-          list_all (is_both_or_apart systems links before now (from_top first) (from_top second) first second)
-          (range_with_len 0 (length systems)) in
-          let (three, all) = and_parts (worse_test && first_test && second_test) all_test falls in
-          let (two, second_is) = and_parts (worse_test && first_test) second_test three in
-          let (worse, first_is) = and_parts worse_test first_test two in
-          record {
-            first = first;
-            second = second;
-            tops = same;
-            worse = worse;
-            first_itself = first_is;
-            second_itself = second_is;
-            all = all;
-          }
-      by (first ∷ second ∷ third ∷ others) same falls = absurd cc
-
-  module _ (t : Twice) where
+  module _ (place : ℕ) (t : TwoTops n network made events place) where
     abbrev in_tree : ℕ → Bool
     in_tree i = has_same_root (slice_get now t.first) (slice_get now i)
 
-    side_place : Side → ℕ
+    pub side_place : Side → ℕ
     side_place First = t.first
     side_place Second = t.second
 
     abbrev below_there : ℕ → Bool
     below_there = is_below_both links before now (from_top t.first) (from_top t.second) t.first t.second
 
-    -- by whether the system at a place is moved
-    told_by : (i v : ℕ) → IsAt n i v → (moved : Bool) → is_moved_there i ≡ moved
-        → (if moved then below_there i else not (in_tree i)) ≡ true
-    told_by i v at moved is =
-        ap (λ b. if b then below_there i else not (in_tree i)) (sym is)
-        ∙ each_is (is_both_or_apart systems links before now (from_top t.first) (from_top t.second) t.first t.second)
-        (range_with_len 0 (length systems)) i t.all (asked_of n events i at.system at.there)
-
-    moved_so : (i v : ℕ) → IsAt n i v → in_tree i ≡ true
-        → (is_moved_there i ≡ true) × (below_there i ≡ true)
-    moved_so i v at inside = by (is_moved_there i) refl
-      where
-        by : (moved : Bool) → is_moved_there i ≡ moved → (is_moved_there i ≡ true) × (below_there i ≡ true)
-        by true is = (is, told_by i v at true is)
-        by false is = let no : false ≡ true = ap not (sym inside) ∙ told_by i v at false is in absurd cc
+    -- whoever has the root of the tops falls, below both
+    moved_so : (i v : ℕ) → IsAt n i v → in_tree i ≡ true → (falls_there i ≡ true) × (below_there i ≡ true)
+    moved_so i v at inside =
+        elim (or_cases (not (in_tree i)) (falls_there i && below_there i)
+        (each_is (is_both_or_apart systems links before now (from_top t.first) (from_top t.second) t.first t.second)
+        (range_with_len 0 (length systems)) i t.all (asked_of n events i at.system at.there))) [
+          | inl apart ↦ let no : false ≡ true = ap not (sym inside) ∙ apart in absurd cc
+          | inr both ↦ and_parts (falls_there i) (below_there i) both
+        ]
 
     -- what that says
     record Below (i : ℕ) : Type 0 where
@@ -178,49 +124,35 @@ module _ (n : NetworkState) (network : IsNetwork n) (made events : List Timed) w
     in_below : (i v : ℕ) → IsAt n i v → in_tree i ≡ true → Below i
     in_below i v at inside = below_so i (moved_so i v at inside).1
 
-    -- who is below both has the root of the first
-    below_inside : (i : ℕ) → below_there i ≡ true → in_tree i ≡ true
+    listed : (side : Side) → In (side_place side) (tops_there n network made events place)
     unfolding side_place
-    below_inside i is =
-        let cs : List Chosen = from_top t.first in
-        let root_test : Bool = has_same_root (slice_get cs t.first) (slice_get cs i) in
-        let steps_test : Bool = has_no_more_steps (slice_get cs t.first) (slice_get cs i) in
-        let single_test : Bool = has_one_nearer cs links i in
-        let on_test : Bool = list_all (leads_one_on cs i) links in
-        let four =
-        (and_parts (root_test && steps_test && in_tree i && single_test) on_test ((below_so i is).by First)).0 in
-        let three = (and_parts (root_test && steps_test && in_tree i) single_test four).0 in
-        (and_parts (root_test && steps_test) (in_tree i) three).1
+    listed First = subst (In t.first) (sym t.tops) (inl refl)
+    listed Second = subst (In t.second) (sym t.tops) (inr (inl refl))
 
-    -- a system that is moved, at a link that is lost, is a top
-    is_top : (i v : ℕ) → IsAt n i v → is_moved_there i ≡ true → (e : Ends) → In e lost → (e.a ≡ i) ⊎ (e.b ≡ i)
+    -- each top is one, and has the root of the first
+    top_is : (side : Side) → is_top_there n network made events (side_place side) ≡ true
+    top_is side = (of_tops n network made events place (side_place side) (listed side)).0
+
+    pub top_inside : (side : Side) → in_tree (side_place side) ≡ true
+    unfolding side_place
+    top_inside side =
+        let first = (of_tops n network made events place t.first (listed First)).1 in
+        let own = (of_tops n network made events place (side_place side) (listed side)).1 in
+        same_on (slice_get now t.first) (slice_get now place) (slice_get now (side_place side))
+        (same_turned (slice_get now place) (slice_get now t.first) first) own
+
+    -- a link is lost at them alone
+    is_top : (i v : ℕ) → IsAt n i v → in_tree i ≡ true → (e : Ends) → In e lost → (e.a ≡ i) ⊎ (e.b ≡ i)
         → (side : Side) × (i ≡ side_place side)
     unfolding side_place
-    is_top i v at moved e listed end =
+    is_top i v at inside e ended end =
+        let falls = (moved_so i v at inside).0 in
         elim (subst (In i) t.tops
-        (kept (is_joined_moved_at systems lost before now) i (range_with_len 0 (length systems))
-        (asked_of n events i at.system at.there) (and_from (is_joined lost i) (is_moved_there i) joined moved))) [
+        (in_tops n network made events place t.first i v (listed First) at falls
+        (record { ends = e; listed = ended; end = end }) inside)) [
           | inl first ↦ (First, first)
           | inr behind ↦ elim behind [ inl second ↦ (Second, second) | inr none ↦ absurd none ]
         ]
-      where
-        joined : is_joined lost i ≡ true
-        joined = passes_at (ends_at i) lost e listed (elim end [
-          | inl a ↦ or_left (e.a == i) (e.b == i) (eq-eqb e.a i a)
-          | inr b ↦ or_right (e.a == i) (e.b == i) (eq-eqb e.b i b)
-        ])
-
-    -- each top is moved, and at a link that is lost
-    top_so : (side : Side) → (is_joined lost (side_place side) ≡ true) × (is_moved_there (side_place side) ≡ true)
-    unfolding side_place
-    top_so side =
-        and_parts (is_joined lost (side_place side)) (is_moved_there (side_place side))
-        (from_filter (is_joined_moved_at systems lost before now) (side_place side) (range_with_len 0 (length systems))
-        (subst (In (side_place side)) (sym t.tops) (listed side))).1
-      where
-        listed : (s : Side) → In (side_place s) (t.first ∷ t.second ∷ [])
-        listed First = inl refl
-        listed Second = inr (inl refl)
 
     -- ---- between two snapshots
 
@@ -232,59 +164,28 @@ module _ (n : NetworkState) (network : IsNetwork n) (made events : List Timed) w
       on : (v : ℕ) → In v (clocks h) → (i : ℕ) × On i v
       on = on_of n network made events g h stands stands' well well' lived
 
-      -- who is moved lives
-      moved_lives : (i v : ℕ) → IsAt n i v → is_moved_there i ≡ true → In v (clocks h)
-      moved_lives i v at moved =
-          let (b, there0) = chosen_there n network made g stands well i v at in
-          let (c, therek) = chosen_there n network events h stands' well' i v at in
-          let o : ours.System = system_then events at.system in
-          let there : slice_get systems i ≡ Some o =
-          mapped_there (system_then events) n.systems i at.system at.there in
-          let here : (o.lives && differs b c) ≡ true =
-          (λ k. is_moved (sym there k) (sym there0 k) (sym therek k)) ∙ moved in
-          let live : (system_after events at.system).live ≡ true = (and_parts o.lives (differs b c) here).0 in
-          let lives_so : lives n.systems events v ≡ true =
-          passes_at (λ (m : SystemSpec). (clock_of m.identity == v) && (system_after events m).live) n.systems
-          at.system (In-slice_get at.system n.systems i at.there)
-          (and_from (clock_of at.system.identity == v) (system_after events at.system).live
-          (eq-eqb (clock_of at.system.identity) v at.clock) live) in
-          let (s, known, same) = with_clock h.systems v (live_there n network events h stands' v lives_so) in
-          subst (λ c. In c (clocks h)) same (In-clocks h s known)
-
-      -- the system at an end of a link that is lost
-      at_end : (i : ℕ) → is_joined lost i ≡ true → (v : ℕ) × IsAt n i v
-      at_end i is =
-          let (e, listed, end) = passes (ends_at i) lost is in
-          let (w, member, of) = from_map (ends_of n) e (filter (is_lost n made events) n.links) listed in
-          let known = (from_filter (is_lost n made events) w n.links member).0 in
-          let (place, there) = slice_get-In w n.links known in
-          let wire = network.links place w there in
-          elim (or_cases (e.a == i) (e.b == i) end) [
-            | inl a ↦ (
-              w.a.clock,
-              subst (λ k. IsAt n k w.a.clock) (ap (λ (d : Ends). d.a) of ∙ eqb-true e.a i a)
-                  (at_port n network made g stands well w.a wire.a),
-            )
-            | inr b ↦ (
-              w.b.clock,
-              subst (λ k. IsAt n k w.b.clock) (ap (λ (d : Ends). d.b) of ∙ eqb-true e.b i b)
-                  (at_port n network made g stands well w.b wire.b),
-            )
-          ]
-
       abbrev top_at : (side : Side) → (v : ℕ) × IsAt n (side_place side) v
-      top_at side = at_end (side_place side) (top_so side).0
+      top_at side =
+          at_end n network made events g h stands stands' well well' (side_place side)
+          (top_parts n network made events (side_place side) (top_is side)).0
 
-      top_clock : Side → ℕ
+      top_lives : (side : Side) → In (top_at side).0 (clocks h)
+      top_lives side =
+          moved_lives n network made events g h stands stands' well well' (side_place side) (top_at side).0
+          (top_at side).1
+          (falls_moves n network made events (side_place side)
+          (top_parts n network made events (side_place side) (top_is side)).1)
+
+      pub top_clock : Side → ℕ
       top_clock side = (top_at side).0
 
-      first_on : On t.first (top_clock First)
+      pub first_on : On t.first (top_clock First)
       unfolding side_place top_clock
       first_on =
           on_at n network made events g h stands stands' well well' lived t.first (top_clock First) (top_at First).1
-          (moved_lives t.first (top_clock First) (top_at First).1 (top_so First).1)
+          (top_lives First)
 
-      abbrev best : System
+      abbrev pub best : System
       best = first_on.chose.best
 
       abbrev next : System
@@ -338,12 +239,9 @@ module _ (n : NetworkState) (network : IsNetwork n) (made events : List Timed) w
       in_top : (side : Side) → IsBest h (top_clock side) next
       unfolding top_clock
       in_top side =
-          let at = (top_at side).1 in
-          let moved = (top_so side).1 in
-          let s = on_at n network made events g h stands stands' well well' lived (side_place side) (top_clock side) at
-          (moved_lives (side_place side) (top_clock side) at moved) in
-          best_so (side_place side) (top_clock side) s
-          (below_inside (side_place side) (told_by (side_place side) (top_clock side) at true moved))
+          best_so (side_place side) (top_clock side)
+          (on_at n network made events g h stands stands' well well' lived (side_place side) (top_clock side)
+          (top_at side).1 (top_lives side)) (top_inside side)
 
       -- ---- steps
 
@@ -414,8 +312,7 @@ module _ (n : NetworkState) (network : IsNetwork n) (made events : List Timed) w
           only : (i : ℕ) (s : On i v) (e : Ends) → In e lost → (e.a ≡ i) ⊎ (e.b ≡ i)
               → (side : Side) × (v ≡ top_clock side)
           only i s e listed end =
-              let moved = (moved_so i v s.at (inside_so i v s in_v)).0 in
-              let (side, is) = is_top i v s.at moved e listed end in (
+              let (side, is) = is_top i v s.at (inside_so i v s in_v) e listed end in (
                 side,
                 one_clock n network made g stands well (side_place side) v (top_clock side)
                     (subst (λ k. IsAt n k v) is s.at) (top_at side).1,
@@ -474,16 +371,8 @@ module _ (n : NetworkState) (network : IsNetwork n) (made events : List Timed) w
             first second less less';
       }
 
-      -- each system is unmoved, or of the tree
-      each : (v : ℕ) → In v (clocks h) → IsUnmovedOrInTree g h best v
-      each v known = let (i, s) = on v known in by i s (is_moved_there i) refl
-        where
-          by : (i : ℕ) (s : On i v) (moved : Bool) → is_moved_there i ≡ moved → IsUnmovedOrInTree g h best v
-          by i s true moved =
-              let inside = below_inside i (told_by i v s.at true moved) in
-              inr (inr (inr (tree, cut_twice, best_so i v s inside)))
-          by i s false moved =
-              inl (unmoved_at n network made events g h stands stands' well well' v (lived v known) known i s.at moved)
-
-      pub twice_so : (b : System) × ((v : ℕ) → In v (clocks h) → IsUnmovedOrInTree g h b v)
-      twice_so = (best, each)
+      -- a system with the root of the tops is of such a tree
+      pub in_twice : (b : System) → best ≡ b → (i v : ℕ) → On i v → in_tree i ≡ true
+          → (x : TopsTree) × IsTreeCutTwice g h b x × IsBest h v x.next
+      in_twice b same i v s inside =
+          (tree, subst (λ c. IsTreeCutTwice g h c tree) same cut_twice, best_so i v s inside)

@@ -64,24 +64,26 @@ fn type_of(message: &Sent) -> u8
 }
 
 impl Carried {
-    ghost use Rattle.std.specs.Prelude.{◌≡◌, ◌++◌, IfSome, IfOk, IfErr, OnOk, OnErr};
+    ghost use Rattle.std.specs.Prelude.{◌≡◌, ◌++◌, ◌↔◌, true, false, IsSome, IfSome, IfOk, IfErr, OnOk, OnErr};
     ghost use Rattle.gptp_model.specs.Carried.{first_type};
     ghost use Rattle.gptp_system.specs.Input.{given, Frame};
     ghost use Rattle.gptp_messages.specs.Grammar.{Reads, RefusesFrame, Written};
     ghost use Rattle.gptp_system.specs.Sends.{message_sent};
 
-    /// These octets.
+    /// These octets, which stand written.
     pub fn of_octets(octets: Vec<u8>) -> Carried
-        ensures { result.items ≡ octets.items }
+        ensures items { result.items ≡ octets.items }
+        ensures written { result.is_written ≡ true }
     {
         Carried {
             form: Form::Octets(octets),
         }
     }
 
-    /// A message that was sent.
+    /// A message that was sent, whose octets aren't written.
     pub fn of_sent(sent: Sent) -> Carried
-        ensures { result.items ≡ Written (message_sent sent) }
+        ensures items { result.items ≡ Written (message_sent sent) }
+        ensures written { result.is_written ≡ false }
     {
         Carried {
             form: Form::Message(sent),
@@ -121,7 +123,8 @@ impl Carried {
 
     /// Its octets, where they stand written; `None` of a message that was sent.
     pub fn into_octets(self) -> Option<Vec<u8>>
-        ensures { IfSome result (λ octets. octets.items ≡ self.items) }
+        ensures octets { IfSome result (λ octets. octets.items ≡ self.items) }
+        ensures written { IsSome result ↔ (self.is_written ≡ true) }
     {
         match self.form {
             Form::Octets(octets) => Some(octets),

@@ -226,13 +226,19 @@ module _ (n : NetworkState) (off : NothingLapses n.params) (events more : List T
       | inl told ↦
           inl (subst (λ (x : SyncPaths). gone + 2 * way_span x + pred (pred x.systems) * (largest_interval (pace_of n)
           + x.delay) + largest_interval (pace_of n) ≤ time) (sym paths) told)
-      | inr (cuts, flight, is_gone, stand, arrived) ↦ inr (
+      | inr (inl (cuts, flight, is_gone, stand, arrived)) ↦ inr (inl (
         λ g g' stands stands'. cuts g g' stands (stands_before n events more same g' stands'),
         flight,
         still_since ago flight is_gone,
         subst (λ x. gone + 2 * way_span x ≤ time) (sym paths) stand,
         subst (λ x. gone + way_span x + flight ≤ time) (sym paths) arrived,
-      )
+      ))
+      | inr (inr (leaves, used, stand, arrived)) ↦ inr (inr (
+        λ g g' stands stands'. leaves g g' stands (stands_before n events more same g' stands'),
+        used,
+        subst (λ x. gone + 2 * way_span x ≤ time) (sym paths) stand,
+        subst (λ t. t + (sync_paths n ago).delay < time) (sym last) arrived,
+      ))
     ];
     later = subst (λ x. gone + way_span x ≤ start) (sym paths) is.later;
     unlinked = still_dark ago silent time is.unlinked;

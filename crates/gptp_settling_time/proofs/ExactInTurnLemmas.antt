@@ -39,7 +39,7 @@ use Rattle.gptp_settling_time.specs.Pasts.{Aging, AnyPast, Cleared, Fallen, Gain
 use Rattle.gptp_settling_time.specs.InTurn.{ChoosesAfter, ChoosesByEvents}
 use Rattle.gptp_settling_time.proofs.AgingClaimedLemmas.{aging_measured}
 use Rattle.gptp_settling_time.proofs.SplitSettlesLemmas.{split_measured}
-use Rattle.gptp_settling_time.proofs.SplitToLemmas.{GoesOver, SetLimits}
+use Rattle.gptp_settling_time.proofs.SplitToLemmas.{GoesOver, SetLimits, WereUsed}
 use Rattle.gptp_settling_time.proofs.LostClaimedLemmas.{lost_measured}
 use Rattle.gptp_settling_time.proofs.BegunLemmas.{begun_last}
 use Rattle.gptp_settling_time.proofs.DocumentLemmas.{run_to}
@@ -115,7 +115,8 @@ module _ (d : DocumentState) (playable : IsPlayable d) (all : List Timed) (calm 
   have_measured (Split ago gone silent) w so settles links on =
       let change = (after_keeps d all (Split ago gone silent) w so).stands.last in
       split_measured p so.before (GoesOver d.network so.before ago all so.failed gone silent) (SetLimits d.network ago)
-      so.failed gone silent w so.since.split links (omega (arith, behind, on, change))
+      (WereUsed d.network ago so.failed) so.failed gone silent w so.since.split links
+      (omega (arith, behind, on, change))
   have_measured (Lost ago since most silent) w so settles links on =
       let change = (after_keeps d all (Lost ago since most silent) w so).stands.last in
       lost_measured p since most silent w so.is (omega (arith, behind, on, change))

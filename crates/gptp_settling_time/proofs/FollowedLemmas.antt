@@ -50,7 +50,7 @@ none_rests n made rest (inl (inr (inr (inl (none, by))))) = none
 none_rests n made rest (inl (inr (inr (inr (inl (none, by)))))) = none
 none_rests n made rest (inl (inr (inr (inr (inr (none, by)))))) = none
 none_rests n made rest (inr (inl (choice, (none, is_choice, by)))) = none
-none_rests n made rest (inr (inr (none, leaves, few, used, long))) = none
+none_rests n made rest (inr (inr (none, leaves, few, by))) = none
 
 -- it leads on to where the network has come to rest
 rest_leads : (n : NetworkState) → IsNetwork n → NothingLapses n.params → (time rest : ℕ) (made now : List Timed)

@@ -51,6 +51,7 @@ use Rattle.gptp_settling_time.proofs.IdleBesideLemmas.{cleared_beside, left_besi
 use Rattle.gptp_settling_time.proofs.RepeatedLemmas.{aging_repeated, lost_repeated, taken_repeated, turned_repeated}
 use Rattle.gptp_settling_time.proofs.RestedSoLemmas.{rested_any, rested_gained, rested_heard}
 use Rattle.gptp_settling_time.proofs.TakenClearedLemmas.{taken_anew}
+use Rattle.gptp_settling_time.proofs.TakenFartherLemmas.{taken_apart}
 use Rattle.gptp_settling_time.proofs.TakenMadeLemmas.{taken_first, taken_more}
 use Rattle.gptp_settling_time.proofs.TakenToLemmas.{IsTakenTo}
 use Rattle.gptp_settling_time.proofs.WereSilentLemmas.{WereSilent, were_down}
@@ -427,5 +428,11 @@ module _ (d : DocumentState) (playable : IsPlayable d) (made : List Timed) (even
         (which, same_ago, same, leaves, few, anew) so =
         subst (λ es. IsClearedTo d es more since silent right old w') (sym same_ago)
         (subst (λ t. IsClearedTo d was more since t right old w') (sym same)
-        (taken_anew d was more begun most dark w' (taken_on was begun most dark which so) playable leaves few anew.0
-        event.at since right old time last anew))
+        (elim anew [
+          | inl tells ↦
+              taken_anew d was more begun most dark w' (taken_on was begun most dark which so) playable leaves few
+              tells.0 event.at since right old time last tells
+          | inr loses ↦
+              taken_apart d was more begun most dark w' (taken_on was begun most dark which so) playable leaves few
+              event.at since right old time last loses
+        ]))

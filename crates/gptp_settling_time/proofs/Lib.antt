@@ -220,9 +220,13 @@ pub mod SplitLemmas
 pub mod SplitAlwaysLemmas
 pub mod SplitDownLemmas
 pub mod SplitTracesLemmas
+pub mod StillSoundLemmas
 pub mod SplitSoundLemmas
 pub mod TopsDeepLemmas
+pub mod TopsSoundLemmas
 pub mod TopsRestLemmas
+pub mod LeftAloneLemmas
+pub mod UpJoinsLemmas
 pub mod SplitLinksLemmas
 pub mod SplitSettlesLemmas
 pub mod SplitRestLemmas
@@ -232,3 +236,5 @@ pub mod SplitMadeLemmas
 pub mod MovedRestLemmas
 pub mod TurnedRestLemmas
 pub mod TurnedTreeRestLemmas
+pub mod TakenFartherLemmas
+pub mod WereSoundLemmas

@@ -3,6 +3,7 @@ use Rattle.std.proofs.Common.{◌≡◌, ◌⊎◌, inl, inr, ◌<◌, ◌≤◌
 use Rattle.std.specs.List.{AllByRecursion}
 use Rattle.std.proofs.Math.Nat.{le-max_left, le-max_right}
 use native.Mathlib.Decide.{dec_le}
+use Rattle.gptp_setup.specs.SettlingParams.{largest_interval}
 use Rattle.gptp_scenario.specs.Calm.{IsCalm, NothingLapses, last_change}
 use Rattle.gptp_scenario.specs.Network.{IsNetwork, NetworkState, pace_of}
 use Rattle.gptp_scenario.specs.SettlingTime.{silence_span, way_span}
@@ -13,7 +14,7 @@ use Rattle.gptp_network.specs.Events.{AreInOrder}
 use Rattle.gptp_network.specs.Snapshot.{events_by}
 use Rattle.gptp_settling_time.specs.Arrivals.{HasArrivedBy}
 use Rattle.gptp_settling_time.specs.HowSoon.{BeforeRepeats, HasArrivedNext, IsDownToo, BoundsAging, BoundsAnyLoss, BoundsLoss, BoundsSplit, EachEvent, FailsTreesFirst, IsLossBoundAfter, NoneBetween, OneEvent, events_at}
-use Rattle.gptp_settling_time.specs.Pasts.{Aging, Fallen, Fewer, Left, Lost, Past, Split, Starting, Turned, TurnedTree}
+use Rattle.gptp_settling_time.specs.Pasts.{Aging, Cleared, Fallen, Fewer, Left, Lost, Past, Split, Starting, Turned, TurnedTree}
 use Rattle.gptp_settling_time.specs.InTurn.{BeginsBy, ChoosesAfter, LeadOn, SettlesAfter}
 use Rattle.gptp_settling_time.specs.Losses.{AgesWithin, FailsHeard, LowersLink, NoneSilent, TurnsLink}
 use Rattle.gptp_settling_time.specs.TreeLosses.{FallsTree, TurnsTreeLink}
@@ -29,7 +30,7 @@ use Rattle.gptp_settling_time.proofs.LossLeadLemmas.{IsLeftBy, dead_lead, heard_
 use Rattle.gptp_settling_time.proofs.LossRestLemmas.{last_at}
 use Rattle.gptp_settling_time.proofs.MomentLemmas.{all_at, last_by, parted}
 use Rattle.gptp_settling_time.proofs.SamePathsLemmas.{StandSame}
-use Rattle.gptp_settling_time.proofs.TakenLeadLemmas.{silent_from, taken_lead}
+use Rattle.gptp_settling_time.proofs.TakenLeadLemmas.{silent_from, taken_clears, taken_lead}
 use Rattle.gptp_settling_time.proofs.SilentSpanLemmas.{none_silent}
 
 -- ---- what a loss leads to
@@ -57,7 +58,7 @@ none_lost n made choice roles (inr (inl (fails, is_choice, after))) = fails
 none_lost n made choice roles (inr (inr (inl (turns, is_choice, same)))) = turns
 none_lost n made choice roles (inr (inr (inr (inl (fails, bounds))))) = fails
 none_lost n made choice roles (inr (inr (inr (inr (inl (any, is_choice, after)))))) = any
-none_lost n made choice roles (inr (inr (inr (inr (inr (takes, leaves, none, is_choice, is_roles)))))) = takes
+none_lost n made choice roles (inr (inr (inr (inr (inr (takes, leaves, is_choice, after)))))) = takes
 
 module _ (n : NetworkState) (network : IsNetwork n) (off : NothingLapses n.params) (time choice roles : ℕ) where
   abbrev IsLostTo : List Timed → List Timed → Past → Type 0
@@ -194,11 +195,22 @@ module _ (n : NetworkState) (network : IsNetwork n) (off : NothingLapses n.param
           let more = le-max_right choice quiet in
           heard held quiet (omega (arith, is_later)) (omega (arith, roles_later, more)) fails others bounds
       by (inr (inr (inr (inr (inl any))))) = any_lost any
-      by (inr (inr (inr (inr (inr (takes, leaves, none, is_choice, is_roles)))))) = record {
+      by (inr (inr (inr (inr (inr (takes, leaves, is_choice, inl (none, is_roles))))))) = record {
         last = Fewer earlier time (sync_paths n earlier).delay (silent_from n time);
         lead = taken_lead n time earlier (event ∷ now) seen at has calm_then off takes;
         so = (λ settled late. (off, leaves, none), λ settled late. (off, leaves, none));
       }
+      by (inr (inr (inr (inr (inr (takes, leaves, is_choice, inr (loses, few, is_roles))))))) =
+          let old : ℕ = time + largest_interval (pace_of n) in
+          record {
+            last = Cleared earlier time (silent_from n time) 0 old;
+            lead = taken_clears n time earlier (event ∷ now) seen 0 old at has calm_then off takes leaves few
+                (inr (loses, refl, refl, (largest_interval (pace_of n), inr refl, refl)));
+            so = (
+              λ settled late. (off, inl (omega (arith, is_roles, late))),
+              λ settled late. off,
+            );
+          }
 
   -- by one that moves trees, once what was sent before the choice stood has arrived
   split_leads : (made now : List Timed) (past : Past) (stood arrived : ℕ)

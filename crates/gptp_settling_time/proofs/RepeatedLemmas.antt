@@ -35,7 +35,7 @@ use Rattle.gptp_settling_time.proofs.LostToLemmas.{IsLostTo}
 use Rattle.gptp_settling_time.proofs.SamePathsLemmas.{StandSame, idle_same, same_back, same_lives}
 use Rattle.gptp_settling_time.proofs.SilentLinksLemmas.{AgesOver}
 use Rattle.gptp_settling_time.proofs.SplitRestLemmas.{IsSplitAnew}
-use Rattle.gptp_settling_time.proofs.SplitToLemmas.{GoesOver, IsSplitTo, SetLimits, anew_by, over_gone}
+use Rattle.gptp_settling_time.proofs.SplitToLemmas.{GoesOver, IsSplitTo, SetLimits, WereUsed, anew_by, over_gone}
 use Rattle.gptp_settling_time.proofs.TakenClaimedLemmas.{IsTakenAlways}
 use Rattle.gptp_settling_time.proofs.TakenToLemmas.{IsTakenTo}
 use Rattle.gptp_settling_time.proofs.TurnedAlwaysLemmas.{IsTurnedAlways}
@@ -193,8 +193,9 @@ module _ (d : DocumentState) (playable : IsPlayable d) (made : List Timed) (even
     stood = so.stood;
     failed = so.failed;
     since = subst (IsSplitAnew p so.before (GoesOver n so.before ago more so.failed gone silent) (SetLimits n ago)
-        so.failed gone silent) (sym same)
-        (anew_by p so.before (GoesOver n so.before ago made so.failed gone silent) (SetLimits n ago) so.failed gone
+        (WereUsed n ago so.failed) so.failed gone silent) (sym same)
+        (anew_by p so.before (GoesOver n so.before ago made so.failed gone silent) (SetLimits n ago)
+        (WereUsed n ago so.failed) so.failed gone
         silent then so.since
         (GoesOver n so.before ago more so.failed gone silent)
         (λ quiet.

@@ -138,8 +138,10 @@ taken_later n events past seen time later less (inr (start, same, rests)) = inr 
           since = is.since;
           told = elim is.told [
             | inl told ↦ inl (omega (arith, told, less))
-            | inr (cuts, flight, is_gone, stand, arrived) ↦
-                inr (cuts, flight, is_gone, omega (arith, stand, less), omega (arith, arrived, less))
+            | inr (inl (cuts, flight, is_gone, stand, arrived)) ↦
+                inr (inl (cuts, flight, is_gone, omega (arith, stand, less), omega (arith, arrived, less)))
+            | inr (inr (leaves, used, stand, arrived)) ↦
+                inr (inr (leaves, used, omega (arith, stand, less), omega (arith, arrived, less)))
           ];
           later = is.later;
           unlinked = elim is.unlinked [ inl past ↦ inl (omega (arith, past, less)) | inr none ↦ inr none ];

@@ -35,7 +35,7 @@ use Rattle.gptp_invariants.proofs.ChoiceSeenActLemmas.{acts_seen}
 use Rattle.gptp_invariants.proofs.ChoiceSettlesAsMachineLemmas.{kept_back}
 use Rattle.gptp_invariants.proofs.WorldNewsCourseLemmas.{later_keeps}
 use Rattle.gptp_invariants.proofs.WorldOutlineLemmas.{acts_time}
-use Rattle.gptp_settling_time.specs.TreeLosses.{CutsAllBeyond}
+use Rattle.gptp_settling_time.specs.TreeLosses.{CutsAllBeyond, LeavesAlone}
 use Rattle.gptp_settling_time.proofs.AgesByLemmas.{UnlinkedAgeBy, by_all, by_kept}
 use Rattle.gptp_settling_time.proofs.AgesByWorldLemmas.{WorldAgesBy}
 use Rattle.gptp_settling_time.proofs.AgingLemmas.{HeardNearer, HearersHoldNothing, aged_gone}
@@ -46,14 +46,17 @@ use Rattle.gptp_settling_time.proofs.DueLemmas.{AreDueBy, NoneUpIsSlowerIn, due_
 use Rattle.gptp_settling_time.proofs.EmptiedLemmas.{older_after}
 use Rattle.gptp_settling_time.proofs.FallAlwaysLemmas.{IsGoneBy, fallen_by}
 use Rattle.gptp_settling_time.proofs.FitsLemmas.{UnlinkedHoldNothing}
+use Rattle.gptp_settling_time.proofs.LeftAloneLemmas.{alone_tell}
 use Rattle.gptp_settling_time.proofs.LeftClaimedLemmas.{HaveAskedBy, HaveAskedLong, asked_acts, asked_later, standing_acts, standing_later}
 use Rattle.gptp_settling_time.proofs.NearEndLemmas.{near_ends_hold_none, near_ends_stay}
 use Rattle.gptp_settling_time.proofs.LinkBetweenLemmas.{IsLinkBetween, SameSenders, between_kept, lane_between, senders_kept}
 use Rattle.gptp_settling_time.proofs.SinceSetLemmas.{AreLimitedBy, limited_acts, limited_later}
 use Rattle.gptp_settling_time.proofs.OffForGoodLemmas.{AreOffForGood, GoOnOff, good_acts, good_later, stays_disabled}
 use Rattle.gptp_settling_time.proofs.SplitLemmas.{IsCut, IsSplit, IsTurned, IsTwice, SplitSettles, SplitState, SplitStaysOff, SplitsBack, split_settles_on, splits_on}
-use Rattle.gptp_settling_time.proofs.SplitSoundLemmas.{AllSayStill, HeldWereLinked, all_tell, still_kept}
+use Rattle.gptp_settling_time.proofs.SplitSoundLemmas.{all_tell}
+use Rattle.gptp_settling_time.proofs.StillSoundLemmas.{AllSayStill, HeldWereLinked, still_kept}
 use Rattle.gptp_settling_time.proofs.ToldAnewLemmas.{FlightsAreSound, flights_kept}
+use Rattle.gptp_settling_time.proofs.UpJoinsLemmas.{UpJoins, flies_on, up_kept}
 
 -- a request is answered before the next one, so that an interval between them is some time
 pub some_pdelay : (p : SettlingParams) → KeepPace p → 0 < interval_of p.params.pdelay
@@ -91,7 +94,7 @@ IsDroppedBy p Limits start old w = IsGoneBy p start old w
 -- goes until a time, since it ages by then, or those ports aren't capable from then on. Where all beyond the failed
 -- system is cut off, what unmoved systems say stays sound. So is what is in flight once each tree has left its old
 -- choice and what was told before is gone, if nothing has changed since.
-pub record IsSplitAlways (p : SettlingParams) (g : Snapshot) (By : PortIdentity → ℕ → Type 0) (Limits : ℕ → Type 0)
+pub record IsSplitAlways (p : SettlingParams) (g : Snapshot) (By : PortIdentity → ℕ → Type 0) (Limits Were : ℕ → Type 0)
     (failed gone silent : ℕ)
     (w : WorldState) : Type 0 where
   pub standing : IsStanding p silent w
@@ -104,6 +107,7 @@ pub record IsSplitAlways (p : SettlingParams) (g : Snapshot) (By : PortIdentity 
   pub by : WorldAgesBy p By w
   pub linked : (port : PortIdentity) (until : ℕ) → By port until → IsLinked g port
   pub limited : (limit : ℕ) → Limits limit → AreLimitedBy limit w
+  pub were : (old : ℕ) → Were old → UpJoins g w
   pub is_gone : GoesUntil g By gone ⊎ (silent ≤ gone)
   pub begun : split.since ≤ w.time
   pub late : delay_in w ≤ w.time
@@ -115,6 +119,8 @@ pub record IsSplitAlways (p : SettlingParams) (g : Snapshot) (By : PortIdentity 
   pub flights : CutsAllBeyond g split.n.graph → w.last_change ≡ failed → (old : ℕ)
       → IsDroppedBy p Limits (left_by p g split gone) old w → HaveQuietLinks p.params w → NothingLapses p.params
       → left_by p g split gone < w.time → FlightsAreSound says_announce split.n.graph old (view w)
+  pub alone : LeavesAlone g split.n.graph → (old : ℕ) → Were old → HaveQuietLinks p.params w → NothingLapses p.params
+      → FlightsAreSound says_announce split.n.graph old (view w)
 
 -- ---- what is known of the world's machine
 
@@ -162,9 +168,9 @@ linked_by p g By w by linked n graph quiet i s place r at live none holds =
     linked (port_of s.clock (suc place)) until is_by
 
 -- so it is of a world of which that is claimed
-module _ (p : SettlingParams) (g : Snapshot) (By : PortIdentity → ℕ → Type 0) (Limits : ℕ → Type 0)
+module _ (p : SettlingParams) (g : Snapshot) (By : PortIdentity → ℕ → Type 0) (Limits Were : ℕ → Type 0)
     (failed gone silent : ℕ) (w : WorldState)
-    (is : IsSplitAlways p g By Limits failed gone silent w) (quiet : HaveQuietLinks p.params w) (start : ℕ)
+    (is : IsSplitAlways p g By Limits Were failed gone silent w) (quiet : HaveQuietLinks p.params w) (start : ℕ)
     (splits : SplitsBack p g is.split start (view w)) (now : gone ≤ w.time) where
   pub none_now : UnlinkedHoldNothing (snapshot_of w) (view w)
   none_now =
@@ -173,23 +179,23 @@ module _ (p : SettlingParams) (g : Snapshot) (By : PortIdentity → ℕ → Type
 
 -- what is held at ports without a link came over one of before
 pub linked_now : (p : SettlingParams) (g : Snapshot) (By : PortIdentity → ℕ → Type 0)
-    (Limits : ℕ → Type 0) (failed gone silent : ℕ)
-    (w : WorldState) (is : IsSplitAlways p g By Limits failed gone silent w) → HaveQuietLinks p.params w
+    (Limits Were : ℕ → Type 0) (failed gone silent : ℕ)
+    (w : WorldState) (is : IsSplitAlways p g By Limits Were failed gone silent w) → HaveQuietLinks p.params w
     → HeldWereLinked g is.split.n (view w)
-linked_now p g By Limits failed gone silent w is quiet = linked_by p g By w is.by is.linked is.split.n
+linked_now p g By Limits Were failed gone silent w is quiet = linked_by p g By w is.by is.linked is.split.n
     (ap (λ (z : Network). z.graph) is.same) quiet
 
 -- ---- what comes of it
 
 module _ (p : SettlingParams) (g : Snapshot) (By : PortIdentity → ℕ → Type 0)
-    (Limits : ℕ → Type 0) (failed gone silent : ℕ)
+    (Limits Were : ℕ → Type 0) (failed gone silent : ℕ)
     (w w' : WorldState)
-    (is : IsSplitAlways p g By Limits failed gone silent w) (standing' : IsStanding p silent w')
+    (is : IsSplitAlways p g By Limits Were failed gone silent w) (standing' : IsStanding p silent w')
     (asked' : HaveAskedLong w')
     (goes : GoOnOff w w') (same_sends : SameSenders w w') (same' : split_network p silent w' ≡ is.split.n)
     (links' : (a b : PortIdentity) → Joins g a b → IsLinkBetween w' a b) (by' : WorldAgesBy p By w')
-    (limited' : (limit : ℕ) → Limits limit → AreLimitedBy limit w') (late' : delay_in w' ≤ w'.time)
-    (on : w.time ≤ w'.time) where
+    (limited' : (limit : ℕ) → Limits limit → AreLimitedBy limit w') (were' : (old : ℕ) → Were old → UpJoins g w')
+    (late' : delay_in w' ≤ w'.time) (on : w.time ≤ w'.time) where
   abbrev s : IsSplit p g
   s = is.split
 
@@ -216,8 +222,10 @@ module _ (p : SettlingParams) (g : Snapshot) (By : PortIdentity → ℕ → Type
       (left_by p g s gone) old w'
       → HaveQuietLinks p.params w' → NothingLapses p.params → left_by p g s gone < w'.time
       → FlightsAreSound says_announce n.graph old (view w'))
-      → IsSplitAlways p g By Limits failed gone silent w'
-  split_then seen says flights = record {
+      → (LeavesAlone g n.graph → (old : ℕ) → Were old → HaveQuietLinks p.params w' → NothingLapses p.params
+      → FlightsAreSound says_announce n.graph old (view w'))
+      → IsSplitAlways p g By Limits Were failed gone silent w'
+  split_then seen says flights alone = record {
     standing = standing';
     asked = asked';
     good = λ at stands. (goes at stands).0;
@@ -228,6 +236,7 @@ module _ (p : SettlingParams) (g : Snapshot) (By : PortIdentity → ℕ → Type
     by = by';
     linked = is.linked;
     limited = limited';
+    were = were';
     is_gone = is.is_gone;
     begun = let begun = is.begun in omega (arith, begun, on);
     late = late';
@@ -235,6 +244,7 @@ module _ (p : SettlingParams) (g : Snapshot) (By : PortIdentity → ℕ → Type
     seen = seen;
     says = says;
     flights = flights;
+    alone = alone;
   }
 
   -- a step leads to it from the machine of the world before, whose lanes may be emptied
@@ -315,33 +325,48 @@ module _ (p : SettlingParams) (g : Snapshot) (By : PortIdentity → ℕ → Type
     back' : SplitsBack p g s start (view w')
     back' = splits_on p g s start x (view w') was.0 kept' state' stays_off none' step
 
+    settles' : SplitSettles p g s start (view w')
+    settles' = split_settles_on p g s start x (view w') was.0 kept' state' stays_off none' step was.1
+
     pub seen_then : SplitsBack p g s start (view w') × SplitSettles p g s start (view w')
-    seen_then = (back', split_settles_on p g s start x (view w') was.0 kept' state' stays_off none' step was.1)
+    seen_then = (back', settles')
+
+    pub alone_then : LeavesAlone g n.graph → (old : ℕ) → Were old → FlightsAreSound says_announce n.graph old x
+        → FlightsAreSound says_announce n.graph old (view w')
+    alone_then leaves old is_were =
+        flights_kept says_announce n.graph old x (view w')
+        (alone_tell g n leaves (view w') kept'.calm (linked' quiet')
+        (flies_on g w' standing'.world.sound (were' old is_were))) step
 
     module _ (cuts : CutsAllBeyond g n.graph) where
       pub says_then : AllSayStill says_announce g n x → AllSayStill says_announce g n (view w')
       says_then =
-          still_kept says_announce g n s.lost s.best (IsCut p g s start) (IsTurned p g s start) (IsTwice p g s start)
-          s.moves start s.near cuts (λ t is. is) x (view w') was.0.back back'.back (linked' quiet') step
+          still_kept says_announce g n s.moves.well s.moves.left s.near cuts x (view w')
+          was.0.back.after.kept.calm kept'
+          back'.back.after.fits.stations back'.back.still (linked' quiet') step
 
       pub flights_then : AllSayStill says_announce g n (view w') → fallen_by n start < w'.time → (old : ℕ)
           → FlightsAreSound says_announce n.graph old x → FlightsAreSound says_announce n.graph old (view w')
       flights_then says' late old =
           flights_kept says_announce n.graph old x (view w')
           (all_tell says_announce g n s.lost s.best (IsCut p g s start) (IsTurned p g s start) (IsTwice p g s start)
-          s.moves start s.near cuts (λ t is. is) (view w') back'.back (linked' quiet') says' late) step
+          s.moves start s.near cuts (λ t is. is) (λ t is. is) (view w') back'.back (λ t is. (settles'.twice t is).stale)
+          (linked' quiet') says' late) step
 
 -- ---- every step keeps it
 
 module _ (p : SettlingParams) (g : Snapshot) (By : PortIdentity → ℕ → Type 0)
-    (Limits : ℕ → Type 0) (failed gone silent : ℕ)
+    (Limits Were : ℕ → Type 0) (failed gone silent : ℕ)
     (w w' : WorldState)
-    (is : IsSplitAlways p g By Limits failed gone silent w) (standing' : IsStanding p silent w')
+    (is : IsSplitAlways p g By Limits Were failed gone silent w) (standing' : IsStanding p silent w')
     (asked' : HaveAskedLong w')
     (goes : GoOnOff w w') (keeps : KeepsNetwork w w') (step : MachineSteps says_announce (view w) (view w'))
     (limits : (limit : ℕ) → AreLimitedBy limit w → AreLimitedBy limit w') (on : w.time ≤ w'.time) where
   limited_then : (limit : ℕ) → Limits limit → AreLimitedBy limit w'
   limited_then limit is_limit = limits limit (is.limited limit is_limit)
+
+  were_then : (old : ℕ) → Were old → UpJoins g w'
+  were_then old is_were = up_kept g w w' keeps (is.were old is_were)
 
   same_then : split_network p silent w' ≡ is.split.n
   same_then = ap (λ (z : Network). record z { gone = 0 }) (same_aging p silent w w' keeps) ∙ is.same
@@ -372,11 +397,13 @@ module _ (p : SettlingParams) (g : Snapshot) (By : PortIdentity → ℕ → Type
       → SplitsBack p g is.split start (view w') × SplitSettles p g is.split start (view w')
   seen' quiet' off start may =
       let quiet = quiet_before quiet' in
-      let before = may_before p g By Limits failed gone silent w w' is standing' asked' goes (senders_kept w w' keeps)
-      same_then links_then by_then limited_then late_then on start may in
-      seen_then p g By Limits failed gone silent w w' is standing' asked' goes
+      let before = may_before p g By Limits Were failed gone silent w w' is standing' asked'
+      goes (senders_kept w w' keeps)
+      same_then links_then by_then limited_then were_then late_then on start may in
+      seen_then p g By Limits Were failed gone silent w w' is standing' asked' goes
       (senders_kept w w' keeps) same_then links_then
-      by_then limited_then late_then on quiet quiet' off start may (view w).lanes (is.seen quiet off start before) step
+      by_then limited_then were_then late_then on quiet quiet' off start may (view w).lanes
+      (is.seen quiet off start before) step
 
   abbrev made : IsSplit p g
   made = is.split
@@ -388,9 +415,9 @@ module _ (p : SettlingParams) (g : Snapshot) (By : PortIdentity → ℕ → Type
       → AllSayStill says_announce g made.n (view w')
   says' cuts quiet' off =
       let quiet = quiet_before quiet' in
-      says_then p g By Limits failed gone silent w w' is standing' asked' goes
+      says_then p g By Limits Were failed gone silent w w' is standing' asked' goes
       (senders_kept w w' keeps) same_then links_then
-      by_then limited_then late_then on quiet quiet' off (pred gone) (inl now) (view w).lanes
+      by_then limited_then were_then late_then on quiet quiet' off (pred gone) (inl now) (view w).lanes
       (is.seen quiet off (pred gone) (inl now)) step cuts (is.says cuts quiet off)
 
   -- what is in flight before that is due by then
@@ -424,8 +451,9 @@ module _ (p : SettlingParams) (g : Snapshot) (By : PortIdentity → ℕ → Type
       → FlightsAreSound says_announce made.n.graph old (view w')
   flights' cuts since old is_old quiet' off late' = elim (dec_lt (left_by p g made gone) w.time) [
     | yes late ↦
-        flights_then p g By Limits failed gone silent w w' is standing' asked' goes (senders_kept w w' keeps) same_then
-        links_then by_then limited_then late_then on quiet quiet' off (pred gone) (inl now) (view w).lanes
+        flights_then p g By Limits Were failed gone silent w w' is standing' asked' goes
+        (senders_kept w w' keeps) same_then
+        links_then by_then limited_then were_then late_then on quiet quiet' off (pred gone) (inl now) (view w).lanes
         (is.seen quiet off (pred gone) (inl now)) step cuts (says' cuts quiet' off) late' old
         (is.flights cuts (sym keeps.change ∙ since) old (old_before is_old) quiet off late)
     | no not ↦ by (omega (arith, not)) step
@@ -459,35 +487,43 @@ module _ (p : SettlingParams) (g : Snapshot) (By : PortIdentity → ℕ → Type
       by early (inr act) =
           let time = same_time says_announce (view w) (view w') act in absurd (omega (arith, early, late', time))
 
-  split_step : IsSplitAlways p g By Limits failed gone silent w'
-  split_step =
-      split_then p g By Limits failed gone silent w w' is standing' asked' goes
-      (senders_kept w w' keeps) same_then links_then
-      by_then limited_then late_then on seen' says' flights'
+  alone' : LeavesAlone g made.n.graph → (old : ℕ) → Were old → HaveQuietLinks p.params w' → NothingLapses p.params
+      → FlightsAreSound says_announce made.n.graph old (view w')
+  alone' leaves old is_were quiet' off =
+      let quiet = quiet_before quiet' in
+      alone_then p g By Limits Were failed gone silent w w' is standing' asked' goes (senders_kept w w' keeps) same_then
+      links_then by_then limited_then were_then late_then on quiet quiet' off (pred gone) (inl now) (view w).lanes
+      (is.seen quiet off (pred gone) (inl now)) step leaves old is_were (is.alone leaves old is_were quiet off)
 
-pub split_later : (p : SettlingParams) (g : Snapshot) (By : PortIdentity → ℕ → Type 0) (Limits : ℕ → Type 0)
+  split_step : IsSplitAlways p g By Limits Were failed gone silent w'
+  split_step =
+      split_then p g By Limits Were failed gone silent w w' is standing' asked' goes
+      (senders_kept w w' keeps) same_then links_then
+      by_then limited_then were_then late_then on seen' says' flights' alone'
+
+pub split_later : (p : SettlingParams) (g : Snapshot) (By : PortIdentity → ℕ → Type 0) (Limits Were : ℕ → Type 0)
     (failed gone silent time : ℕ)
     (w : WorldState) → w.time ≤ time → NothingBefore time w.net.pending → IsSplitAlways p g By
-    Limits failed gone silent w
-    → IsSplitAlways p g By Limits failed gone silent (at_time time w)
-split_later p g By Limits failed gone silent time w later first is =
-    split_step p g By Limits failed gone silent w (at_time time w) is (standing_later p silent
+    Limits Were failed gone silent w
+    → IsSplitAlways p g By Limits Were failed gone silent (at_time time w)
+split_later p g By Limits Were failed gone silent time w later first is =
+    split_step p g By Limits Were failed gone silent w (at_time time w) is (standing_later p silent
     time w later first is.standing)
     (asked_later p w.last_change time w is.standing.world later first is.asked) (good_later time w is.good)
     (later_keeps time w) (inl (record { time = time; later = later; is = refl }))
     (λ limit. limited_later limit w time later) later
 
 pub split_acts : (p : SettlingParams) (g : Snapshot) (By : PortIdentity → ℕ → Type 0)
-    (Limits : ℕ → Type 0) (failed gone silent : ℕ)
+    (Limits Were : ℕ → Type 0) (failed gone silent : ℕ)
     (act : Act) (w : WorldState) (draws : List Draw) (done : Done) (w' : WorldState) → IsNoChange act → SetsAnOctet act
-    → Acts act w draws done w' → IsSplitAlways p g By Limits failed gone silent w
-    → IsSplitAlways p g By Limits failed gone silent w'
-split_acts p g By Limits failed gone silent act w draws done w' none octet acts is =
+    → Acts act w draws done w' → IsSplitAlways p g By Limits Were failed gone silent w
+    → IsSplitAlways p g By Limits Were failed gone silent w'
+split_acts p g By Limits Were failed gone silent act w draws done w' none octet acts is =
     let world = is.standing.world in
     let standing' = standing_acts p silent act w draws done w' none octet acts is.standing in
     let keeps = acts_keep act w draws done w' none acts in
     let time = acts_time act w draws done w' acts in
-    split_step p g By Limits failed gone silent w w' is standing'
+    split_step p g By Limits Were failed gone silent w w' is standing'
     (subst (λ t. HaveAskedBy t w') (sym keeps.change)
     (asked_acts p w.last_change silent act w draws done w' none acts is.standing standing'.world is.asked))
     (good_acts p act w draws done w' (some_pdelay p is.standing.pace) none acts world is.standing.measured is.good)

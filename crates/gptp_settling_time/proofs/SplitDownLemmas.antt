@@ -29,7 +29,7 @@ use Rattle.gptp_invariants.specs.DelayMeasured.{LinkIsMeasured}
 use Rattle.gptp_invariants.specs.WorldStanding.{channel_is_used, live_stations, snapshot_of}
 use Rattle.gptp_invariants.proofs.ChoiceCalmKeptLemmas.{KeepsNetwork}
 use Rattle.gptp_invariants.proofs.ChoiceSeenLaneLemmas.{IsLaneAt, lane_from, lane_there}
-use Rattle.gptp_settling_time.specs.TreeLosses.{CutsAllBeyond}
+use Rattle.gptp_settling_time.specs.TreeLosses.{CutsAllBeyond, LeavesAlone}
 use Rattle.gptp_settling_time.proofs.AgesByLemmas.{UnlinkedAgeBy, by_kept, by_reduced}
 use Rattle.gptp_settling_time.proofs.AgesByWorldLemmas.{WorldAgesBy}
 use Rattle.gptp_settling_time.proofs.AgingClaimedLemmas.{aging_facts, aging_network, named_in, same_aging, stay_of}
@@ -43,18 +43,19 @@ use Rattle.gptp_settling_time.proofs.LinkUpLemmas.{lane_set}
 use Rattle.gptp_settling_time.proofs.NamesItselfLemmas.{AllNameAlone, alone_kept}
 use Rattle.gptp_settling_time.proofs.OffForGoodLemmas.{GoOnOff, all_down}
 use Rattle.gptp_settling_time.proofs.SinceSetLemmas.{AreLimitedBy, limited_unset}
-use Rattle.gptp_settling_time.proofs.SplitAlwaysLemmas.{IsDroppedBy, IsSplitAlways, MayStart, left_by, may_before, one_before, says_then, seen_then, split_after, split_network, split_then}
+use Rattle.gptp_settling_time.proofs.SplitAlwaysLemmas.{IsDroppedBy, alone_then, IsSplitAlways, MayStart, left_by, may_before, one_before, says_then, seen_then, split_after, split_network, split_then}
 use Rattle.gptp_settling_time.proofs.SplitLemmas.{IsCut, IsSplit, IsTurned, IsTwice, SplitSettles, SplitState, SplitsBack, cut_times, tops_times, turned_times}
 use Rattle.gptp_settling_time.proofs.SplitRestLemmas.{SplitNamesAlone}
-use Rattle.gptp_settling_time.proofs.SplitSoundLemmas.{AllSayStill}
+use Rattle.gptp_settling_time.proofs.StillSoundLemmas.{AllSayStill}
 use Rattle.gptp_settling_time.proofs.ToldAnewLemmas.{FlightsAreSound}
+use Rattle.gptp_settling_time.proofs.UpJoinsLemmas.{UpJoins, up_down, up_kept}
 use Rattle.gptp_settling_time.proofs.UnusedDownLemmas.{asked', delay_taken, either, emptied, keeps, late_then, snapshot_taken, standing', tells, time}
 
-module _ (p : SettlingParams) (g : Snapshot) (By : PortIdentity → ℕ → Type 0) (Limits : ℕ → Type 0)
+module _ (p : SettlingParams) (g : Snapshot) (By : PortIdentity → ℕ → Type 0) (Limits Were : ℕ → Type 0)
     (failed gone silent owner port : ℕ)
     (w : WorldState) (draws : List Draw) (done : Done) (w' : WorldState) (is' : IsWorld p w')
     (measured' : LinkIsMeasured w') (acts : Acts (Changing (LinkDown owner port)) w draws done w')
-    (split : IsSplitAlways p g By Limits failed gone silent w) (quiet : HaveQuietLinks p.params w)
+    (split : IsSplitAlways p g By Limits Were failed gone silent w) (quiet : HaveQuietLinks p.params w)
     (up : acts.1.channel.up ≡ true)
     (dead : (place : ℕ) (channel : Channel) → IsChannel (port_id owner port) place w.net channel
     → channel_is_used (live_stations w.stations) (record channel { up = true }) ≡ false) where
@@ -156,6 +157,9 @@ module _ (p : SettlingParams) (g : Snapshot) (By : PortIdentity → ℕ → Type
   limited' : (limit : ℕ) → Limits limit → AreLimitedBy limit w'
   limited' limit is_limit =
       limited_unset limit (Changing (LinkDown owner port)) w draws done w' refl acts (split.limited limit is_limit)
+
+  were' : (old : ℕ) → Were old → UpJoins g w'
+  were' old is_were = up_kept g taken w' keeps' (up_down g w link w.time channel here (split.were old is_were))
 
   late' : delay_in w' ≤ w'.time
   late' = late_then p silent owner port w draws done w' is' measured' acts split.standing split.asked up dead split.late
@@ -270,8 +274,9 @@ module _ (p : SettlingParams) (g : Snapshot) (By : PortIdentity → ℕ → Type
     module _ (start : ℕ) (may : MayStart gone s.since start w') where
       may_then : MayStart gone s.since start w
       may_then =
-          may_before p g By Limits failed gone silent w w' split standing_then asked_then goes sends same' links' by'
-          limited' late' on
+          may_before p g By Limits Were failed gone silent w w' split standing_then asked_then
+          goes sends same' links' by'
+          limited' were' late' on
           start may
 
       was : SplitsBack p g s start (view w) × SplitSettles p g s start (view w)
@@ -303,8 +308,8 @@ module _ (p : SettlingParams) (g : Snapshot) (By : PortIdentity → ℕ → Type
     seen' quiet' lapses start may =
         either p silent owner port w draws done w' is' measured' acts split.standing split.asked up dead
         (λ v. SplitsBack p g s start (view v) × SplitSettles p g s start (view v)) (seen_taken start may)
-        (λ step. seen_then p g By Limits failed gone silent w w' split standing_then asked_then
-        goes sends same' links' by' limited'
+        (λ step. seen_then p g By Limits Were failed gone silent w w' split standing_then asked_then
+        goes sends same' links' by' limited' were'
         late' on quiet quiet' off start may (view taken).lanes (seen_taken start may) step)
 
     one : suc (pred gone) ≡ gone
@@ -319,8 +324,8 @@ module _ (p : SettlingParams) (g : Snapshot) (By : PortIdentity → ℕ → Type
     says' cuts quiet' lapses =
         either p silent owner port w draws done w' is' measured' acts split.standing split.asked up dead
         (λ v. AllSayStill says_announce g n (view v)) says_taken
-        (λ step. says_then p g By Limits failed gone silent w w' split standing_then asked_then
-        goes sends same' links' by' limited'
+        (λ step. says_then p g By Limits Were failed gone silent w w' split standing_then asked_then
+        goes sends same' links' by' limited' were'
         late' on quiet quiet' off (pred gone) (inl soon) (view taken).lanes (seen_taken (pred gone) (inl soon)) step
         cuts says_taken)
       where
@@ -345,12 +350,27 @@ module _ (p : SettlingParams) (g : Snapshot) (By : PortIdentity → ℕ → Type
         let some = split.some in
         absurd (omega (arith, since, change, same, before, some, late))
 
+    alone' : LeavesAlone g n.graph → (old : ℕ) → Were old → HaveQuietLinks p.params w' → NothingLapses p.params
+        → FlightsAreSound says_announce n.graph old (view w')
+    alone' leaves old is_were quiet' lapses =
+        either p silent owner port w draws done w' is' measured' acts split.standing split.asked up dead
+        (λ v. FlightsAreSound says_announce n.graph old (view v)) alone_taken
+        (λ step. alone_then p g By Limits Were failed gone silent w w' split standing_then asked_then goes sends same'
+        links' by' limited' were' late' on quiet quiet' off (pred gone) (inl soon) (view taken).lanes
+        (seen_taken (pred gone) (inl soon)) step leaves old is_were alone_taken)
+      where
+        alone_taken : FlightsAreSound says_announce n.graph old (view taken)
+        alone_taken j l f a at among said = elim (is_emptied.lanes j l at) [
+          | inl stood ↦ split.alone leaves old is_were quiet off j l f a stood among said
+          | inr (none, down) ↦ absurd (subst (In f) none among)
+        ]
+
     -- so it is claimed of the world since
-    pub down_splits : IsSplitAlways p g By Limits failed gone silent w'
+    pub down_splits : IsSplitAlways p g By Limits Were failed gone silent w'
     down_splits =
-        split_then p g By Limits failed gone silent w w' split standing_then asked_then goes
-        sends same' links' by' limited' late' on
-        seen' says' flights'
+        split_then p g By Limits Were failed gone silent w w' split standing_then asked_then goes
+        sends same' links' by' limited' were' late' on
+        seen' says' flights' alone'
 
   -- what has no steps still names its sender alone
   pub alone_down : SplitNamesAlone p silent w → SplitNamesAlone p silent w'

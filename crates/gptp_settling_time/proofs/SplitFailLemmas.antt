@@ -59,15 +59,17 @@ use Rattle.gptp_invariants.proofs.WorldLogLemmas.{linked_log}
 use Rattle.gptp_invariants.proofs.WorldStandsLemmas.{stands_well}
 use Rattle.gptp_invariants.proofs.WorldWayLemmas.{way_of}
 use Rattle.gptp_settling_time.specs.Losses.{IsUnmoved}
-use Rattle.gptp_settling_time.specs.TreeLosses.{CutsAllBeyond, IsTreeCutOff, IsTreeCutTwice, IsTreeTurned, IsUnmovedOrInTree}
+use Rattle.gptp_settling_time.specs.TreeLosses.{CutsAllBeyond, LeavesAlone, IsTreeCutOff, IsTreeCutTwice, IsTreeTurned, IsUnmovedOrInTree}
 use Rattle.gptp_settling_time.proofs.AgesByWorldLemmas.{WorldAgesBy}
 use Rattle.gptp_settling_time.proofs.AgingClaimedLemmas.{named_in, stay_of}
 use Rattle.gptp_settling_time.proofs.AlwaysClaimedLemmas.{IsStanding, start_calm, start_net, start_network}
 use Rattle.gptp_settling_time.proofs.CutDeepLemmas.{deep_by}
+use Rattle.gptp_settling_time.proofs.DueLemmas.{UpIsInUse, due_by_delay, in_use_joins}
 use Rattle.gptp_settling_time.proofs.FailedAgesLemmas.{heard, lived_before}
 use Rattle.gptp_settling_time.proofs.FailedAloneLemmas as alone
 use Rattle.gptp_settling_time.proofs.FallAlwaysLemmas.{fallen_by, settles_by}
 use Rattle.gptp_settling_time.proofs.FallDownLemmas.{FlightNames}
+use Rattle.gptp_settling_time.proofs.LeftAloneLemmas.{alone_said}
 use Rattle.gptp_settling_time.proofs.LeftClaimedLemmas.{HaveAskedLong}
 use Rattle.gptp_settling_time.proofs.LinkBetweenLemmas.{IsLinkBetween, between_alike, lane_between, way_between}
 use Rattle.gptp_settling_time.proofs.NamesItselfLemmas.{whole_alone}
@@ -78,8 +80,10 @@ use Rattle.gptp_settling_time.proofs.SplitAlwaysLemmas.{GoesUntil, IsSplitAlways
 use Rattle.gptp_settling_time.proofs.TopsDeepLemmas.{tops_deep}
 use Rattle.gptp_settling_time.proofs.SplitLemmas.{IsSplit, SplitSettles, SplitState, SplitsBack, turned_times, tops_times}
 use Rattle.gptp_settling_time.proofs.SplitRestLemmas.{IsSplitAnew, SplitNamesAlone, split_anew_begins}
-use Rattle.gptp_settling_time.proofs.SplitSoundLemmas.{AllSayStill}
+use Rattle.gptp_settling_time.proofs.StillSoundLemmas.{AllSayStill}
 use Rattle.gptp_settling_time.proofs.SplitTracesLemmas.{still_sound}
+use Rattle.gptp_settling_time.proofs.ToldAnewLemmas.{FlightsAreSound}
+use Rattle.gptp_settling_time.proofs.UpJoinsLemmas.{up_begins}
 
 module _ (p : SettlingParams) (number : ℕ) (w : WorldState) (draws : List Draw) (done : Done) (w' : WorldState)
     (is : IsWorld p w) (is' : IsWorld p w') (acts : Acts (Changing (Fail number)) w draws done w')
@@ -237,15 +241,36 @@ module _ (p : SettlingParams) (number : ℕ) (w : WorldState) (draws : List Draw
     says_still cuts = record {
       lanes = λ j l f a at among said known stays.
           let is_sound = sound.lanes j l (lane_still j l at) f a among said in
-          still_sound g n' well' left' number loses cuts a.source.clock a stays
+          still_sound g n' well' left' loses.systems cuts a.source.clock a stays
           (subst (λ (q : PortIdentity). IsWorse g q.clock a ⊎ Whole g q.clock a) (sym is_sound.source) is_sound.sound);
       stations = λ i s at live place r holds stays.
           let came = sound.stations i s (alone.stood_seen p number w draws done w' is is' acts lives i s at live) live
           place r holds in
-          still_sound g n' well' left' number loses cuts r.said.source.clock r.said stays
+          still_sound g n' well' left' loses.systems cuts r.said.source.clock r.said stays
           (subst (λ (q : PortIdentity). IsWorse g q.clock r.said ⊎ Whole g q.clock r.said) (sym came.source)
           came.sound);
     }
+
+    -- where each live system is left alone what is in flight from one is sound, and from the failed one it is due soon
+    left_alone : LeavesAlone g g' → (old : ℕ) → UpIsInUse w → w.time + delay_in w ≤ old
+        → FlightsAreSound says_announce g' old (view w')
+    left_alone leaves old used delay j l f a at among said =
+        elim (loses.others l.from.clock (Joins-clock g l.from l.to well joins)) [
+          | inl known ↦
+              let is_sound = sound.lanes j l stood f a among said in
+              inl (alone_said g n' well' left' number loses leaves l.from l.to a joins known
+              is_sound.source is_sound.sound
+              (λ b is_best. named j l f a b stood among said joins is_best)
+              (λ d e here there. onward j l f a d e stood among said joins here there))
+          | inr is_lost ↦
+              let due = due_by_delay p w is seen used j l f a stood among said in inr (omega (arith, due, delay))
+        ]
+      where
+        stood : slice_get (view w).lanes j ≡ Some l
+        stood = lane_still j l at
+
+        joins : Joins g l.from l.to
+        joins = in_use_joins w is.sound used j l f stood among
 
     -- what it told is held for longer than an interval and a delay
     stays_long : (a b : PortIdentity) → Joins g a b → n'.interval_of a + n0.most < stay_of p (n'.log_of a)
@@ -393,8 +418,10 @@ module _ (p : SettlingParams) (number : ℕ) (w : WorldState) (draws : List Draw
 
       -- ---- the claim
 
-      module _ (By : PortIdentity → ℕ → Type 0) (Limits : ℕ → Type 0)
-          (limited : (limit : ℕ) → Limits limit → AreLimitedBy limit w) (gone : ℕ) (measured' : LinkIsMeasured w')
+      module _ (By : PortIdentity → ℕ → Type 0) (Limits Were : ℕ → Type 0)
+          (limited : (limit : ℕ) → Limits limit → AreLimitedBy limit w)
+          (were : (old : ℕ) → Were old → UpIsInUse w × (w.time + delay_in w ≤ old)) (gone : ℕ)
+          (measured' : LinkIsMeasured w')
           (long : w.time + silence_span p < silent) (by : WorldAgesBy p By w')
           (linked : (port : PortIdentity) (until : ℕ) → By port until → IsLinked g port)
           (is_gone : GoesUntil g By gone ⊎ (silent ≤ gone)) (later : w.time < gone) (late' : delay_in w' ≤ w'.time)
@@ -506,7 +533,7 @@ module _ (p : SettlingParams) (number : ℕ) (w : WorldState) (draws : List Draw
           started start (inl soon) = let time = time_now in omega (arith, soon, later, time)
           started start (inr (since, now)) = let time = time_now in omega (arith, since, time)
 
-          pub split_begins : IsSplitAlways p g By Limits w.time gone silent w'
+          pub split_begins : IsSplitAlways p g By Limits Were w.time gone silent w'
           split_begins = record {
             standing = standing';
             asked = asked';
@@ -519,6 +546,10 @@ module _ (p : SettlingParams) (number : ℕ) (w : WorldState) (draws : List Draw
             linked = linked;
             limited = λ limit is_limit.
                 limited_unset limit (Changing (Fail number)) w draws done w' refl acts (limited limit is_limit);
+            were = λ old is_were link direction channel here.
+                up_begins w (were old is_were).0 link direction channel
+                (ap (λ cs. slice_get cs link) (sym (alone.channels_now p number w draws done w' is is' acts lives))
+                ∙ here);
             is_gone = is_gone;
             begun = let time = time_now in omega (arith, time);
             late = late';
@@ -531,8 +562,9 @@ module _ (p : SettlingParams) (number : ℕ) (w : WorldState) (draws : List Draw
                 let time = time_now in
                 let one = one_before gone w.time later in
                 absurd (omega (arith, time, one, later, late));
+            alone = λ leaves old is_were quiet' off. left_alone leaves old (were old is_were).0 (were old is_were).1;
           }
 
           -- and traces are told anew later
-          pub anew_begins : w'.last_change ≡ w'.time → IsSplitAnew p g By Limits w.time gone silent w'
-          anew_begins = split_anew_begins p g By Limits w.time gone silent w' split_begins names_alone
+          pub anew_begins : w'.last_change ≡ w'.time → IsSplitAnew p g By Limits Were w.time gone silent w'
+          anew_begins = split_anew_begins p g By Limits Were w.time gone silent w' split_begins names_alone

@@ -56,19 +56,20 @@ module _ (n : NetworkState) (network : IsNetwork n) (off : NothingLapses n.param
       echo = max (echo_span (pace_of n) (sync_paths n (made ++ event ∷ now))) (largest_interval (pace_of n))
 
       -- so the choice and roles stand by then
-      choice_stands : choice ≤ rest
-      choice_stands = elim enough [
-        | inl over ↦ let most = le-max_right roles (choice + echo) in omega (arith, most, over)
-        | inr (cuts, flight, is_gone, over) ↦
-            let most = le-max_right roles (choice + flight) in omega (arith, most, over)
-      ]
-
       stands : roles ≤ rest
       stands = elim enough [
         | inl over ↦ let most = le-max_left roles (choice + echo) in omega (arith, most, over)
-        | inr (cuts, flight, is_gone, over) ↦
+        | inr (inl (cuts, flight, is_gone, over)) ↦
             let most = le-max_left roles (choice + flight) in omega (arith, most, over)
+        | inr (inr (leaves, used, over)) ↦
+            let most = le-max_left roles (sync_paths n made).delay in omega (arith, most, over)
       ]
+
+      choice_stands : choice ≤ rest
+      choice_stands =
+          let before = le-max_left choice quiet in
+          let all_stand = stands in
+          omega (arith, before, all_stand, is_roles)
 
       -- and what is held and in flight is right
       told : (gone : ℕ) → gone + 2 * way ≤ suc (time + choice)
@@ -80,9 +81,13 @@ module _ (n : NetworkState) (network : IsNetwork n) (off : NothingLapses n.param
             nearer_within (sync_paths n (made ++ event ∷ now)).systems hop (largest_interval (pace_of n)) (omega arith)
             in
             inl (omega (arith, most, nearer, over, soon))
-        | inr (cuts, flight, is_gone, over) ↦
+        | inr (inl (cuts, flight, is_gone, over)) ↦
             let most = le-max_right roles (choice + flight) in
-            inr (cuts, flight, is_gone, omega (arith, most, over, soon), omega (arith, most, over, soon))
+            inr (inl (cuts, flight, is_gone, omega (arith, most, over, soon), omega (arith, most, over, soon)))
+        | inr (inr (leaves, used, over)) ↦
+            let most = le-max_right roles (sync_paths n made).delay in
+            let by_then = choice_stands in
+            inr (inr (leaves, used, omega (arith, soon, by_then), omega (arith, last, most, over)))
       ]
 
       rested : (span : ℕ) → AgesWithin n made (made ++ event ∷ now) event.at span → min span silence ≤ held

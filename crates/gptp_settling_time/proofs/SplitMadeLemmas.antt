@@ -1,9 +1,8 @@
 -- A system fails that others hear, in a world of a document whose choice had stood, and so moves trees: they fall back.
 -- Behind that links go down of which an end has failed.
-use Rattle.std.proofs.Common.{◌≡◌, ◌<◌, ◌≤◌, ◌+◌, ◌∷◌, ◌++◌, ℕ, suc, List, [], sym, ap, subst, inl, inr, arith, min}
+use Rattle.std.proofs.Common.{◌≡◌, ◌<◌, ◌≤◌, ◌+◌, ◌∷◌, ◌++◌, ℕ, suc, List, [], sym, ap, subst, inl, inr, arith}
 use native.Mathlib.Decide.{dec_le}
 use Rattle.gptp_lists.specs.Members.{In}
-use Rattle.gptp_graph.specs.Best.{IsBest}
 use Rattle.gptp_graph.specs.PathBound.{path_bound}
 use Rattle.gptp_graph.specs.Snapshot.{IsLinked, PortIdentity, Snapshot, System, clocks, port_of}
 use Rattle.gptp_links.specs.Fate.{Draw}
@@ -22,7 +21,6 @@ use Rattle.gptp_model.specs.declared.done.Done.{Done}
 use Rattle.gptp_network.specs.Document.{DocumentState}
 use Rattle.gptp_network.proofs.ExistenceLemmas.{stands_after}
 use Rattle.gptp_bmca_machine.specs.FailureTrees.{Turning}
-use Rattle.gptp_bmca_machine.specs.TwoTops.{First, Second, TopsTree}
 use Rattle.gptp_invariants.specs.ChoiceCalm.{HaveQuietLinks, delay_in, sync_paths_of}
 use Rattle.gptp_invariants.specs.ChoiceSettlesAsMachine.{IsWorld}
 use Rattle.gptp_invariants.specs.ChoiceView.{says_announce, view}
@@ -38,7 +36,7 @@ use Rattle.gptp_settling_time.specs.Arrivals.{HasArrivedBy}
 use Rattle.gptp_settling_time.specs.EventKinds.{LowersUnusedCalm}
 use Rattle.gptp_settling_time.specs.Leads.{IsGoneBy, SplitsNow}
 use Rattle.gptp_settling_time.specs.Losses.{LowersUnused}
-use Rattle.gptp_settling_time.specs.TreeLosses.{FailsTrees, IsTreeTurned, IsUnmovedOrInTree, IsTreeCutTwice}
+use Rattle.gptp_settling_time.specs.TreeLosses.{FailsTrees, IsTreeTurned, IsUnmovedOrInTree}
 use Rattle.gptp_settling_time.proofs.AgesByLemmas.{by_map}
 use Rattle.gptp_settling_time.proofs.AgesByWorldLemmas.{WorldAgesBy}
 use Rattle.gptp_settling_time.proofs.AgingClaimedLemmas.{stay_of}
@@ -47,6 +45,7 @@ use Rattle.gptp_settling_time.proofs.FallDownLemmas.{FlightNames}
 use Rattle.gptp_settling_time.proofs.GainLemmas.{lives_so, unused_so, up_so}
 use Rattle.gptp_settling_time.proofs.HoldSpanLemmas.{ages_over}
 use Rattle.gptp_settling_time.proofs.KeptToLemmas.{KeepsTo}
+use Rattle.gptp_settling_time.proofs.LeftToLemmas.{up_in_use}
 use Rattle.gptp_settling_time.proofs.LossMadeLemmas.{HasRestedSo}
 use Rattle.gptp_settling_time.proofs.NamedLemmas.{IsNamedFrom}
 use Rattle.gptp_settling_time.proofs.SettledSeenLemmas.{IsSettledSeen}
@@ -57,39 +56,12 @@ use Rattle.gptp_settling_time.proofs.SplitAlwaysLemmas.{IsSplitAlways}
 use Rattle.gptp_settling_time.proofs.SplitDownLemmas.{alone_down, down_splits}
 use Rattle.gptp_settling_time.proofs.SplitFailLemmas.{anew_begins}
 use Rattle.gptp_settling_time.proofs.SplitRestLemmas.{SplitNamesAlone, split_anew_begins}
-use Rattle.gptp_settling_time.proofs.SplitToLemmas.{GoesOver, IsSplitTo, SetLimits, over_gone, split_by}
+use Rattle.gptp_settling_time.proofs.SplitToLemmas.{GoesOver, IsSplitTo, SetLimits, WereUsed, over_gone, split_by}
 use Rattle.gptp_settling_time.proofs.UpPortsLemmas.{IsUpAt, by_up}
 use Rattle.gptp_settling_time.proofs.WereSilentLemmas.{WereSilent, were_down, were_failed}
-use Rattle.gptp_settling_time.proofs.WorldMovesLemmas.{adjacent_alike, alike_so, cut_off_alike, joins_alike, near_so, unmoved_alike}
+use Rattle.gptp_settling_time.proofs.WorldMovesLemmas.{adjacent_alike, alike_so, cut_off_alike, joins_alike, near_so, unmoved_alike, twice_alike}
 use Rattle.gptp_settling_time.proofs.OnwardLemmas.{IsOnwardFrom}
 use Rattle.gptp_bmca_machine.proofs.TwoTopsBeginLemmas.{FlightLeads}
-
--- a tree with two tops is so cut off between two snapshots where it is between others of the same systems and links
-twice_alike : (g h g' h' : Snapshot) → AreAlike g h → AreAlike g' h' → (best : System) (t : TopsTree)
-    → IsTreeCutTwice h h' best t → IsTreeCutTwice g g' best t
-twice_alike g h g' h' before now best t cut = record {
-  in_top = λ side. alike_best h' g' (turned g' h' now) (t.top side) t.next (cut.in_top side);
-  worse = cut.worse;
-  was_best = λ v in_v. alike_best h g back v best (cut.was_best v (to_h v in_v));
-  was = λ v in_v.
-      alike_distance h g back v (t.base + min (t.depth First v) (t.depth Second v)) (cut.was v (to_h v in_v));
-  near = λ side v in_v. cut.near side v (to_h v in_v);
-  first = cut.first;
-  lost = λ v u in_v joined. elim (cut.lost v u (to_h v in_v) (adjacent_alike g h before v u joined)) [
-    | inl left ↦ inl (adjacent_alike h' g' (turned g' h' now) v u left)
-    | inr is_top ↦ inr is_top
-  ];
-  steps = λ side v u in_v joined. cut.steps side v u (to_h v in_v) (adjacent_alike g' h' now v u joined);
-  single = λ side v p q a b in_v one two.
-      cut.single side v p q a b (to_h v in_v) (joins_alike g' h' now (port_of v p) a one)
-      (joins_alike g' h' now (port_of v q) b two);
-}
-  where
-    back : AreAlike h g
-    back = turned g h before
-
-    to_h : (v : ℕ) → IsBest g' v t.next → IsBest h' v t.next
-    to_h v is = alike_best g' h' now v t.next is
 
 -- and so is one that turns
 turned_alike : (g h g' h' : Snapshot) → AreAlike g h → AreAlike g' h' → (best : System) (t : Turning)
@@ -287,7 +259,12 @@ module _ (d : DocumentState) (playable : IsPlayable d) (made : List Timed) (even
               (near_so d playable made then keeps x.few) (omega (arith, over, at_time)) names_now onward_now silent best
               each
               few_before few_then shorter_then (GoesOver n before made more then.time gone silent) (SetLimits n made)
-              (λ limit (most, within, is). subst (λ t. AreLimitedBy t then) (sym is) (keeps.limited most within)) gone
+              (WereUsed n made then.time)
+              (λ limit (most, within, is). subst (λ t. AreLimitedBy t then) (sym is) (keeps.limited most within))
+              (λ old (used, past). (
+                up_in_use d made then keeps used,
+                let delay = ap (λ (y : SyncPaths). y.delay) paths_then in omega (arith, past, delay),
+              )) gone
               after.claim.measured
               (omega (arith, silent_is))
               (λ links. by_map says_announce (snapshot_of w') (stay_of p) (AgesOver n before made more then.time)
@@ -322,9 +299,11 @@ module _ (d : DocumentState) (playable : IsPlayable d) (made : List Timed) (even
     abbrev Over : List Timed → ℕ → PortIdentity → ℕ → Type 0
     Over events by = GoesOver n so.before ago events so.failed by silent
 
-    down : IsSplitAlways p so.before (Over made gone) (SetLimits n ago) so.failed gone silent w'
+    down : IsSplitAlways p so.before (Over made gone) (SetLimits n ago)
+        (WereUsed n ago so.failed) so.failed gone silent w'
     down =
-        down_splits p so.before (Over made gone) (SetLimits n ago) so.failed gone silent y.clock y.port then
+        down_splits p so.before (Over made gone) (SetLimits n ago) (WereUsed n ago so.failed) so.failed gone silent
+        y.clock y.port then
         draws done w' after.claim.world after.claim.measured lowered so.since.split quiet_then
         (up_so n made then keeps.stands end y.up lowered.1.place lowered.1.channel lowered.1.is)
         (unused_so n made then keeps.stands world_then.sound end y.failed) falls.off
@@ -332,7 +311,8 @@ module _ (d : DocumentState) (playable : IsPlayable d) (made : List Timed) (even
     -- what has no steps still names its sender alone
     names_down : SplitNamesAlone p silent w'
     names_down =
-        alone_down p so.before (Over made gone) (SetLimits n ago) so.failed gone silent y.clock y.port then
+        alone_down p so.before (Over made gone) (SetLimits n ago) (WereUsed n ago so.failed)
+        so.failed gone silent y.clock y.port then
         draws done w' after.claim.world after.claim.measured lowered so.since.split quiet_then
         (up_so n made then keeps.stands end y.up lowered.1.place lowered.1.channel lowered.1.is)
         (unused_so n made then keeps.stands world_then.sound end y.failed) so.since.alone
@@ -361,8 +341,10 @@ module _ (d : DocumentState) (playable : IsPlayable d) (made : List Timed) (even
       before = so.before;
       stood = so.stood;
       failed = so.failed;
-      since = split_anew_begins p so.before (Over more gone) (SetLimits n ago) so.failed gone silent w'
-          (split_by p so.before (Over made gone) (SetLimits n ago) so.failed gone silent w' down
+      since = split_anew_begins p so.before (Over more gone) (SetLimits n ago)
+          (WereUsed n ago so.failed) so.failed gone silent w'
+          (split_by p so.before (Over made gone) (SetLimits n ago) (WereUsed n ago so.failed)
+          so.failed gone silent w' down
           (Over more gone) gone over_more
           (λ port until is. is.1) (over_gone n so.before ago more so.failed gone silent) (inl (omega arith))) names_down
           last;
@@ -385,10 +367,10 @@ module _ (d : DocumentState) (playable : IsPlayable d) (made : List Timed) (even
         stood = so.stood;
         failed = so.failed;
         since = split_anew_begins p so.before (GoesOver n so.before ago more so.failed sooner silent) (SetLimits n ago)
-            so.failed sooner
+            (WereUsed n ago so.failed) so.failed sooner
             silent w'
             (split_by p so.before (GoesOver n so.before ago more so.failed gone silent)
-            (SetLimits n ago) so.failed gone silent w'
+            (SetLimits n ago) (WereUsed n ago so.failed) so.failed gone silent w'
             so.since.split (GoesOver n so.before ago more so.failed sooner silent) sooner
             (λ links. by_map says_announce (snapshot_of w') (stay_of p)
             (GoesOver n so.before ago more so.failed gone silent)

@@ -29,16 +29,18 @@ use Rattle.gptp_invariants.proofs.ChoiceCalmKeptLemmas.{KeepsNetwork, acts_keep,
 use Rattle.gptp_invariants.proofs.ChoiceSeenActLemmas.{acts_seen}
 use Rattle.gptp_invariants.proofs.ChoiceSettlesAsMachineLemmas.{kept_back}
 use Rattle.gptp_invariants.proofs.WorldNewsCourseLemmas.{later_keeps}
-use Rattle.gptp_settling_time.specs.TreeLosses.{CutsAllBeyond}
+use Rattle.gptp_settling_time.specs.TreeLosses.{CutsAllBeyond, LeavesAlone}
 use Rattle.gptp_settling_time.proofs.AgingClaimedLemmas.{same_aging}
 use Rattle.gptp_settling_time.proofs.AlwaysClaimedLemmas.{IsClaimedAlways}
 use Rattle.gptp_settling_time.proofs.AtRestLemmas.{TellsSettled, held_settled}
 use Rattle.gptp_settling_time.proofs.FallAlwaysLemmas.{fallen_by}
+use Rattle.gptp_settling_time.proofs.FitsLemmas.{UnlinkedHoldNothing}
+use Rattle.gptp_settling_time.proofs.LeftAloneLemmas.{alone_hold}
 use Rattle.gptp_settling_time.proofs.LeftClaimedLemmas.{left_net, left_network}
 use Rattle.gptp_settling_time.proofs.NamesItselfLemmas.{AllNameAlone, alone_kept}
 use Rattle.gptp_settling_time.proofs.RightBeginLemmas.{alone_right}
 use Rattle.gptp_settling_time.proofs.SplitAlwaysLemmas.{IsDroppedBy, IsSplitAlways, left_by, linked_now, one_before, split_acts, split_after, split_later, split_network}
-use Rattle.gptp_settling_time.proofs.SplitLemmas.{IsCut, IsSplit, IsTurned, IsTwice, SplitsBack}
+use Rattle.gptp_settling_time.proofs.SplitLemmas.{IsCut, IsSplit, IsTurned, IsTwice, SplitsBack, SplitSettles}
 use Rattle.gptp_settling_time.proofs.SplitSettlesLemmas.{split_state}
 use Rattle.gptp_settling_time.proofs.SplitSoundLemmas.{all_hold}
 use Rattle.gptp_settling_time.proofs.TellsRightLemmas.{IsSettledState, LevelTellsRight}
@@ -55,10 +57,10 @@ settles_at gone w = pred gone + 2 * way_in w
 
 -- What is claimed of it: it settles, what has no steps names its sender alone, and then traces are told anew, if
 -- nothing has changed since.
-pub record IsSplitAnew (p : SettlingParams) (g : Snapshot) (By : PortIdentity → ℕ → Type 0) (Limits : ℕ → Type 0)
+pub record IsSplitAnew (p : SettlingParams) (g : Snapshot) (By : PortIdentity → ℕ → Type 0) (Limits Were : ℕ → Type 0)
     (failed gone silent : ℕ)
     (w : WorldState) : Type 0 where
-  pub split : IsSplitAlways p g By Limits failed gone silent w
+  pub split : IsSplitAlways p g By Limits Were failed gone silent w
   pub alone : SplitNamesAlone p silent w
   pub tells : w.last_change ≡ failed → TellsOnce p silent (settles_at gone w) w
 
@@ -71,8 +73,8 @@ split_near p g s v known =
     (d, here, omega (arith, within, few))
 
 module _ (p : SettlingParams) (g : Snapshot) (By : PortIdentity → ℕ → Type 0)
-    (Limits : ℕ → Type 0) (failed gone silent : ℕ)
-    (w : WorldState) (split : IsSplitAlways p g By Limits failed gone silent w)
+    (Limits Were : ℕ → Type 0) (failed gone silent : ℕ)
+    (w : WorldState) (split : IsSplitAlways p g By Limits Were failed gone silent w)
     (alone : SplitNamesAlone p silent w) where
   near : AllAreNear (snapshot_of w)
   near = subst (λ (z : Network). AllAreNear z.graph) (sym split.same) (split_near p g split.split)
@@ -81,7 +83,7 @@ module _ (p : SettlingParams) (g : Snapshot) (By : PortIdentity → ℕ → Type
       → IsSettledState says_announce (left_network p silent w) (view w)
   state quiet off late =
       let one = one_before gone failed split.some in
-      split_state p g By Limits failed gone silent w split quiet off (pred gone)
+      split_state p g By Limits Were failed gone silent w split quiet off (pred gone)
       (omega (arith, one)) (omega (arith, late))
 
   -- so what a best tells is right
@@ -103,7 +105,7 @@ module _ (p : SettlingParams) (g : Snapshot) (By : PortIdentity → ℕ → Type
   }
 
   -- it begins as something changes, before what was held is gone
-  pub split_anew_begins : w.last_change ≡ w.time → IsSplitAnew p g By Limits failed gone silent w
+  pub split_anew_begins : w.last_change ≡ w.time → IsSplitAnew p g By Limits Were failed gone silent w
   split_anew_begins last = record {
     split = split;
     alone = alone;
@@ -116,9 +118,9 @@ module _ (p : SettlingParams) (g : Snapshot) (By : PortIdentity → ℕ → Type
 -- ---- it goes on
 
 module _ (p : SettlingParams) (g : Snapshot) (By : PortIdentity → ℕ → Type 0)
-    (Limits : ℕ → Type 0) (failed gone silent : ℕ)
-    (w w' : WorldState) (is : IsSplitAnew p g By Limits failed gone silent w)
-    (split' : IsSplitAlways p g By Limits failed gone silent w') (keeps : KeepsNetwork w w')
+    (Limits Were : ℕ → Type 0) (failed gone silent : ℕ)
+    (w w' : WorldState) (is : IsSplitAnew p g By Limits Were failed gone silent w)
+    (split' : IsSplitAlways p g By Limits Were failed gone silent w') (keeps : KeepsNetwork w w')
     (step : MachineSteps says_announce (view w) (view w')) where
   alone' : SplitNamesAlone p silent w'
   alone' quiet' off =
@@ -131,7 +133,7 @@ module _ (p : SettlingParams) (g : Snapshot) (By : PortIdentity → ℕ → Type
       (subst (λ z. Calm z (view w)) (sym same) after.calm) after'.calm step
       (subst (λ z. AllNameAlone says_announce z (view w)) (sym same) (is.alone quiet off))
 
-  anew_step : IsSplitAnew p g By Limits failed gone silent w'
+  anew_step : IsSplitAnew p g By Limits Were failed gone silent w'
   anew_step = record {
     split = split';
     alone = alone';
@@ -139,30 +141,31 @@ module _ (p : SettlingParams) (g : Snapshot) (By : PortIdentity → ℕ → Type
         let same = same_way w w' keeps in
         tells_on p silent (settles_at gone w') w w'
         (subst (λ way. SettlesOnce p silent (pred gone + 2 * way) w) (sym same)
-        (split_once p g By Limits failed gone silent w is.split is.alone))
-        (split_once p g By Limits failed gone silent w' split' alone')
+        (split_once p g By Limits Were failed gone silent w is.split is.alone))
+        (split_once p g By Limits Were failed gone silent w' split' alone')
         (subst (λ way. TellsOnce p silent (pred gone + 2 * way) w) (sym same) (is.tells (sym keeps.change ∙ since)))
         keeps step;
   }
 
-pub anew_later : (p : SettlingParams) (g : Snapshot) (By : PortIdentity → ℕ → Type 0) (Limits : ℕ → Type 0)
+pub anew_later : (p : SettlingParams) (g : Snapshot) (By : PortIdentity → ℕ → Type 0) (Limits Were : ℕ → Type 0)
     (failed gone silent time : ℕ)
-    (w : WorldState) → w.time ≤ time → NothingBefore time w.net.pending → IsSplitAnew p g By Limits failed gone silent w
-    → IsSplitAnew p g By Limits failed gone silent (at_time time w)
-anew_later p g By Limits failed gone silent time w later first is =
-    anew_step p g By Limits failed gone silent w (at_time time w) is
-    (split_later p g By Limits failed gone silent time w later first is.split) (later_keeps time w)
+    (w : WorldState) → w.time ≤ time → NothingBefore time w.net.pending → IsSplitAnew p g By
+    Limits Were failed gone silent w
+    → IsSplitAnew p g By Limits Were failed gone silent (at_time time w)
+anew_later p g By Limits Were failed gone silent time w later first is =
+    anew_step p g By Limits Were failed gone silent w (at_time time w) is
+    (split_later p g By Limits Were failed gone silent time w later first is.split) (later_keeps time w)
     (inl (record { time = time; later = later; is = refl }))
 
 pub anew_acts : (p : SettlingParams) (g : Snapshot) (By : PortIdentity → ℕ → Type 0)
-    (Limits : ℕ → Type 0) (failed gone silent : ℕ)
+    (Limits Were : ℕ → Type 0) (failed gone silent : ℕ)
     (act : Act) (w : WorldState) (draws : List Draw) (done : Done) (w' : WorldState) → IsNoChange act → SetsAnOctet act
-    → Acts act w draws done w' → IsSplitAnew p g By Limits failed gone silent w → IsSplitAnew p
-    g By Limits failed gone silent w'
-anew_acts p g By Limits failed gone silent act w draws done w' none octet acts is =
+    → Acts act w draws done w' → IsSplitAnew p g By Limits Were failed gone silent w → IsSplitAnew p
+    g By Limits Were failed gone silent w'
+anew_acts p g By Limits Were failed gone silent act w draws done w' none octet acts is =
     let world = is.split.standing.world in
-    anew_step p g By Limits failed gone silent w w' is
-    (split_acts p g By Limits failed gone silent act w draws done w' none octet acts is.split)
+    anew_step p g By Limits Were failed gone silent w w' is
+    (split_acts p g By Limits Were failed gone silent act w draws done w' none octet acts is.split)
     (acts_keep act w draws done w' none acts)
     (inr (acts_seen act w draws done w' none world.sound world.encodable acts))
 
@@ -170,21 +173,21 @@ anew_acts p g By Limits failed gone silent act w draws done w' none octet acts i
 
 -- An announce interval and a delay for each system of a path but two, and then an interval later, claims are made of
 -- all links always.
-pub split_anew_claimed : (p : SettlingParams) (g : Snapshot) (By : PortIdentity → ℕ → Type 0) (Limits : ℕ → Type 0)
+pub split_anew_claimed : (p : SettlingParams) (g : Snapshot) (By : PortIdentity → ℕ → Type 0) (Limits Were : ℕ → Type 0)
     (failed gone silent : ℕ)
-    (w : WorldState) → IsSplitAnew p g By Limits failed gone silent w → HaveQuietLinks p.params
+    (w : WorldState) → IsSplitAnew p g By Limits Were failed gone silent w → HaveQuietLinks p.params
     w → NothingLapses p.params
     → w.last_change ≡ failed → told_by p (settles_at gone w) w + largest_interval p < w.time
     → (begin : ℕ) → w.last_change ≤ begin → AreSilentBy p begin w → IsClaimedAlways p begin w
-split_anew_claimed p g By Limits failed gone silent w is quiet off since =
+split_anew_claimed p g By Limits Were failed gone silent w is quiet off since =
     once_claimed p silent w.last_change (settles_at gone w) w
-    (split_once p g By Limits failed gone silent w is.split is.alone) is.split.asked (is.tells since) quiet off
+    (split_once p g By Limits Were failed gone silent w is.split is.alone) is.split.asked (is.tells since) quiet off
 
 -- Where all beyond the failed system is cut off traces needn't be told anew. Once trees have settled, and what was in
 -- flight as they left their old choices is gone, claims are made of all links always.
 module _ (p : SettlingParams) (g : Snapshot) (By : PortIdentity → ℕ → Type 0)
-    (Limits : ℕ → Type 0) (failed gone silent : ℕ)
-    (w : WorldState) (is : IsSplitAnew p g By Limits failed gone silent w) (quiet : HaveQuietLinks p.params w)
+    (Limits Were : ℕ → Type 0) (failed gone silent : ℕ)
+    (w : WorldState) (is : IsSplitAnew p g By Limits Were failed gone silent w) (quiet : HaveQuietLinks p.params w)
     (off : NothingLapses p.params) (since : w.last_change ≡ failed) (cuts : CutsAllBeyond g is.split.split.n.graph)
     (late : settles_at gone w < w.time)
     (dropped : IsDroppedBy p Limits (pred gone + way_in w) (pred w.time) w) where
@@ -192,16 +195,16 @@ module _ (p : SettlingParams) (g : Snapshot) (By : PortIdentity → ℕ → Type
   n = is.split.split.n
 
   once : SettlesOnce p silent (settles_at gone w) w
-  once = split_once p g By Limits failed gone silent w is.split is.alone
+  once = split_once p g By Limits Were failed gone silent w is.split is.alone
 
   x : IsSettledState says_announce (left_network p silent w) (view w)
   x = once.state quiet off late
 
-  back : SplitsBack p g is.split.split (pred gone) (view w)
-  back =
+  seen : SplitsBack p g is.split.split (pred gone) (view w) × SplitSettles p g is.split.split (pred gone) (view w)
+  seen =
       let some = is.split.some in
       let one = one_before gone failed some in
-      (is.split.seen quiet off (pred gone) (inl (omega (arith, one)))).0
+      is.split.seen quiet off (pred gone) (inl (omega (arith, one)))
 
   left_now : left_by p g is.split.split gone < w.time
   left_now =
@@ -232,8 +235,8 @@ module _ (p : SettlingParams) (g : Snapshot) (By : PortIdentity → ℕ → Type
     stations = all_hold says_announce g n is.split.split.lost is.split.split.best
         (IsCut p g is.split.split (pred gone)) (IsTurned p g is.split.split (pred gone))
         (IsTwice p g is.split.split (pred gone)) is.split.split.moves (pred gone) is.split.split.near cuts
-        (λ t cut. cut)
-        (view w) back.back (linked_now p g By Limits failed gone silent w is.split quiet)
+        (λ t cut. cut) (λ t cut. cut) (view w) seen.0.back (λ t cut. (seen.1.twice t cut).stale)
+        (linked_now p g By Limits Were failed gone silent w is.split quiet)
         (is.split.says cuts quiet off) left_now
         (subst (λ (z : Network). (i : ℕ) (s : SeenStation) (place : ℕ) (r : Reception) (from : PortIdentity)
         → slice_get (view w).stations i ≡ Some s → s.live ≡ true → HoldsAt s place r
@@ -246,3 +249,34 @@ module _ (p : SettlingParams) (g : Snapshot) (By : PortIdentity → ℕ → Type
   pub split_apart_claimed : (begin : ℕ) → w.last_change ≤ begin → AreSilentBy p begin w → IsClaimedAlways p begin w
   split_apart_claimed =
       rest_claimed p silent w.last_change (settles_at gone w) w once is.split.asked quiet off late sound
+
+-- Where each live system is left alone nothing is held, once trees have settled, and what is in flight is sound, once
+-- what was so as the system failed is gone.
+module _ (p : SettlingParams) (g : Snapshot) (By : PortIdentity → ℕ → Type 0) (Limits Were : ℕ → Type 0)
+    (failed gone silent : ℕ) (w : WorldState) (is : IsSplitAnew p g By Limits Were failed gone silent w)
+    (quiet : HaveQuietLinks p.params w) (off : NothingLapses p.params)
+    (leaves : LeavesAlone g is.split.split.n.graph) (late : settles_at gone w < w.time) (old : ℕ) (were : Were old)
+    (past : old < w.time) where
+  once_alone : SettlesOnce p silent (settles_at gone w) w
+  once_alone = split_once p g By Limits Were failed gone silent w is.split is.alone
+
+  at_rest : IsSettledState says_announce (left_network p silent w) (view w)
+  at_rest = once_alone.state quiet off late
+
+  alone_sound : IsSoundWorld w
+  alone_sound = subst (λ (z : Network). IsSoundEverywhere says_announce z.graph (view w)) (sym is.split.same) (record {
+    lanes = λ j l at f a among said. elim (is.split.alone leaves old were quiet off j l f a at among said) [
+      | inl sent ↦ sent
+      | inr due ↦
+          let left = at_rest.calm.left j l f at among in
+          absurd (omega (arith, due, left, past))
+    ];
+    stations = alone_hold g is.split.split.n leaves (view w)
+        (subst (λ z. Calm z (view w)) is.split.same
+        (split_after p silent w is.split.standing is.split.asked quiet off is.split.late).calm)
+        (subst (λ (z : Network). UnlinkedHoldNothing z.graph (view w)) is.split.same at_rest.none);
+  })
+
+  pub split_alone_claimed : (begin : ℕ) → w.last_change ≤ begin → AreSilentBy p begin w → IsClaimedAlways p begin w
+  split_alone_claimed =
+      rest_claimed p silent w.last_change (settles_at gone w) w once_alone is.split.asked quiet off late alone_sound

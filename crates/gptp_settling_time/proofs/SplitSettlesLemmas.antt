@@ -39,9 +39,9 @@ use Rattle.gptp_settling_time.proofs.SplitLemmas.{IsCut, IsTurned, IsTwice, Spli
 use Rattle.gptp_settling_time.proofs.SplitLinksLemmas.{failure_rests}
 use Rattle.gptp_settling_time.proofs.TellsRightLemmas.{IsSettledState}
 
-module _ (p : SettlingParams) (g : Snapshot) (By : PortIdentity → ℕ → Type 0) (Limits : ℕ → Type 0)
+module _ (p : SettlingParams) (g : Snapshot) (By : PortIdentity → ℕ → Type 0) (Limits Were : ℕ → Type 0)
     (failed gone silent : ℕ) (w : WorldState)
-    (is : IsSplitAlways p g By Limits failed gone silent w) (quiet : HaveQuietLinks p.params w)
+    (is : IsSplitAlways p g By Limits Were failed gone silent w) (quiet : HaveQuietLinks p.params w)
     (off : NothingLapses p.params)
     (start : ℕ) (may : gone ≤ suc start)
     (late : start + 1 + 2 * (pred (path_bound (snapshot_of w)) * delay_in w) ≤ w.time) where
@@ -97,7 +97,7 @@ module _ (p : SettlingParams) (g : Snapshot) (By : PortIdentity → ℕ → Type
         record {
           calm = older_calm (left_network p from w) 0 (view w)
               (left_calm p from w standing_from is.asked quiet
-              (none_now p g By Limits failed gone silent w is quiet start seen.0 gone_now));
+              (none_now p g By Limits Were failed gone silent w is quiet start seen.0 gone_now));
           capable = kept.capable;
           lapses = kept.lapses;
           begun = kept.begun;
@@ -125,7 +125,7 @@ module _ (p : SettlingParams) (g : Snapshot) (By : PortIdentity → ℕ → Type
 
   pub split_state : IsSettledState says_announce (left_network p silent w) (view w)
   split_state =
-      let none = none_now p g By Limits failed gone silent w is quiet start seen.0 gone_now in
+      let none = none_now p g By Limits Were failed gone silent w is quiet start seen.0 gone_now in
       record {
         calm = left_calm p silent w is.standing is.asked quiet none;
         rest = record { chooses = rest.chooses; links = rest.links; farther = rest.farther };
@@ -157,10 +157,10 @@ module _ (p : SettlingParams) (g : Snapshot) (By : PortIdentity → ℕ → Type
       (settled, bounded_by p w world settled above)
 
 -- its ports have measured their links
-pub split_measured : (p : SettlingParams) (g : Snapshot) (By : PortIdentity → ℕ → Type 0) (Limits : ℕ → Type 0)
+pub split_measured : (p : SettlingParams) (g : Snapshot) (By : PortIdentity → ℕ → Type 0) (Limits Were : ℕ → Type 0)
     (failed gone silent : ℕ)
-    (w : WorldState) → IsSplitAlways p g By Limits failed gone silent w → HaveQuietLinks p.params w
+    (w : WorldState) → IsSplitAlways p g By Limits Were failed gone silent w → HaveQuietLinks p.params w
     → w.last_change + window_span p.params ≤ w.time
     → HaveMeasuredLinks w
-split_measured p g By Limits failed gone silent w is quiet =
+split_measured p g By Limits Were failed gone silent w is quiet =
     ready_measures p w.last_change w is.standing.world (asked_ready p w is.asked) quiet

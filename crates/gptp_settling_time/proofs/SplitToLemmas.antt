@@ -36,8 +36,8 @@ use Rattle.gptp_theorem.proofs.CalmKeptLemmas.{no_change}
 use Rattle.gptp_settling_time.specs.Rests.{FlightIsGoneSince, HasToldApart, IsToldApart}
 use Rattle.gptp_settling_time.specs.Arrivals.{arrived_by}
 use Rattle.gptp_settling_time.specs.Gains.{HasDelaysWithin}
-use Rattle.gptp_settling_time.specs.Losses.{NoneSilent}
-use Rattle.gptp_settling_time.specs.TreeLosses.{CutsAllBeyond}
+use Rattle.gptp_settling_time.specs.Losses.{NoneSilent, UpIsUsed}
+use Rattle.gptp_settling_time.specs.TreeLosses.{CutsAllBeyond, LeavesAlone}
 use Rattle.gptp_settling_time.proofs.AgesByWorldLemmas.{WorldAgesBy}
 use Rattle.gptp_settling_time.proofs.AgingLemmas.{HeardNearer}
 use Rattle.gptp_settling_time.proofs.AlwaysClaimedLemmas.{IsClaimedAlways}
@@ -49,10 +49,10 @@ use Rattle.gptp_settling_time.proofs.KeptToLemmas.{KeepsTo, keeps_act, keeps_lat
 use Rattle.gptp_settling_time.proofs.WereSilentLemmas.{WereSilent, none_silent_from, were_act, were_later}
 use Rattle.gptp_settling_time.proofs.SilentLinksLemmas.{AgesOver}
 use Rattle.gptp_settling_time.proofs.SplitAlwaysLemmas.{GoesUntil, IsDroppedBy, IsSplitAlways, MayStart, left_by, one_before}
-use Rattle.gptp_settling_time.proofs.SplitRestLemmas.{IsSplitAnew, anew_acts, anew_later, settles_at, split_anew_claimed, split_apart_claimed}
+use Rattle.gptp_settling_time.proofs.SplitRestLemmas.{IsSplitAnew, anew_acts, anew_later, settles_at, split_alone_claimed, split_anew_claimed, split_apart_claimed}
 use Rattle.gptp_settling_time.proofs.SplitSettlesLemmas.{split_chooses, split_settles}
 use Rattle.gptp_settling_time.proofs.ToldAnewLemmas.{FlightsAreSound, told_by, way_in}
-use Rattle.gptp_settling_time.proofs.WorldMovesLemmas.{alike_so, beyond_alike}
+use Rattle.gptp_settling_time.proofs.WorldMovesLemmas.{alike_so, beyond_alike, leaves_alike}
 
 -- What came over a silent link ages so; its port was at a link. At ports that heard a nearer system it has aged by the
 -- time from which on it is gone, or ports without a link aren't capable from then on.
@@ -73,15 +73,20 @@ over_gone n before ago events failed gone silent = elim (dec_le silent gone) [
 abbrev pub SetLimits : NetworkState → List Timed → ℕ → Type 0
 SetLimits n ago limit = (most : ℕ) × HasDelaysWithin n ago most × (limit ≡ arrived_by most ago)
 
+-- each link that was up after these events was in use, and what was in flight as the system failed is due by this time
+abbrev pub WereUsed : NetworkState → List Timed → ℕ → ℕ → Type 0
+WereUsed n ago failed old = UpIsUsed n ago × (failed + (sync_paths n ago).delay ≤ old)
+
 -- A world may be taken as one in which what is held goes by other times of ports: if it isn't gone sooner, or if no
 -- time has passed since the system failed.
 pub split_by : (p : SettlingParams) (g : Snapshot) (By : PortIdentity → ℕ → Type 0)
-    (Limits : ℕ → Type 0) (failed gone silent : ℕ)
-    (w : WorldState) → IsSplitAlways p g By Limits failed gone silent w → (By' : PortIdentity → ℕ → Type 0) (gone' : ℕ)
+    (Limits Were : ℕ → Type 0) (failed gone silent : ℕ)
+    (w : WorldState) → IsSplitAlways p g By Limits Were failed gone silent w →
+    (By' : PortIdentity → ℕ → Type 0) (gone' : ℕ)
     → WorldAgesBy p By' w → ((port : PortIdentity) (until : ℕ) → By' port until → IsLinked g port)
     → GoesUntil g By' gone' ⊎ (silent ≤ gone') → (gone ≤ gone') ⊎ ((failed < gone') × (w.time ≤ failed))
-    → IsSplitAlways p g By' Limits failed gone' silent w
-split_by p g By Limits failed gone silent w is By' gone' by' linked' is_gone' which = record {
+    → IsSplitAlways p g By' Limits Were failed gone' silent w
+split_by p g By Limits Were failed gone silent w is By' gone' by' linked' is_gone' which = record {
   standing = is.standing;
   asked = is.asked;
   good = is.good;
@@ -92,6 +97,7 @@ split_by p g By Limits failed gone silent w is By' gone' by' linked' is_gone' wh
   by = by';
   linked = linked';
   limited = is.limited;
+  were = is.were;
   is_gone = is_gone';
   begun = is.begun;
   late = is.late;
@@ -99,6 +105,7 @@ split_by p g By Limits failed gone silent w is By' gone' by' linked' is_gone' wh
   seen = λ quiet off start may. is.seen quiet off start (may_so start may);
   says = is.says;
   flights = flights';
+  alone = is.alone;
 }
   where
     some' : failed < gone'
@@ -135,13 +142,13 @@ split_by p g By Limits failed gone silent w is By' gone' by' linked' is_gone' wh
 
 -- so it is where traces are told anew later, if the time from which on it is gone is the same
 pub anew_by : (p : SettlingParams) (g : Snapshot) (By : PortIdentity → ℕ → Type 0)
-    (Limits : ℕ → Type 0) (failed gone silent : ℕ)
-    (w : WorldState) → IsSplitAnew p g By Limits failed gone silent w →
+    (Limits Were : ℕ → Type 0) (failed gone silent : ℕ)
+    (w : WorldState) → IsSplitAnew p g By Limits Were failed gone silent w →
     (By' : PortIdentity → ℕ → Type 0) → WorldAgesBy p By' w
     → ((port : PortIdentity) (until : ℕ) → By' port until → IsLinked g port)
-    → GoesUntil g By' gone ⊎ (silent ≤ gone) → IsSplitAnew p g By' Limits failed gone silent w
-anew_by p g By Limits failed gone silent w is By' by' linked' is_gone' = record {
-  split = split_by p g By Limits failed gone silent w is.split By' gone by' linked' is_gone' (inl (omega arith));
+    → GoesUntil g By' gone ⊎ (silent ≤ gone) → IsSplitAnew p g By' Limits Were failed gone silent w
+anew_by p g By Limits Were failed gone silent w is By' by' linked' is_gone' = record {
+  split = split_by p g By Limits Were failed gone silent w is.split By' gone by' linked' is_gone' (inl (omega arith));
   alone = is.alone;
   tells = is.tells;
 }
@@ -154,7 +161,7 @@ pub record IsSplitTo (d : DocumentState) (ago events : List Timed) (gone silent 
   pub stood : (g : Snapshot) → StandsAfter d.network ago g → AreAlike before g
   pub failed : ℕ
   pub since : IsSplitAnew (pace_of d.network) before (GoesOver d.network before ago events failed gone silent)
-      (SetLimits d.network ago) failed gone silent w
+      (SetLimits d.network ago) (WereUsed d.network ago failed) failed gone silent w
   pub were : WereSilent d.network ago w
   pub unanswered : silent ≡ suc (failed + silence_span (pace_of d.network))
 
@@ -167,7 +174,7 @@ module _ (d : DocumentState) (ago events : List Timed) (gone silent : ℕ) where
     stood = so.stood;
     failed = so.failed;
     since = anew_later (pace_of d.network) so.before (GoesOver d.network so.before ago events so.failed gone silent)
-        (SetLimits d.network ago) so.failed gone silent time w later first so.since;
+        (SetLimits d.network ago) (WereUsed d.network ago so.failed) so.failed gone silent time w later first so.since;
     were = were_later d.network ago w time later so.were;
     unanswered = so.unanswered;
   }
@@ -179,7 +186,8 @@ module _ (d : DocumentState) (ago events : List Timed) (gone silent : ℕ) where
       let timed = t.told.timed in
       let p = pace_of d.network in
       let By = GoesOver d.network so.before ago events so.failed gone silent in
-      let then = anew_later p so.before By (SetLimits d.network ago) so.failed gone silent timed.at w
+      let then = anew_later p so.before By (SetLimits d.network ago) (WereUsed d.network ago so.failed) so.failed gone
+      silent timed.at w
       was.ready.timely.now was.ready.timely.first
       so.since in
       record {
@@ -187,7 +195,8 @@ module _ (d : DocumentState) (ago events : List Timed) (gone silent : ℕ) where
         before = so.before;
         stood = so.stood;
         failed = so.failed;
-        since = anew_acts p so.before By (SetLimits d.network ago) so.failed gone silent timed.act (at timed.at w)
+        since = anew_acts p so.before By (SetLimits d.network ago) (WereUsed d.network ago so.failed) so.failed gone
+            silent timed.act (at timed.at w)
             was.draws t.told.done t.after
             (no_change next.item timed.act w next.act) (next_octet next.item timed.act w next.act) was.acts then;
         were = were_act d ago events answers t fate drawn w next was so.keeps so.were;
@@ -220,17 +229,20 @@ module _ (d : DocumentState) (ago events : List Timed) (gone silent : ℕ) where
 
     -- its choice stands
     pub split_to_chooses : ChoiceStands w
-    split_to_chooses = split_chooses p so.before By (SetLimits d.network ago) so.failed gone silent w so.since.split
+    split_to_chooses = split_chooses p so.before By (SetLimits d.network ago) (WereUsed d.network ago so.failed)
+        so.failed gone silent w so.since.split
         quiet off start may late_now
 
     -- it has settled
     pub split_to_settled : (silent ≤ w.time) ⊎ NoneSilent d.network ago events → Settled w × IsBoundedWorld w
     split_to_settled (inl now) =
-        split_settles p so.before By (SetLimits d.network ago) so.failed gone silent w so.since.split quiet off start
+        split_settles p so.before By (SetLimits d.network ago) (WereUsed d.network ago so.failed) so.failed gone silent
+        w so.since.split quiet off start
         may late_now silent
         so.since.split.standing.silent now
     split_to_settled (inr none) =
-        split_settles p so.before By (SetLimits d.network ago) so.failed gone silent w so.since.split quiet off start
+        split_settles p so.before By (SetLimits d.network ago) (WereUsed d.network ago so.failed) so.failed gone silent
+        w so.since.split quiet off start
         may late_now w.time
         (none_silent_from d ago events w so.keeps so.were none w.time) (omega arith)
 
@@ -271,11 +283,22 @@ module _ (d : DocumentState) (ago events : List Timed) (gone silent : ℕ) where
       links =
           (quiet_stands d.network events w playable.network so.keeps.stands so.keeps.claim.world.sound rest.calm).links
 
+      paths : sync_paths d.network events ≡ sync_paths_of w
+      paths = paths_to d playable events w so.keeps
+
+      -- trees have settled
+      settled_now : gone + 2 * way_span (sync_paths d.network events) ≤ w.time → settles_at gone w < w.time
+      settled_now settled =
+          let same = one_before gone so.failed so.since.split.some in
+          let by_then : gone + 2 * way_in w ≤ w.time =
+          subst (λ (u : SyncPaths). gone + 2 * way_span u ≤ w.time) paths settled in
+          omega (arith, same, by_then)
+
       -- where all beyond the failed system is cut off what was in flight is gone, else traces are told anew
       by : IsToldApart d.network ago events gone w.time → IsClaimedAlways q start w
       by (inl over) =
           split_anew_claimed q so.before (GoesOver d.network so.before ago events so.failed gone silent)
-          (SetLimits d.network ago) so.failed gone
+          (SetLimits d.network ago) (WereUsed d.network ago so.failed) so.failed gone
           silent w so.since links rest.off changed told start later dark
         where
           told : told_by q (settles_at gone w) w + largest_interval q < w.time
@@ -285,21 +308,11 @@ module _ (d : DocumentState) (ago events : List Timed) (gone silent : ℕ) where
               subst (λ (u : SyncPaths). gone + 2 * way_span u + pred (pred u.systems) * (largest_interval q + u.delay)
               + largest_interval q ≤ w.time) (paths_to d playable events w so.keeps) over in
               omega (arith, same, by_then)
-      by (inr (cuts, flight, is_gone, settled, arrived)) =
+      by (inr (inl (cuts, flight, is_gone, settled, arrived))) =
           split_apart_claimed q so.before (GoesOver d.network so.before ago events so.failed gone silent)
-          (SetLimits d.network ago) so.failed gone silent w so.since links rest.off changed cuts_so late
-          (dropped is_gone) start later dark
+          (SetLimits d.network ago) (WereUsed d.network ago so.failed) so.failed gone silent w so.since links rest.off
+          changed cuts_so (settled_now settled) (dropped is_gone) start later dark
         where
-          paths : sync_paths d.network events ≡ sync_paths_of w
-          paths = paths_to d playable events w so.keeps
-
-          late : settles_at gone w < w.time
-          late =
-              let same = one_before gone so.failed so.since.split.some in
-              let by_then : gone + 2 * way_in w ≤ w.time =
-              subst (λ (u : SyncPaths). gone + 2 * way_span u ≤ w.time) paths settled in
-              omega (arith, same, by_then)
-
           gone_by : pred gone + way_in w + flight < w.time
           gone_by =
               let same = one_before gone so.failed so.since.split.some in
@@ -335,3 +348,16 @@ module _ (d : DocumentState) (ago events : List Timed) (gone silent : ℕ) where
               subst (λ (z : Network). CutsAllBeyond so.before z.graph) so.since.split.same
               (beyond_alike so.before g (snapshot_of w) g' (so.stood g stands)
               (alike_so d playable events w so.keeps g' stands') (cuts g g' stands stands'))
+      by (inr (inr (leaves, used, settled, arrived))) =
+          split_alone_claimed q so.before (GoesOver d.network so.before ago events so.failed gone silent)
+          (SetLimits d.network ago) (WereUsed d.network ago so.failed) so.failed gone silent w so.since links rest.off
+          leaves_so (settled_now settled) (so.failed + (sync_paths d.network ago).delay) (used, omega arith)
+          (let same = changed in let last = so.keeps.stands.last in omega (arith, arrived, same, last)) start later dark
+        where
+          leaves_so : LeavesAlone so.before so.since.split.split.n.graph
+          leaves_so =
+              let (g, stands) = stands_after d.network ago playable.network in
+              let (g', stands') = stands_after d.network events playable.network in
+              subst (λ (z : Network). LeavesAlone so.before z.graph) so.since.split.same
+              (leaves_alike so.before g (snapshot_of w) g' (so.stood g stands)
+              (alike_so d playable events w so.keeps g' stands') (leaves g g' stands stands'))

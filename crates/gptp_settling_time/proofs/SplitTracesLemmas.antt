@@ -1,20 +1,20 @@
--- A system fails, and all beyond it is cut off. What an unmoved system says by a shortest way didn't pass it, so that
--- is sound of what is left.
-use Rattle.std.proofs.Common.{◌≡◌, ◌⊎◌, ◌<◌, ◌≤◌, ℕ, suc, List, [], ◌∷◌, length, refl, sym, ap, subst, ◌∙◌, inl, inr, arith}
+-- Something is lost, and all beyond it is cut off. What an unmoved system says by a shortest way didn't pass it, so
+-- that is sound of what is left.
+use Rattle.std.proofs.Common.{◌≡◌, ◌⊎◌, ◌<◌, ◌≤◌, ℕ, suc, List, [], ◌∷◌, length, refl, sym, ap, subst, inl, inr, arith}
 use native.Mathlib.Decide.{dec_le, dec_lt}
 use Rattle.gptp_lists.specs.Members.{In}
 use Rattle.gptp_graph.specs.Best.{IsBest}
 use Rattle.gptp_graph.specs.Distance.{IsDistance}
 use Rattle.gptp_graph.specs.Path.{Route}
-use Rattle.gptp_graph.specs.Snapshot.{Adjacent, IsLinked, IsWellFormed, PortIdentity, Snapshot, System, clocks, port_of}
+use Rattle.gptp_graph.specs.Snapshot.{Adjacent, IsLinked, IsWellFormed, Joins, Snapshot, System, clocks, port_of}
 use Rattle.gptp_graph.proofs.BestLemmas.{IsBest-neighbour, IsBest-unique}
 use Rattle.gptp_graph.proofs.DistanceLemmas.{IsDistance-neighbour, IsDistance-unique, distance_from, least_route}
 use Rattle.gptp_graph.proofs.ExistenceLemmas.{best_exists, distance_exists}
+use Rattle.gptp_graph.proofs.LinkDecisions.{IsLinked-dec}
 use Rattle.gptp_graph.proofs.LinkLemmas.{Adjacent-clock, Adjacent-sym, Joins-clock, Joins-sym}
 use Rattle.gptp_graph.proofs.PathLemmas.{Route-reverse}
 use Rattle.gptp_graph.proofs.SystemLemmas.{same_identity}
 use Rattle.gptp_bmca_machine.specs.Clean.{IsWorse, Whole}
-use Rattle.gptp_bmca_machine.specs.CutTree.{LosesSystem}
 use Rattle.gptp_bmca_machine.specs.Frame.{Announce}
 use Rattle.gptp_bmca_machine.specs.LossLaws.{IsWhatIsLeft, Unmoved}
 use Rattle.gptp_bmca_machine.specs.Network.{Network}
@@ -44,7 +44,14 @@ pub stays_or_worse : (g g' : Snapshot) → CutsAllBeyond g g' → (v : ℕ) → 
     → IsUnmoved g g' v ⊎ GetsWorse g g' v
 stays_or_worse g g' cuts v known = elim (cuts.each v known) [
   | inl stays ↦ inl stays
-  | inr (best, t, is, in_v) ↦ inr (record {
+  | inr (inl (best, t, is, in_v)) ↦ inr (record {
+    best = best;
+    next = t.next;
+    was = is.was_best v in_v;
+    is = in_v;
+    worse = is.worse;
+  })
+  | inr (inr (best, t, is, in_v)) ↦ inr (record {
     best = best;
     next = t.next;
     was = is.was_best v in_v;
@@ -72,7 +79,7 @@ module _ (g : Snapshot) (n : Network) (well' : IsWellFormed n.graph) (left : IsW
     worse = is.worse;
   }
 
-  module _ (lost : ℕ) (loses : LosesSystem g n lost) (cuts : CutsAllBeyond g n.graph) where
+  module _ (stood : (s : System) → In s n.graph.systems → In s g.systems) (cuts : CutsAllBeyond g n.graph) where
     -- the next system of a shortest way is one nearer
     nearer_on : (v x d : ℕ) (first : System) (us : List ℕ) → Adjacent g v x → IsBest g x first
         → Route g x first.clock us → suc (length us) ≡ d → IsDistance g v d → IsDistance g x (length us)
@@ -87,14 +94,14 @@ module _ (g : Snapshot) (n : Network) (well' : IsWellFormed n.graph) (left : IsW
             let most = IsDistance-neighbour g x v e d left.graph (Adjacent-sym g v x joined) there here in
             subst (IsDistance g x) (let is : e ≡ length us = omega (arith, least, most, same, long) in is) there
 
-    -- A shortest way from a live system doesn't pass the failed one, or the system gets a worse best.
+    -- A shortest way from a live system is left, or the system gets a worse best.
     route_left : (v d : ℕ) (first : System) (us : List ℕ) → In v (clocks n.graph) → IsBest g v first
         → Route g v first.clock us → length us ≡ d → IsDistance g v d
         → Route n.graph v first.clock us ⊎ GetsWorse g n.graph v
     route_left v d first [] known is_best route long here = inl route
     route_left v d first (x ∷ us) known is_best ((i, k, joins), route) long here =
         by (λ lives. route_left x (length us) first us lives best_x route refl there)
-        (loses.others x (Adjacent-clock g v x left.graph (i, k, joins)))
+        (IsLinked-dec n.graph (port_of v i))
       where
         best_x : IsBest g x first
         best_x = IsBest-neighbour g v x first left.graph (i, k, joins) is_best
@@ -102,31 +109,27 @@ module _ (g : Snapshot) (n : Network) (well' : IsWellFormed n.graph) (left : IsW
         there : IsDistance g x (length us)
         there = nearer_on v x d first us (i, k, joins) best_x route long here
 
-        by : ((lives : In x (clocks n.graph)) → Route n.graph x first.clock us ⊎ GetsWorse g n.graph x)
-            → In x (clocks n.graph) ⊎ (x ≡ lost) → Route n.graph v first.clock (x ∷ us) ⊎ GetsWorse g n.graph v
-        by rest (inl lives) =
-            let joined : Adjacent n.graph v x = (i, k, loses.links (port_of v i) (port_of x k) joins known lives) in
-            elim (rest lives) [
+        by : (In x (clocks n.graph) → Route n.graph x first.clock us ⊎ GetsWorse g n.graph x)
+            → Dec (IsLinked n.graph (port_of v i)) → Route n.graph v first.clock (x ∷ us) ⊎ GetsWorse g n.graph v
+        by rest (yes (to, link)) =
+            let same : to ≡ port_of x k =
+            left.graph.one_link (port_of v i) to (port_of x k) (left.links (port_of v i) to link) joins in
+            let joins_now = subst (Joins n.graph (port_of v i)) same link in
+            let joined : Adjacent n.graph v x = (i, k, joins_now) in
+            elim (rest (Joins-clock n.graph (port_of x k) (port_of v i) well'
+            (Joins-sym n.graph (port_of v i) (port_of x k) joins_now))) [
               | inl route_x ↦ inl (joined, route_x)
               | inr worse ↦ inr (worse_beside x v (Adjacent-sym n.graph v x joined) worse)
             ]
-        by rest (inr is_lost) =
-            elim (stays_or_worse g n.graph cuts v known) [
-              | inr worse ↦ inr worse
-              | inl stays ↦
-                  absurd (cuts.beyond (port_of x k) (port_of v i) (Joins-sym g (port_of v i) (port_of x k) joins) known
-                  bare (λ near far x_at v_at.
-                  let one = IsDistance-unique g x near (length us) left.graph x_at there in
-                  let two = IsDistance-unique g v far d left.graph v_at here in
-                  inl (omega (arith, one, two, long))) stays)
-            ]
-          where
-            bare : IsLinked n.graph (port_of v i) → ⊥
-            bare (to, left_on) =
-                let same = left.graph.one_link (port_of v i) to (port_of x k)
-                (left.links (port_of v i) to left_on) joins in
-                loses.dead (subst (λ c. In c (clocks n.graph)) (ap (λ (q : PortIdentity). q.clock) same ∙ is_lost)
-                (Joins-clock n.graph to (port_of v i) well' (Joins-sym n.graph (port_of v i) to left_on)))
+        by rest (no bare) = elim (stays_or_worse g n.graph cuts v known) [
+          | inr worse ↦ inr worse
+          | inl stays ↦
+              absurd (cuts.beyond (port_of x k) (port_of v i) (Joins-sym g (port_of v i) (port_of x k) joins) known bare
+              (λ near far x_at v_at.
+              let one = IsDistance-unique g x near (length us) left.graph x_at there in
+              let two = IsDistance-unique g v far d left.graph v_at here in
+              inl (omega (arith, one, two, long))) stays)
+        ]
 
     -- So what an unmoved system says that was sound is so still, or has too many steps.
     pub still_sound : (u : ℕ) (a : Announce) → Unmoved g n u → IsWorse g u a ⊎ Whole g u a → SaysSoundOrLong n.graph u a
@@ -163,7 +166,7 @@ module _ (g : Snapshot) (n : Network) (well' : IsWellFormed n.graph) (left : IsW
                 here) [
                   | inr worse ↦ absurd (none_worse u worse stays)
                   | inl route ↦ inl (inr (whole_left g n.graph left.graph well' u a whole
-                      (λ s member clock. loses.systems s member) stays.live route))
+                      (λ s member clock. stood s member) stays.live route))
                 ]
               where
                 best_first : IsBest g u whole.first

@@ -109,7 +109,7 @@ module _ (p : SettlingParams) (g : Snapshot) (since most silent : ℕ) (w w' : W
       let world = lost.standing.world in
       subst (λ x. IsTakenSeen says_announce g x (view w')) (sym same)
       (taken_kept says_announce g n (view w) (view w') (stands_well w world.sound world.between world.encodable)
-      (taken_left p g silent w is)
+      (taken_left p g silent w is) is.systems
       (taken_after p silent w lost.standing (λ start. asked_are_heard p since start w lost.asked) lost.quiet lost.off
       is.late)
       (subst (λ x. IsAfterLoss x (view w')) same
@@ -177,6 +177,7 @@ module _ (p : SettlingParams) (g : Snapshot) (since most silent : ℕ) (w : Worl
       farther = on.farther;
     });
     itself = record { lanes = is.seen.itself.lanes; stations = is.seen.itself.stations };
+    were = record { lanes = is.seen.were.lanes; stations = is.seen.were.stations };
   }
 
   none_now : UnlinkedHoldNothing (snapshot_of w) (view w)

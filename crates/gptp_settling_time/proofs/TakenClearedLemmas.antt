@@ -19,7 +19,7 @@ use Rattle.gptp_invariants.specs.WorldStanding.{snapshot_of}
 use Rattle.gptp_invariants.proofs.WorldStandsLemmas.{stands_well}
 use Rattle.gptp_theorem.specs.PlayedLaws.{IsPlayable}
 use Rattle.gptp_settling_time.specs.EventKinds.{TellsAnew, nearer_echo_span}
-use Rattle.gptp_settling_time.specs.Losses.{MovesNoneInAll, NoneSilent, UpIsUsed}
+use Rattle.gptp_settling_time.specs.Losses.{MovesNoneInAll, UpIsUsed}
 use Rattle.gptp_settling_time.proofs.BecomesSoundLemmas.{nearer_echo}
 use Rattle.gptp_settling_time.proofs.ClearedToLemmas.{IsClearedTo}
 use Rattle.gptp_settling_time.proofs.ClearsLemmas.{rights, was_best}
@@ -30,7 +30,6 @@ use Rattle.gptp_settling_time.proofs.LeftClaimedLemmas.{HaveAskedBy, HaveAskedLo
 use Rattle.gptp_settling_time.proofs.LeftToLemmas.{answered_in_use, up_in_use}
 use Rattle.gptp_settling_time.proofs.LostClaimedLemmas.{IsLostAlways}
 use Rattle.gptp_settling_time.proofs.NamesItselfLemmas.{AllNameItself}
-use Rattle.gptp_settling_time.proofs.SilentSpanLemmas.{up_none_silent}
 use Rattle.gptp_settling_time.proofs.TakenClaimedLemmas.{IsTakenAlways, taken_left_seen}
 use Rattle.gptp_settling_time.proofs.TakenToLemmas.{IsTakenTo, taken_to_left, taken_to_way}
 use Rattle.gptp_settling_time.proofs.UnlinkedLemmas.{IsLeftSeen}
@@ -80,14 +79,11 @@ module _ (d : DocumentState) (ago events : List Timed) (since most silent : ℕ)
   abbrev p : SettlingParams
   p = pace_of d.network
 
-  none : NoneSilent d.network ago events
-  none = up_none_silent d.network ago events used
-
   left : IsLeftUnmoved so.before (snapshot_of w)
-  left = taken_to_left d ago events since most silent w so playable leaves none
+  left = taken_to_left d ago events since most silent w so playable leaves
 
   way : pred (path_bound (snapshot_of w)) * delay_in w ≤ w.time
-  way = taken_to_way d ago events since most silent w so playable leaves none
+  way = taken_to_way d ago events since most silent w so playable leaves
 
   near : AllAreNear (snapshot_of w)
   near = let fewer = leaves.paths in near_so d playable events w so.lost.keeps (omega (arith, few, fewer))

@@ -129,9 +129,12 @@ module _ (p : SettlingParams) (g : Snapshot) (silent owner port : ℕ) (w : Worl
   after' : IsAfterLoss n' (view w')
   after' = taken_after p silent w' standing' heard' quiet' off late'
 
+  stood' : (s : System) → In s n'.graph.systems → In s g.systems
+  stood' s member = taken.systems s (less.systems s member)
+
   left' : IsWhatIsLeft g n'
   left' =
-      left_of g n' taken.well (λ s member. taken.systems s (less.systems s member))
+      left_of g n' taken.well stood'
       (λ a b joins. taken.links a b (less.links a b joins))
 
   -- ---- its lanes
@@ -235,7 +238,8 @@ module _ (p : SettlingParams) (g : Snapshot) (silent owner port : ℕ) (w : Worl
         (view w) (view cut) emptied taken.late after_cut taken.seen
 
     by_step : MachineSteps says_announce (view cut) (view w') → IsTakenSeen says_announce g n' (view w')
-    by_step step = taken_kept says_announce g n' (view cut) (view w') well' left' after_cut after' step seen_cut
+    by_step step =
+        taken_kept says_announce g n' (view cut) (view w') well' left' stood' after_cut after' step seen_cut
 
   -- both ends answer
   module _ (one other : Answer) (c : Calls tells.place_a (PortDown k.channel.a.port) cut tells.first one tells.between)
@@ -339,9 +343,9 @@ module _ (p : SettlingParams) (g : Snapshot) (silent owner port : ℕ) (w : Worl
 
     by_both : IsTakenSeen says_announce g n' (view w')
     by_both =
-        taken_kept says_announce g n' (view mid) (view w') well' left' after_mid after'
+        taken_kept says_announce g n' (view mid) (view w') well' left' stood' after_mid after'
         (call_steps tells.place_b k.channel.b mid tells.second other w' e answering_mid apart_mid has_mid)
-        (taken_kept says_announce g n' (view cut) (view mid) well' left' (after_cut ahead_on back_on) after_mid
+        (taken_kept says_announce g n' (view cut) (view mid) well' left' stood' (after_cut ahead_on back_on) after_mid
         (call_steps tells.place_a k.channel.a cut tells.first one mid c answering apart has_a)
         (seen_cut ahead_on back_on))
 

@@ -1,7 +1,8 @@
 -- Several events of one time take systems or links away, whoever is moved between: where the network had settled they
--- lead to one from which they were taken. Where each link that is up then is in use they lead to one that is cleared.
-use Rattle.std.proofs.Common.{List, [], ap, append_assoc, arith, inl, inr, max, pred, refl, subst, suc, sym, ℕ, ◌++◌, ◌+◌, ◌∙◌, ◌∷◌, ◌≡◌, ◌≤◌}
-use Rattle.std.proofs.Math.Nat.{le-max_left, mul-le-mul_left}
+-- lead to one from which they were taken. Where each link that is up then is in use they lead to one that is cleared,
+-- and so they do where no system is moved, and none lost its link to a nearer one.
+use Rattle.std.proofs.Common.{List, [], append_assoc, arith, inl, inr, max, pred, refl, subst, suc, sym, ℕ, ◌++◌, ◌+◌, ◌∙◌, ◌∷◌, ◌≡◌, ◌≤◌, ◌⊎◌}
+use Rattle.std.proofs.Math.Nat.{le-max_left, le-max_right, mul-le-mul_left}
 use Rattle.std.specs.List.{AllByRecursion}
 use Rattle.gptp_setup.specs.SettlingParams.{largest_interval}
 use Rattle.gptp_scenario.specs.Calm.{IsCalm, NothingLapses, last_change}
@@ -12,10 +13,10 @@ use Rattle.gptp_scenario.specs.declared.change.Timed.{Timed}
 use Rattle.gptp_theorem.proofs.EventLemmas.{last_behind}
 use Rattle.gptp_settling_time.specs.HowSoon.{EachEvent, IsTakenToo, RestsTaken, TakesSeveral}
 use Rattle.gptp_settling_time.specs.Pasts.{Aging, AnyPast, Cleared, Fallen, Fewer, Gained, Heard, Left, Lost, Past, Split, Starting, Turned, TurnedTree}
-use Rattle.gptp_settling_time.specs.EventKinds.{nearer_echo_span}
-use Rattle.gptp_settling_time.specs.Leads.{EventLeads, TakesAny, TakesMore, TakesNow}
+use Rattle.gptp_settling_time.specs.EventKinds.{TellsAnew, nearer_echo_span}
+use Rattle.gptp_settling_time.specs.Leads.{EventLeads, LosesFartherNow, TakesAny, TakesMore, TakesNow}
 use Rattle.gptp_settling_time.specs.InTurn.{LeadOn}
-use Rattle.gptp_settling_time.specs.Losses.{AreSilentAfter, MovesNoneInAll, UpIsUsed}
+use Rattle.gptp_settling_time.specs.Losses.{AreSilentAfter, MovesNoneInAll, NoneSilent}
 use Rattle.gptp_settling_time.proofs.LeadOnLemmas.{IsLed}
 use Rattle.gptp_settling_time.proofs.SettledPastLemmas.{HasSettled}
 use Rattle.gptp_settling_time.proofs.LosesLeadLemmas.{long_silent}
@@ -104,81 +105,72 @@ module _ (n : NetworkState) (time : ℕ) where
 
   -- ---- it is cleared as the last of them is taken away
 
-  abbrev cleared_at : List Timed → List Timed → Past
-  cleared_at ago events =
-      Cleared ago time silent_from (time + 1 + nearer_echo_span n events)
-      (time + nearer_echo_span n events + (sync_paths n events).delay)
+  -- right traces are told anew then, or nothing that is held names what is gone
+  abbrev pub Clears : List Timed → List Timed → ℕ → ℕ → Type 0
+  Clears ago events right old =
+      TellsAnew n events time time right old ⊎ LosesFartherNow n ago events time time right old
 
-  clear_taken : (ago made now : List Timed) (other : Timed) (most : ℕ) → last_change made ≡ time
+  clear_taken : (ago made now : List Timed) (other : Timed) (most right old : ℕ) → last_change made ≡ time
       → AllNow (other ∷ now) → EachEvent (IsTakenToo n) made (other ∷ now)
       → MovesNoneInAll n ago (made ++ other ∷ now) → (sync_paths n ago).systems ≤ 255
-      → UpIsUsed n (made ++ other ∷ now)
-      → LeadOn n made (Fewer ago time most silent_from) (other ∷ now) (cleared_at ago (made ++ other ∷ now))
-  clear_taken ago made [] other most last (here, at) (which, each) leaves few used =
+      → Clears ago (made ++ other ∷ now) right old
+      → LeadOn n made (Fewer ago time most silent_from) (other ∷ now) (Cleared ago time silent_from right old)
+  clear_taken ago made [] other most right old last (here, at) (which, each) leaves few clears =
       let es = made ++ other ∷ [] in (
         Fewer ago time most silent_from,
         inl refl,
-        cleared_at ago es,
+        Cleared ago time silent_from right old,
         (
           takes_more made other last here which,
           refl,
           refl,
           leaves,
           few,
-          (
-            used,
-            sym here,
-            ap (λ t. t + 1 + nearer_echo_span n es) (sym here),
-            ap (λ t. t + nearer_echo_span n es + (sync_paths n es).delay) (sym here),
-          ),
+          subst (λ t. TellsAnew n es t time right old ⊎ LosesFartherNow n ago es t time right old) (sym here) clears,
         ),
         refl,
       )
-  clear_taken ago made (event ∷ now) other most last (here, at) (which, each) leaves few used =
+  clear_taken ago made (event ∷ now) other most right old last (here, at) (which, each) leaves few clears =
       let all : (made ++ other ∷ []) ++ event ∷ now ≡ made ++ other ∷ event ∷ now =
       append_assoc made (other ∷ []) (event ∷ now) in (
         Fewer ago time most silent_from,
         inl refl,
         Fewer ago time most silent_from,
         (takes_more made other last here which, refl, refl, refl, refl),
-        subst (λ es. LeadOn n (made ++ other ∷ []) (Fewer ago time most silent_from) (event ∷ now) (cleared_at ago es))
-            all
-            (clear_taken ago (made ++ other ∷ []) now event most (last_behind made other ∙ here) at each
-            (subst (MovesNoneInAll n ago) (sym all) leaves) few (subst (UpIsUsed n) (sym all) used)),
+        clear_taken ago (made ++ other ∷ []) now event most right old (last_behind made other ∙ here) at each
+            (subst (MovesNoneInAll n ago) (sym all) leaves) few
+            (subst (λ es. Clears ago es right old) (sym all) clears),
       )
 
-  -- and so it has come to rest once right traces have been told
-  pub taken_rests : NothingLapses n.params → (made now : List Timed) (past : Past) (rest : ℕ) → AllNow now
-      → HasSettled n made past time → IsCalm n made → IsCalm n (made ++ now) → RestsTaken n made now rest
-      → IsLed n made now past (suc (time + rest))
-  taken_rests off made [] past rest at settled calm calm_now (none, leaves, few, used, long) = absurd none
-  taken_rests off made (event ∷ []) past rest at settled calm calm_now (none, leaves, few, used, long) = absurd none
-  taken_rests off made (event ∷ other ∷ now) past rest (here, at) settled calm calm_now
-      ((any, others), leaves, few, used, long) =
+  pub taken_clears : (made now : List Timed) (past : Past) (right old : ℕ) → AllNow now → HasSettled n made past time
+      → IsCalm n made → NothingLapses n.params → TakesSeveral n made now → MovesNoneInAll n made (made ++ now)
+      → (sync_paths n made).systems ≤ 255 → Clears made (made ++ now) right old
+      → LeadOn n made past now (Cleared made time silent_from right old)
+  taken_clears made [] past right old at settled calm off none leaves few clears = absurd none
+  taken_clears made (event ∷ []) past right old at settled calm off none leaves few clears = absurd none
+  taken_clears made (event ∷ other ∷ now) past right old (here, at) settled calm off (any, others) leaves few clears =
       let all : (made ++ event ∷ []) ++ other ∷ now ≡ made ++ event ∷ other ∷ now =
-      append_assoc made (event ∷ []) (other ∷ now) in
-      let es = made ++ event ∷ other ∷ now in
-      let delay = (sync_paths n es).delay in
-      let hop = largest_interval (pace_of n) + delay in
-      let within : nearer_echo_span n es + delay ≤ max (echo_span (pace_of n) (sync_paths n es)) delay =
-      nearer_within (sync_paths n es).systems hop delay (omega arith) in
-      let way : way_span (sync_paths n es) ≤ echo_span (pace_of n) (sync_paths n es) =
-      mul-le-mul_left (pred (sync_paths n es).systems) (omega arith) in
-      let most = le-max_left (echo_span (pace_of n) (sync_paths n es)) delay in
-      let over : time + way_span (sync_paths n es) ≤ suc (time + rest) = omega (arith, way, most, long) in
+      append_assoc made (event ∷ []) (other ∷ now) in (
+        past,
+        inl refl,
+        Fewer made time (sync_paths n made).delay silent_from,
+        first_taken made event past here (subst (HasSettled n made past) (sym here) settled) calm off any,
+        clear_taken made (made ++ event ∷ []) now other (sync_paths n made).delay right old
+            (last_behind made event ∙ here) at others (subst (MovesNoneInAll n made) (sym all) leaves) few
+            (subst (λ es. Clears made es right old) (sym all) clears),
+      )
+
+  -- once what is old is gone, and a way is over, it has come to rest
+  rests_cleared : NothingLapses n.params → (made now : List Timed) (past : Past) (rest right old : ℕ) → AllNow now
+      → HasSettled n made past time → IsCalm n made → IsCalm n (made ++ now) → TakesSeveral n made now
+      → MovesNoneInAll n made (made ++ now) → (sync_paths n made).systems ≤ 255 → Clears made (made ++ now) right old
+      → old ≤ time + rest → way_span (sync_paths n (made ++ now)) ≤ rest
+      → NoneSilent n made (made ++ now) ⊎ (silence_span (pace_of n) ≤ rest) → IsLed n made now past (suc (time + rest))
+  rests_cleared off made now past rest right old at settled calm calm_now takes leaves few clears gone way dark =
+      let over : time + way_span (sync_paths n (made ++ now)) ≤ suc (time + rest) = omega (arith, way) in
       record {
-        last = cleared_at made es;
-        lead = (
-          past,
-          inl refl,
-          Fewer made time (sync_paths n made).delay silent_from,
-          first_taken made event past here (subst (HasSettled n made past) (sym here) settled) calm off any,
-          subst (λ fs. LeadOn n (made ++ event ∷ []) (Fewer made time (sync_paths n made).delay silent_from)
-              (other ∷ now) (cleared_at made fs)) all
-              (clear_taken made (made ++ event ∷ []) now other (sync_paths n made).delay
-              (last_behind made event ∙ here) at others (subst (MovesNoneInAll n made) (sym all) leaves) few
-              (subst (UpIsUsed n) (sym all) used)),
-        );
+        last = Cleared made time silent_from right old;
+        lead = taken_clears made now past right old at settled calm off takes leaves few clears;
         settles = (
           Heard time,
           inr (
@@ -187,12 +179,35 @@ module _ (n : NetworkState) (time : ℕ) where
             record {
               calm = calm_now;
               off = off;
-              gone = omega (arith, within, long);
+              gone = omega (arith, gone);
               later = omega arith;
-              unlinked = inr (up_none_silent n made es used);
+              unlinked = elim dark [ inl none ↦ inr none | inr long ↦ inl (omega (arith, long)) ];
               over = over;
             },
           ),
           over,
         );
       }
+
+  -- so it does once right traces have been told, or what was in flight is gone
+  pub taken_rests : NothingLapses n.params → (made now : List Timed) (past : Past) (rest : ℕ) → AllNow now
+      → HasSettled n made past time → IsCalm n made → IsCalm n (made ++ now) → RestsTaken n made now rest
+      → IsLed n made now past (suc (time + rest))
+  taken_rests off made now past rest at settled calm calm_now (takes, leaves, few, inl (used, long)) =
+      let es = made ++ now in
+      let delay = (sync_paths n es).delay in
+      let hop = largest_interval (pace_of n) + delay in
+      let within : nearer_echo_span n es + delay ≤ max (echo_span (pace_of n) (sync_paths n es)) delay =
+      nearer_within (sync_paths n es).systems hop delay (omega arith) in
+      let way : way_span (sync_paths n es) ≤ echo_span (pace_of n) (sync_paths n es) =
+      mul-le-mul_left (pred (sync_paths n es).systems) (omega arith) in
+      let most = le-max_left (echo_span (pace_of n) (sync_paths n es)) delay in
+      rests_cleared off made now past rest (time + 1 + nearer_echo_span n es) (time + nearer_echo_span n es + delay) at
+      settled calm calm_now takes leaves few (inl (used, refl, refl, refl)) (omega (arith, within, long))
+      (omega (arith, way, most, long)) (inl (up_none_silent n made es used))
+  taken_rests off made now past rest at settled calm calm_now
+      (takes, leaves, few, inr (loses, (gone, is_gone, dark, long))) =
+      let way = le-max_left (way_span (sync_paths n (made ++ now))) gone in
+      let flight = le-max_right (way_span (sync_paths n (made ++ now))) gone in
+      rests_cleared off made now past rest 0 (time + gone) at settled calm calm_now takes leaves few
+      (inr (loses, refl, refl, (gone, is_gone, refl))) (omega (arith, flight, long)) (omega (arith, way, long)) dark

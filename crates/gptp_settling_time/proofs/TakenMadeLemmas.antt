@@ -50,6 +50,7 @@ use Rattle.gptp_settling_time.proofs.TakenClaimedLemmas.{IsTakenAlways, taken_af
 use Rattle.gptp_settling_time.proofs.TakenDownLossLemmas.{down_taken}
 use Rattle.gptp_settling_time.proofs.TakenFailLossLemmas.{fail_taken}
 use Rattle.gptp_settling_time.proofs.TakenToLemmas.{IsTakenTo}
+use Rattle.gptp_settling_time.proofs.WereSoundLemmas.{were_sound_begins}
 use Rattle.gptp_settling_time.proofs.WorldMovesLemmas.{alike_so}
 
 -- ---- it begins
@@ -106,6 +107,7 @@ module _ (p : SettlingParams) (since most silent : ℕ) (w : WorldState) (losing
     seen = record {
       fits = fits;
       itself = itself_begins says_announce n g (view w) sound;
+      were = were_sound_begins says_announce g n (view w) well sound fits;
       still = still_emptied says_announce g seen.n n well
           (record {
             place = seen.same.place;

@@ -1,6 +1,6 @@
 -- What is known of each state since links or systems were taken away, whoever is moved: all that is held and in flight
--- fits the snapshot of before, each system that is unmoved keeps its root and steps and tells them, and what names the
--- best in no steps names it alone.
+-- fits the snapshot of before, and is sound in it, each system that is unmoved keeps its root and steps and tells them,
+-- and what names the best in no steps names it alone.
 use Rattle.std.proofs.Common.{◌≤◌, ℕ, suc, subst, inl, inr, arith}
 use Rattle.gptp_lists.specs.Members.{In}
 use Rattle.gptp_graph.specs.Snapshot.{IsWellFormed, Joins, PortIdentity, Snapshot, System}
@@ -16,22 +16,26 @@ use Rattle.gptp_bmca_machine.proofs.RestLemmas.{left_of}
 use Rattle.gptp_settling_time.proofs.AgingStillLemmas.{IsEmptied, still_emptied}
 use Rattle.gptp_settling_time.proofs.BetweenUnmovedLemmas.{known_on, unmoved_between}
 use Rattle.gptp_settling_time.proofs.NamesItselfLemmas.{AllNameItself, itself_kept}
+use Rattle.gptp_settling_time.proofs.WereSoundLemmas.{AllWereSound, were_sound_emptied, were_sound_kept}
 
 pub record IsTakenSeen (says : Spelling) (g : Snapshot) (n : Network) (w : MachineState) : Type 0 where
   pub fits : EverythingFits says g n w
   pub still : (d : ℕ) → StillSettles says g n d w
   pub itself : AllNameItself says n g w
+  pub were : AllWereSound says g n w
 
 -- every step keeps that
 pub taken_kept : (says : Spelling) (g : Snapshot) (n : Network) (w w' : MachineState) → IsWellFormed n.graph
-    → IsWhatIsLeft g n → IsAfterLoss n w → IsAfterLoss n w' → MachineSteps says w w' → IsTakenSeen says g n w
+    → IsWhatIsLeft g n → ((s : System) → In s n.graph.systems → In s g.systems) → IsAfterLoss n w → IsAfterLoss n w' →
+    MachineSteps says w w' → IsTakenSeen says g n w
     → IsTakenSeen says g n w'
-taken_kept says g n w w' well' less was after step seen = record {
+taken_kept says g n w w' well' less stood was after step seen = record {
   fits = fits;
   still = λ d.
       levels_below says g n well' less w w' was after seen.fits.stations fits.stations step seen.still (suc d) d
       (omega arith);
   itself = itself_kept says n g w w' was.calm after.calm step seen.itself;
+  were = were_sound_kept says g n less.graph stood less.links w w' was.calm after.calm step seen.were;
 }
   where
     fits : EverythingFits says g n w'
@@ -81,6 +85,8 @@ module _ (says : Spelling) (g : Snapshot) (n n' : Network) (well' : IsWellFormed
     taken_emptied = record {
       fits = fits';
       itself = itself';
+      were = were_sound_emptied says g n n' w w' (λ v known. known_on n'.graph n.graph systems links v known) emptied
+          seen.were;
       still = still_emptied says g n n' well' same links
           (λ v is. unmoved_between g n n' well' first_systems first_links systems links v is)
           less_left w w' emptied late after' fits' seen.still;

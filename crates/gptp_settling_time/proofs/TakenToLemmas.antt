@@ -79,9 +79,9 @@ module _ (d : DocumentState) (ago events : List Timed) (since most silent : ℕ)
             (taken_later p so.before since most silent timed.at w now first so.lost.is so.is);
       }
 
-  -- where no system is moved in all, and no lost link is silent
+  -- where no system is moved in all
   module _ (w : WorldState) (so : IsTakenTo d ago events since most silent w) (playable : IsPlayable d)
-      (leaves : MovesNoneInAll d.network ago events) (none : NoneSilent d.network ago events) where
+      (leaves : MovesNoneInAll d.network ago events) where
     pub taken_to_left : IsLeftUnmoved so.before (snapshot_of w)
     taken_to_left = record {
       systems = so.is.systems;
@@ -109,17 +109,19 @@ module _ (d : DocumentState) (ago events : List Timed) (since most silent : ℕ)
         (sync_paths d.network ago).delay (sync_paths d.network events).delay leaves.paths leaves.delay in
         subst (λ (x : SyncPaths). pred x.systems * x.delay ≤ w.time) paths (omega (arith, less, before, begun))
 
-    quiet : AreSilentBy (pace_of d.network) w.time w
-    quiet = none_silent_from d ago events w so.lost.keeps so.lost.were none w.time
+    -- and no lost link is silent
+    module _ (none : NoneSilent d.network ago events) where
+      quiet : AreSilentBy (pace_of d.network) w.time w
+      quiet = none_silent_from d ago events w so.lost.keeps so.lost.were none w.time
 
-    -- its choice stands
-    pub taken_to_chooses : ChoiceStands w
-    taken_to_chooses =
-        taken_chooses (pace_of d.network) so.before since most silent w so.lost.is so.is taken_to_left taken_to_way
-        quiet
+      -- its choice stands
+      pub taken_to_chooses : ChoiceStands w
+      taken_to_chooses =
+          taken_chooses (pace_of d.network) so.before since most silent w so.lost.is so.is taken_to_left taken_to_way
+          quiet
 
-    -- it has settled
-    pub taken_to_settled : Settled w × IsBoundedWorld w
-    taken_to_settled =
-        taken_settles (pace_of d.network) so.before since most silent w so.lost.is so.is taken_to_left taken_to_way
-        quiet
+      -- it has settled
+      pub taken_to_settled : Settled w × IsBoundedWorld w
+      taken_to_settled =
+          taken_settles (pace_of d.network) so.before since most silent w so.lost.is so.is taken_to_left taken_to_way
+          quiet

@@ -20,7 +20,7 @@ use Rattle.gptp_bmca_machine.specs.Facts.{station_system}
 use Rattle.gptp_bmca_machine.specs.Frame.{Announce, AnnounceFrame, Lane, Spelling}
 use Rattle.gptp_bmca_machine.specs.Levels.{Invariant}
 use Rattle.gptp_bmca_machine.specs.Network.{IsSettlingNetwork, Network, wiring}
-use Rattle.gptp_bmca_machine.specs.Reacts.{IsOwn}
+use Rattle.gptp_bmca_machine.specs.Reacts.{IsMasterAt, IsOwn}
 use Rattle.gptp_bmca_machine.specs.SoundEverywhere.{IsSoundSent}
 use Rattle.gptp_bmca_machine.specs.SoundLaws.{AllAreNear}
 use Rattle.gptp_bmca_machine.specs.Station.{MachineState, Station}
@@ -55,10 +55,11 @@ abbrev pub FlightsAreSound : Spelling → Snapshot → ℕ → MachineState → 
 FlightsAreSound says g old w = (j : ℕ) (l : Lane) (f : AnnounceFrame) (a : Announce) → slice_get w.lanes j ≡ Some l
     → In f l.frames → says f.octets a → IsSoundSent g l.from a ⊎ (f.due ≤ old)
 
--- what each live system tells is sound
+-- what each live system tells at a master port, and that its lane has, is sound
 abbrev pub AllTellSound : Snapshot → MachineState → Type 0
 AllTellSound g w = (s : Station) (i port : ℕ) (a : Announce) → slice_get w.stations i ≡ Some s → s.live ≡ true
-    → IsOwn s port a → IsSoundSent g (port_of s.clock port) a
+    → IsOwn s port a → IsMasterAt s port → (j : ℕ) (l : Lane) (f : AnnounceFrame) → slice_get w.lanes j ≡ Some l
+    → In f l.frames → l.from ≡ port_of s.clock port → IsSoundSent g (port_of s.clock port) a
 
 -- So it is once each system tells what is right.
 module _ (says : Spelling) (n : Network) (net : IsSettlingNetwork n) (near : AllAreNear n.graph) (base : ℕ)
@@ -66,7 +67,7 @@ module _ (says : Spelling) (n : Network) (net : IsSettlingNetwork n) (near : All
     (levels' : (d : ℕ) → LevelTellsRight says n base w' d)
     (right : tells_right_from n base (pred n.reach) ≤ w'.time) where
   told_sound : AllTellSound n.graph w'
-  told_sound s i port a at live own =
+  told_sound s i port a at live own master j l f at_l among from =
       let known = In-clocks n.graph (station_system s) (x'.calm.facts.stations i s at live).known in
       let (d, here) = distance_exists n.graph s.clock net.graph known in
       let (f, there, close) = near s.clock known in
@@ -94,11 +95,12 @@ module _ (says : Spelling) (g : Snapshot) (old : ℕ) (w w' : MachineState) (tel
             subst (λ k. IsSoundSent g k a ⊎ (f.due ≤ old)) (sym step.from) (all j l f a stood before said)
         | inr new ↦
             let (y, sent, from, octets) = step.sent f new in
-            let own = (call.reacts.tells y a sent (subst (λ (o : List ℕ). says o a) octets said)).0 in
+            let (own, master) = call.reacts.tells y a sent (subst (λ (o : List ℕ). says o a) octets said) in
             let leaves : port_of call.s'.clock y.port ≡ l'.from =
             (λ i. port_of (call.reacts.clock i) y.port) ∙ sym (step.from ∙ from) in
             inl (subst (λ k. IsSoundSent g k a) leaves
-            (tell call.s' call.place y.port a call.there (call.reacts.live ∙ call.live) own))
+            (tell call.s' call.place y.port a call.there (call.reacts.live ∙ call.live) own master j l' f at among
+            (sym leaves)))
       ]
 
   popped : (j : ℕ) (l : Lane) (f : AnnounceFrame) (fs : List AnnounceFrame) (mid : MachineState) → Pops j l f fs w mid

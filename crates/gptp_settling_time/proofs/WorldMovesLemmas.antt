@@ -1,5 +1,5 @@
 -- Which systems an event of a document moves between its snapshots, it moves between worlds that stand as planned.
-use Rattle.std.proofs.Common.{◌≡◌, ◌⊎◌, inl, inr, ◌≤◌, ◌+◌, ℕ, List, [], ◌∷◌, ◌++◌, ap, subst, arith}
+use Rattle.std.proofs.Common.{◌≡◌, ◌⊎◌, inl, inr, ◌≤◌, ◌+◌, ℕ, List, [], ◌∷◌, ◌++◌, ap, subst, min, arith}
 use Rattle.gptp_lists.specs.Members.{In}
 use Rattle.gptp_graph.specs.Best.{IsBest}
 use Rattle.gptp_graph.specs.PathBound.{path_bound}
@@ -15,6 +15,7 @@ use Rattle.gptp_network.specs.Snapshot.{StandsAfter}
 use Rattle.gptp_network.proofs.ExistenceLemmas.{stands_after}
 use Rattle.gptp_bmca_machine.specs.CutTree.{Tree}
 use Rattle.gptp_bmca_machine.specs.SoundLaws.{AllAreNear}
+use Rattle.gptp_bmca_machine.specs.TwoTops.{First, Second, TopsTree}
 use Rattle.gptp_invariants.specs.WorldStanding.{snapshot_of}
 use Rattle.gptp_invariants.proofs.WorldStandsLemmas.{stands_well}
 use Rattle.gptp_theorem.specs.PlayedLaws.{IsPlayable}
@@ -23,7 +24,7 @@ use Rattle.gptp_theorem.proofs.AlikeLemmas.{clock_among, turned, best as alike_b
 use Rattle.gptp_theorem.proofs.SnapshotLemmas.{snapshots_stand}
 use Rattle.gptp_theorem.proofs.SyncPathLemmas.{paths_stand}
 use Rattle.gptp_settling_time.specs.Losses.{IsCutOff, IsFarEnd, IsTurned, IsUnmoved, IsUnmovedOrCutOff, MovesNone, MovesNoneJoined, TurnsSystem}
-use Rattle.gptp_settling_time.specs.TreeLosses.{CutsAllBeyond, IsTreeCutOff}
+use Rattle.gptp_settling_time.specs.TreeLosses.{CutsAllBeyond, IsTreeCutOff, IsTreeCutTwice, LeavesAlone, LosesFarther}
 use Rattle.gptp_settling_time.proofs.KeptToLemmas.{KeepsTo}
 
 -- a system is unmoved between two snapshots that is so between others of the same systems and links
@@ -69,17 +70,62 @@ cut_off_alike g h g' h' before now best t cut = record {
     to_h : (v : ℕ) → IsBest g' v t.next → IsBest h' v t.next
     to_h v is = alike_best g' h' now v t.next is
 
+-- so it is that no system is moved, and none lost its link to a nearer one
+pub farther_alike : (g h g' h' : Snapshot) → AreAlike g h → AreAlike g' h' → LosesFarther h h' → LosesFarther g g'
+farther_alike g h g' h' before now loses = record {
+  each = λ v known. unmoved_alike g h g' h' before now v (loses.each v (clock_among g' h' now v known));
+  beyond = λ from to joins known bare nearer.
+      loses.beyond from to (joins_alike g h before from to joins) (clock_among g' h' now to.clock known)
+      (λ (u, link). bare (u, joins_alike h' g' (turned g' h' now) to u link))
+      (λ near far from_near to_far.
+      nearer near far (alike_distance h g (turned g h before) from.clock near from_near)
+      (alike_distance h g (turned g h before) to.clock far to_far));
+}
+
+-- a tree with two tops is so cut off between two snapshots where it is between others of the same systems and links
+pub twice_alike : (g h g' h' : Snapshot) → AreAlike g h → AreAlike g' h' → (best : System) (t : TopsTree)
+    → IsTreeCutTwice h h' best t → IsTreeCutTwice g g' best t
+twice_alike g h g' h' before now best t cut = record {
+  in_top = λ side. alike_best h' g' (turned g' h' now) (t.top side) t.next (cut.in_top side);
+  worse = cut.worse;
+  was_best = λ v in_v. alike_best h g back v best (cut.was_best v (to_h v in_v));
+  was = λ v in_v.
+      alike_distance h g back v (t.base + min (t.depth First v) (t.depth Second v)) (cut.was v (to_h v in_v));
+  near = λ side v in_v. cut.near side v (to_h v in_v);
+  first = cut.first;
+  lost = λ v u in_v joined. elim (cut.lost v u (to_h v in_v) (adjacent_alike g h before v u joined)) [
+    | inl left ↦ inl (adjacent_alike h' g' (turned g' h' now) v u left)
+    | inr is_top ↦ inr is_top
+  ];
+  steps = λ side v u in_v joined. cut.steps side v u (to_h v in_v) (adjacent_alike g' h' now v u joined);
+  single = λ side v p q a b in_v one two.
+      cut.single side v p q a b (to_h v in_v) (joins_alike g' h' now (port_of v p) a one)
+      (joins_alike g' h' now (port_of v q) b two);
+}
+  where
+    back : AreAlike h g
+    back = turned g h before
+
+    to_h : (v : ℕ) → IsBest g' v t.next → IsBest h' v t.next
+    to_h v is = alike_best g' h' now v t.next is
+
 -- and so is all beyond a failed system
 pub beyond_alike : (g h g' h' : Snapshot) → AreAlike g h → AreAlike g' h' → CutsAllBeyond h h' → CutsAllBeyond g g'
 beyond_alike g h g' h' before now cuts = record {
   each = λ v known. elim (cuts.each v (clock_among g' h' now v known)) [
     | inl unmoved ↦ inl (unmoved_alike g h g' h' before now v unmoved)
-    | inr (best, t, is, in_v) ↦ inr (
+    | inr (inl (best, t, is, in_v)) ↦ inr (inl (
       best,
       t,
       cut_off_alike g h g' h' before now best t is,
       alike_best h' g' back v t.next in_v,
-    )
+    ))
+    | inr (inr (best, t, is, in_v)) ↦ inr (inr (
+      best,
+      t,
+      twice_alike g h g' h' before now best t is,
+      alike_best h' g' back v t.next in_v,
+    ))
   ];
   beyond = λ from to joins known bare nearer stays.
       cuts.beyond from to (joins_alike g h before from to joins) (clock_among g' h' now to.clock known)
@@ -92,6 +138,15 @@ beyond_alike g h g' h' before now cuts = record {
   where
     back : AreAlike h' g'
     back = turned g' h' now
+
+-- and where each live system is left alone
+pub leaves_alike : (g h g' h' : Snapshot) → AreAlike g h → AreAlike g' h' → LeavesAlone h h' → LeavesAlone g g'
+leaves_alike g h g' h' before now leaves = record {
+  none = λ from to joins. leaves.none from to (joins_alike g' h' now from to joins);
+  one = λ v p q t u known first second.
+      leaves.one v p q t u (clock_among g' h' now v known) (joins_alike g h before (port_of v p) t first)
+      (joins_alike g h before (port_of v q) u second);
+}
 
 far_alike : (g h : Snapshot) → AreAlike g h → (v : ℕ) → IsFarEnd h v → IsFarEnd g v
 far_alike g h alike_is v is_far u far near joined away close =

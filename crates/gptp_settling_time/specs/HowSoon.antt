@@ -61,7 +61,7 @@ use Rattle.gptp_settling_time.specs.EventKinds.{AddsHeard, BettersClock, FlightI
 use Rattle.gptp_settling_time.specs.Leads.{TakesAny}
 use Rattle.gptp_settling_time.specs.Rests.{FlightIsGoneSince, turned_echo_span}
 use Rattle.gptp_settling_time.specs.Losses.{AgesWithin, CutsFarEnd, FailsFarEnd, FailsHeard, LeavesChoice, LosesAny, LowersLink, LowersUnused, MovesNoneInAll, NoneSilent, TurnsLink, UpIsUsed}
-use Rattle.gptp_settling_time.specs.TreeLosses.{CutsAllBeyondFrom, FailsTrees, FallsTree, TurnsTreeLink}
+use Rattle.gptp_settling_time.specs.TreeLosses.{CutsAllBeyondFrom, FailsTrees, FallsTree, LeavesAloneFrom, LosesFartherFrom, TurnsTreeLink}
 
 -- ---- times
 
@@ -368,12 +368,15 @@ BoundsAnyLoss n made now choice roles =
     × (choice ≡ loss_span (pace_of n) (sync_paths n (made ++ now)) (delay_between n made now))
     × RolesAfterLoss n made now choice roles
 
--- Where several systems and links are taken away, no system is moved in all but such as are cut off, and no lost link
--- is silent, choice and roles stand at once, whoever is moved between.
+-- Where several systems and links are taken away, and no system is moved in all but such as are cut off, the choice
+-- stands at once, whoever is moved between. So do roles where no lost link is silent. Else, where no system is moved at
+-- all, and none lost its link to a nearer one, they do once too many requests are lost.
 abbrev pub BoundsTaken : NetworkState → List Timed → List Timed → ℕ → ℕ → Type 0
 BoundsTaken n made now choice roles =
-    TakesSeveral n made now × MovesNoneInAll n made (made ++ now) × NoneSilent n made (made ++ now)
-    × (choice ≡ 0) × (roles ≡ 0)
+    TakesSeveral n made now × MovesNoneInAll n made (made ++ now) × (choice ≡ 0)
+    × ((NoneSilent n made (made ++ now) × (roles ≡ 0))
+    ⊎ (LosesFartherFrom n made (made ++ now) × ((sync_paths n made).systems ≤ 255)
+    × (roles ≡ silence_span (pace_of n))))
 
 -- What the events of a time take away asks for so much: of the choice, and of the roles.
 abbrev pub BoundsLoss : NetworkState → List Timed → List Timed → ℕ → ℕ → Type 0
@@ -487,13 +490,18 @@ abbrev pub RestsAfterAnyLoss : NetworkState → List Timed → List Timed → �
 RestsAfterAnyLoss n made now rest = (choice : ℕ) × BoundsAnyLoss n made now choice rest
 
 -- After several systems and links were taken away, by which none is moved in all but such as are cut off, it has where
--- each link that is up then is in use once right traces have been told.
+-- each link that is up then is in use once right traces have been told. Where none is moved, and none lost its link to
+-- a nearer one, they needn't be told anew: it has once a way is over, what was in flight is gone, and roles stand.
 abbrev pub RestsTaken : NetworkState → List Timed → List Timed → ℕ → Type 0
 RestsTaken n made now rest =
     TakesSeveral n made now × MovesNoneInAll n made (made ++ now)
     × ((sync_paths n made).systems ≤ 255)
-    × UpIsUsed n (made ++ now)
-    × (max (echo_span (pace_of n) (sync_paths n (made ++ now))) (sync_paths n (made ++ now)).delay ≤ rest)
+    × ((UpIsUsed n (made ++ now)
+    × (max (echo_span (pace_of n) (sync_paths n (made ++ now))) (sync_paths n (made ++ now)).delay ≤ rest))
+    ⊎ (LosesFartherFrom n made (made ++ now)
+    × ((gone : ℕ) × FlightIsGone n (made ++ now) gone
+    × (NoneSilent n made (made ++ now) ⊎ (silence_span (pace_of n) ≤ rest))
+    × (max (way_span (sync_paths n (made ++ now))) gone ≤ rest))))
 
 abbrev pub RestsAfterLoss : NetworkState → List Timed → List Timed → ℕ → Type 0
 RestsAfterLoss n made now rest =
@@ -506,14 +514,15 @@ RestsTree n rest events =
 
 -- After trees were moved, as a system failed, it has come to rest once right traces have been told by distance since
 -- they settled, and what was in flight is gone. Where all beyond that system was cut off they needn't be told anew.
--- Roles have to stand too.
+-- Where each live system was left alone it is enough that roles stand and what was in flight is gone.
 abbrev pub RestsSplit : NetworkState → ℕ → List Timed → List Timed → Type 0
 RestsSplit n rest made now =
     (choice : ℕ) × (roles : ℕ) × BoundsSplit n choice roles made now
     × ((max roles (choice + max (echo_span (pace_of n) (sync_paths n (made ++ now))) (largest_interval (pace_of n)))
     ≤ rest)
-    ⊎ (CutsAllBeyondFrom n made (made ++ now) × (flight : ℕ) × FlightIsGoneSince n made (made ++ now) flight
-    × (max roles (choice + flight) ≤ rest)))
+    ⊎ ((CutsAllBeyondFrom n made (made ++ now) × (flight : ℕ) × FlightIsGoneSince n made (made ++ now) flight
+    × (max roles (choice + flight) ≤ rest))
+    ⊎ (LeavesAloneFrom n made (made ++ now) × UpIsUsed n made × (max roles (sync_paths n made).delay ≤ rest))))
 
 -- By so much later than a time the network has come to rest, by the times before it, the latest first: it has settled,
 -- and nothing that is held, or in flight, names what is gone. The first time of all is 0. After a tree has turned right

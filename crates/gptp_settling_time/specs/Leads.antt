@@ -30,9 +30,9 @@ use Rattle.gptp_scenario.specs.declared.network.LinkSpec.{LinkSpec}
 use Rattle.gptp_settling_time.specs.Arrivals.{HasArrivedBy}
 use Rattle.gptp_settling_time.specs.Gains.{AreCapableAnyway, AreCapableNext, AreCapableStill, HasRested, IdleNow, RepeatsNow, TakesNothing}
 use Rattle.gptp_settling_time.specs.Losses.{AgesWithin, AreSilentAfter, LosesAny, LowersUnused, MovesNoneInAll}
-use Rattle.gptp_settling_time.specs.TreeLosses.{FailsTrees}
+use Rattle.gptp_settling_time.specs.TreeLosses.{FailsTrees, LosesFartherFrom}
 use Rattle.gptp_settling_time.specs.Pasts.{Aging, AnyPast, Cleared, Fallen, Fewer, Gained, Heard, Left, Lost, Past, Split, Starting, Turned, TurnedTree}
-use Rattle.gptp_settling_time.specs.EventKinds.{AddsHeard, BettersClock, ClearsBy, FailsNow, FallsCalm, HasSettledAnyhow, HasSettledHeard, HasSettledSince, IsDownNow, IsDownOrIdle, LeavesSettled, LeavesStanding, LowersUnusedCalm, MakesNothing, StartsWith, TellsAnew, TellsNothing, TurnsCalm, TurnsTreeCalm, UsedVaryLittle, WidensFrom}
+use Rattle.gptp_settling_time.specs.EventKinds.{AddsHeard, BettersClock, ClearsBy, FailsNow, FallsCalm, FlightIsGone, HasSettledAnyhow, HasSettledHeard, HasSettledSince, IsDownNow, IsDownOrIdle, LeavesSettled, LeavesStanding, LowersUnusedCalm, MakesNothing, StartsWith, TellsAnew, TellsNothing, TurnsCalm, TurnsTreeCalm, UsedVaryLittle, WidensFrom}
 
 -- From any past the network has rested, and its ports are capable whatever came before. From a gain, and from what is
 -- heard, they were capable from another start on.
@@ -156,6 +156,13 @@ TakesMore n before event since silent =
     × ((TakesAny n before event × AreSilentAfter (pace_of n) event.at silent event.act) ⊎ LowersUnused n before event))
     ⊎ RepeatsNow n before event
 
+-- No system is moved by all that these events took away, and none lost its link to a nearer one: nothing that is held
+-- names what is gone. What is in flight is gone so much later than this time.
+abbrev pub LosesFartherNow : NetworkState → List Timed → List Timed → ℕ → ℕ → ℕ → ℕ → Type 0
+LosesFartherNow n ago events time since right old =
+    LosesFartherFrom n ago events × (since ≡ time) × (right ≡ 0)
+    × ((gone : ℕ) × FlightIsGone n events gone × (old ≡ time + gone))
+
 -- A network that had settled is cleared, and one that is so stays so. One in which something ages is cleared as the
 -- last link goes down of which an end has failed. One from which systems and links are taken away is as the last is,
 -- where no system is moved in all but such as are cut off.
@@ -184,7 +191,8 @@ LeadsToCleared n before (Fewer made start most dark) event ago since silent righ
     TakesMore n before event start dark × (ago ≡ made) × (silent ≡ dark)
     × MovesNoneInAll n made (before ++ event ∷ [])
     × ((sync_paths n made).systems ≤ 255)
-    × TellsAnew n (before ++ event ∷ []) event.at since right old
+    × (TellsAnew n (before ++ event ∷ []) event.at since right old
+    ⊎ LosesFartherNow n made (before ++ event ∷ []) event.at since right old)
 
 -- Where a silent link goes down too what came over it is gone. So all has aged sooner by these events, if others were
 -- faster. Ports beside the system are off by a time that says when it failed.

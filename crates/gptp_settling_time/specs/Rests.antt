@@ -6,9 +6,9 @@ use Rattle.gptp_scenario.specs.Network.{NetworkState, pace_of}
 use Rattle.gptp_scenario.specs.SettlingTime.{echo_span, loss_span, silence_span, way_span}
 use Rattle.gptp_scenario.specs.SyncWait.{sync_paths}
 use Rattle.gptp_scenario.specs.declared.change.Timed.{Timed}
-use Rattle.gptp_settling_time.specs.Losses.{NoneSilent, NoneUpIsSlower}
+use Rattle.gptp_settling_time.specs.Losses.{NoneSilent, NoneUpIsSlower, UpIsUsed}
 use Rattle.gptp_settling_time.specs.Arrivals.{HasArrivedSinceSet}
-use Rattle.gptp_settling_time.specs.TreeLosses.{CutsAllBeyondFrom}
+use Rattle.gptp_settling_time.specs.TreeLosses.{CutsAllBeyondFrom, LeavesAloneFrom}
 use Rattle.gptp_settling_time.specs.Pasts.{Aging, Cleared, Fallen, Heard, Lost, Past, Split, Turned, TurnedTree}
 use Rattle.gptp_settling_time.specs.EventKinds.{FlightIsGone, HasSettledHeard, nearer_echo_span}
 
@@ -78,12 +78,16 @@ FlightIsGoneSince n ago events flight = FlightIsGone n events flight
 
 -- What is held and in flight in it is right. Right traces have been told by distance since trees settled, and what was
 -- in flight is gone. Or all beyond the failed system was cut off; then trees have settled, and what was in flight as
--- they dropped what they chose before is gone.
+-- they dropped what they chose before is gone. Or each live system was left alone, having had one link at most, and
+-- each link that was up was in use; then what was in flight as the system failed is gone.
 abbrev pub IsToldApart : NetworkState → List Timed → List Timed → ℕ → ℕ → Type 0
 IsToldApart n ago events gone time =
     (gone + 2 * way_span (sync_paths n events) + nearer_echo_span n events + largest_interval (pace_of n) ≤ time)
-    ⊎ (CutsAllBeyondFrom n ago events × (flight : ℕ) × FlightIsGoneSince n ago events flight
-    × (gone + 2 * way_span (sync_paths n events) ≤ time) × (gone + way_span (sync_paths n events) + flight ≤ time))
+    ⊎ ((CutsAllBeyondFrom n ago events × (flight : ℕ) × FlightIsGoneSince n ago events flight
+    × (gone + 2 * way_span (sync_paths n events) ≤ time)
+    × (gone + way_span (sync_paths n events) + flight ≤ time))
+    ⊎ (LeavesAloneFrom n ago events × UpIsUsed n ago × (gone + 2 * way_span (sync_paths n events) ≤ time)
+    × (last_change events + (sync_paths n ago).delay < time)))
 
 -- A network in which trees were moved, as a system failed, has come to rest by a time, as one whose ports are capable
 -- from a start on. Nothing has changed since. What others held of it was gone by a moment, and a way later, by that

@@ -241,11 +241,13 @@ MovesTreesFrom n before event = (g g' : Snapshot) → StandsAfter n before g
     → StandsAfter n (before ++ event ∷ []) g'
     → (best : System) × ((v : ℕ) → In v (clocks g') → IsUnmovedOrInTree g g' best v)
 
--- From the first snapshot to the second each live system is unmoved, or one of a tree with one top that is cut off.
+-- From the first snapshot to the second each live system is unmoved, or one of a tree that is cut off, maybe with two
+-- tops.
 -- None is unmoved that lost its link to one that was nearer to the best, or as near with the lower clock.
 pub record CutsAllBeyond (g g' : Snapshot) : Type 0 where
   pub each : (v : ℕ) → In v (clocks g') → IsUnmoved g g' v
-      ⊎ ((best : System) × (t : Tree) × IsTreeCutOff g g' best t × IsBest g' v t.next)
+      ⊎ (((best : System) × (t : Tree) × IsTreeCutOff g g' best t × IsBest g' v t.next)
+      ⊎ ((best : System) × (t : TopsTree) × IsTreeCutTwice g g' best t × IsBest g' v t.next))
   pub beyond : (from to : PortIdentity) → Joins g from to → In to.clock (clocks g') → (IsLinked g' to → ⊥)
       → ((near far : ℕ) → IsDistance g from.clock near → IsDistance g to.clock far
       → (near < far) ⊎ ((near ≡ far) × (from.clock < to.clock))) → IsUnmoved g g' to.clock → ⊥
@@ -254,6 +256,30 @@ pub record CutsAllBeyond (g g' : Snapshot) : Type 0 where
 abbrev pub CutsAllBeyondFrom : NetworkState → List Timed → List Timed → Type 0
 CutsAllBeyondFrom n before events = (g g' : Snapshot) → StandsAfter n before g → StandsAfter n events g'
     → CutsAllBeyond g g'
+
+-- From the first snapshot to the second no live system is moved. None lost its link to one that was nearer to the best,
+-- or as near with the lower clock.
+pub record LosesFarther (g g' : Snapshot) : Type 0 where
+  pub each : (v : ℕ) → In v (clocks g') → IsUnmoved g g' v
+  pub beyond : (from to : PortIdentity) → Joins g from to → In to.clock (clocks g') → (IsLinked g' to → ⊥)
+      → ((near far : ℕ) → IsDistance g from.clock near → IsDistance g to.clock far
+      → (near < far) ⊎ ((near ≡ far) × (from.clock < to.clock))) → ⊥
+
+-- so it is from after the first of these events to after the second
+abbrev pub LosesFartherFrom : NetworkState → List Timed → List Timed → Type 0
+LosesFartherFrom n before events = (g g' : Snapshot) → StandsAfter n before g → StandsAfter n events g'
+    → LosesFarther g g'
+
+-- In the second snapshot no system has a link. In the first each that lives in the second had one at most.
+pub record LeavesAlone (g g' : Snapshot) : Type 0 where
+  pub none : (from to : PortIdentity) → Joins g' from to → ⊥
+  pub one : (v p q : ℕ) (t u : PortIdentity) → In v (clocks g') → Joins g (port_of v p) t → Joins g (port_of v q) u
+      → p ≡ q
+
+-- so it is from after the first of these events to after the second
+abbrev pub LeavesAloneFrom : NetworkState → List Timed → List Timed → Type 0
+LeavesAloneFrom n before events = (g g' : Snapshot) → StandsAfter n before g → StandsAfter n events g'
+    → LeavesAlone g g'
 
 -- After these events this one lets a live system fail, and so moves trees: they are cut off, or turn to their way out.
 -- The greatest delay of a link in use gets no greater, and no path longer. None had more than 255 systems.

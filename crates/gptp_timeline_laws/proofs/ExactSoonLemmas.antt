@@ -12,7 +12,8 @@ use Rattle.gptp_graph.proofs.PathBoundLemmas.{IsDistance-within, paths_within}
 use Rattle.gptp_how_soon.specs.Times.{settling_times}
 use Rattle.gptp_how_soon.specs.declared.bounds.Settling.{Settling}
 use Rattle.gptp_how_soon_laws.specs.Exact.{IsExact}
-use Rattle.gptp_how_soon_laws.proofs.ChoiceLemmas.{IsSo, time_so}
+use Rattle.gptp_how_soon_laws.proofs.ChoiceLemmas.{time_so}
+use Rattle.gptp_how_soon_laws.proofs.FirstTimeLemmas.{IsSo}
 use Rattle.gptp_how_soon_laws.proofs.ExactLemmas.{carried_from, carried_then, come, come_from, exact_then, kept_then, stands_then, told_later}
 use Rattle.gptp_how_soon_laws.proofs.StepLemmas.{IsKept}
 use Rattle.gptp_how_soon.specs.Links.{longest_delay}

@@ -4,4 +4,4 @@ use Rattle.gptp_system.specs.State.{trace}
 use Rattle.gptp_world.proofs.octets.carried.Goals as goal
 
 pub returns-in-Some-clause-is : goal.returns-in-Some-clause-is
-returns-in-Some-clause-is c = c.of_sent.ensures ∙ ap Written (c.in-Some.ensures.is (trace c.args.system.now))
+returns-in-Some-clause-is c = c.of_sent.ensures.items ∙ ap Written (c.in-Some.ensures.is (trace c.args.system.now))

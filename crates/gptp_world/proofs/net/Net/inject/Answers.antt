@@ -6,4 +6,4 @@ returns-clause-net g c = record { joins = c.send.ensures.joins ∙ c.requires.ne
 
 pub returns-clause-sent : goal.returns-clause-sent
 returns-clause-sent g c = λ channel here.
-    let octets = c.of_octets.ensures ∙ c.write_octets.ensures in rw (← octets) (c.send.ensures.sent channel here)
+    let octets = c.of_octets.ensures.items ∙ c.write_octets.ensures in rw (← octets) (c.send.ensures.sent channel here)
