@@ -232,3 +232,5 @@ pub mod SplitMadeLemmas
 pub mod MovedRestLemmas
 pub mod TurnedRestLemmas
 pub mod TurnedTreeRestLemmas
+pub mod PriorityLinkLemmas
+pub mod AlwaysReactsLemmas
