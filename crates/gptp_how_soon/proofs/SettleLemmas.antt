@@ -12,7 +12,7 @@ use Rattle.gptp_how_soon.specs.Far.{none_up_longer, up_is_used}
 use Rattle.gptp_how_soon.specs.Bounds.{arrived_by, heard_by, ready, times_by}
 use Rattle.gptp_how_soon.specs.Kinds.{begins_wider, brings_nothing, is_loss, makes_nothing, sets_link}
 use Rattle.gptp_how_soon.specs.Links.{new_among}
-use Rattle.gptp_how_soon.specs.Rest.{are_losses_followed, asks_who_is_moved, comes_soon, failed_row, heard_at_once, is_end_followed, is_failing_followed, is_from_rest, is_lowering_followed, is_taking_followed, is_worsening_followed, no_moves, row_of}
+use Rattle.gptp_how_soon.specs.Rest.{are_losses_followed, asks_who_is_moved, comes_soon, failed_row, is_end_followed, is_failing_followed, is_from_rest, is_lowering_followed, is_taking_followed, is_worsening_followed, no_moves, row_of}
 use Rattle.gptp_how_soon.specs.Silent.{any_silent}
 use Rattle.gptp_how_soon.specs.Times.{settling_time}
 use Rattle.gptp_how_soon.specs.Walk.{moves_seen, view_seen}
@@ -164,7 +164,7 @@ module _ (n : NetworkState) (at arrived : ℕ) (paths_before paths : SyncPaths)
           (ap counts_held is ∙ held_asked from_rest first paths_before paths told moves asks)
 
 pub settled_so : (n : NetworkState) (w : Walk) (at : ℕ)
-    (first followed from_rest calm sets used_now longer comes came silent : Bool)
+    (first from_rest calm sets used_now longer comes came silent : Bool)
     (moves : Moves) (paths : SyncPaths) (told : List Told) (standings : List Standing) (used : List Bool)
     (new : List Cable) (soon heard way arrived was : ℕ) (row : Row) (time : SettlingTime)
     → time
@@ -189,8 +189,7 @@ pub settled_so : (n : NetworkState) (w : Walk) (at : ℕ)
     → moves ≡ (if asks_who_is_moved from_rest w.paths_before paths told then moves_seen n w at else no_moves)
     → from_rest ≡ is_from_rest w.longest at w.paths_before paths told w.before
     → way ≡ way_span paths
-    → heard ≡ heard_by n followed told new
-    → followed ≡ heard_at_once first w.paths_before told
+    → heard ≡ heard_by n told new
     → soon ≡ ready n.params paths told new
     → sets ≡ sets_link told
     → calm ≡ are_calm n.params paths w.tables.marks.items
@@ -202,8 +201,8 @@ pub settled_so : (n : NetworkState) (w : Walk) (at : ℕ)
     → first ≡ not (is_some w.before)
     → arrived ≡ arrived_by w.longest w.last_set
     → time ≡ settling_time n (view_seen n w at)
-settled_so n w at first followed from_rest calm sets used_now longer comes came silent moves paths told standings used
-    new soon heard way arrived was row time e0 ec eb el ew eu es e1 e2 e3 e4 e5 e6 e7 e8 e9 e10 e11 e12 e13 e14 e15
+settled_so n w at first from_rest calm sets used_now longer comes came silent moves paths told standings used
+    new soon heard way arrived was row time e0 ec eb el ew eu es e1 e2 e3 e4 e5 e6 e7 e8 e9 e10 e11 e12 e13 e14
     ea =
     let row_is : row ≡ row_of from_rest first w.paths_before paths told (moves_seen n w at) =
     e1 ∙ ap (λ m. row_of from_rest first w.paths_before paths told m) e2
@@ -214,4 +213,4 @@ settled_so n w at first followed from_rest calm sets used_now longer comes came 
     sets (soon + heard + way) m.held m.cuts_all m.alone row) e2
     ∙ same_held n at arrived w.paths_before paths w.all_used_before used_now comes came silent calm sets
     (soon + heard + way) from_rest first told (moves_seen n w at) row row_is in
-    rw (time_is, ec, eb, el, ew, ea, eu, es, row_is, e3, e4, e5, e6, e7, e8, e9, e10, e11, e12, e13, e14, e15) refl
+    rw (time_is, ec, eb, el, ew, ea, eu, es, row_is, e3, e4, e5, e6, e7, e8, e9, e10, e11, e12, e13, e14) refl

@@ -395,7 +395,7 @@ module _ (d : DocumentState) (network : IsNetwork d.network) (events : AreEvents
       let r = ready_most n network paths few short v.told v.new in
       let l = largest n network paths few short in
       let h : heard_at n v ≤ 16000000000 =
-      either_most _ 0 (largest_interval (pace_of n)) 16000000000 (omega arith) l in
+      either_most _ (largest_interval (pace_of n)) 0 16000000000 l (omega arith) in
       let w = way n network paths few short in
       let set : IfSome (last_set all) (λ last. last ≤ at) =
       last_of_most at (filter (λ (t : Timed). sets_bounds t.act) all)

@@ -1,5 +1,5 @@
 -- How soon the choice and the roles stand at a time, by whether it is from rest and what its events are (profile).
-use Rattle.std.specs.Prelude.{ℕ, ◌+◌, ◌-◌, ◌*◌, ◌==◌, ◌&&◌, ◌||◌, max, not, Bool, if◌then◌else◌, List, length, Option, Some, None}
+use Rattle.std.specs.Prelude.{ℕ, ◌+◌, ◌-◌, ◌*◌, ◌==◌, ◌||◌, max, not, Bool, if◌then◌else◌, List, length, Option, Some, None}
 use Rattle.std.specs.List.{list_any}
 use Rattle.gptp_setup.specs.Intervals.{interval_of}
 use Rattle.gptp_setup.specs.SettlingParams.{largest_interval}
@@ -58,10 +58,9 @@ ready p paths told new =
 abbrev pub is_hard_to_hear : List Told → Cable → Bool
 is_hard_to_hear told c = is_again told c || varies c
 
--- An announce interval passes where something may not be heard at once, or where it isn't followed that all is.
-abbrev pub heard_by : NetworkState → Bool → List Told → List Cable → ℕ
-heard_by n followed told new =
-    if followed && not (list_any (is_hard_to_hear told) new) then 0 else largest_interval (pace_of n)
+-- An announce interval passes where something may not be heard at once.
+abbrev pub heard_by : NetworkState → List Told → List Cable → ℕ
+heard_by n told new = if list_any (is_hard_to_hear told) new then largest_interval (pace_of n) else 0
 
 -- ---- bounds at a time
 

@@ -131,10 +131,6 @@ is_fail e = elim e.what [ whats.Fail ↦ true | _ ↦ false ]
 abbrev pub tells_nothing : Told → Bool
 tells_nothing e = is_link_down e || is_link_up e || is_fail e || is_priority1 e
 
--- a live system gets better
-abbrev pub is_better : Told → Bool
-is_better e = is_gain e && is_priority1 e
-
 -- a failed system recovers; and the one with this clock does
 abbrev pub is_recover : Told → Bool
 is_recover e = elim e.what [ whats.Recover ↦ true | _ ↦ false ]
@@ -201,14 +197,3 @@ is_failure_of_same told e = is_fail e && not (is_idle e) && recovers told e.cloc
 
 abbrev pub fails_and_recovers : List Told → Bool
 fails_and_recovers told = list_any (is_failure_of_same told) told
-
--- What an event tells is heard at once, over links that are easy to hear: a link comes up, a system recovers, or, where
--- nothing was heard before, a system gets better.
-abbrev pub is_heard_too : Bool → Told → Bool
-is_heard_too heard e = is_gain e && (is_link_up e || is_recover e || (is_priority1 e && not heard))
-
--- There is such an event, or was one, and each that makes something of what stands is such a one.
-abbrev pub are_heard : Bool → List Told → Bool
-are_heard heard [] = heard
-are_heard heard (e ∷ es) =
-    if makes_nothing e then are_heard heard es else is_heard_too heard e && are_heard true es

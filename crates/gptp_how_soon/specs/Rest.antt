@@ -6,7 +6,7 @@ use Rattle.std.specs.Prelude.{ℕ, ◌+◌, ◌*◌, ◌&&◌, ◌||◌, nat_le,
 use Rattle.std.specs.List.{list_all, list_any}
 use Rattle.gptp_scenario.specs.SettlingTime.{way_span}
 use Rattle.gptp_scenario.specs.declared.sync_wait.SyncPaths.{SyncPaths}
-use Rattle.gptp_how_soon.specs.Kinds.{are_heard, begins_wider, brings_nothing, fails_and_recovers, first_wider_by, is_better, is_gain, is_loss, is_other, is_recovery, is_wider, leaves_links, lowers_unused, makes_nothing, tells_nothing}
+use Rattle.gptp_how_soon.specs.Kinds.{begins_wider, brings_nothing, fails_and_recovers, first_wider_by, is_gain, is_loss, is_other, is_recovery, is_wider, leaves_links, lowers_unused, makes_nothing, tells_nothing}
 use Rattle.gptp_how_soon.specs.Losses.{fails_beside_idle, fails_first, lowers_one, takes_several, worsens_first}
 use Rattle.gptp_how_soon.specs.declared.bounds.Row.{Row}
 use Rattle.gptp_how_soon.specs.declared.bounds.Row.TheVariants.{AnyLosses, AnyPast, CutOff, FailedEnd, FailedHeard, FailureCutsOff, FailureMovesTrees, Gained, Lowered, SystemTurned, TakenApart, TakenAway, TreeFalls, TreeTurned, Unchanged}
@@ -176,9 +176,3 @@ no_moves = record {
   far = false;
   held = 0;
 }
-
--- All is heard at once at the start, and later where what each event tells is heard so. Of a system that gets better
--- that is followed where no path had more than 255 systems before.
-abbrev pub heard_at_once : Bool → SyncPaths → List Told → Bool
-heard_at_once first paths_before told =
-    first || (are_heard false told && (nat_le paths_before.systems 255 || not (list_any is_better told)))

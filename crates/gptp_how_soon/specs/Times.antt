@@ -30,7 +30,7 @@ use Rattle.gptp_how_soon.specs.Kinds.{sets_bounds, sets_link, told_by}
 use Rattle.gptp_how_soon.specs.Losses.{takes_one}
 use Rattle.gptp_how_soon.specs.Links.{longest_delay, new_links}
 use Rattle.gptp_how_soon.specs.MovedTrees.{cuts_all_after, far_ends_move_after, moves_trees_after}
-use Rattle.gptp_how_soon.specs.Rest.{comes_soon, has_come, heard_at_once, is_from_rest, row_of}
+use Rattle.gptp_how_soon.specs.Rest.{comes_soon, has_come, is_from_rest, row_of}
 use Rattle.gptp_how_soon.specs.Silent.{held_after, own_intervals, silent_after}
 use Rattle.gptp_how_soon.specs.Tree.{cuts_tree_after, worsens_best_after}
 use Rattle.gptp_how_soon.specs.Turned.{turns_one_after}
@@ -77,7 +77,7 @@ abbrev pub ready_at : NetworkState → View → ℕ
 ready_at n v = ready n.params v.paths v.told v.new
 
 abbrev pub heard_at : NetworkState → View → ℕ
-heard_at n v = heard_by n (heard_at_once (is_first v) v.paths_before v.told) v.told v.new
+heard_at n v = heard_by n v.told v.new
 
 -- After gains the choice stands once ports are capable, what they tell is heard, and the greatest delay has passed for
 -- each system of a path but one.

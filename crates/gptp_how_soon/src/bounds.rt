@@ -187,14 +187,14 @@ pub(crate) fn announce_interval(network: &Network) -> u64
 }
 
 /// How much longer it takes where something may not be heard at once, in ns: an announce interval.
-pub(crate) fn heard(network: &Network, followed: bool, told: &[Told], new: &[Cable]) -> u64
-    ensures is { result ≡ heard_by network.now followed told.now new.now }
+pub(crate) fn heard(network: &Network, told: &[Told], new: &[Cable]) -> u64
+    ensures is { result ≡ heard_by network.now told.now new.now }
     ensures bound { result ≤ 16000000000 }
 {
-    if followed && !any_hard_to_hear(told, new) {
-        0
-    } else {
+    if any_hard_to_hear(told, new) {
         announce_interval(network)
+    } else {
+        0
     }
 }
 

@@ -172,6 +172,29 @@ fn a_system_that_recovers_without_links_is_heard_at_once(rt: HostRuntime) -> Res
 }
 
 #[test]
+fn a_better_priority1_is_heard_at_once_beside_a_link(rt: HostRuntime) -> Result<(), Fail> {
+    // Two exchanges and a way, and no announce interval.
+    let behind = ring(
+        rt.alloc(),
+        "[[event]]\nat = 30000000000\nkind = \"link_down\"\nclock = \"000000000000000a\"\nport = 1\n[[event]]\nat = 60000000000\nkind = \"link_up\"\nclock = \"000000000000000a\"\nport = 1\n[[event]]\nat = 60000000000\nkind = \"priority1\"\nclock = \"000000000000000c\"\nvalue = 100\n",
+    )?;
+    assert_eq!(rt;
+        soon(&behind, 60_000_000_000),
+        Some((1_000_003_050, 61_000_010_250))
+    );
+    // In the other order.
+    let ahead = ring(
+        rt.alloc(),
+        "[[event]]\nat = 30000000000\nkind = \"link_down\"\nclock = \"000000000000000a\"\nport = 1\n[[event]]\nat = 60000000000\nkind = \"priority1\"\nclock = \"000000000000000c\"\nvalue = 100\n[[event]]\nat = 60000000000\nkind = \"link_up\"\nclock = \"000000000000000a\"\nport = 1\n",
+    )?;
+    assert_eq!(rt;
+        soon(&ahead, 60_000_000_000),
+        Some((1_000_003_050, 61_000_010_250))
+    );
+    Ok(())
+}
+
+#[test]
 fn a_system_recovers_once_no_frame_of_before_is_in_flight(rt: HostRuntime) -> Result<(), Fail> {
     let early = ring(
         rt.alloc(),

@@ -2,7 +2,7 @@
 
 ghost use Rattle.std.specs.Prelude.{◌≡◌, ◌++◌, ◌∷◌, [], false, OnOk};
 ghost use Rattle.std.specs.List.{list_all, list_any};
-ghost use Rattle.gptp_how_soon.specs.Kinds.{are_heard, begins_wider, brings_nothing, first_wider_by, is_wider, kind_of_link_set, wider_by, fails_and_recovers, is_fail, is_failing, is_recover, is_better, is_failure_of_same, is_gain, is_link_down, is_lowering, is_unused, leaves_links, lowers_unused, makes_nothing, tells_nothing, is_heard_too, is_idle, is_loss, is_other, is_priority1, is_worsening, is_link_up, is_recovery, is_recovery_of, kind_of, kind_of_change, kind_of_failure, kind_of_link_down, kind_of_link_up, kind_of_priority1, kind_of_recovery, recovers, sets_bounds, sets_link, is_link_set, told_by, what_of, what_of_change};
+ghost use Rattle.gptp_how_soon.specs.Kinds.{begins_wider, brings_nothing, first_wider_by, is_wider, kind_of_link_set, wider_by, fails_and_recovers, is_fail, is_failing, is_recover, is_failure_of_same, is_gain, is_link_down, is_lowering, is_unused, leaves_links, lowers_unused, makes_nothing, tells_nothing, is_idle, is_loss, is_other, is_priority1, is_worsening, is_link_up, is_recovery, is_recovery_of, kind_of, kind_of_change, kind_of_failure, kind_of_link_down, kind_of_link_up, kind_of_priority1, kind_of_recovery, recovers, sets_bounds, sets_link, is_link_set, told_by, what_of, what_of_change};
 
 use gptp_scenario::{Act, Change};
 use gptp_topology::{Standing, System, is_used, named};
@@ -391,13 +391,6 @@ pub(crate) fn all_tell_nothing(told: &[Told]) -> bool
     told.iter().all(|one| tells_nothing(one))
 }
 
-/// Whether a system gets a better priority1 by it.
-fn is_better(told: &Told) -> bool
-    ensures { result ≡ is_better told.now }
-{
-    is_gain(told) && is_priority1(told)
-}
-
 fn is_recover(told: &Told) -> bool
     ensures { result ≡ is_recover told.now }
 {
@@ -528,39 +521,9 @@ pub(crate) fn any_other(told: &[Told]) -> bool
     told.iter().any(|one| is_other(one))
 }
 
-/// Whether a system gets a better priority1 by one of these events.
-pub(crate) fn any_better(told: &[Told]) -> bool
-    ensures { result ≡ list_any is_better told.now }
-{
-    told.iter().any(|one| is_better(one))
-}
-
 /// Whether a failed system recovers by one of these events.
 pub(crate) fn any_recovery(told: &[Told]) -> bool
     ensures { result ≡ list_any is_recovery told.now }
 {
     told.iter().any(|one| is_recovery(one))
-}
-
-/// Whether what an event tells is heard at once, where something was heard before it or not.
-fn is_heard_too(heard: bool, told: &Told) -> bool
-    ensures { result ≡ is_heard_too heard told.now }
-{
-    is_gain(told) && (is_link_up(told) || is_recover(told) || (is_priority1(told) && !heard))
-}
-
-/// Whether what these events tell is heard at once.
-pub(crate) fn are_heard(told: &[Told]) -> bool
-    ensures { result ≡ are_heard false told.now }
-{
-    let mut heard = false;
-    for one in told {
-        if !makes_nothing(one) {
-            if !is_heard_too(heard, one) {
-                return false;
-            }
-            heard = true;
-        }
-    }
-    heard
 }

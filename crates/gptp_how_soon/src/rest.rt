@@ -2,12 +2,12 @@
 
 ghost use Rattle.std.specs.Prelude.{◌≡◌, ◌≤◌, ◌+◌, ◌*◌, ◌&&◌, ◌||◌, nat_le, nat_lt};
 ghost use Rattle.gptp_scenario.specs.SettlingTime.{way_span};
-ghost use Rattle.gptp_how_soon.specs.Rest.{are_events_followed, are_losses_followed, are_recoveries_followed, are_turns_followed, asks_who_is_moved, comes_soon, heard_at_once, is_end_followed, is_failing_followed, failed_row, has_come, is_from_rest, is_lowering_followed, is_taking_followed, is_wider_followed, is_worsening_followed, keeps_paths, other_row, rested, row_of, settles_wider_by};
+ghost use Rattle.gptp_how_soon.specs.Rest.{are_events_followed, are_losses_followed, are_recoveries_followed, are_turns_followed, asks_who_is_moved, comes_soon, is_end_followed, is_failing_followed, failed_row, has_come, is_from_rest, is_lowering_followed, is_taking_followed, is_wider_followed, is_worsening_followed, keeps_paths, other_row, rested, row_of, settles_wider_by};
 
 use crate::bounds::{Row, SettlingTime, way_span};
 use crate::kinds::{
-    Told, all_bring_nothing, all_leave_links, all_make_nothing, all_tell_nothing, any_better,
-    any_gain, any_loss, any_lowers_unused, any_other, any_recovery, any_wider, are_heard,
+    Told, all_bring_nothing, all_leave_links, all_make_nothing, all_tell_nothing,
+    any_gain, any_loss, any_lowers_unused, any_other, any_recovery, any_wider,
     begins_wider, fails_and_recovers, first_wider_by,
 };
 use crate::losses::{fails_beside_idle, fails_first, lowers_one, takes_several, worsens_first};
@@ -346,11 +346,4 @@ pub(crate) fn row_of(
     } else {
         other_row(paths_before, paths, told, moves)
     }
-}
-
-/// Whether it is followed that all is heard at once.
-pub(crate) fn heard_at_once(first: bool, paths_before: SyncPaths, told: &[Told]) -> bool
-    ensures { result ≡ heard_at_once first paths_before told.now }
-{
-    first || (are_heard(told) && (paths_before.systems <= 255 || !any_better(told)))
 }

@@ -21,7 +21,7 @@ use crate::links::{delay_set, longest_among, lost_among, mark_used, new_links};
 use crate::losses::takes_one;
 use crate::moved_trees::{all_far_ends_move, cuts_all, moves_trees};
 use crate::rest::{
-    Moves, asks_who_is_moved, comes_soon, has_come, heard_at_once, is_from_rest, row_of,
+    Moves, asks_who_is_moved, comes_soon, has_come, is_from_rest, row_of,
 };
 use crate::silent::{any_silent, heard_links, held_among, own_intervals};
 use crate::tree::{cuts_tree, worsens_best};
@@ -235,8 +235,7 @@ impl Walk {
         let new = new_links(alloc, first, standings, used)?;
         let new = new.as_slice();
         let ready = ready(network, paths, told, new);
-        let followed = heard_at_once(first, self.paths_before, told);
-        let gained = ready + heard(network, followed, told, new) + way_span(paths);
+        let gained = ready + heard(network, told, new) + way_span(paths);
         let paths_before = self.paths_before;
         let from_rest = is_from_rest(self.longest, at, paths_before, paths, told, self.before);
         let asked = asks_who_is_moved(from_rest, paths_before, paths, told);

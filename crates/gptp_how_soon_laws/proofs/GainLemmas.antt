@@ -1,9 +1,9 @@
 -- An event of a time that takes nothing away: by when ports are capable after it, and whether what it tells is heard
 -- at once.
 use Rattle.std.proofs.Common.{◌≡◌, ◌<◌, ◌≤◌, ◌⊎◌, inl, inr, ◌+◌, ◌*◌, ℕ, Bool, true, false, cond, suc, List, [], ◌∷◌, ◌++◌, filter, refl, sym, ap, ap₂, subst, ◌∙◌, append-nil, append_assoc, arith}
-use Rattle.std.specs.Prelude.{◌==◌, ◌&&◌, ◌||◌, not}
+use Rattle.std.specs.Prelude.{◌==◌, ◌&&◌, not}
 use Rattle.std.specs.List.{AllByRecursion, list_any}
-use Rattle.std.proofs.lemmas.Bool.{and_from, and_parts, eq-eqb, false_from_ne_true, not-true, or_cases, or_parts}
+use Rattle.std.proofs.lemmas.Bool.{and_from, eq-eqb, false_from_ne_true, or_cases, or_parts}
 use Rattle.std.proofs.lemmas.Bool.Decides.{nat_tests}
 use Rattle.gptp_lists.specs.Members.{In}
 use Rattle.gptp_lists.proofs.SystemSpecLemmas.{In-map, In-slice_get}
@@ -29,12 +29,12 @@ use Rattle.gptp_topology.specs.After.{standing_then}
 use Rattle.gptp_topology.specs.Course.{cable_is_used, cable_of, named}
 use Rattle.gptp_topology.specs.declared.course.Cable.{Cable}
 use Rattle.gptp_how_soon.specs.Bounds.{is_again, is_hard_to_hear, ready}
-use Rattle.gptp_how_soon.specs.Kinds.{is_better, is_gain, is_heard_too, is_idle, is_link_up, is_loss, is_other, is_priority1, is_recover, is_recovery, is_recovery_of, is_unused, lowers_unused, makes_nothing, recovers, what_of, is_wider}
+use Rattle.gptp_how_soon.specs.Kinds.{is_gain, is_idle, is_loss, is_other, is_recovery, is_recovery_of, is_unused, lowers_unused, makes_nothing, recovers, what_of, is_wider}
 use Rattle.gptp_how_soon.specs.Links.{is_new, new_links, varies}
 use Rattle.gptp_how_soon.specs.Times.{told_at, told_of}
 use Rattle.gptp_how_soon.specs.declared.kinds.Told.{Told}
 use Rattle.gptp_settling_time.specs.Gains.{AreSparedBy, ChangesNothing, HasDelaysWithin, IsNoWorse, IsSparedBy, JoinsLive, LeavesCapable, SparesFailed, TakesNothing, UsesNoLink, exchanged_again_from}
-use Rattle.gptp_settling_time.specs.HowSoon.{IsGainEvent, IsGainToo, IsHeardEvent, IsIdleEvent, TurnsUnused}
+use Rattle.gptp_settling_time.specs.HowSoon.{IsGainEvent, IsIdleEvent, TurnsUnused}
 use Rattle.gptp_settling_time.specs.EventKinds.{AddsHeard, BettersClock, BringsUp, MakesNothing, RecoversAlone, TurnsInVain}
 use Rattle.gptp_settling_time.proofs.SamePathsLemmas.{idle_paths, turned_paths}
 use Rattle.gptp_topology.proofs.RestLemmas.{lives_to, three_from, three_parts, used_cable}
@@ -373,13 +373,12 @@ module _ (n : NetworkState) (network : IsNetwork n) (time : ℕ) (first events :
           subst (λ a. TakesNothing n made a × LeavesCapable n made event next a) (sym act)
           (no_worse, omega (arith, here))
 
-      pub betters : (sync_paths n made).systems ≤ 255 → BettersClock n made event next
-      betters few = record {
+      betters : BettersClock n made event next
+      betters = record {
         clock = number;
         value = value;
         act = act;
         better = no_worse;
-        few = few;
         later = omega (arith, here);
       }
 
@@ -407,13 +406,6 @@ module _ (n : NetworkState) (network : IsNetwork n) (time : ℕ) (first events :
 
     pub gains : is_gain (told_at n made event.act) ≡ true → IsGainEvent n next made event
     gains gain = gains_so event.act refl gain (gain_gains n network made event.act gain)
-
-    pub gains_too : AreTurnsFollowed → NothingLapses n.params → list_any is_gain tolds ≡ true
-        → IsGainToo n next made event
-    gains_too turns off gained = elim is.kind [
-      | inl nothing ↦ inr (idles_late turns made event here is.among off gained nothing)
-      | inr gain ↦ inl (gains gain)
-    ]
 
     -- ---- what failed systems sent
 
@@ -470,54 +462,21 @@ module _ (n : NetworkState) (network : IsNetwork n) (time : ℕ) (first events :
 
     -- ---- what is heard at once
 
-    -- a link comes up, or a system recovers; or a priority1 gets better, where nothing was heard before
-    heard_so : (heard : Bool) (act : Act) → event.act ≡ act → is_heard_too heard (told_at n made act) ≡ true
-        → list_any (is_hard_to_hear tolds) news ≡ false
+    -- a link comes up, a system recovers, or a priority1 gets better
+    heard_so : (act : Act) → event.act ≡ act → is_gain (told_at n made act) ≡ true
+        → list_any (is_hard_to_hear tolds) news ≡ false → Gains n network made act → AddsHeard n made event next
+    heard_so (acts.Deliver link direction) same gain soft gains = absurd gains
+    heard_so (acts.Expire clock timer) same gain soft gains = absurd gains
+    heard_so (acts.Change (changes.LinkDown clock port)) same gain soft gains = absurd gains
+    heard_so (acts.Change (changes.LinkUp clock port)) same gain soft gains = inl (brings clock port same gains soft)
+    heard_so (acts.Change (changes.LinkSet clock port least greatest loss)) same gain soft gains = absurd gains
+    heard_so (acts.Change (changes.Fail number)) same gain soft gains = absurd gains
+    heard_so (acts.Change (changes.Recover number)) same gain soft gains =
+        inr (inl (returns number same gains (recovery_so number same gain) soft))
+    heard_so (acts.Change (changes.Priority1 number value)) same gain soft gains =
+        inr (inr (betters number value same gains))
+    heard_so (acts.Change (changes.Inject clock port octets)) same gain soft gains = absurd gains
+
+    pub heard : is_gain (told_at n made event.act) ≡ true → list_any (is_hard_to_hear tolds) news ≡ false
         → AddsHeard n made event next
-        ⊎ ((heard ≡ false) × (list_any is_better tolds ≡ true)
-        × ((sync_paths n made).systems ≤ 255 → BettersClock n made event next))
-    heard_so heard act same too soft =
-        let e = told_at n made act in
-        let (gain, rest) = and_parts (is_gain e) (is_link_up e || is_recover e || (is_priority1 e && not heard)) too in
-        by act same gain rest (gain_gains n network made act gain)
-      where
-        by : (act : Act) → event.act ≡ act → is_gain (told_at n made act) ≡ true
-            → (is_link_up (told_at n made act) || is_recover (told_at n made act)
-            || (is_priority1 (told_at n made act) && not heard)) ≡ true
-            → Gains n network made act
-            → AddsHeard n made event next
-            ⊎ ((heard ≡ false) × (list_any is_better tolds ≡ true)
-            × ((sync_paths n made).systems ≤ 255 → BettersClock n made event next))
-        by (acts.Deliver link direction) same gain rest gains = absurd gains
-        by (acts.Expire clock timer) same gain rest gains = absurd gains
-        by (acts.Change (changes.LinkDown clock port)) same gain rest gains = absurd gains
-        by (acts.Change (changes.LinkUp clock port)) same gain rest gains =
-            inl (inl (brings clock port same gains soft))
-        by (acts.Change (changes.LinkSet clock port least greatest loss)) same gain rest gains = absurd gains
-        by (acts.Change (changes.Fail number)) same gain rest gains = absurd gains
-        by (acts.Change (changes.Recover number)) same gain rest gains =
-            inl (inr (returns number same gains (recovery_so number same gain) soft))
-        by (acts.Change (changes.Priority1 number value)) same gain rest gains =
-            let better : is_better (told_at n made event.act) ≡ true =
-            ap (λ a. is_better (told_at n made a)) same ∙ ap (λ test. test && true) gain in
-            inr (
-              not-true heard rest,
-              passes_at is_better tolds (told_at n made event.act) is.among better,
-              betters number value same gains,
-            )
-        by (acts.Change (changes.Inject clock port octets)) same gain rest gains = absurd gains
-
-    pub heard_first : is_heard_too false (told_at n made event.act) ≡ true
-        → list_any (is_hard_to_hear tolds) news ≡ false
-        → (list_any is_better tolds ≡ true → (sync_paths n made).systems ≤ 255) → IsHeardEvent n next made event
-    heard_first too soft few = elim (heard_so false event.act refl too soft) [
-      | inl adds ↦ inl adds
-      | inr (none, better, by) ↦ inr (by (few better))
-    ]
-
-    pub heard_then : is_heard_too true (told_at n made event.act) ≡ true
-        → list_any (is_hard_to_hear tolds) news ≡ false → AddsHeard n made event next
-    heard_then too soft = elim (heard_so true event.act refl too soft) [
-      | inl adds ↦ adds
-      | inr (none, better, by) ↦ absurd cc
-    ]
+    heard gain soft = heard_so event.act refl gain soft (gain_gains n network made event.act gain)

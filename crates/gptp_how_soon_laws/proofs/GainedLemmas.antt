@@ -1,7 +1,7 @@
--- The events of a time that are told to be idle or gains are followed: by when ports are capable after them, and
--- whether what they tell is heard at once.
-use Rattle.std.proofs.Common.{◌≡◌, ◌<◌, ◌≤◌, ◌⊎◌, inl, inr, ◌+◌, ◌*◌, ℕ, Bool, true, false, cond, List, [], ◌∷◌, ◌++◌, refl, sym, ap, subst, ◌∙◌, append-nil, append_assoc}
-use Rattle.std.specs.Prelude.{◌&&◌, ◌||◌, not}
+-- The events of a time that are told to be idle or gains are followed: by when ports are capable after them, and what
+-- they tell is heard at once over links that are easy to hear.
+use Rattle.std.proofs.Common.{◌≡◌, ◌<◌, ◌⊎◌, inl, inr, ◌+◌, ◌*◌, ℕ, true, false, List, [], ◌∷◌, ◌++◌, refl, sym, ap, subst, ◌∙◌, append-nil, append_assoc}
+use Rattle.std.specs.Prelude.{◌&&◌}
 use Rattle.std.specs.List.{AllByRecursion, list_all, list_any}
 use Rattle.std.proofs.lemmas.Bool.{and_parts}
 use Rattle.gptp_lists.specs.Members.{In}
@@ -14,14 +14,14 @@ use Rattle.gptp_scenario.specs.declared.sync_wait.SyncPaths.{SyncPaths}
 use Rattle.gptp_network.proofs.PassLemmas.{passes_at}
 use Rattle.gptp_topology.specs.declared.course.Cable.{Cable}
 use Rattle.gptp_how_soon.specs.Bounds.{is_hard_to_hear}
-use Rattle.gptp_how_soon.specs.Kinds.{are_heard, is_better, is_gain, is_heard_too, is_idle, is_link_up, is_loss, is_other, is_priority1, is_recover, is_recovery, makes_nothing, begins_wider, first_wider_by, is_wider, wider_by}
+use Rattle.gptp_how_soon.specs.Kinds.{is_gain, is_idle, is_loss, is_other, is_recovery, makes_nothing, begins_wider, first_wider_by, is_wider, wider_by}
 use Rattle.gptp_how_soon.specs.Times.{told_at, told_of}
 use Rattle.gptp_how_soon.specs.declared.kinds.Told.{Told}
-use Rattle.gptp_settling_time.specs.HowSoon.{AfterIdleEvents, AreGainEvents, AreHeardEvents, EachEvent, IsGainToo, IsHeardEvent, IsHeardToo, IsIdleEvent, AreWiderEvents}
-use Rattle.gptp_settling_time.specs.EventKinds.{AddsHeard}
+use Rattle.gptp_settling_time.specs.HowSoon.{AfterIdleEvents, AreGainEvents, AreHeardEvents, EachEvent, IsGainEvent, IsIdleEvent, AreWiderEvents}
+use Rattle.gptp_settling_time.specs.EventKinds.{AddsHeard, MakesNothing}
 use Rattle.gptp_how_soon_laws.proofs.ToldLemmas.{idle_changes, wider_widens}
 use Rattle.gptp_how_soon_laws.proofs.MoreLemmas.{IsMore, same_more}
-use Rattle.gptp_how_soon_laws.proofs.GainLemmas.{all_told, gains, gains_too, heard_first, heard_then, idle_ways, idles, idles_late, more_left, so_on}
+use Rattle.gptp_how_soon_laws.proofs.GainLemmas.{all_told, gains, heard, idle_ways, idles, idles_late, more_left, so_on}
 use Rattle.gptp_how_soon_laws.proofs.GainLemmas as gain
 use Rattle.gptp_how_soon_laws.proofs.ReadyLemmas.{all_from, spared_past}
 
@@ -108,113 +108,54 @@ module _ (n : NetworkState) (network : IsNetwork n) (time : ℕ) (first events :
         subst (IsMore n (made ++ event ∷ [])) (append_assoc made (event ∷ []) left ∙ are)
         (more_left n network time first events (made ++ event ∷ []) left each)
 
-    -- behind a gain each is one, or makes nothing
-    each_gain : list_any is_gain tolds ≡ true → (made left : List Timed) → made ++ left ≡ all
-        → AllByRecursion (λ (t : Timed). t.at ≡ time) left → IsSoFar made
-        → AllByRecursion IsTold (told_of n made left) → EachEvent (IsGainToo n next) made left
-    each_gain gained made [] are now so_far each = tt
-    each_gain gained made (event ∷ left) are now so_far each =
-        let later = later_than made event left are each.1 in (
-          gains_too n network time first events followed made event now.0 so_far each.0 later turns off gained,
-          each_gain gained (made ++ event ∷ []) left (append_assoc made (event ∷ []) left ∙ are) now.1
-              (so_on n network time first events followed made event now.0 so_far each.0 later) each.1,
-        )
-
-    -- the first that makes something of what stands is a gain, if there is one
-    after_idle : (made left : List Timed) → made ++ left ≡ all
-        → AllByRecursion (λ (t : Timed). t.at ≡ time) left → IsSoFar made
-        → AllByRecursion IsTold (told_of n made left)
-        → list_all makes_nothing (told_of n made left) ≡ false → AfterIdleEvents n (AreGainEvents n next) made left
-    after_idle made [] are now so_far each some = absurd cc
-    after_idle made (event ∷ left) are now so_far each some =
-        let later = later_than made event left are each.1 in
-        let on = so_on n network time first events followed made event now.0 so_far each.0 later in
-        let more = append_assoc made (event ∷ []) left ∙ are in
-        elim each.0.kind [
-          | inl nothing ↦
-              inr (
-                idles n network time first events turns made event now.0 each.0.among nothing,
-                after_idle (made ++ event ∷ []) left more now.1 on each.1
-                    (ap (λ test. test && list_all makes_nothing (told_of n (made ++ event ∷ []) left)) (sym nothing)
-                    ∙ some),
-              )
-          | inr gain ↦ inl (
-            gains n network time first events followed made event now.0 so_far each.0 later gain,
-            each_gain (passes_at is_gain tolds (told_at n made event.act) each.0.among gain) (made ++ event ∷ []) left
-                more now.1 on each.1,
-          )
-        ]
-
-    module _ (soft : list_any (is_hard_to_hear tolds) news ≡ false) where
-      -- behind what was heard links come up, and systems recover
-      each_heard : list_any is_gain tolds ≡ true → (made left : List Timed) → made ++ left ≡ all
+    -- each event that is told as a gain is such a one, and such are these
+    module _ (Is : List Timed → Timed → Type 0) (Are : List Timed → List Timed → Type 0)
+        (some_are : (made : List Timed) (event : Timed) (left : List Timed) → Is made event
+        → EachEvent (λ made event. Is made event ⊎ MakesNothing n made event next) (made ++ event ∷ []) left
+        → Are made (event ∷ left))
+        (gain_is : (made : List Timed) (event : Timed) → event.at ≡ time → IsSoFar made
+        → IsTold (told_at n made event.act) → IsMore n (made ++ event ∷ []) all
+        → is_gain (told_at n made event.act) ≡ true → Is made event) where
+      -- behind a gain each is one, or makes nothing
+      each_too : list_any is_gain tolds ≡ true → (made left : List Timed) → made ++ left ≡ all
           → AllByRecursion (λ (t : Timed). t.at ≡ time) left → IsSoFar made
-          → AllByRecursion IsTold (told_of n made left) → are_heard true (told_of n made left) ≡ true
-          → EachEvent (IsHeardToo n next) made left
-      each_heard gained made [] are now so_far each heard = tt
-      each_heard gained made (event ∷ left) are now so_far each heard =
+          → AllByRecursion IsTold (told_of n made left)
+          → EachEvent (λ made event. Is made event ⊎ MakesNothing n made event next) made left
+      each_too gained made [] are now so_far each = tt
+      each_too gained made (event ∷ left) are now so_far each =
+          let later = later_than made event left are each.1 in (
+            elim each.0.kind [
+              | inl nothing ↦
+                  inr (idles_late n network time first events turns made event now.0 each.0.among off gained nothing)
+              | inr gain ↦ inl (gain_is made event now.0 so_far each.0 later gain)
+            ],
+            each_too gained (made ++ event ∷ []) left (append_assoc made (event ∷ []) left ∙ are) now.1
+                (so_on n network time first events followed made event now.0 so_far each.0 later) each.1,
+          )
+
+      -- the first that makes something of what stands is a gain, if there is one
+      after_idle : (made left : List Timed) → made ++ left ≡ all
+          → AllByRecursion (λ (t : Timed). t.at ≡ time) left → IsSoFar made
+          → AllByRecursion IsTold (told_of n made left)
+          → list_all makes_nothing (told_of n made left) ≡ false → AfterIdleEvents n Are made left
+      after_idle made [] are now so_far each some = absurd cc
+      after_idle made (event ∷ left) are now so_far each some =
           let later = later_than made event left are each.1 in
           let on = so_on n network time first events followed made event now.0 so_far each.0 later in
-          by (makes_nothing (told_at n made event.act)) refl heard
-          (each_heard gained (made ++ event ∷ []) left (append_assoc made (event ∷ []) left ∙ are) now.1 on each.1)
-          (λ too. heard_then n network time first events followed made event now.0 so_far each.0 later too soft)
-        where
-          by : (nothing : Bool) → makes_nothing (told_at n made event.act) ≡ nothing
-              → cond nothing (are_heard true (told_of n (made ++ event ∷ []) left))
-              (is_heard_too true (told_at n made event.act) && are_heard true (told_of n (made ++ event ∷ []) left))
-              ≡ true
-              → (are_heard true (told_of n (made ++ event ∷ []) left) ≡ true
-              → EachEvent (IsHeardToo n next) (made ++ event ∷ []) left)
-              → (is_heard_too true (told_at n made event.act) ≡ true → AddsHeard n made event next)
-              → IsHeardToo n next made event × EachEvent (IsHeardToo n next) (made ++ event ∷ []) left
-          by true is heard rest one = (
-            inr (idles_late n network time first events turns made event now.0 each.0.among off gained is),
-            rest heard,
-          )
-          by false is heard rest one =
-              let (too, more) =
-              and_parts (is_heard_too true (told_at n made event.act))
-              (are_heard true (told_of n (made ++ event ∷ []) left)) heard in
-              (inl (one too), rest more)
-
-      pub events_heard : (list_any is_better tolds ≡ true → (sync_paths n first).systems ≤ 255)
-          → (made left : List Timed) → made ++ left ≡ all
-          → AllByRecursion (λ (t : Timed). t.at ≡ time) left → IsSoFar made
-          → AllByRecursion IsTold (told_of n made left) → sync_paths n made ≡ sync_paths n first
-          → are_heard false (told_of n made left) ≡ true → AfterIdleEvents n (AreHeardEvents n next) made left
-      events_heard few made [] are now so_far each same heard = absurd cc
-      events_heard few made (event ∷ left) are now so_far each same heard =
-          let later = later_than made event left are each.1 in
-          let on = so_on n network time first events followed made event now.0 so_far each.0 later in
-          by (makes_nothing (told_at n made event.act)) refl heard
-          (λ idle. events_heard few (made ++ event ∷ []) left (append_assoc made (event ∷ []) left ∙ are) now.1 on
-          each.1 (idle_ways n network time first events made event idle ∙ same))
-          (λ gain. each_heard (passes_at is_gain tolds (told_at n made event.act) each.0.among gain)
-          (made ++ event ∷ []) left (append_assoc made (event ∷ []) left ∙ are) now.1 on each.1)
-          (λ too. heard_first n network time first events followed made event now.0 so_far each.0 later too soft
-          (λ better. subst (λ (x : SyncPaths). x.systems ≤ 255) (sym same) (few better)))
-        where
-          by : (nothing : Bool) → makes_nothing (told_at n made event.act) ≡ nothing
-              → cond nothing (are_heard false (told_of n (made ++ event ∷ []) left))
-              (is_heard_too false (told_at n made event.act) && are_heard true (told_of n (made ++ event ∷ []) left))
-              ≡ true
-              → (IsIdleEvent n made event → are_heard false (told_of n (made ++ event ∷ []) left) ≡ true
-              → AfterIdleEvents n (AreHeardEvents n next) (made ++ event ∷ []) left)
-              → (is_gain (told_at n made event.act) ≡ true → are_heard true (told_of n (made ++ event ∷ []) left) ≡ true
-              → EachEvent (IsHeardToo n next) (made ++ event ∷ []) left)
-              → (is_heard_too false (told_at n made event.act) ≡ true → IsHeardEvent n next made event)
-              → (IsHeardEvent n next made event × EachEvent (IsHeardToo n next) (made ++ event ∷ []) left)
-              ⊎ (IsIdleEvent n made event × AfterIdleEvents n (AreHeardEvents n next) (made ++ event ∷ []) left)
-          by true is heard rest others one =
-              let idle = idles n network time first events turns made event now.0 each.0.among is in
-              inr (idle, rest idle heard)
-          by false is heard rest others one =
-              let e = told_at n made event.act in
-              let (too, more) =
-              and_parts (is_heard_too false e) (are_heard true (told_of n (made ++ event ∷ []) left)) heard in
-              let (gain, which) =
-              and_parts (is_gain e) (is_link_up e || is_recover e || (is_priority1 e && not false)) too in
-              inl (one too, others gain more)
+          let more = append_assoc made (event ∷ []) left ∙ are in
+          elim each.0.kind [
+            | inl nothing ↦
+                inr (
+                  idles n network time first events turns made event now.0 each.0.among nothing,
+                  after_idle (made ++ event ∷ []) left more now.1 on each.1
+                      (ap (λ test. test && list_all makes_nothing (told_of n (made ++ event ∷ []) left)) (sym nothing)
+                      ∙ some),
+                )
+            | inr gain ↦
+                inl (some_are made event left (gain_is made event now.0 so_far each.0 later gain)
+                (each_too (passes_at is_gain tolds (told_at n made event.act) each.0.among gain) (made ++ event ∷ [])
+                left more now.1 on each.1))
+          ]
 
   -- ---- the bound
 
@@ -230,13 +171,18 @@ module _ (n : NetworkState) (network : IsNetwork n) (time : ℕ) (first events :
     }
 
     pub all_gained : list_all makes_nothing tolds ≡ false → AfterIdleEvents n (AreGainEvents n next) first events
-    all_gained some =
-        after_idle off turns followed first events refl now begins
-        (all_told n network time first events no_loss no_wider no_other) some
+    all_gained =
+        after_idle off turns followed (IsGainEvent n next) (AreGainEvents n next)
+        (λ made event left one others. (one, others))
+        (λ made event here so_far is later gain.
+        gains n network time first events followed made event here so_far is later gain) first events refl now begins
+        (all_told n network time first events no_loss no_wider no_other)
 
-    pub all_heard : list_any (is_hard_to_hear tolds) news ≡ false
-        → (list_any is_better tolds ≡ true → (sync_paths n first).systems ≤ 255) → are_heard false tolds ≡ true
+    pub all_heard : list_any (is_hard_to_hear tolds) news ≡ false → list_all makes_nothing tolds ≡ false
         → AfterIdleEvents n (AreHeardEvents n next) first events
-    all_heard soft few heard =
-        events_heard off turns followed soft few first events refl now begins
-        (all_told n network time first events no_loss no_wider no_other) refl heard
+    all_heard soft =
+        after_idle off turns followed (λ made event. AddsHeard n made event next) (AreHeardEvents n next)
+        (λ made event left one others. (one, others))
+        (λ made event here so_far is later gain.
+        heard n network time first events followed made event here so_far is later gain soft) first events refl now
+        begins (all_told n network time first events no_loss no_wider no_other)

@@ -1,5 +1,5 @@
 -- What is told of a time after the first one, by its row, is so by its events.
-use Rattle.std.proofs.Common.{◌≡◌, ◌<◌, ◌≤◌, ◌⊎◌, inl, inr, ◌+◌, ◌*◌, ℕ, Bool, true, false, cond, List, [], ◌∷◌, ◌++◌, Option, Some, None, refl, sym, ap, subst, ◌∙◌, arith}
+use Rattle.std.proofs.Common.{◌≡◌, ◌<◌, ◌⊎◌, inl, inr, ◌+◌, ◌*◌, ℕ, Bool, true, false, cond, List, [], ◌∷◌, ◌++◌, Option, Some, None, refl, sym, ap, subst, ◌∙◌, arith}
 use Rattle.std.specs.Prelude.{◌&&◌, ◌||◌, not, nat_le, nat_lt}
 use Rattle.std.specs.List.{list_all, list_any}
 use Rattle.std.proofs.lemmas.Bool.{and_parts, not-true, or_cases, or_parts}
@@ -9,13 +9,12 @@ use Rattle.gptp_setup.specs.SettlingParams.{largest_interval}
 use Rattle.gptp_scenario.specs.Calm.{NothingLapses}
 use Rattle.gptp_scenario.specs.Network.{IsNetwork, NetworkState, pace_of}
 use Rattle.gptp_scenario.specs.SettlingTime.{way_span}
-use Rattle.gptp_scenario.specs.SyncWait.{sync_paths}
 use Rattle.gptp_scenario.specs.declared.change.Timed.{Timed}
 use Rattle.gptp_network.specs.Snapshot.{events_by}
 use Rattle.gptp_how_soon.specs.Bounds.{is_hard_to_hear}
-use Rattle.gptp_how_soon.specs.Kinds.{are_heard, brings_nothing, fails_and_recovers, is_better, is_gain, is_idle, is_loss, is_other, is_recovery, leaves_links, lowers_unused, makes_nothing, recovers, begins_wider, first_wider_by, is_wider}
+use Rattle.gptp_how_soon.specs.Kinds.{brings_nothing, fails_and_recovers, is_gain, is_idle, is_loss, is_other, is_recovery, leaves_links, lowers_unused, makes_nothing, recovers, begins_wider, first_wider_by, is_wider}
 use Rattle.gptp_how_soon.specs.Losses.{takes_one}
-use Rattle.gptp_how_soon.specs.Rest.{are_events_followed, are_losses_followed, are_recoveries_followed, are_turns_followed, heard_at_once, is_end_followed, is_failing_followed, is_from_rest, is_lowering_followed, is_taking_followed, is_wider_followed, rested, settles_wider_by, is_worsening_followed}
+use Rattle.gptp_how_soon.specs.Rest.{are_events_followed, are_losses_followed, are_recoveries_followed, are_turns_followed, is_end_followed, is_failing_followed, is_from_rest, is_lowering_followed, is_taking_followed, is_wider_followed, rested, settles_wider_by, is_worsening_followed}
 use Rattle.gptp_how_soon.specs.Times.{View, events_at, gained_at, ready_at, row_at, view_at}
 use Rattle.gptp_how_soon.specs.declared.bounds.Row.{Row}
 use Rattle.gptp_how_soon.specs.declared.bounds.Row.TheVariants.{Gained, Unchanged}
@@ -201,41 +200,22 @@ module _ (n : NetworkState) (network : IsNetwork n) (events : List Timed) (b : S
       let facts = from_rest from in
       let (some, narrow) = or_parts (list_all makes_nothing v.told) (begins_wider v.told) which in (
         facts.rested,
-        by facts none (none_wider facts narrow) some (heard_at_once false v.paths_before v.told)
-            (list_any (is_hard_to_hear v.told) v.new) refl refl,
+        by facts none (none_wider facts narrow) some (list_any (is_hard_to_hear v.told) v.new) refl,
       )
     where
       followed : IsFromRest → list_any is_recovery v.told ≡ true → AreFollowed n network at made now
       followed facts recovers = recoveries (facts.followed recovers)
 
-      few_before : (nat_le v.paths_before.systems 255 || not (list_any is_better v.told)) ≡ true
-          → list_any is_better v.told ≡ true → (sync_paths n made).systems ≤ 255
-      few_before is better = elim (or_cases (nat_le v.paths_before.systems 255) (not (list_any is_better v.told)) is) [
-        | inl few ↦ grind (arith, nat_tests)
-        | inr none ↦ let no : true ≡ false = sym better ∙ not-true (list_any is_better v.told) none in absurd cc
-      ]
-
       by : IsFromRest → list_any is_loss v.told ≡ false → list_any is_wider v.told ≡ false
-          → list_all makes_nothing v.told ≡ false → (heard hard : Bool)
-          → heard_at_once false v.paths_before v.told ≡ heard
-          → list_any (is_hard_to_hear v.told) v.new ≡ hard
+          → list_all makes_nothing v.told ≡ false → (hard : Bool) → list_any (is_hard_to_hear v.told) v.new ≡ hard
           → BoundsGains n made now at (ready_at n v)
-          (ready_at n v + cond (heard && not hard) 0 (largest_interval (pace_of n)) + way_span v.paths)
-      by facts none narrow some true false is soft =
-          let (heard, few) =
-          and_parts (are_heard false v.told)
-          (nat_le v.paths_before.systems 255 || not (list_any is_better v.told)) is in
-          inl (
-            all_heard n network at made now (all_at at events) off facts.turns (followed facts) (omega (arith, late))
-                none narrow facts.others soft (few_before few) heard,
-            omega arith,
-          )
-      by facts none narrow some true true is hard = inr (
-        all_gained n network at made now (all_at at events) off facts.turns (followed facts) (omega (arith, late)) none
-            narrow facts.others some,
-        refl,
+          (ready_at n v + cond hard (largest_interval (pace_of n)) 0 + way_span v.paths)
+      by facts none narrow some false soft = inl (
+        all_heard n network at made now (all_at at events) off facts.turns (followed facts) (omega (arith, late)) none
+            narrow facts.others soft some,
+        omega arith,
       )
-      by facts none narrow some false hard is soft = inr (
+      by facts none narrow some true hard = inr (
         all_gained n network at made now (all_at at events) off facts.turns (followed facts) (omega (arith, late)) none
             narrow facts.others some,
         refl,

@@ -162,9 +162,9 @@ starts n now quiet = (
 
     by : (hard : Bool) → list_any (is_hard_to_hear (told_of n [] now)) (new_links n [] now true) ≡ hard
         → (UsedVaryLittle n now
-        × (start + cond (true && not hard) 0 (largest_interval (pace_of n)) + way_span (sync_paths n now)
+        × (start + cond hard (largest_interval (pace_of n)) 0 + way_span (sync_paths n now)
         ≡ start + way_span (sync_paths n now)))
-        ⊎ (start + cond (true && not hard) 0 (largest_interval (pace_of n)) + way_span (sync_paths n now)
+        ⊎ (start + cond hard (largest_interval (pace_of n)) 0 + way_span (sync_paths n now)
         ≡ start + largest_interval (pace_of n) + way_span (sync_paths n now))
     by true is = inr refl
     by false is = inl (vary_little n now (told_of n [] now) is, omega arith)

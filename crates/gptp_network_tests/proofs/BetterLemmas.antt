@@ -71,7 +71,6 @@ better = record {
   value = 245;
   act = refl;
   better = no_worse;
-  few = subst (λ (x : SyncPaths). x.systems ≤ 255) (sym (paths_are params)) (omega arith);
   later = omega arith;
 }
 
@@ -91,11 +90,7 @@ settles until same = record {
     Heard 1000002001,
     inl refl,
     Heard 2000000001,
-    inr (inl (
-      subst (λ (x : SyncPaths). 1000002001 + pred x.systems * x.delay ≤ 2000000000) (sym (paths_are params))
-          (omega arith),
-      inl better,
-    )),
+    inl (omega arith, inr (inr better)),
     refl,
   );
   settles = subst (λ es. SettlesAfter pair_network es (Heard 2000000001) 2000000501) (sym same) (

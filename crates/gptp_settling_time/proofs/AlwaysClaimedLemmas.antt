@@ -192,7 +192,7 @@ module _ (p : SettlingParams) (w : WorldState) (is : IsWorld p w) (at : LinkPlac
   held_is : q.held ≡ held_view (span_at seen.station.system) port.held
   held_is = ap (λ (x : SeenPort). x.held) port.is
 
-  on_is_capable : q.held ≢ Disabled → is_capable l.asking.state.peer ≡ true
+  pub on_is_capable : q.held ≢ Disabled → is_capable l.asking.state.peer ≡ true
   on_is_capable on =
       ap (λ (x : Port). is_capable x.peer) (sym state_is)
       ∙ on_capable port.port port.held (is_capable port.port.peer) refl shown
@@ -557,7 +557,7 @@ module _ (p : SettlingParams) (start m : ℕ) (act : Act) (w : WorldState) (draw
       let same_channel : link.channel ≡ way.channel =
       same_there w.net.channels way.link link.channel way.channel link.here way.here in
       let asks_there = asks_back w from to way link.channel same_channel in
-      let seen_link = link_seen p 0 act w draws done w' none acts news.world news'.world at link in
+      let seen_link = link_seen act w draws done w' none acts news.world.sound at link in
       let then = heard_acts p start act w draws done w' none acts news.world news'.world news.measured at x in
       let after = heard_link p start at w' then.after in
       let same_after : after.channel ≡ seen_link.after.channel =

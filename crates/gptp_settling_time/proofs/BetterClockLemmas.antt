@@ -1,5 +1,5 @@
--- A priority1 that gets no worse, in a world that has settled, leaves claims made of all links always.
-use Rattle.std.proofs.Common.{◌≡◌, ◌<◌, ℕ, suc, Bool, true, false, List, [], ◌∷◌, refl, sym, ap, subst, ◌∙◌, inl, inr, arith}
+-- A priority1 that gets no worse leaves claims made of all links always, whether the world has settled or not.
+use Rattle.std.proofs.Common.{◌≡◌, ◌<◌, ◌≤◌, ◌*◌, ◌∷◌, ◌∙◌, ℕ, Bool, List, Some, [], ap, arith, false, inl, inr, refl, slice_get, subst, suc, sym, true}
 use Rattle.std.specs.Prelude.{◌==◌, ◌&&◌, ◌||◌, if◌then◌else◌, max}
 use Rattle.std.proofs.lemmas.Bool.{eq-eqb}
 use Rattle.gptp_lists.specs.Members.{In}
@@ -15,21 +15,22 @@ use Rattle.gptp_scenario.specs.declared.change.Act.TheVariants.{Change as Changi
 use Rattle.gptp_scenario.specs.declared.change.Change.TheVariants.{Priority1}
 use Rattle.gptp_model.specs.Acts.{Acts}
 use Rattle.gptp_model.specs.declared.done.Done.{Done}
-use Rattle.gptp_model.specs.World.{Channel, WorldState}
+use Rattle.gptp_model.specs.World.{Channel, WorldState, sender}
 use Rattle.gptp_model.proofs.BareLemmas.{DifferInFlight, bare}
+use Rattle.gptp_pdelay_machine.specs.Setting.{Setting}
 use Rattle.gptp_bmca_machine.specs.Calm.{Calm}
 use Rattle.gptp_bmca_machine.specs.Levels.{Invariant, LeadsFarther}
 use Rattle.gptp_bmca_machine.specs.Link.{StaysOn}
-use Rattle.gptp_bmca_machine.specs.Network.{IsSettlingNetwork, Network, wiring}
+use Rattle.gptp_bmca_machine.specs.Network.{IsSettlingNetwork, Network, since, wiring}
 use Rattle.gptp_bmca_machine.specs.RestLaws.{SameWiring}
-use Rattle.gptp_bmca_machine.specs.SoundLaws.{AllAreNear, HasNews, IsSoundOnLinks}
+use Rattle.gptp_bmca_machine.specs.SoundLaws.{HasNews, IsSoundOnLinks}
 use Rattle.gptp_bmca_machine.proofs.SoundEverywhereLemmas.{on_links}
-use Rattle.gptp_bmca_machine.proofs.SoundLemmas.{received_fits}
+use Rattle.gptp_bmca_machine.proofs.SoundLemmas.{path_on, received_fits}
 use Rattle.gptp_invariants.specs.ChoiceCalm.{HaveQuietLinks, delay_in, greatest_channel_delay, lane_of}
 use Rattle.gptp_invariants.specs.ChoiceSettlesAsMachine.{IsWorld}
-use Rattle.gptp_invariants.specs.ChoiceView.{says_announce, view}
-use Rattle.gptp_invariants.specs.DelayLinkView.{LinkPlace}
-use Rattle.gptp_invariants.specs.DelayMeasured.{LinkStandsAt}
+use Rattle.gptp_invariants.specs.ChoiceView.{port_identity_number, says_announce, view}
+use Rattle.gptp_invariants.specs.DelayLinkActs.{IsOneAct}
+use Rattle.gptp_invariants.specs.DelayLinkView.{IsLinkOf, LinkPlace}
 use Rattle.gptp_invariants.specs.WorldNews.{IsNews}
 use Rattle.gptp_invariants.specs.WorldSound.{IsGain}
 use Rattle.gptp_invariants.specs.WorldStanding.{channel_is_used, live_stations, snapshot_of, stations_have_clock}
@@ -37,14 +38,15 @@ use Rattle.gptp_invariants.proofs.WorldSoundCallLemmas.{links_more}
 use Rattle.gptp_invariants.proofs.WorldSystemLemmas.{clock_from, clock_lives, clock_there}
 use Rattle.gptp_invariants.proofs.WorldWayLemmas.{way_of}
 use Rattle.gptp_invariants.proofs.ChoiceCalmKeptLemmas.{delay_bare, lane_bare, of_kept}
-use Rattle.gptp_settling_time.proofs.AlwaysClaimedLemmas.{AreHeard, IsClaimedAlways, asks_back, capable_is_on, place_of_way, standing, start_calm, start_net, start_network, way_back, way_stands}
-use Rattle.gptp_settling_time.proofs.HeardLemmas.{StaysCapableAt, stays_elsewhere, stays_link, stays_on}
 use Rattle.gptp_settling_time.specs.Idle.{Lives}
+use Rattle.gptp_settling_time.proofs.AlwaysClaimedLemmas.{AreHeard, IsClaimedAlways, asks_back, capable_is_on, on_is_capable, place_of_way, standing, start_calm, start_net, start_network, way_back, way_stands}
+use Rattle.gptp_settling_time.proofs.AlwaysReactsLemmas.{stage_reacted}
+use Rattle.gptp_settling_time.proofs.GainStageLemmas.{ClaimsAlways}
+use Rattle.gptp_settling_time.proofs.HeardLemmas.{IsHeardAt, IsOn, StaysCapableAt, heard_from, heard_link, stays_elsewhere, stays_link, stays_on, told_acted}
+use Rattle.gptp_settling_time.proofs.PriorityLinkLemmas.{acts_reacting, set_at_link}
 use Rattle.gptp_settling_time.proofs.PriorityNewsLemmas.{stood}
-use Rattle.gptp_bmca_machine.proofs.ReactionStageLemmas.{stage_after}
 use Rattle.gptp_settling_time.proofs.ReactsLemmas.{Reacts, reacts, reacts_news}
-use Rattle.gptp_settling_time.proofs.RestClaimedLemmas.{AreOn}
-use Rattle.gptp_settling_time.proofs.SettledSeenLemmas.{HasSettledSeen, IsSettledSeen, wired_as}
+use Rattle.gptp_settling_time.proofs.SettledSeenLemmas.{wired_as}
 
 -- ---- what looks at clocks and ends of links alone
 
@@ -141,10 +143,10 @@ module _ (p : SettlingParams) (w w' : WorldState) (r : Reacts w w') where
 -- ---- the change
 
 module _ (p : SettlingParams) (start next owner value : ℕ) (w : WorldState) (draws : List Draw) (done : Done)
-    (w' : WorldState) (is : IsClaimedAlways p start w) (on : AreOn p start w is.heard) (world' : IsWorld p w')
-    (live : Lives owner w) (octet : value < 256) (gain : IsGain (Priority1 owner value) w)
-    (acts : Acts (Changing (Priority1 owner value)) w draws done w') (soon : w.time < next) (news' : IsNews p next w')
-    (near : AllAreNear (snapshot_of w)) (settled : HasSettledSeen p w) where
+    (w' : WorldState) (is : IsClaimedAlways p start w) (world' : IsWorld p w') (live : Lives owner w)
+    (octet : value < 256) (gain : IsGain (Priority1 owner value) w)
+    (acts : Acts (Changing (Priority1 owner value)) w draws done w') (ahead : start ≤ next) (soon : w.time < next)
+    (news' : IsNews p next w') where
   abbrev world : IsWorld p w
   world = is.news.world
 
@@ -153,40 +155,76 @@ module _ (p : SettlingParams) (start next owner value : ℕ) (w : WorldState) (d
 
   -- ---- ports
 
-  capable : (at : LinkPlace) → LinkStandsAt at w' → StaysCapableAt p at w'
-  capable at stands =
-      let before = stood w w' r p world world' at stands in
-      stays_elsewhere p start at (Priority1 owner value) w draws done w' world is.news.measured tt acts r.time
-      (is.heard at before) (on at before)
+  one_act : (at : LinkPlace) (l : IsLinkOf at w) → IsOneAct at w w' l
+  one_act = set_at_link p w world owner value live octet draws done w' acts
+
+  -- a port that is capable stays so
+  capable : (at : LinkPlace) (x : IsHeardAt p start at w) → IsOn at w (heard_link p start at w x)
+      → StaysCapableAt p at w'
+  capable at x on =
+      stays_elsewhere p start at (Priority1 owner value) w draws done w' world is.news.measured tt acts r.time x on
+
+  heard_then : (at : LinkPlace) → IsHeardAt p start at w → IsHeardAt p next at w'
+  heard_then at (inl (first, x)) =
+      heard_from p start next at w' ahead
+      (told_acted p start w w' world world' r.time
+      (acts_reacting p w world owner value live octet draws done w' acts) one_act at first x).after
+  heard_then at (inr stays) = inr (capable at (inr stays) (stays_on p at w world stays))
 
   heard' : AreHeard p next w'
-  heard' at stands = inr (capable at stands)
+  heard' at stands = heard_then at (is.heard at (stood w w' r p world world' at stands))
 
   -- ---- the network
 
   module _ (m : ℕ) (bounded' : BoundsPaths (snapshot_of w') m) (quiet' : HaveQuietLinks p.params w')
       (off : NothingLapses p.params) where
     abbrev n : Network
-    n = start_network p m next w'
+    n = start_network p m start w
+
+    abbrev n' : Network
+    n' = start_network p m next w'
+
+    news : HasNews (snapshot_of w) (snapshot_of w')
+    news = reacts_news p w world owner value live octet draws done w' acts gain
+
+    bounded : BoundsPaths (snapshot_of w) m
+    bounded v u us path = bounded' v u us (path_on (snapshot_of w) (snapshot_of w') news v u us path)
+
+    quiet : HaveQuietLinks p.params w
+    quiet = quiet_before p w w' r quiet'
 
     net : IsSettlingNetwork n
-    net = start_net p m next w' world' bounded'
+    net = start_net p m start w world bounded
 
-    calm : Calm n (view w')
-    calm = start_calm p next w' (standing news') heard' quiet' m
+    net' : IsSettlingNetwork n'
+    net' = start_net p m next w' world' bounded'
 
-    sound : IsSoundOnLinks says_announce n.graph (view w')
+    calm : Calm n (view w)
+    calm = start_calm p start w (standing is.news) is.heard quiet m
+
+    calm' : Calm n' (view w')
+    calm' = start_calm p next w' (standing news') heard' quiet' m
+
+    sound : IsSoundOnLinks says_announce n'.graph (view w')
     sound = on_links says_announce (snapshot_of w') (view w') news'.sound
 
-    seen : IsSettledSeen p w
-    seen = settled (quiet_before p w w' r quiet') off
+    always : ClaimsAlways n
+    always = record { claimed = λ d pp v. refl; until = λ d pp v. refl; sound = refl }
 
-    wired : SameWiring seen.n n
-    wired = wiring_same p w w' r seen.n n seen.same refl
+    wired : SameWiring n n'
+    wired =
+        wiring_same p w w' r n n'
+        (record { place = λ v. refl; lane = λ q. refl; log = λ q. refl; interval = λ q. refl }) refl
 
-    -- the port that hears is on
-    lasts : (d : ℕ) (best : System) (v pp u q : ℕ) → d < 255 → LeadsFarther n.graph d best v pp u q
-        → StaysOn (wiring n d best v pp u q) (view w) (view w')
+    later : (d : ℕ) → since n (suc d) ≤ since n' (suc d)
+    later d =
+        let delays : suc d * delay_in w' ≡ suc d * delay_in w = ap (λ x. suc d * x) (delay_same p w w' r) in
+        let starts = ahead in
+        omega (arith, delays, starts)
+
+    -- the port that hears stays on
+    lasts : (d : ℕ) (best : System) (v pp u q : ℕ) → d < 255 → LeadsFarther n'.graph d best v pp u q
+        → StaysOn (wiring n' d best v pp u q) (view w) (view w')
     unfolding way_back
     lasts d best v pp u q close leads s s' a b from at port at' port' held =
         let from_port = port_of v (suc pp) in
@@ -194,26 +232,34 @@ module _ (p : SettlingParams) (start next owner value : ℕ) (w : WorldState) (d
         let way = way_of w' from_port to_port leads.joins in
         let back = way_back w' from_port to_port way in
         let at_link = place_of_way p w' world' quiet' to_port from_port back in
-        let x = capable at_link (way_stands p w' world' quiet' to_port from_port back
-        (Joins-sym (snapshot_of w') from_port to_port leads.joins)) in
-        let link = stays_link p at_link w' x in
+        let x = is.heard at_link (stood w w' r p world world' at_link
+        (way_stands p w' world' quiet' to_port from_port back
+        (Joins-sym (snapshot_of w') from_port to_port leads.joins))) in
+        let before = heard_link p start at_link w x in
+        let seen = one_act at_link before in
+        let channel_then : seen.after.channel ≡ way.channel =
+        same_there w'.net.channels way.link seen.after.channel way.channel seen.after.here way.here in
+        let asks : port_identity_number (sender at_link.direction before.channel) ≡ to_port =
+        ap (λ (k : Setting). k.asking) (sym seen.settled)
+        ∙ asks_back w' from_port to_port way seen.after.channel channel_then in
+        let y = capable at_link x
+        (on_is_capable p w world at_link before u q asks s a
+        (subst (λ i. slice_get (view w).stations i ≡ Some s) (r.places u) at) port held) in
+        let link = stays_link p at_link w' y in
         let same_channel : link.channel ≡ way.channel =
         same_there w'.net.channels way.link link.channel way.channel link.here way.here in
         capable_is_on p w' world' at_link link u q (asks_back w' from_port to_port way link.channel same_channel) s' b
-        at' port' (stays_on p at_link w' world' x)
+        at' port' (stays_on p at_link w' world' y)
 
-    better_invariant : Invariant says_announce n (view w')
+    better_invariant : Invariant says_announce n' (view w')
     better_invariant =
         let early : w.time < next = soon in
         record {
-          sound = λ late. received_fits says_announce n.graph (view w') net.graph sound;
+          sound = λ late. received_fits says_announce n'.graph (view w') net'.graph sound;
           levels = λ d best v pp u q close leads.
-              stage_after says_announce seen.n n seen.net net (view w) (view w')
-              (subst AllAreNear (sym seen.graph) near) seen.calm seen.invariant seen.late r.call
-              (subst (λ g. HasNews g (snapshot_of w')) (sym seen.graph)
-              (reacts_news p w world owner value live octet draws done w' acts gain))
-              (λ a b joins. subst (λ g. Joins g a b) (sym seen.graph) (links_before p w w' r a b joins)) wired
-              (delay_same p w w' r ∙ sym seen.most) (omega (arith, early)) calm sound lasts d best v pp u q close leads;
+              stage_reacted says_announce n n' net net' (view w) (view w') calm (is.settling m bounded quiet off) always
+              r.call news (links_before p w w' r) wired (delay_same p w w' r) later (omega (arith, early)) calm' sound
+              lasts d best v pp u q close leads;
         }
 
   pub better_claimed : IsClaimedAlways p next w'

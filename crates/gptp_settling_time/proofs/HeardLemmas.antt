@@ -23,14 +23,17 @@ use Rattle.gptp_pdelay_machine.specs.Facts.{Facts}
 use Rattle.gptp_pdelay_machine.specs.First.{InvFirst}
 use Rattle.gptp_pdelay_machine.specs.Order.{IsNotBefore}
 use Rattle.gptp_pdelay_machine.proofs.FirstLemmas.{exchange_full}
+use Rattle.gptp_bmca_machine.specs.Acts.{StationActs}
 use Rattle.gptp_invariants.specs.ChoiceSeenLaws.{IsNoChange}
 use Rattle.gptp_invariants.specs.ChoiceSettlesAsMachine.{IsWorld}
+use Rattle.gptp_invariants.specs.ChoiceView.{says_announce, view}
 use Rattle.gptp_invariants.specs.DelayElsewhereLaws.{LeavesAlone}
 use Rattle.gptp_invariants.specs.DelayFirstAt.{IsFirstBy}
 use Rattle.gptp_invariants.specs.DelayLinkActs.{IsOneAct}
 use Rattle.gptp_invariants.specs.DelayLinkView.{IsLinkOf, LinkPlace, least_delay, link_setting, meter, pair, reads_as_reply, reads_as_request}
 use Rattle.gptp_invariants.specs.DelayMeasured.{LinkIsMeasured}
 use Rattle.gptp_invariants.specs.DelayWatched.{IsWatched}
+use Rattle.gptp_invariants.proofs.ChoiceSeenActLemmas as choices
 use Rattle.gptp_invariants.proofs.DelayElsewhereLemmas.{goes_through, watch_goes_through, watched_stay_capable}
 use Rattle.gptp_invariants.proofs.DelayFirstAtLemmas.{by_goes_on, by_goes_through, first_full}
 use Rattle.gptp_invariants.proofs.DelayWatchLemmas.{watch_goes_on}
@@ -121,6 +124,14 @@ heard_on p start at w is (inl (first, x)) late =
     (meter at w t.link) t.facts t.inv (omega (arith, by, late))
 heard_on p start at w is (inr x) late = stays_on p at w is x
 
+-- so it is from a later start on
+pub heard_from : (p : SettlingParams) (start next : ℕ) (at : LinkPlace) (w : WorldState) → start ≤ next
+    → IsHeardAt p start at w → IsHeardAt p next at w
+heard_from p start next at w more (inl (first, x)) =
+    let by = x.by in
+    inl (first, record { one = x.one; few = x.few; other = x.other; by = omega (arith, by, more) })
+heard_from p start next at w more (inr stays) = inr stays
+
 timely_due : (first : ℕ) (at : LinkPlace) (w : WorldState) (x : IsTimelyAt first at w) (f : LaneFrame)
     → In f (pair at w x.link).out → f.due ≤ w.time + x.link.channel.bounds.max
 timely_due first at w x f member =
@@ -168,6 +179,30 @@ pub record HeardThen (p : SettlingParams) (start : ℕ) (at : LinkPlace) (w w' :
   pub after : IsHeardAt p start at w'
   pub stays : IsOn at w (heard_link p start at w x) → IsOn at w' (heard_link p start at w' after)
 
+-- where systems act, and the link sees one act
+module _ (p : SettlingParams) (start : ℕ) (w w' : WorldState) (is : IsWorld p w) (is' : IsWorld p w')
+    (time : w'.time ≡ w.time) (steps : StationActs says_announce (view w) (view w'))
+    (seen : (at : LinkPlace) (l : IsLinkOf at w) → IsOneAct at w w' l) (at : LinkPlace) where
+  pub told_acted : (first : ℕ) (x : IsToldAt first start at w) → HeardThen p start at w w' (inl (first, x))
+  unfolding order_acted timely_acted
+  told_acted first x =
+      let t = x.one.timely in
+      let s = seen at t.link in
+      let other = seen (opposite at) x.other.link in
+      record {
+        after = inl (
+          first,
+          record {
+            one = order_acted at first w w' t s (sent_late p first w w' is is' time steps seen at t x.other)
+                x.one.order;
+            few = subst (λ (b : Bounds). b.max < 2 * b.min) (sym s.bounds) x.few;
+            other = timely_acted (opposite at) first w w' x.other other;
+            by = subst (λ (k : Setting). first + k.period + exchange_span k < start) (sym s.settled) x.by;
+          },
+        );
+        stays = stays_capable at first w w' t s;
+      }
+
 module _ (p : SettlingParams) (start : ℕ) (act : Act) (w : WorldState) (draws : List Draw) (done : Done)
     (w' : WorldState) (none : IsNoChange act) (acts : Acts act w draws done w') (is : IsWorld p w)
     (is' : IsWorld p w') (measured : LinkIsMeasured w) (at : LinkPlace) where
@@ -177,29 +212,15 @@ module _ (p : SettlingParams) (start : ℕ) (act : Act) (w : WorldState) (draws 
   alone (Changing change) none = absurd none
 
   told_then : (first : ℕ) (x : IsToldAt first start at w) → HeardThen p start at w w' (inl (first, x))
-  unfolding order_acted timely_acted
-  told_then first x =
-      let t = x.one.timely in
-      let s = link_seen p first act w draws done w' none acts is is' at t.link in
-      let other = link_seen p first act w draws done w' none acts is is' (opposite at) x.other.link in
-      record {
-        after = inl (
-          first,
-          record {
-            one = order_acted at first w w' t s
-                (sent_late p first act w draws done w' none acts is is' at t x.other) x.one.order;
-            few = subst (λ (b : Bounds). b.max < 2 * b.min) (sym s.bounds) x.few;
-            other = timely_acted (opposite at) first w w' x.other other;
-            by = subst (λ (k : Setting). first + k.period + exchange_span k < start) (sym s.settled) x.by;
-          },
-        );
-        stays = stays_capable at first w w' t s;
-      }
+  told_then =
+      told_acted p start w w' is is' (acts_time act w draws done w' acts)
+      (choices.acts_seen act w draws done w' none is.sound is.encodable acts)
+      (link_seen act w draws done w' none acts is.sound) at
 
   since_then : (first : ℕ) (x : IsCapableSince first at w) → HeardThen p start at w w' (inr (inl (first, x)))
   unfolding timely_acted
   since_then first x =
-      let s = link_seen p first act w draws done w' none acts is is' at x.timely.link in
+      let s = link_seen act w draws done w' none acts is.sound at x.timely.link in
       let on = stays_capable at first w w' x.timely s x.capable in
       record {
         after = inr (inl (first, record { timely = timely_acted at first w w' x.timely s; capable = on }));

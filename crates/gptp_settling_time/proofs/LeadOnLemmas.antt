@@ -13,9 +13,9 @@ use Rattle.gptp_scenario.specs.declared.change.Act.TheVariants.{Deliver, Expire,
 use Rattle.gptp_scenario.specs.declared.change.Change.TheVariants.{LinkDown, LinkUp, LinkSet, Fail, Recover, Priority1, Inject}
 use Rattle.gptp_scenario.specs.declared.change.Timed.{Timed}
 use Rattle.gptp_scenario.specs.declared.sync_wait.SyncPaths.{SyncPaths}
-use Rattle.gptp_settling_time.specs.HowSoon.{AfterIdleEvents, AreGainEvents, AreHeardEvents, AreWiderEvents, EachEvent, IsGainEvent, IsGainToo, IsHeardEvent, IsHeardToo, IsIdleEvent, IsStillEvent, TurnsUnused}
+use Rattle.gptp_settling_time.specs.HowSoon.{AfterIdleEvents, AreGainEvents, AreHeardEvents, AreWiderEvents, EachEvent, IsGainEvent, IsGainToo, IsHeardToo, IsIdleEvent, IsStillEvent, TurnsUnused}
 use Rattle.gptp_settling_time.specs.Pasts.{Aging, AnyPast, Cleared, Fallen, Gained, Heard, Left, Fewer, Lost, Past, Split, Starting, Turned, TurnedTree}
-use Rattle.gptp_settling_time.specs.EventKinds.{LeavesSettled, MakesNothing, TurnsInVain, WidensLink}
+use Rattle.gptp_settling_time.specs.EventKinds.{AddsHeard, LeavesSettled, MakesNothing, TurnsInVain, WidensLink}
 use Rattle.gptp_settling_time.specs.Leads.{EventLeads}
 use Rattle.gptp_settling_time.specs.Rests.{IsTakenAs}
 use Rattle.gptp_settling_time.specs.InTurn.{LeadOn}
@@ -82,16 +82,13 @@ module _ (n : NetworkState) (made : List Timed) (event : Timed) where
   gain_leads (Lost ago since most silent) next settled less gain = absurd settled
   gain_leads (Fewer ago since most silent) next settled less gain = absurd settled
 
-  heard_leads : (past : Past) (next : ℕ) → HasSettled n made past event.at → IsHeardEvent n next made event
+  heard_leads : (past : Past) (next : ℕ) → HasSettled n made past event.at → AddsHeard n made event next
       → EventLeads n made past event (Heard next)
-  heard_leads AnyPast next settled (inl adds) = (settled, inl adds)
-  heard_leads AnyPast next settled (inr better) = (settled, inr (inl better))
+  heard_leads AnyPast next settled adds = (settled, inl adds)
   heard_leads Starting next settled heard = absurd settled
-  heard_leads (Gained start) next settled (inl adds) = (settled, inl adds)
-  heard_leads (Gained start) next settled (inr better) = (settled, inr (inl better))
-  heard_leads (Heard start) next settled (inl adds) =
+  heard_leads (Gained start) next settled adds = (settled, inl adds)
+  heard_leads (Heard start) next settled adds =
       let later = adds_later n made event next adds in inl (omega (arith, settled, later), adds)
-  heard_leads (Heard start) next settled (inr better) = inr (inl (settled, inl better))
   heard_leads (Left ago start) next settled heard = absurd settled
   heard_leads (Turned silent now) next settled heard = absurd settled
   heard_leads (Fallen silent now) next settled heard = absurd settled
@@ -143,10 +140,10 @@ module _ (n : NetworkState) (made : List Timed) (event : Timed) where
       leaves_so over = record { nothing = leaves_still idle; off = off; since = omega (arith, over) }
 
       pub idle_leads : (past : Past) → HasSettled n made past event.at → EventLeads n made past event (Heard since)
-      idle_leads AnyPast settled = (settled, inr (inr (inl (leaves_so (way_over AnyPast settled)))))
+      idle_leads AnyPast settled = (settled, inr (inl (leaves_so (way_over AnyPast settled))))
       idle_leads Starting settled = absurd settled
-      idle_leads (Gained start) settled = (settled, inr (inr (inl (leaves_so (way_over (Gained start) settled)))))
-      idle_leads (Heard start) settled = inr (inl (settled, inr (inl (leaves_so (way_over (Heard start) settled)))))
+      idle_leads (Gained start) settled = (settled, inr (inl (leaves_so (way_over (Gained start) settled))))
+      idle_leads (Heard start) settled = inr (inl (settled, inl (leaves_so (way_over (Heard start) settled))))
       idle_leads (Left ago start) settled = absurd settled
       idle_leads (Turned silent now) settled = absurd settled
       idle_leads (Fallen silent now) settled = absurd settled
@@ -277,14 +274,14 @@ module _ (n : NetworkState) (network : IsNetwork n) where
           capable + 2 * by,
           (
             record { calm = is.calm; passed = omega (arith, passed, late, here) },
-            inr (inr (inr (record {
+            inr (inr (record {
               by = by;
               widens = widens;
               calm = calm;
               off = off;
               later = omega arith;
               past = omega (arith, passed, soon, here, over);
-            }))),
+            })),
           ),
           omega (arith, passed, soon, over),
         )
@@ -292,21 +289,6 @@ module _ (n : NetworkState) (network : IsNetwork n) where
     widens_leads made event (Gained start) settled by here calm is late widens soon = (
       start + 2 * by,
       (
-        omega (arith, is, late, here),
-        inr (inr (inr (record {
-          by = by;
-          widens = widens;
-          calm = calm;
-          off = off;
-          later = omega arith;
-          past = omega (arith, is, soon, here);
-        }))),
-      ),
-      omega (arith, is, soon),
-    )
-    widens_leads made event (Heard start) settled by here calm is late widens soon = (
-      start + 2 * by,
-      inr (inl (
         omega (arith, is, late, here),
         inr (inr (record {
           by = by;
@@ -316,6 +298,21 @@ module _ (n : NetworkState) (network : IsNetwork n) where
           later = omega arith;
           past = omega (arith, is, soon, here);
         })),
+      ),
+      omega (arith, is, soon),
+    )
+    widens_leads made event (Heard start) settled by here calm is late widens soon = (
+      start + 2 * by,
+      inr (inl (
+        omega (arith, is, late, here),
+        inr (record {
+          by = by;
+          widens = widens;
+          calm = calm;
+          off = off;
+          later = omega arith;
+          past = omega (arith, is, soon, here);
+        }),
       )),
       omega (arith, is, soon),
     )

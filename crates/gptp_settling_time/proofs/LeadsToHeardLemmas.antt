@@ -22,7 +22,7 @@ use Rattle.gptp_network.specs.Document.{DocumentState}
 use Rattle.gptp_invariants.specs.WorldEncodableLaws.{SetsAnOctet}
 use Rattle.gptp_invariants.specs.ChoiceCalm.{delay_in, sync_paths_of}
 use Rattle.gptp_invariants.specs.WorldNews.{AreReadyBy, AreSilentBy, IsNews}
-use Rattle.gptp_invariants.specs.WorldSound.{IsSoundWorld}
+use Rattle.gptp_invariants.specs.WorldSound.{IsGain, IsSoundWorld}
 use Rattle.gptp_invariants.specs.WorldStanding.{snapshot_of}
 use Rattle.gptp_invariants.proofs.WorldNewsActLemmas.{ready_later}
 use Rattle.gptp_invariants.proofs.WorldSoundLemmas.{sound_later}
@@ -153,33 +153,33 @@ module _ {F : Type 0} (answers : Bounds → ℕ → F → Option ℕ → F → T
           news_back;
     }
 
-  added : (start next : ℕ) → IsClaimedAlways p start then → start ≤ next → IsSoundWorld w → AddsHeard n made event next
-      → IsClaimedTo d more next w'
-  added start next claim ahead sound (inl up) = brought_up start next claim ahead sound up
-  added start next claim ahead sound (inr back) = recovered start next claim ahead sound back
-
   -- it sets a better priority1
-  module _ (start next : ℕ) (claim : IsClaimedAlways p start then) (on : AreOn p start then claim.heard)
-      (early : start ≤ suc event.at) (sound : IsSoundWorld w) (settled : HasSettledSeen p then)
+  module _ (start next : ℕ) (claim : IsClaimedAlways p start then) (ahead : start ≤ next) (sound : IsSoundWorld w)
       (up : BettersClock n made event next) where
+    gains : IsGain (Priority1 up.clock up.value) then
+    gains = gain_so n made then keeps_then.stands keeps_then.claim.world.sound (Priority1 up.clock up.value) up.better
+
     set_news : IsNews p next w'
     set_news =
-        let later = up.later in
         made_known answers d playable made event fate fate_after w w' done is fit k keeps sound
         (subst (TakesNothing n made) (sym up.act) up.better) start next
         (λ number same. let one = sym up.act ∙ is.act ∙ ap Changing same in cc) claim.news.ready claim.news.silent
-        (inr (omega (arith, early, later), subst (LeavesCapable n made event next) (sym up.act) up.later))
+        (inr (ahead, subst (LeavesCapable n made event next) (sym up.act) up.later))
 
-    pub bettered : IsClaimedTo d more next w'
+    bettered : IsClaimedTo d more next w'
     bettered = record {
       keeps = after;
-      since = better_claimed p start next up.clock up.value then k.draws done w' claim on after.claim.world
+      since = better_claimed p start next up.clock up.value then k.draws done w' claim after.claim.world
           (better_lives n made then keeps_then.stands keeps_then.claim.world.sound up.clock up.value up.better)
-          (subst SetsAnOctet up.act fit.octet)
-          (gain_so n made then keeps_then.stands keeps_then.claim.world.sound (Priority1 up.clock up.value) up.better)
-          (subst (λ act. Acts act then k.draws done w') up.act k.acts) up.later set_news
-          (near_so d playable made then keeps_then up.few) settled;
+          (subst SetsAnOctet up.act fit.octet) gains
+          (subst (λ act. Acts act then k.draws done w') up.act k.acts) ahead up.later set_news;
     }
+
+  added : (start next : ℕ) → IsClaimedAlways p start then → start ≤ next → IsSoundWorld w → AddsHeard n made event next
+      → IsClaimedTo d more next w'
+  added start next claim ahead sound (inl up) = brought_up start next claim ahead sound up
+  added start next claim ahead sound (inr (inl back)) = recovered start next claim ahead sound back
+  added start next claim ahead sound (inr (inr better)) = bettered start next claim ahead sound better
 
   -- the event is this change
   came_so : (change : Change) → is.change ≡ change → Acts (Changing change) then k.draws done w'
@@ -318,14 +318,12 @@ module _ {F : Type 0} (answers : Bounds → ℕ → F → Option ℕ → F → T
           | inl adds ↦
               let later = adds_later n made event next adds in
               added (suc event.at) next claim (omega (arith, later)) sound adds
-          | inr (inl better) ↦ bettered (suc event.at) next claim on (omega arith) sound
-              (rest_settled p then keeps_then.claim sound_then late) better
-          | inr (inr (inl leaves)) ↦
+          | inr (inl leaves) ↦
               let since = leaves.since in
               let (ready, silent) = anyway_ready d made next then keeps_then (inr (omega (arith, passed, since))) in
               left_settled (suc event.at) next claim on (rest_settled p then keeps_then.claim sound_then late) leaves
               ready silent
-          | inr (inr (inr wide)) ↦
+          | inr (inr wide) ↦
               let capable : ℕ = last_change made + capability_span p in
               let (ready, silent) = anyway_ready d made capable then keeps_then (inr (omega arith)) in
               widened_to capable next sound ready silent (rest_settled p then keeps_then.claim sound_then late) wide
@@ -348,14 +346,12 @@ module _ {F : Type 0} (answers : Bounds → ℕ → F → Option ℕ → F → T
           | inl adds ↦
               let later = adds_later n made event next adds in
               added (suc event.at) next claim (omega (arith, later)) (from_sound p start w so.news) adds
-          | inr (inl better) ↦ bettered (suc event.at) next claim on (omega arith) (from_sound p start w so.news)
-              (news_settled p start then news late) better
-          | inr (inr (inl leaves)) ↦
+          | inr (inl leaves) ↦
               let since = leaves.since in
               let (ready, silent) = ready_later p start next then (omega (arith, settled, since)) news.ready news.silent
               in
               left_settled (suc event.at) next claim on (news_settled p start then news late) leaves ready silent
-          | inr (inr (inr wide)) ↦
+          | inr (inr wide) ↦
               widened_to start next (from_sound p start w so.news) news.ready news.silent
               (news_settled p start then news late) wide
         ]
@@ -369,14 +365,12 @@ module _ {F : Type 0} (answers : Bounds → ℕ → F → Option ℕ → F → T
         let on : AreOn p start then claim.heard = λ at_link stands.
         heard_on p start at_link then claim.news.world (claim.heard at_link stands) (omega (arith, late)) in
         elim makes [
-          | inl better ↦ bettered start next claim on (omega (arith, late)) so.since.news.sound
-              (always_settled p start then claim late) better
-          | inr (inl leaves) ↦
+          | inl leaves ↦
               let since = leaves.since in
               let (ready, silent) = ready_later p start next then (omega (arith, settled, since)) claim.news.ready
               claim.news.silent in
               left_settled start next claim on (always_settled p start then claim late) leaves ready silent
-          | inr (inr wide) ↦
+          | inr wide ↦
               widened_to start next so.since.news.sound claim.news.ready claim.news.silent
               (always_settled p start then claim late) wide
         ]

@@ -238,3 +238,5 @@ pub mod TurnedRestLemmas
 pub mod TurnedTreeRestLemmas
 pub mod TakenFartherLemmas
 pub mod WereSoundLemmas
+pub mod PriorityLinkLemmas
+pub mod AlwaysReactsLemmas

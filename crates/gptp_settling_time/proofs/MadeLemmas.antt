@@ -95,8 +95,9 @@ leaves_later n before event next (Inject number port octets) none = absurd none
 pub adds_later : (n : NetworkState) (before : List Timed) (event : Timed) (next : ℕ) → AddsHeard n before event next
     → event.at < next
 adds_later n before event next (inl up) = let capable = up.capable in omega (arith, capable)
-adds_later n before event next (inr alone) =
+adds_later n before event next (inr (inl alone)) =
     leaves_later n before event next (Recover alone.number) alone.capable
+adds_later n before event next (inr (inr better)) = better.later
 
 -- ---- from when ports are capable by what every world keeps
 

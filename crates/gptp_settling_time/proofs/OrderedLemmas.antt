@@ -36,6 +36,7 @@ use Rattle.gptp_pdelay_machine.specs.Setting.{Setting}
 use Rattle.gptp_pdelay_machine.proofs.FactLemmas.{facts_kept, facts_later}
 use Rattle.gptp_pdelay_machine.proofs.FirstLemmas.{first_kept, first_later}
 use Rattle.gptp_pdelay_machine.proofs.OrderLemmas.{not_before_kept, not_before_later, not_capable_before, order_kept}
+use Rattle.gptp_bmca_machine.specs.Acts.{StationActs}
 use Rattle.gptp_bmca_machine.specs.Frame.{Announce, AnnounceFrame, Lane}
 use Rattle.gptp_invariants.specs.ChoiceSeenLaws.{IsNoChange}
 use Rattle.gptp_invariants.specs.ChoiceSettlesAsMachine.{IsWorld}
@@ -43,13 +44,11 @@ use Rattle.gptp_invariants.specs.ChoiceView.{frame_view, lane_place, lane_view, 
 use Rattle.gptp_invariants.specs.DelayLinkActs.{IsOneAct}
 use Rattle.gptp_invariants.specs.DelayLinkView.{IsLinkOf, LinkPlace, least_delay, link_frame_view, link_setting, meter, other_direction, pair, reads_as_reply, reads_as_request}
 use Rattle.gptp_invariants.specs.DelayMeasured.{LinkStandsAt}
-use Rattle.gptp_invariants.proofs.ChoiceSeenActLemmas as choices
 use Rattle.gptp_invariants.proofs.ChoiceSeenLaneLemmas.{lane_there}
 use Rattle.gptp_invariants.proofs.DelayCapableKeptLemmas.{no_change}
 use Rattle.gptp_invariants.proofs.DelayLinkActLemmas.{acts_seen}
 use Rattle.gptp_invariants.proofs.DelayLinkFactLemmas.{nothing_late}
 use Rattle.gptp_invariants.proofs.DelayLinkLemmas.{sender_opposite}
-use Rattle.gptp_invariants.proofs.WorldOutlineLemmas.{acts_time}
 use Rattle.gptp_invariants.proofs.DelayPoppedLemmas.{receiver_opposite}
 use Rattle.gptp_settling_time.proofs.MasterLemmas.{BeginsAtMaster, WasOnLane, acted, master_capable}
 use Rattle.gptp_settling_time.proofs.ToldLemmas.{capable_on}
@@ -219,28 +218,27 @@ capable_late p first at w is x capable =
     (meter at w l) ordered x.short x.facts x.inv x.before capable in
     omega (arith, late, period, turnaround)
 
-module _ (p : SettlingParams) (first : ℕ) (act : Act) (w : WorldState) (draws : List Draw) (done : Done)
-    (w' : WorldState) (none : IsNoChange act) (acts : Acts act w draws done w') (is : IsWorld p w)
-    (is' : IsWorld p w') where
-  pub link_seen : (at : LinkPlace) (l : IsLinkOf at w) → IsOneAct at w w' l
-  link_seen at l = acts_seen at act w w' draws done l is.sound (no_change act none) acts
+pub link_seen : (act : Act) (w : WorldState) (draws : List Draw) (done : Done) (w' : WorldState) → IsNoChange act
+    → Acts act w draws done w' → IsSound w → (at : LinkPlace) (l : IsLinkOf at w) → IsOneAct at w w' l
+link_seen act w draws done w' none acts sound at l = acts_seen at act w w' draws done l sound (no_change act none) acts
 
+-- the systems of a world act, and each link sees one act
+module _ (p : SettlingParams) (first : ℕ) (w w' : WorldState) (is : IsWorld p w) (is' : IsWorld p w')
+    (time_is : w'.time ≡ w.time) (steps : StationActs says_announce (view w) (view w'))
+    (seen : (at : LinkPlace) (l : IsLinkOf at w) → IsOneAct at w w' l) where
   timely_on : (at : LinkPlace) → IsTimelyAt first at w → IsTimelyAt first at w'
-  timely_on at x = timely_acted at first w w' x (link_seen at x.link)
-
-  time_is : w'.time ≡ w.time
-  time_is = acts_time act w draws done w' acts
+  timely_on at x = timely_acted at first w w' x (seen at x.link)
 
   -- what is told now is told by a capable port
   module _ (at : LinkPlace) (x : IsTimelyAt first at w) (y : IsTimelyAt first (opposite at) w) where
     abbrev after : IsLinkOf at w'
-    after = (link_seen at x.link).after
+    after = (seen at x.link).after
 
     abbrev back_way : Direction
     back_way = other_direction at.direction
 
     told_late : BeginsAtMaster (view w') (lane_view back_way after.channel)
-        → from at first w w' x (link_seen at x.link) ≤ w.time
+        → from at first w w' x (seen at x.link) ≤ w.time
     told_late master =
         let port = master_capable w' (λ place station here.
         (is'.sound.on_time.stations place station here).steady.shown)
@@ -269,7 +267,7 @@ module _ (p : SettlingParams) (first : ℕ) (act : Act) (w : WorldState) (draws 
         ap (λ (q : Port). is_capable q.peer) (some_same e.state port.state found) ∙ port.capable in
         let late = capable_late p first (opposite at) w' is' z capable in
         let bounds : z.link.channel.bounds ≡ x.link.channel.bounds =
-        ap (λ (c : Channel). c.bounds) same_channel ∙ (link_seen at x.link).bounds in
+        ap (λ (c : Channel). c.bounds) same_channel ∙ (seen at x.link).bounds in
         let least_is : z.link.channel.bounds.min ≡ x.link.channel.bounds.min = ap (λ (b : Bounds). b.min) bounds in
         let asks = (is.known.set at.asking x.link.asking.station x.link.asking.here).starts.params in
         let answers = (is.known.set at.answering x.link.answering.station x.link.answering.here).starts.params in
@@ -281,7 +279,7 @@ module _ (p : SettlingParams) (first : ℕ) (act : Act) (w : WorldState) (draws 
         omega (arith, late, least_is, period, turnaround, same_time)
 
     pub sent_late : (f : LaneFrame) → In f (pair at w' after).back → tells f.octets
-        → In f (pair at w x.link).back ⊎ (from at first w w' x (link_seen at x.link) ≤ w.time)
+        → In f (pair at w x.link).back ⊎ (from at first w w' x (seen at x.link) ≤ w.time)
     sent_late f member (a, said) =
         let (frame, among, same) = from_map link_frame_view f (world_queue back_way after.channel) member in
         let seen_frame : AnnounceFrame = frame_view frame in
@@ -290,8 +288,7 @@ module _ (p : SettlingParams) (first : ℕ) (act : Act) (w : WorldState) (draws 
         let now : In seen_frame (lane_view back_way after.channel).frames =
         In-map frame_view frame (world_queue back_way after.channel) among in
         elim (acted says_announce place seen_frame a (subst (λ (o : List ℕ). says_announce o a) octets said) (view w)
-        (view w') (choices.acts_seen act w draws done w' none is.sound is.encodable acts)
-        (lane_view back_way after.channel)
+        (view w') steps (lane_view back_way after.channel)
         (lane_there w'.net.channels at.link back_way after.channel after.here) now) [
           | inl was ↦ inl (old frame same was)
           | inr master ↦ inr (told_late master)

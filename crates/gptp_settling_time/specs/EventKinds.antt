@@ -73,14 +73,13 @@ pub record BringsUp (n : NetworkState) (before : List Timed) (event : Timed) (ne
   pub live : JoinsLive n (before ++ event ∷ []) (port_id clock port)
   pub capable : exchanged_from (pace_of n) (sync_paths n (before ++ event ∷ [])) event.at ≤ next
 
--- After these events this one sets a priority1 that makes the identity of a system that lives no worse, where no path
--- has more than 255 of them. The next time is later than that.
+-- After these events this one sets a priority1 that makes the identity of a system that lives no worse. The next time
+-- is later than that.
 pub record BettersClock (n : NetworkState) (before : List Timed) (event : Timed) (next : ℕ) : Type 0 where
   pub clock : ℕ
   pub value : ℕ
   pub act : event.act ≡ Changing (Priority1 clock value)
   pub better : IsNoWorse n before clock value
-  pub few : (sync_paths n before).systems ≤ 255
   pub later : event.at < next
 
 -- After these events this one lets a failed system recover that uses no link then. The other ports are as capable as
@@ -279,6 +278,7 @@ abbrev pub HasSettledHeard : NetworkState → List Timed → ℕ → ℕ → Typ
 HasSettledHeard n events start time =
     start + pred (sync_paths n events).systems * (sync_paths n events).delay ≤ time
 
--- it brings up a link, or lets a system recover that uses none
+-- what it tells is heard at once: it brings up a link, lets a system recover that uses none, or sets a better priority1
 abbrev pub AddsHeard : NetworkState → List Timed → Timed → ℕ → Type 0
-AddsHeard n before event next = BringsUp n before event next ⊎ RecoversAlone n before event next
+AddsHeard n before event next =
+    BringsUp n before event next ⊎ (RecoversAlone n before event next ⊎ BettersClock n before event next)

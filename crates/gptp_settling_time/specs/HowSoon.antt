@@ -7,9 +7,8 @@
 -- time by which the choice of the time before stands has sharper ones, by its events:
 -- - They make nothing of what stands. The bound is 0.
 -- - They are gains. It is what ports take to become capable, an announce interval, and the greatest delay for each
---   system of a path but one. No announce interval has to pass where what the first gain tells is heard at once, and
---   each later gain is a link whose delay varies little, or a system that recovers and uses no link. Nor has one at the
---   start where all delays vary little.
+--   system of a path but one. No announce interval has to pass where what each tells is heard at once, nor at the start
+--   where all delays vary little.
 -- - By the one event a link goes down, and no system is moved but such as are cut off. It is 0.
 -- - By the first event a system fails that is the far end of each of its links, and no other comes but links that go
 --   down of which an end has failed. The bound of the choice is 0. Roles stand once the ports beside it aren't capable
@@ -35,7 +34,7 @@
 -- Wider delays of a link in use ask for no time either, where they come first. These gains are followed, at a time
 -- behind events that make nothing: a link that comes up between live systems, a system that recovers, and a priority1
 -- of a live system that gets better. The first is heard at once where its delay varies little, the second where it uses
--- no link, the last where no path has more than 255 systems. At time 0 links may go down and come up, systems fail and
+-- no link, the last always. At time 0 links may go down and come up, systems fail and
 -- a priority1 be set. Not followed are other delays that are set, octets that are put onto a link, and gains and losses
 -- of one time. There the span stands.
 use Rattle.std.specs.Prelude.{◌≡◌, ◌<◌, ◌≤◌, ◌⊎◌, ◌+◌, ◌*◌, ◌==◌, ℕ, ⊤, max, min, suc, List, [], ◌∷◌, ◌++◌, filter}
@@ -57,7 +56,7 @@ use Rattle.gptp_network.specs.Document.{DocumentState}
 use Rattle.gptp_network.specs.Snapshot.{events_by}
 use Rattle.gptp_settling_time.specs.Arrivals.{HasArrivedBy}
 use Rattle.gptp_settling_time.specs.Gains.{ChangesNothing, EndHasFailed, LeavesCapable, Repeats, TakesNothing}
-use Rattle.gptp_settling_time.specs.EventKinds.{AddsHeard, BettersClock, FlightIsGone, FlightIsGoneFrom, MakesNothing, NoneUsed, TellsNothing, UsedVaryLittle, WidensLink}
+use Rattle.gptp_settling_time.specs.EventKinds.{AddsHeard, FlightIsGone, FlightIsGoneFrom, MakesNothing, NoneUsed, TellsNothing, UsedVaryLittle, WidensLink}
 use Rattle.gptp_settling_time.specs.Leads.{TakesAny}
 use Rattle.gptp_settling_time.specs.Rests.{FlightIsGoneSince, turned_echo_span}
 use Rattle.gptp_settling_time.specs.Losses.{AgesWithin, CutsFarEnd, FailsFarEnd, FailsHeard, LeavesChoice, LosesAny, LowersLink, LowersUnused, MovesNoneInAll, NoneSilent, TurnsLink, UpIsUsed}
@@ -93,13 +92,8 @@ IsStillEvent n made event = IsIdleEvent n made event ⊎ LeavesChoice n made eve
 abbrev pub IsGainEvent : NetworkState → ℕ → List Timed → Timed → Type 0
 IsGainEvent n next made event = TakesNothing n made event.act × LeavesCapable n made event next event.act
 
--- what it tells is heard at once: a link comes up whose delay varies little, a system recovers that uses none, or a
--- priority1 gets better
-abbrev pub IsHeardEvent : NetworkState → ℕ → List Timed → Timed → Type 0
-IsHeardEvent n next made event = AddsHeard n made event next ⊎ BettersClock n made event next
-
--- Behind an event that is heard at once, at the same time: a link whose delay varies little comes up, a system recovers
--- that uses none, or the event makes nothing of what then stands.
+-- Behind an event whose telling is heard at once, at the same time: another such, or the event makes nothing of what
+-- then stands.
 abbrev pub IsHeardToo : NetworkState → ℕ → List Timed → Timed → Type 0
 IsHeardToo n next made event = AddsHeard n made event next ⊎ MakesNothing n made event next
 
@@ -122,11 +116,11 @@ abbrev pub EachEvent : (List Timed → Timed → Type 0) → List Timed → List
 EachEvent Is made [] = ⊤
 EachEvent Is made (event ∷ events) = Is made event × EachEvent Is (made ++ event ∷ []) events
 
--- the first of them is heard at once, and the others are too
+-- what the first of them tells is heard at once, and so is what the others tell
 abbrev pub AreHeardEvents : NetworkState → ℕ → List Timed → List Timed → Type 0
 AreHeardEvents n next made [] = ⊥
 AreHeardEvents n next made (event ∷ events) =
-    IsHeardEvent n next made event × EachEvent (IsHeardToo n next) (made ++ event ∷ []) events
+    AddsHeard n made event next × EachEvent (IsHeardToo n next) (made ++ event ∷ []) events
 
 -- the first of them is a gain, and the others are too
 abbrev pub AreGainEvents : NetworkState → ℕ → List Timed → List Timed → Type 0

@@ -6,11 +6,11 @@
 --
 -- To what is heard it leads where the network has settled, and the event changes nothing, brings up a link between live
 -- systems, lets a system recover that uses none, or sets a better priority1. Where the delay of that link varies little
--- the first Announce over it comes to a port that is capable already; and a system that gets better tells so at once.
--- An event that makes nothing of what stands leaves a settled network settled, whatever it came from. So does a
--- priority1 that moves no system, and so do wider delays of a link in use. Where all was heard before, such links may
--- also come up, and such systems recover, one after another at any time, and several at once. What changes nothing asks
--- for no time at all then.
+-- the first Announce over it comes to a port that is capable already; and a system that gets better tells so at once
+-- over each port that is capable. An event that makes nothing of what stands leaves a settled network settled, whatever
+-- it came from. So does a priority1 that moves no system, and so do wider delays of a link in use. Where all was heard
+-- before, such links may also come up, such systems recover and get better, one after another at any time, and several
+-- at once. What changes nothing asks for no time at all then.
 --
 -- A settled network is left where a link goes down by which no system is moved but such as are cut off. It is left,
 -- too, where a system fails that is the far end of each of its links. Then roles stand once the ports beside it aren't
@@ -32,7 +32,7 @@ use Rattle.gptp_settling_time.specs.Gains.{AreCapableAnyway, AreCapableNext, Are
 use Rattle.gptp_settling_time.specs.Losses.{AgesWithin, AreSilentAfter, LosesAny, LowersUnused, MovesNoneInAll}
 use Rattle.gptp_settling_time.specs.TreeLosses.{FailsTrees, LosesFartherFrom}
 use Rattle.gptp_settling_time.specs.Pasts.{Aging, AnyPast, Cleared, Fallen, Fewer, Gained, Heard, Left, Lost, Past, Split, Starting, Turned, TurnedTree}
-use Rattle.gptp_settling_time.specs.EventKinds.{AddsHeard, BettersClock, ClearsBy, FailsNow, FallsCalm, FlightIsGone, HasSettledAnyhow, HasSettledHeard, HasSettledSince, IsDownNow, IsDownOrIdle, LeavesSettled, LeavesStanding, LowersUnusedCalm, MakesNothing, StartsWith, TellsAnew, TellsNothing, TurnsCalm, TurnsTreeCalm, UsedVaryLittle, WidensFrom}
+use Rattle.gptp_settling_time.specs.EventKinds.{AddsHeard, ClearsBy, FailsNow, FallsCalm, FlightIsGone, HasSettledAnyhow, HasSettledHeard, HasSettledSince, IsDownNow, IsDownOrIdle, LeavesSettled, LeavesStanding, LowersUnusedCalm, MakesNothing, StartsWith, TellsAnew, TellsNothing, TurnsCalm, TurnsTreeCalm, UsedVaryLittle, WidensFrom}
 
 -- From any past the network has rested, and its ports are capable whatever came before. From a gain, and from what is
 -- heard, they were capable from another start on.
@@ -57,19 +57,18 @@ abbrev pub LeadsToHeard : NetworkState → List Timed → Past → Timed → ℕ
 LeadsToHeard n before AnyPast event next =
     HasSettledAnyhow n before event.at
     × (AddsHeard n before event next
-    ⊎ (BettersClock n before event next
     ⊎ (LeavesSettled n before event next
-    ⊎ WidensFrom n before event (last_change before + capability_span (pace_of n)) next)))
+    ⊎ WidensFrom n before event (last_change before + capability_span (pace_of n)) next))
 LeadsToHeard n before Starting event next =
     StartsWith n before event next × UsedVaryLittle n (before ++ event ∷ [])
 LeadsToHeard n before (Gained start) event next =
     HasSettledSince n before start event.at
     × (AddsHeard n before event next
-    ⊎ (BettersClock n before event next ⊎ (LeavesSettled n before event next ⊎ WidensFrom n before event start next)))
+    ⊎ (LeavesSettled n before event next ⊎ WidensFrom n before event start next))
 LeadsToHeard n before (Heard start) event next =
     ((start ≤ next) × AddsHeard n before event next)
     ⊎ ((HasSettledHeard n before start event.at
-    × (BettersClock n before event next ⊎ (LeavesSettled n before event next ⊎ WidensFrom n before event start next)))
+    × (LeavesSettled n before event next ⊎ WidensFrom n before event start next))
     ⊎ (MakesNothing n before event start × (next ≡ start)))
 LeadsToHeard n before (Left ago silent) event next = ⊥
 LeadsToHeard n before (Turned silent time) event next = ⊥

@@ -8,7 +8,7 @@ use Rattle.gptp_how_soon.proofs.walk.Walk.settle.Goals as goal
 
 pub returns-clause-is : goal.returns-clause-is
 returns-clause-is c =
-    settled_so c.args.network.now c.args.self.now c.args.at c.is_none-first.result c.heard_at_once-followed.result
+    settled_so c.args.network.now c.args.self.now c.args.at c.is_none-first.result
     c.is_from_rest-from_rest.result c.is_calm.result c.sets_link.result c.up_is_used-all_used.result
     c.none_up_longer-none_longer.result c.comes_soon-soon.result c.comes_soon-soon_before.result
     c.any_silent.result c.in_ok-moves.moves
@@ -28,7 +28,7 @@ returns-clause-is c =
     ∙ ap (λ asked. if asked then moves_seen c.args.network.now c.args.self.now c.args.at else no_moves)
     c.asks_who_is_moved-asked.ensures)
     c.is_from_rest-from_rest.ensures c.way_span.ensures.is c.heard.ensures.is
-    c.heard_at_once-followed.ensures c.ready-ready.ensures.is c.sets_link.ensures c.is_calm.ensures
+    c.ready-ready.ensures.is c.sets_link.ensures c.is_calm.ensures
     (c.as_slice-new.ensures.value ∙ c.in_ok-new.ensures)
     c.as_slice-told.ensures.value c.as_slice-standings.ensures.value c.as_slice-used.ensures.value
     c.requires.paths
