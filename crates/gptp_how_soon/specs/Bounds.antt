@@ -1,5 +1,5 @@
 -- How soon the choice and the roles stand at a time, by whether it is from rest and what its events are (profile).
-use Rattle.std.specs.Prelude.{ℕ, ◌+◌, ◌-◌, ◌*◌, ◌==◌, ◌||◌, max, not, Bool, if◌then◌else◌, List, length, Option, Some, None}
+use Rattle.std.specs.Prelude.{ℕ, ◌+◌, ◌-◌, ◌*◌, ◌==◌, ◌||◌, max, min, not, Bool, if◌then◌else◌, List, length, Option, Some, None}
 use Rattle.std.specs.List.{list_any}
 use Rattle.gptp_setup.specs.Intervals.{interval_of}
 use Rattle.gptp_setup.specs.SettlingParams.{largest_interval}
@@ -134,13 +134,22 @@ abbrev pub taken_echo_span : NetworkState → Loss → SyncPaths → ℕ
 taken_echo_span n loss paths =
     if loss.used then max (echo_span (pace_of n) paths) paths.delay else any_loss_span n loss paths
 
--- How much later than a failure that cuts off all that it moves what was in flight is gone: as above since the trees
--- have settled. Where each live system is left alone, which was at one link at most, and each link that was up before
--- was in use, nothing told since is in flight, and what was is gone by the greatest delay of before.
+-- How much later than a failure what is in flight is gone, where trees that it cuts off settle so much later. It comes
+-- within the greatest delay of a link in use. Where it may be over others ports at those have to be off before, and
+-- what they sent has come; or an announce interval has passed, if that is sooner.
+abbrev pub fallen_gone_by : NetworkState → Loss → SyncPaths → ℕ → ℕ
+fallen_gone_by n loss paths settled =
+    if loss.soon then settled + paths.delay
+    else min (settled + largest_interval (pace_of n))
+    (max (settled + paths.delay) (silence_span (pace_of n) + loss.slowest_unused))
+
+-- The same of one that cuts off all that it moves. Where each live system is left alone, which was at one link at most,
+-- and each link that was up before was in use, nothing told since is in flight, and what was is gone by the greatest
+-- delay of before.
 abbrev pub apart_by : NetworkState → Loss → SyncPaths → ℕ
 apart_by n loss paths =
     if loss.alone then max (aged_by loss + 2 * way_span paths) loss.paths_before.delay
-    else aged_by loss + 2 * way_span paths + gone_by n paths loss.soon
+    else fallen_gone_by n loss paths (aged_by loss + 2 * way_span paths)
 
 -- By when all that is held and in flight is sound: as soon as the choice stands, but after a loss it may name what is
 -- gone. After a far end is cut off, a tree falls back, or a far end fails, only what was in flight does; of one that
@@ -153,14 +162,14 @@ abbrev pub sound_of_row : NetworkState → Loss → SyncPaths → Row → ℕ �
 sound_of_row n loss paths AnyPast gained = settling_span_at_once (pace_of n) paths
 sound_of_row n loss paths Unchanged gained = 0
 sound_of_row n loss paths Lowered gained = max (echo_span (pace_of n) paths) (gone_by n paths loss.used_before)
-sound_of_row n loss paths CutOff gained = max (2 * way_span paths) (gone_by n paths loss.soon)
+sound_of_row n loss paths CutOff gained = max (2 * way_span paths) paths.delay
 sound_of_row n loss paths FailedEnd gained = quiet_by n loss (gone_by n loss.paths_before loss.soon_before)
 sound_of_row n loss paths FailedHeard gained = aged_echo_span n loss paths
 sound_of_row n loss paths FailureCutsOff gained =
     if loss.cuts_all then quiet_by n loss (apart_by n loss paths)
     else max (aged_by loss + 2 * way_span paths) (aged_echo_span n loss paths)
 sound_of_row n loss paths SystemTurned gained = 2 * way_span paths + echo_span (pace_of n) paths
-sound_of_row n loss paths TreeFalls gained = max (2 * way_span paths) (gone_by n paths loss.used_before)
+sound_of_row n loss paths TreeFalls gained = max (2 * way_span paths) paths.delay
 sound_of_row n loss paths TreeTurned gained = 2 * way_span paths + echo_span (pace_of n) paths
 sound_of_row n loss paths FailureMovesTrees gained =
     quiet_by n loss

@@ -26,6 +26,7 @@ use Rattle.gptp_how_soon.specs.Bounds.{arrived_by, heard_by, ready, times_by}
 use Rattle.gptp_how_soon.specs.Alone.{leaves_alone_after}
 use Rattle.gptp_how_soon.specs.Chosen.{moves_counted, moves_some}
 use Rattle.gptp_how_soon.specs.Far.{are_far_after, cut_far_ends_after, none_up_longer, up_is_used}
+use Rattle.gptp_how_soon.specs.Flight.{lost_are_down_after, slowest_unused}
 use Rattle.gptp_how_soon.specs.Kinds.{sets_bounds, sets_link, told_by}
 use Rattle.gptp_how_soon.specs.Losses.{takes_one}
 use Rattle.gptp_how_soon.specs.Links.{longest_delay, new_links}
@@ -60,10 +61,13 @@ pub record View : Type 0 where
   -- whom they move, of whom such as are cut off don't count where one link or one system is taken away, and for how
   -- long it counts what others hold
   pub moves : Moves
-  -- whether each link that is up is in use, whether none that is up takes longer than those, whether one is left
-  -- silent, what Sync has to cross, and whether the network is calm
+  -- whether each link that is up is in use, whether each that is lost is down, whether none that is up takes longer
+  -- than those in use, the greatest delay of such as are up and aren't, whether one is left silent, what Sync has to
+  -- cross, and whether the network is calm
   pub used : Bool
+  pub lost_down : Bool
   pub none_longer : Bool
+  pub slowest_unused : ℕ
   pub silent : Bool
   pub paths : SyncPaths
   pub calm : Bool
@@ -95,8 +99,9 @@ loss_at v = record {
   paths_before = v.paths_before;
   used_before = v.used_before;
   used = v.used;
-  soon = comes_soon v.used v.none_longer v.paths.delay (arrived_by v.longest v.last_set) v.at;
+  soon = comes_soon v.lost_down v.none_longer v.paths.delay (arrived_by v.longest v.last_set) v.at;
   soon_before = comes_soon v.used_before v.none_longer_before v.paths_before.delay v.arrived_before v.at;
+  slowest_unused = v.slowest_unused;
   cuts_all = v.moves.cuts_all;
   alone = v.moves.alone;
   silent = v.silent;
@@ -174,7 +179,9 @@ view_at n made now before at = record {
   told = told_of n made now;
   moves = moves_at n made now before at;
   used = up_is_used (standings_after n (made ++ now));
+  lost_down = lost_are_down_after n made (made ++ now);
   none_longer = none_up_longer (sync_paths n (made ++ now)).delay (standings_after n (made ++ now));
+  slowest_unused = slowest_unused (standings_after n (made ++ now));
   silent = silent_after n made (made ++ now);
   paths = sync_paths n (made ++ now);
   calm = is_calm n (made ++ now);

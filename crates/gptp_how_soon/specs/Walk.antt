@@ -13,6 +13,7 @@ use Rattle.gptp_how_soon.specs.Bounds.{arrived_by}
 use Rattle.gptp_how_soon.specs.Alone.{leaves_alone}
 use Rattle.gptp_how_soon.specs.Chosen.{any_counted, any_moved, chosen_over, ends_among, ends_in_use}
 use Rattle.gptp_how_soon.specs.Far.{all_cut_far_ends, are_far, none_up_longer, up_is_used}
+use Rattle.gptp_how_soon.specs.Flight.{lost_are_down, slowest_unused}
 use Rattle.gptp_how_soon.specs.Kinds.{sets_bounds, told_by}
 use Rattle.gptp_how_soon.specs.Losses.{takes_one}
 use Rattle.gptp_how_soon.specs.Links.{delay_set, longest_among, lost_among, new_among}
@@ -160,7 +161,9 @@ view_seen n w at = record {
   told = w.told.items;
   moves = moves_seen n w at;
   used = up_is_used w.tables.standings.items;
+  lost_down = lost_are_down w.used_before.items w.tables.standings.items;
   none_longer = none_up_longer (marked_paths w.tables.marks.items w.tables.nodes.items).delay w.tables.standings.items;
+  slowest_unused = slowest_unused w.tables.standings.items;
   silent = any_silent w.used_before.items w.tables.standings.items;
   paths = marked_paths w.tables.marks.items w.tables.nodes.items;
   calm = are_calm n.params (marked_paths w.tables.marks.items w.tables.nodes.items) w.tables.marks.items;

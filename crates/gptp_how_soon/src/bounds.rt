@@ -7,7 +7,7 @@ ghost use Rattle.gptp_setup.specs.SettlingParams.{largest_interval};
 ghost use Rattle.gptp_scenario.specs.Network.{pace_of};
 ghost use Rattle.gptp_scenario.specs.SettlingAtOnce.{settling_span_at_once};
 ghost use Rattle.gptp_scenario.specs.SettlingTime.{capability_span, echo_span, silence_span, way_span};
-ghost use Rattle.gptp_how_soon.specs.Bounds.{aged_by, aged_echo_span, any_loss_span, apart_by, arrived_by, asked_again, choice_by, exact_from, exact_span, gone_by, heard_by, is_again, is_hard_to_hear, quiet_by, ready, retold_by, roles_by, set_span, settled, sound_by, taken_echo_span, times_by, two_exchanges, watch};
+ghost use Rattle.gptp_how_soon.specs.Bounds.{aged_by, aged_echo_span, any_loss_span, apart_by, arrived_by, asked_again, choice_by, exact_from, exact_span, fallen_gone_by, gone_by, heard_by, is_again, is_hard_to_hear, quiet_by, ready, retold_by, roles_by, set_span, settled, sound_by, taken_echo_span, times_by, two_exchanges, watch};
 
 use crate::kinds::{Told, recovers};
 use crate::links::varies;
@@ -49,10 +49,12 @@ pub struct Loss {
     /// Whether each link that was up just before was in use, and whether each that is up then is.
     pub used_before: bool,
     pub used: bool,
-    /// Whether what was in flight then comes within the greatest delay of a link in use; and so what was just before,
-    /// of one in use then.
+    /// Whether what is in flight then comes within the greatest delay of a link in use; and so what was just before, of
+    /// one in use then.
     pub soon: bool,
     pub soon_before: bool,
+    /// The greatest delay, in ns, of a link that is up then and isn't in use.
+    pub slowest_unused: u64,
     /// Whether each system that is moved gets a worse root, and so does each live far end of a link that is lost.
     pub cuts_all: bool,
     /// Whether each live system is left alone, which was at one link in use at most, and each link that was up before
@@ -367,6 +369,25 @@ fn aged_echo_span(network: &Network, loss: Loss, paths: SyncPaths) -> u64
     silence_span(network).max(aged_by(loss) + 1 + gone)
 }
 
+/// By how much later than a failure what is in flight is gone, in ns, where trees that it cuts off settle so much later.
+fn fallen_gone_by(network: &Network, loss: Loss, paths: SyncPaths, settled: u64) -> u64
+    requires short { paths.delay ≤ 16000000000 }
+    requires settled { settled ≤ 100000000000000 }
+    ensures is { result ≡ fallen_gone_by network.now loss paths settled }
+    ensures bound { result ≤ 110000000000000 }
+{
+    if loss.soon {
+        return settled + paths.delay;
+    }
+    let kept = settled + announce_interval(network);
+    if loss.slowest_unused < kept {
+        let off = silence_span(network) + loss.slowest_unused;
+        kept.min(off.max(settled + paths.delay))
+    } else {
+        kept
+    }
+}
+
 /// By how much later than a failure that cuts off all that it moves what was in flight is gone, in ns.
 fn apart_by(network: &Network, loss: Loss, paths: SyncPaths) -> u64
     requires few { paths.systems ≤ 512 }
@@ -380,7 +401,7 @@ fn apart_by(network: &Network, loss: Loss, paths: SyncPaths) -> u64
     if loss.alone {
         settled.max(loss.paths_before.delay)
     } else {
-        settled + gone_by(network, paths, loss.soon)
+        fallen_gone_by(network, loss, paths, settled)
     }
 }
 
@@ -412,7 +433,6 @@ fn sound_by(network: &Network, loss: Loss, paths: SyncPaths, row: Row, gained: u
     if network.params().sync_timeout != 0 {
         return network.settling_span_with(paths);
     }
-    let gone = gone_by(network, paths, loss.soon);
     let gone_before = gone_by(network, loss.paths_before, loss.soon_before);
     match row {
         Row::AnyPast => settling_span_at_once(network, paths),
@@ -423,8 +443,7 @@ fn sound_by(network: &Network, loss: Loss, paths: SyncPaths, row: Row, gained: u
             let gone = gone_by(network, paths, loss.used);
             quiet_by(network, loss, way_span(paths).max(gone))
         }
-        Row::CutOff => (2 * way_span(paths)).max(gone),
-        Row::TreeFalls => (2 * way_span(paths)).max(gone_by(network, paths, loss.used_before)),
+        Row::CutOff | Row::TreeFalls => (2 * way_span(paths)).max(paths.delay),
         Row::FailedEnd => quiet_by(network, loss, gone_before),
         Row::FailedHeard => aged_echo_span(network, loss, paths),
         Row::FailureCutsOff => {

@@ -114,7 +114,7 @@ pub(crate) fn all_cut_far_ends(
 }
 
 /// Whether a link is down or in use.
-fn is_down_or_used(standing: &Standing) -> bool
+pub(crate) fn is_down_or_used(standing: &Standing) -> bool
     ensures { result ≡ is_down_or_used standing.now }
 {
     !standing.cable.up || is_used(standing)

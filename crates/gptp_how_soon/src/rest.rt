@@ -97,12 +97,18 @@ pub(crate) fn has_come(
     }
 }
 
-/// Whether what was in flight at a time has come within this greatest delay of a link in use: each link that is up is
-/// in use, or none takes longer, and what was in flight as a link was last set has arrived as soon.
-pub(crate) fn comes_soon(used: bool, none_longer: bool, delay: u64, arrived: u128, at: u64) -> bool
-    ensures { result ≡ comes_soon used none_longer delay arrived at }
+/// Whether what was in flight at a time has come within this greatest delay of a link in use: it is over such links, or
+/// none that is up takes longer, and what was in flight as a link was last set has arrived as soon.
+pub(crate) fn comes_soon(
+    over_used: bool,
+    none_longer: bool,
+    delay: u64,
+    arrived: u128,
+    at: u64,
+) -> bool
+    ensures { result ≡ comes_soon over_used none_longer delay arrived at }
 {
-    used || (none_longer && arrived <= u128::from(at) + u128::from(delay))
+    over_used || (none_longer && arrived <= u128::from(at) + u128::from(delay))
 }
 
 /// Whether each of these events is followed.

@@ -16,6 +16,7 @@ use crate::chosen::{
     Chosen, Ends, any_counted, any_moved, choose, copy_systems, ends_in_use, ends_of,
 };
 use crate::far::{all_cut_far_ends, are_far, none_up_longer, up_is_used};
+use crate::flight::{lost_are_down, slowest_unused};
 use crate::kinds::{Told, sets_bounds, sets_link, tell};
 use crate::links::{delay_set, longest_among, lost_among, mark_used, new_links};
 use crate::losses::takes_one;
@@ -244,7 +245,8 @@ impl Walk {
         let arrived_before = arrived_before(self.longest_before, self.set_before);
         let all_used = up_is_used(standings);
         let none_longer = none_up_longer(paths.delay, standings);
-        let soon = comes_soon(all_used, none_longer, paths.delay, u128::from(arrived), at);
+        let down = lost_are_down(used, standings);
+        let soon = comes_soon(down, none_longer, paths.delay, u128::from(arrived), at);
         let used_before = self.all_used_before;
         let longer = self.none_longer_before;
         let soon_before = comes_soon(used_before, longer, paths_before.delay, arrived_before, at);
@@ -254,6 +256,7 @@ impl Walk {
             used: all_used,
             soon,
             soon_before,
+            slowest_unused: slowest_unused(standings),
             cuts_all: moves.cuts_all,
             alone: moves.alone,
             silent: any_silent(used, standings),
