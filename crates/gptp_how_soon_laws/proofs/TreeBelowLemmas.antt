@@ -30,7 +30,7 @@ use Rattle.gptp_how_soon_laws.proofs.TreeTestLemmas.{apart_so, better_so, fewer_
 use Rattle.gptp_how_soon_laws.proofs.WorseningLemmas.{same_system}
 use Rattle.gptp_how_soon_laws.proofs.LivesOnLemmas.{LivesOn, on_at, on_of}
 use Rattle.gptp_how_soon_laws.proofs.TreeByLemmas.{steps_of}
-use Rattle.gptp_how_soon_laws.proofs.LostLinkLemmas.{IsJoinedBy, ends_are, joined_by, same_port, stands_or_lost, used_links}
+use Rattle.gptp_how_soon_laws.proofs.LostLinkLemmas.{IsJoinedBy, joined_by, joins_or_lost, lost_at, same_port, used_links}
 
 module _ (n : NetworkState) (network : IsNetwork n) (made events : List Timed) where
   abbrev pub before : List Chosen
@@ -172,27 +172,11 @@ module _ (n : NetworkState) (network : IsNetwork n) (made events : List Timed) w
           let (i, s) = on v in_v.reached.1.begins in
           let known_u = Adjacent-clock g v u well (p, q, joins) in
           let (j, at_u) = at_clock n network made g stands well u known_u in
-          elim joins [
-            | inl member ↦
-                elim (stands_or_lost n network made g stands well events h stands' well'
-                (record { a = port_of v p; b = port_of u q }) member) [
-                  | inl still ↦ inl (p, q, inl still)
-                  | inr (w, same, listed) ↦
-                      let ends =
-                      ends_are n network made g stands well w v u i j (record { a = port_of v p; b = port_of u q })
-                      same refl refl s.at at_u in
-                      inr (only_top i v s in_v (ends_of n w) listed (inl (ap (λ (e : Ends). e.a) ends)))
-                ]
-            | inr member ↦
-                elim (stands_or_lost n network made g stands well events h stands' well'
-                (record { a = port_of u q; b = port_of v p }) member) [
-                  | inl still ↦ inl (p, q, inr still)
-                  | inr (w, same, listed) ↦
-                      let ends =
-                      ends_are n network made g stands well w u v j i (record { a = port_of u q; b = port_of v p })
-                      same refl refl at_u s.at in
-                      inr (only_top i v s in_v (ends_of n w) listed (inr (ap (λ (e : Ends). e.b) ends)))
-                ]
+          elim (joins_or_lost n network made g stands well events h stands' well' i j (port_of v p) (port_of u q) s.at
+          at_u joins) [
+            | inl still ↦ inl (p, q, still)
+            | inr x ↦ inr (only_top i v s in_v x.ends x.listed
+                (lost_at n network made g stands well events h stands' well' i j x))
           ]
 
       -- a link in use joins the systems at two places
