@@ -314,7 +314,7 @@ module _ (says : Spelling) (n : Network) (next : System) (top : Side → ℕ) (d
                     omega (arith, also, lower, source)
 
             weaker : IsStronger depth u v → ⊥
-            weaker strong = elim (stage_holds u q v p in_u back strong (strongs u q v p in_u back strong) s pv at there) [
+            weaker at_u = elim (stage_holds u q v p in_u back at_u (strongs u q v p in_u back at_u) s pv at there) [
               | inl h ↦ absurd (let both : Mine s.root s.steps ≡ Received h.r =
                   sym (tells s pv at there).1 ∙ h.holds in cc)
               | inr (not, free) ↦ elim ((free s pv l at there lane).flight f a among said) [
