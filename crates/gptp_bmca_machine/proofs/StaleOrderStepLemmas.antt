@@ -370,9 +370,9 @@ module _ (says : Spelling) (n : Network) (next : System) (top : Side → ℕ) (d
 
               left_now : (HasChoice s' root_then d → ⊥) → IsLeft says n.graph n root_then d last v p u q w'
               left_now not_old =
-                  let acts = answers_or_stands says n (λ c. ⊤) v w w' m.kept.calm kept'.calm in_v.reached.1.begins in (
+                  let begins = in_v.reached.1.begins in (
                     left',
-                    elim (acts step s' at') [
+                    elim (answers_or_stands says n (λ c. ⊤) v w w' m.kept.calm kept'.calm begins step s' at') [
                       | inl still_there ↦ absurd (not_old (is_old s' still_there))
                       | inr z ↦ leaves_now left' is_old stays z
                     ],
