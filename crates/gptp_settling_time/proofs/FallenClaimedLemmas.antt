@@ -19,12 +19,12 @@ use Rattle.gptp_invariants.specs.ChoiceSettlesAsMachine.{IsWorld}
 use Rattle.gptp_invariants.specs.ChoiceView.{says_announce, view}
 use Rattle.gptp_invariants.specs.WorldSound.{IsSoundWorld}
 use Rattle.gptp_invariants.specs.WorldStanding.{snapshot_of}
-use Rattle.gptp_invariants.proofs.WorldGreatestDelayLemmas.{delay_short}
 use Rattle.gptp_invariants.proofs.WorldNewsLemmas.{silent_from_now}
 use Rattle.gptp_settling_time.proofs.AlwaysClaimedLemmas.{IsClaimedAlways}
-use Rattle.gptp_settling_time.proofs.BecomesSoundLemmas.{GoesBy, becomes_claimed}
+use Rattle.gptp_settling_time.proofs.BecomesSoundLemmas.{becomes_claimed}
 use Rattle.gptp_settling_time.proofs.ClearedLemmas.{left_is_now}
-use Rattle.gptp_settling_time.proofs.FallAlwaysLemmas.{IsFallenAlways, IsGoneBy, fallen_by, fallen_seen, falls_within}
+use Rattle.gptp_settling_time.proofs.DueLemmas.{IsGoneBy}
+use Rattle.gptp_settling_time.proofs.FallAlwaysLemmas.{IsFallenAlways, fallen_by, fallen_seen, falls_within}
 use Rattle.gptp_settling_time.proofs.LeftClaimedLemmas.{IsLeftAlways, left_itself, left_network}
 use Rattle.gptp_settling_time.proofs.MovedAlwaysLemmas.{nothing_held}
 use Rattle.gptp_settling_time.proofs.SettledSeenLemmas.{IsSettledSeen, sound_fits, stage_settled}
@@ -38,22 +38,11 @@ way_fits zero most flight start time short gone late = omega (arith, short, gone
 way_fits (suc zero) most flight start time short gone late = omega (arith, short, gone)
 way_fits (suc (suc reach)) most flight start time short gone late = omega (arith, late)
 
--- what was in flight at a time is gone by now
-pub goes_gone : (p : SettlingParams) (start flight : ℕ) (w : WorldState) → GoesBy p flight w → start + flight < w.time
-    → IsGoneBy p start (pred w.time) w
-goes_gone p start flight w goes gone = elim goes [
-  | inl (used, delay) ↦ inr (used, before w.time delay gone)
-  | inr interval ↦ inl (before w.time interval gone)
-]
-  where
-    before : (now : ℕ) {span : ℕ} → flight ≡ span → start + flight < now → start + span ≤ pred now
-    before zero is less = absurd (omega (arith, less))
-    before (suc now) is less = omega (arith, is, less)
-
-module _ (p : SettlingParams) (g : Snapshot) (silent start flight : ℕ) (w : WorldState)
-    (is : IsFallenAlways p g silent start w) (quiet : HaveQuietLinks p.params w) (off : NothingLapses p.params)
-    (late : start + 1 + 2 * (pred (path_bound (snapshot_of w)) * delay_in w) ≤ w.time) (goes : GoesBy p flight w)
-    (gone : start + flight < w.time) where
+module _ (p : SettlingParams) (g : Snapshot) (Limits : ℕ → Type 0) (silent start flight : ℕ) (w : WorldState)
+    (is : IsFallenAlways p g Limits silent start w) (quiet : HaveQuietLinks p.params w) (off : NothingLapses p.params)
+    (late : start + 1 + 2 * (pred (path_bound (snapshot_of w)) * delay_in w) ≤ w.time)
+    (short : delay_in w ≤ flight) (gone_by : IsGoneBy p Limits start (pred w.time) w) (gone : start + flight < w.time)
+    where
   world : IsWorld p w
   world = is.standing.world
 
@@ -61,24 +50,15 @@ module _ (p : SettlingParams) (g : Snapshot) (silent start flight : ℕ) (w : Wo
   n = left_network p silent w
 
   seen : IsSettledSeen p w
-  seen = fallen_seen p g silent start w is quiet off late
+  seen = fallen_seen p g Limits silent start w is quiet off late
 
   -- ---- all is sound
-
-  short : delay_in w ≤ flight
-  short = elim goes [
-    | inl (used, delay) ↦ omega (arith, delay)
-    | inr interval ↦ let most = delay_short p w world.known in omega (arith, most, interval)
-  ]
 
   -- the tree has fallen back, and what it told before is gone
   fits : fallen_by is.n start + is.n.most < w.time
   fits =
       subst (λ z. fallen_by z start + z.most < w.time) is.same
       (way_fits (path_bound (snapshot_of w)) (delay_in w) flight start w.time short gone late)
-
-  gone_by : IsGoneBy p start (pred w.time) w
-  gone_by = goes_gone p start flight w goes gone
 
   sound : IsSoundWorld w
   sound =
