@@ -122,8 +122,8 @@ pub gone_kept : (p : SettlingParams) (Limits : ℕ → Type 0) (start old : ℕ)
 gone_kept p Limits start old w w' k (inl interval) = inl interval
 gone_kept p Limits start old w w' k (inr (inl (used, delay))) =
     inr (inl (use_kept w w' k used, subst (λ most. start + most ≤ old) (sym (delay_kept w w' k)) delay))
-gone_kept p Limits start old w w' k (inr (inr (most, within, limit))) =
-    inr (inr (most, within_kept most w w' k within, limit))
+gone_kept p Limits start old w w' k (inr (inr (most, within, limit, is_limit, before, delay))) =
+    inr (inr (most, within_kept most w w' k within, limit, is_limit, before, delay))
 
 -- so it is due by then
 module _ (p : SettlingParams) (Limits : ℕ → Type 0) (start old : ℕ) (w : WorldState) (n : Network) (is : IsWorld p w)

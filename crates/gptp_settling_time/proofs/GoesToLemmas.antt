@@ -70,7 +70,7 @@ module _ (d : DocumentState) (playable : IsPlayable d) (events : List Timed) (w 
       let delay = ap (λ (u : SyncPaths). u.delay) paths_to in omega (arith, is, delay)
   delay_to Limits start flight (inl (inr is)) =
       let short = delay_short (pace_of d.network) w keeps.claim.world.known in omega (arith, is, short)
-  delay_to Limits start flight (inr (within, limit)) =
+  delay_to Limits start flight (inr (within, limit, is_limit, soon)) =
       delay_most (live_stations w.stations) w.net.channels flight
       (λ link channel here used.
       within_to flight within link channel here (used_up (live_stations w.stations) channel used))

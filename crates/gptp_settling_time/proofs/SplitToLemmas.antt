@@ -327,12 +327,12 @@ module _ (d : DocumentState) (ago events : List Timed) (gone silent : ℕ) where
                 arrived_by most ago,
                 (most, bounded, refl),
                 (
-                  let same = changed in
-                  let last = so.keeps.stands.last in
-                  let one = one_before gone so.failed so.since.split.some in
-                  let some = so.since.split.some in
-                  omega (arith, limit, same, last, one, some)
-                ),
+                    let same = changed in
+                    let last = so.keeps.stands.last in
+                    let one = one_before gone so.failed so.since.split.some in
+                    let some = so.since.split.some in
+                    omega (arith, limit, same, last, one, some)
+                    ),
               )
 
           cuts_so : CutsAllBeyond so.before so.since.split.split.n.graph
