@@ -29,6 +29,7 @@ pub mod PassLemmas
 pub mod LaterLemmas
 pub mod SinceSetLemmas
 pub mod DelayWithinLemmas
+pub mod ArrivalsLemmas
 pub mod KeptToLemmas
 pub mod PrioritySparedLemmas
 pub mod MadeLemmas
