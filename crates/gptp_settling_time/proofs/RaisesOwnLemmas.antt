@@ -27,8 +27,6 @@ use Rattle.gptp_settling_time.proofs.QuietUpLemmas.{RaisesAlone, raises}
 use Rattle.gptp_settling_time.proofs.SamePartsLemmas.{HasSameParts, called_parts, parts_on}
 use Rattle.gptp_settling_time.proofs.UntoldLemmas.{HasMeasuredNothing, called_unmeasured}
 
--- ---- its ports come up
-
 -- the system at the place has this clock, and has measured nothing
 pub record IsFreshAt (number place : ℕ) (w : WorldState) : Type 0 where
   pub named : (station : Station) → slice_get w.stations place ≡ Some station → clock station.system ≡ number
