@@ -17,6 +17,7 @@ pub mod BetweenFailedLemmas
 pub mod AskedElsewhereLemmas
 pub mod RestartLemmas
 pub mod AsksSoonLemmas
+pub mod FreshWorldLemmas
 pub mod RecoverLemmas
 pub mod RaisesOwnLemmas
 pub mod RecoverAloneLemmas

@@ -18,9 +18,8 @@ use Rattle.gptp_scenario.specs.Calm.{NothingLapses}
 use Rattle.gptp_scenario.specs.declared.change.Act.TheVariants.{Change as Changing}
 use Rattle.gptp_scenario.specs.declared.change.Change.TheVariants.{Recover}
 use Rattle.gptp_system.specs.State.{clock}
-use Rattle.gptp_model.specs.Act.{all_timers}
 use Rattle.gptp_model.specs.Acts.{Acts, AtSystem}
-use Rattle.gptp_model.specs.Changing.{RecoversIf, Starts, fresh, with_station}
+use Rattle.gptp_model.specs.Changing.{RecoversIf, Starts, fresh}
 use Rattle.gptp_model.specs.declared.done.Done.{Done}
 use Rattle.gptp_model.specs.declared.station.Station.{Station}
 use Rattle.gptp_model.specs.World.{Channel, WorldState, receiver, sender}
@@ -60,11 +59,12 @@ use Rattle.gptp_invariants.proofs.WorldWayLemmas.{IsWay, used_joins, way_of}
 use Rattle.gptp_settling_time.proofs.AlwaysClaimedLemmas.{AreHeard, IsClaimedAlways, same_start, standing, start_calm, start_net, start_network}
 use Rattle.gptp_settling_time.proofs.AsksSoonLemmas.{both_ways}
 use Rattle.gptp_settling_time.proofs.BesideUpLemmas.{seen_same}
+use Rattle.gptp_settling_time.proofs.FreshWorldLemmas.{fresh_orderly, fresh_world}
 use Rattle.gptp_settling_time.proofs.GainStageLemmas.{ClaimsAlways, stage_kept}
 use Rattle.gptp_settling_time.proofs.HeardLemmas.{IsHeardAt, heard_elsewhere, stays_on}
 use Rattle.gptp_settling_time.proofs.OrderedLemmas.{opposite}
 use Rattle.gptp_settling_time.proofs.ReactsLemmas.{logs_set}
-use Rattle.gptp_settling_time.proofs.RecoverLemmas.{keeps, orderly, stood_alone}
+use Rattle.gptp_settling_time.proofs.RecoverLemmas.{keeps, stood_alone}
 use Rattle.gptp_settling_time.proofs.SameLinkLemmas.{IsSameLink, told_same}
 use Rattle.gptp_settling_time.proofs.SamePartsLemmas.{HasSameParts, parts_on}
 use Rattle.gptp_settling_time.proofs.UntoldLemmas.{HasMeasuredNothing, started_unmeasured}
@@ -129,7 +129,7 @@ module _ (p : SettlingParams) (start next number : ℕ) (w : WorldState) (draws 
     new = fresh w.time old
 
     abbrev begun : WorldState
-    begun = record (with_station k.place new now) { net = all_timers k.place new w.net }
+    begun = fresh_world k.place old w
 
     old_is : old ≡ k.station
     old_is = same_there w.stations k.place old k.station starts.here k.is.here
@@ -159,7 +159,7 @@ module _ (p : SettlingParams) (start next number : ℕ) (w : WorldState) (draws 
         (start_ports_told k.place (λ qs. HaveRaised number k.place begun)
         (λ q qs. raised_more number k.place begun q) now draws w' starts (
           raised_none number begun,
-          orderly p next next number w draws done w' is.news.pace world world' is.news.measured measured' acts dead,
+          fresh_orderly p w world is.news.measured k.place old starts.here,
           is_fresh,
           lanes_apart w world.sound.wired.apart
               (λ link channel here. (world.encodable.links link channel here).ends),
