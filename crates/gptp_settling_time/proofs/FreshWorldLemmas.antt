@@ -105,7 +105,8 @@ module _ (p : SettlingParams) (w : WorldState) (is : IsWorld p w) (measured : Li
   is_new here x same at =
       same_there begun.stations place x new (ap (slice_get begun.stations) (sym same) ∙ at) here_new
 
-  abbrev pub lived : (here clock_is : ℕ) → here ≢ place → StationIsLiveAt here clock_is begun → StationIsLiveAt here clock_is w
+  abbrev pub lived : (here clock_is : ℕ) → here ≢ place → StationIsLiveAt here clock_is begun
+      → StationIsLiveAt here clock_is w
   lived here clock_is apart x = record {
     station = x.station;
     here = sym (get-set_other w.stations place here new apart) ∙ x.here;

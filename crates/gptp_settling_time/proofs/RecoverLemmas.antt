@@ -427,7 +427,8 @@ module _ (p : SettlingParams) (by next number : ℕ) (w : WorldState) (draws : L
     recovers_in_time gone asked all at s =
         through (IsAskedInTime gone at) (asked_up gone at) (elim (same_place at.asking k.place) [
           | inl here ↦
-              own_in_time p w is measured k.place starts.station starts.here old_failed at (stood_begun at s) here gone all
+              own_in_time p w is measured k.place starts.station starts.here old_failed at (stood_begun at s) here
+              gone all
           | inr apart ↦
               others_in_time p w is measured k.place starts.station starts.here at (stood_begun at s) apart gone asked
         ])
@@ -435,9 +436,11 @@ module _ (p : SettlingParams) (by next number : ℕ) (w : WorldState) (draws : L
     recovers_silent : (gone : ℕ) → gone < w.time → AreGoneBetween gone w → AreSilentBy p next w → AreSilentBy p next w'
     recovers_silent gone past all silent at s = elim (same_place at.asking k.place) [
       | inl here ↦ inl (through (IsOff at) (off_up at)
-          (own_off p w is measured k.place starts.station starts.here old_failed at (stood_begun at s) here gone all past))
+          (own_off p w is measured k.place starts.station starts.here old_failed at (stood_begun at s) here gone
+          all past))
       | inr apart ↦
-          elim (others_silent p w is measured k.place starts.station starts.here at (stood_begun at s) apart next silent) [
+          let one = stood_begun at s in
+          elim (others_silent p w is measured k.place starts.station starts.here at one apart next silent) [
             | inl off ↦ inl (through (IsOff at) (off_up at) off)
             | inr (sent, last, from) ↦
                 inr (
@@ -451,7 +454,8 @@ module _ (p : SettlingParams) (by next number : ℕ) (w : WorldState) (draws : L
 
     recovers_gone : (gone : ℕ) → AreGoneBetween gone w → AreGoneBetween gone w'
     recovers_gone gone all at =
-        through (IsGoneBetween gone at) (gone_up gone at) (fresh_gone p w is measured k.place starts.station starts.here gone all at)
+        through (IsGoneBetween gone at) (gone_up gone at)
+        (fresh_gone p w is measured k.place starts.station starts.here gone all at)
 
   -- ---- it is one since news soon
 
