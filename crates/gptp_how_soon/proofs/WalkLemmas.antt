@@ -9,7 +9,6 @@ use Rattle.gptp_scenario.specs.Network.{IsNetwork, NetworkState}
 use Rattle.gptp_scenario.specs.SyncWait.{sync_paths}
 use Rattle.gptp_scenario.specs.declared.change.Timed.{Timed}
 use Rattle.gptp_scenario.specs.declared.network.LinkSpec.{LinkSpec}
-use Rattle.gptp_scenario.specs.declared.sync_wait.SyncPaths.{SyncPaths}
 use Rattle.gptp_topology.specs.After.{Stand, standing_then, standings_after, systems_after}
 use Rattle.gptp_topology.specs.Course.{cable_is_used, cable_of, named}
 use Rattle.gptp_topology.specs.Tables.{cables_of, has_clock}

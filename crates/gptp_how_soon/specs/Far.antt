@@ -2,7 +2,7 @@
 -- is cut off that was; and whether each link that is up is in use.
 --
 -- The far end of a link has chosen more steps, or as many and has the higher clock.
-use Rattle.std.specs.Prelude.{ℕ, ◌==◌, ◌&&◌, ◌||◌, nat_le, nat_lt, not, Bool, false, List, Option, Some, None, slice_get}
+use Rattle.std.specs.Prelude.{ℕ, ◌==◌, ◌&&◌, ◌||◌, nat_lt, not, Bool, false, List, Option, Some, None, slice_get}
 use Rattle.std.specs.List.{list_all}
 use Rattle.gptp_scenario.specs.Network.{NetworkState}
 use Rattle.gptp_scenario.specs.declared.change.Timed.{Timed}
