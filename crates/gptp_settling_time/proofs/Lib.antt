@@ -31,6 +31,7 @@ pub mod PassLemmas
 pub mod LaterLemmas
 pub mod SinceSetLemmas
 pub mod DelayWithinLemmas
+pub mod ArrivalsLemmas
 pub mod KeptToLemmas
 pub mod PrioritySparedLemmas
 pub mod MadeLemmas
