@@ -214,8 +214,8 @@ module _ (n : NetworkState) (network : IsNetwork n) (paths : SyncPaths) (few : p
             either_most loss.used (max (echo_span (pace_of n) paths) paths.delay) (any_loss_span n loss paths)
             195000000000000 (omega (arith, e, short)) (omega (arith, l))
         by TakenApart =
-            let w = way in let g = gone paths loss.used short in
-            quiet (max (way_span paths) (gone_by n paths loss.used)) (omega (arith, w, g))
+            let g = gone loss.paths_before loss.soon_before soon in
+            quiet (gone_by n loss.paths_before loss.soon_before) (omega (arith, g))
         by AnyLosses = roles_lost
         by Gained = early
 

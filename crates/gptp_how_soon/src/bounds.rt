@@ -419,13 +419,9 @@ fn sound_by(network: &Network, loss: Loss, paths: SyncPaths, row: Row, gained: u
         Row::Unchanged => 0,
         Row::Lowered => echo_span(network, paths).max(gone_by(network, paths, loss.used_before)),
         Row::TakenAway => taken_echo_span(network, loss, paths),
-        Row::TakenApart => {
-            let gone = gone_by(network, paths, loss.used);
-            quiet_by(network, loss, way_span(paths).max(gone))
-        }
         Row::CutOff => (2 * way_span(paths)).max(gone),
         Row::TreeFalls => (2 * way_span(paths)).max(gone_by(network, paths, loss.used_before)),
-        Row::FailedEnd => quiet_by(network, loss, gone_before),
+        Row::FailedEnd | Row::TakenApart => quiet_by(network, loss, gone_before),
         Row::FailedHeard => aged_echo_span(network, loss, paths),
         Row::FailureCutsOff => {
             if loss.cuts_all {

@@ -142,7 +142,7 @@ IsSoundSooner n loss paths row sound =
     × (sound ≡ quiet_by n loss
     (aged_by loss + 2 * way_span paths + max (echo_span (pace_of n) paths) (largest_interval (pace_of n)))))
     ⊎ (((row ≡ TakenAway) × (sound ≡ taken_echo_span n loss paths))
-    ⊎ (((row ≡ TakenApart) × (sound ≡ quiet_by n loss (max (way_span paths) (gone_by n paths loss.used))))
+    ⊎ (((row ≡ TakenApart) × (sound ≡ quiet_by n loss (gone_by n loss.paths_before loss.soon_before)))
     ⊎ (((row ≡ FailureCutsOff) ⊎ (row ≡ FailureMovesTrees)) × (loss.cuts_all ≡ true)
     × (sound ≡ quiet_by n loss (apart_by n loss paths))))))))))))
 

@@ -203,7 +203,7 @@ module _ (n : NetworkState) (network : IsNetwork n) (events : List Timed) (b : S
       )
 
   -- what was in flight before is gone by then
-  flight_before : (now ≡ [] → ⊥)
+  pub flight_before : (now ≡ [] → ⊥)
       → FlightIsGoneFrom n made (last_change (made ++ now)) (gone_by n v.paths_before (loss_at v).soon_before)
   flight_before some = by now refl
     where
