@@ -6,9 +6,9 @@ ghost use Rattle.gptp_how_soon.specs.Rest.{are_events_followed, are_losses_follo
 
 use crate::bounds::{Row, SettlingTime, way_span};
 use crate::kinds::{
-    Told, all_bring_nothing, all_leave_links, all_make_nothing, all_tell_nothing,
-    any_gain, any_loss, any_lowers_unused, any_other, any_recovery, any_wider,
-    begins_wider, fails_and_recovers, first_wider_by,
+    Told, all_bring_nothing, all_leave_links, all_make_nothing, all_tell_nothing, any_gain,
+    any_loss, any_lowers_unused, any_other, any_recovery, any_wider, begins_wider,
+    fails_and_recovers, first_wider_by,
 };
 use crate::losses::{fails_beside_idle, fails_first, lowers_one, takes_several, worsens_first};
 use gptp_scenario::SyncPaths;

@@ -20,9 +20,7 @@ use crate::kinds::{Told, sets_bounds, sets_link, tell};
 use crate::links::{delay_set, longest_among, lost_among, mark_used, new_links};
 use crate::losses::takes_one;
 use crate::moved_trees::{all_far_ends_move, cuts_all, moves_trees};
-use crate::rest::{
-    Moves, asks_who_is_moved, comes_soon, has_come, is_from_rest, row_of,
-};
+use crate::rest::{Moves, asks_who_is_moved, comes_soon, has_come, is_from_rest, row_of};
 use crate::silent::{any_silent, heard_links, held_among, own_intervals};
 use crate::tree::{cuts_tree, worsens_best};
 use crate::turned::{both, turns_one};

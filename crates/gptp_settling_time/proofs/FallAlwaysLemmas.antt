@@ -25,7 +25,8 @@ use Rattle.gptp_bmca_machine.specs.Network.{IsSettlingNetwork, Network, settled_
 use Rattle.gptp_bmca_machine.specs.SoundLaws.{UnlinkedAreOff}
 use Rattle.gptp_bmca_machine.proofs.CutTreeLemmas.{IsCutOff, LeadsNowhere, moves_tree}
 use Rattle.gptp_bmca_machine.proofs.FallEndLemmas.{FallsOff, fallen_back, falls_on, received_then}
-use Rattle.gptp_bmca_machine.proofs.FallLemmas.{falls_by, off_drop}
+use Rattle.gptp_bmca_machine.proofs.UnlinkedLemmas.{off_drop}
+use Rattle.gptp_bmca_machine.proofs.FallLemmas.{falls_by}
 use Rattle.gptp_bmca_machine.proofs.FallLevelLemmas.{tree_settles_on}
 use Rattle.gptp_bmca_machine.proofs.LevelLemmas.{invariant_kept, no_early_ports}
 use Rattle.gptp_bmca_machine.proofs.SettledLemmas.{systems_bounded}

@@ -23,7 +23,7 @@ use Rattle.gptp_bmca_machine.specs.Facts.{StationFacts, station_system}
 use Rattle.gptp_bmca_machine.specs.LossLaws.{IsAfterLoss, Unmoved}
 use Rattle.gptp_bmca_machine.specs.Network.{Network, network_setting}
 use Rattle.gptp_bmca_machine.specs.Station.{MachineState}
-use Rattle.gptp_bmca_machine.proofs.FallLemmas.{UnlinkedHoldNone}
+use Rattle.gptp_bmca_machine.proofs.UnlinkedLemmas.{UnlinkedHoldNone}
 use Rattle.gptp_bmca_machine.proofs.LinkStepLemmas.{lives_at}
 use Rattle.gptp_invariants.specs.ChoiceCalm.{HaveQuietLinks, delay_in}
 use Rattle.gptp_invariants.specs.ChoiceSeenLaws.{IsNoChange}
