@@ -70,8 +70,8 @@ module _ (n : NetworkState) (network : IsNetwork n) (made : List Timed) where
   -- by what takes something away no link comes up, and none is set
   loses_same : (act : Act) → LosesAny n made act → (v : LinkSpec) → (link_acted act (link_after made v)).up ≡ true
       → link_acted act (link_after made v) ≡ link_after made v
-  loses_same (Changing (LinkDown number port)) loses v =
-      lowered_same (is_at number port (link_after made v)) (link_after made v)
+  loses_same (Changing (LinkDown number port)) loses v up =
+      lowered_same (is_at number port (link_after made v)) (link_after made v) up
   loses_same (Changing (Fail number)) loses v up = refl
   loses_same (Changing (Priority1 number value)) loses v up = refl
   loses_same (Changing (LinkUp number port)) none v up = absurd none
@@ -141,7 +141,7 @@ IsGoneByDelay n ago since gone =
 pub none_slower : (n : NetworkState) (ago : List Timed) (since gone : ℕ) → IsGoneByDelay n ago since gone
     → NoneUpIsSlower n ago
 none_slower n ago since gone (is, inr (slower, arrived)) = slower
-none_slower n ago since gone (is, inl used) place v there up =
+none_slower n ago since gone (is, inl used) = λ place v there up.
     greatest_most n.systems ago n.links place v there (used place v there up)
 
 -- a limit that is later is one too
