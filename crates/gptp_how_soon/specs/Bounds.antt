@@ -139,13 +139,13 @@ apart_by n loss paths =
     else aged_by loss + 2 * way_span paths + gone_by n loss.flight
 
 -- By when all that is held and in flight is sound: as soon as the choice stands, but after a loss it may name what is
--- gone. After a far end is cut off, a tree falls back, or a far end fails, only what was in flight does; where one fails,
--- or several links were lost by far ends alone, by links of before too. So it is once the choice stands where a failure
--- cuts off all that it moves. After a link goes down by which no system is moved traces have to be told anew first, and
--- so they have where several are taken away that others heard. So they do once the choice stands where one system or a
--- tree turns, or one fails that others heard; where that cuts trees off what was in flight as they settled has to be
--- gone too. After losses without a row of their own all is sound once roles stand. After others it is as soon as the
--- choice stands from any past.
+-- gone. After a far end is cut off, a tree falls back, or a far end fails, only what was in flight does; where one
+-- fails, or several links were lost by far ends alone, by links of before. So it is once the choice stands where a
+-- failure cuts off all that it moves. After a link goes down by which no system is moved traces have to be told anew
+-- first, and so they have where several are taken away that others heard. So they do once the choice stands where one
+-- system or a tree turns, or one fails that others heard; where that cuts trees off what was in flight as they settled
+-- has to be gone too. After losses without a row of their own all is sound once roles stand. After others it is as soon
+-- as the choice stands from any past.
 abbrev pub sound_of_row : NetworkState → Loss → SyncPaths → Row → ℕ → ℕ
 sound_of_row n loss paths AnyPast gained = settling_span_at_once (pace_of n) paths
 sound_of_row n loss paths Unchanged gained = 0

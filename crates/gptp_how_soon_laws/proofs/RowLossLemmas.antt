@@ -211,7 +211,8 @@ module _ (n : NetworkState) (network : IsNetwork n) (events : List Timed) (b : S
           → FlightIsGoneFrom n made (last_change (made ++ now)) (gone_by n (loss_at v).flight_before)
       by [] none = absurd (some none)
       by (event ∷ others) split =
-          subst (λ t. FlightIsGoneFrom n made t (gone_by n (loss_at v).flight_before)) (sym (moment event others split).1)
+          subst (λ t. FlightIsGoneFrom n made t (gone_by n (loss_at v).flight_before))
+          (sym (moment event others split).1)
           (gone_over n network made made (same_itself n made) (all_within n made) refl at)
 
   -- and so is what is in flight behind all
