@@ -17,7 +17,9 @@ pub mod BetweenFailedLemmas
 pub mod AskedElsewhereLemmas
 pub mod RestartLemmas
 pub mod AsksSoonLemmas
+pub mod FreshWorldLemmas
 pub mod RecoverLemmas
+pub mod RaisesOwnLemmas
 pub mod RecoverAloneLemmas
 pub mod UpSoonLemmas
 pub mod TimedNewsLemmas
@@ -41,6 +43,7 @@ pub mod ToldLemmas
 pub mod MasterLemmas
 pub mod OrderedLemmas
 pub mod UntoldLemmas
+pub mod WayLinkLemmas
 pub mod AlwaysClaimedLemmas
 pub mod SeenSettledLemmas
 pub mod StartLemmas
