@@ -9,6 +9,7 @@ use Rattle.gptp_scenario.specs.SettlingAtOnce.{settling_span_at_once}
 use Rattle.gptp_scenario.specs.SettlingTime.{echo_span, loss_span, settling_span_with, silence_span, way_span}
 use Rattle.gptp_scenario.specs.declared.sync_wait.SyncPaths.{SyncPaths}
 use Rattle.gptp_topology.specs.declared.course.Cable.{Cable}
+use Rattle.gptp_how_soon.specs.Flight.{flight_over_used, gone_by}
 use Rattle.gptp_how_soon.specs.Kinds.{recovers}
 use Rattle.gptp_how_soon.specs.Links.{varies}
 use Rattle.gptp_how_soon.specs.declared.bounds.Loss.{Loss}
@@ -114,11 +115,6 @@ roles_by n loss paths row gained =
     if not (n.params.sync_timeout == 0) then settling_span_with (pace_of n) paths paths.systems
     else roles_of_row n loss paths row gained
 
--- What was in flight is gone so much later than a time: by the greatest delay where it comes within that; else by an
--- announce interval.
-abbrev pub gone_by : NetworkState → SyncPaths → Bool → ℕ
-gone_by n paths soon = if soon then paths.delay else largest_interval (pace_of n)
-
 -- How much later than a system fails that others heard each tells a right trace, and what was in flight is gone. They
 -- do at once where each link that is up is in use. Else they do once nobody holds what names it, 1 ns later than the
 -- choice stands; and ports at other links that are up have to be off.
@@ -140,7 +136,7 @@ taken_echo_span n loss paths =
 abbrev pub apart_by : NetworkState → Loss → SyncPaths → ℕ
 apart_by n loss paths =
     if loss.alone then max (aged_by loss + 2 * way_span paths) loss.paths_before.delay
-    else aged_by loss + 2 * way_span paths + gone_by n paths loss.soon
+    else aged_by loss + 2 * way_span paths + gone_by n loss.flight
 
 -- By when all that is held and in flight is sound: as soon as the choice stands, but after a loss it may name what is
 -- gone. After a far end is cut off, a tree falls back, or a far end fails, only what was in flight does; of one that
@@ -152,22 +148,23 @@ apart_by n loss paths =
 abbrev pub sound_of_row : NetworkState → Loss → SyncPaths → Row → ℕ → ℕ
 sound_of_row n loss paths AnyPast gained = settling_span_at_once (pace_of n) paths
 sound_of_row n loss paths Unchanged gained = 0
-sound_of_row n loss paths Lowered gained = max (echo_span (pace_of n) paths) (gone_by n paths loss.used_before)
-sound_of_row n loss paths CutOff gained = max (2 * way_span paths) (gone_by n paths loss.soon)
-sound_of_row n loss paths FailedEnd gained = quiet_by n loss (gone_by n loss.paths_before loss.soon_before)
+sound_of_row n loss paths Lowered gained = max (echo_span (pace_of n) paths) (largest_interval (pace_of n))
+sound_of_row n loss paths CutOff gained = max (2 * way_span paths) (gone_by n loss.flight)
+sound_of_row n loss paths FailedEnd gained = quiet_by n loss (gone_by n loss.flight_before)
 sound_of_row n loss paths FailedHeard gained = aged_echo_span n loss paths
 sound_of_row n loss paths FailureCutsOff gained =
     if loss.cuts_all then quiet_by n loss (apart_by n loss paths)
     else max (aged_by loss + 2 * way_span paths) (aged_echo_span n loss paths)
 sound_of_row n loss paths SystemTurned gained = 2 * way_span paths + echo_span (pace_of n) paths
-sound_of_row n loss paths TreeFalls gained = max (2 * way_span paths) (gone_by n paths loss.used_before)
+sound_of_row n loss paths TreeFalls gained = max (2 * way_span paths) (gone_by n loss.flight)
 sound_of_row n loss paths TreeTurned gained = 2 * way_span paths + echo_span (pace_of n) paths
 sound_of_row n loss paths FailureMovesTrees gained =
     quiet_by n loss
     (if loss.cuts_all then apart_by n loss paths
     else aged_by loss + 2 * way_span paths + max (echo_span (pace_of n) paths) (largest_interval (pace_of n)))
 sound_of_row n loss paths TakenAway gained = taken_echo_span n loss paths
-sound_of_row n loss paths TakenApart gained = quiet_by n loss (max (way_span paths) (gone_by n paths loss.used))
+sound_of_row n loss paths TakenApart gained =
+    quiet_by n loss (max (way_span paths) (gone_by n (flight_over_used loss.used paths.delay)))
 sound_of_row n loss paths AnyLosses gained = quiet_by n loss (any_loss_span n loss paths)
 sound_of_row n loss paths Gained gained = gained
 

@@ -3,6 +3,7 @@ pub mod Losses
 pub mod Links
 pub mod Chosen
 pub mod Far
+pub mod Flight
 pub mod Turned
 pub mod Tree
 pub mod TurnedTree

@@ -12,6 +12,7 @@ mod documents;
 #[cfg(test)]
 mod failure_tests;
 mod far;
+mod flight;
 #[cfg(test)]
 mod gain_tests;
 mod kinds;

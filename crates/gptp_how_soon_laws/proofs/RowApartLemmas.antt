@@ -8,8 +8,9 @@ use Rattle.gptp_scenario.specs.SettlingTime.{silence_span, way_span}
 use Rattle.gptp_scenario.specs.SyncWait.{sync_paths}
 use Rattle.gptp_scenario.specs.declared.change.Timed.{Timed}
 use Rattle.gptp_network.specs.Snapshot.{events_by}
-use Rattle.gptp_how_soon.specs.Bounds.{gone_by, quiet_by}
+use Rattle.gptp_how_soon.specs.Bounds.{quiet_by}
 use Rattle.gptp_how_soon.specs.Chosen.{moves_some}
+use Rattle.gptp_how_soon.specs.Flight.{flight_over_used, gone_by}
 use Rattle.gptp_how_soon.specs.Losses.{takes_several}
 use Rattle.gptp_how_soon.specs.MovedTrees.{far_ends_move_after}
 use Rattle.gptp_how_soon.specs.Rest.{is_taking_followed, keeps_paths}
@@ -22,6 +23,7 @@ use Rattle.gptp_settling_time.specs.Losses.{MovesNoneInAll, NoneSilent}
 use Rattle.gptp_settling_time.specs.TreeLosses.{LosesFartherFrom}
 use Rattle.gptp_how_soon_laws.proofs.CutsAllLemmas.{all_farther}
 use Rattle.gptp_how_soon_laws.proofs.FailedLemmas.{used_up}
+use Rattle.gptp_how_soon_laws.proofs.FlightLemmas.{gone_within}
 use Rattle.gptp_how_soon_laws.proofs.RowLemmas as rows
 use Rattle.gptp_how_soon_laws.proofs.RowLossLemmas.{keeps_so, none_left, rest_so}
 use Rattle.gptp_how_soon_laws.proofs.RowTestLemmas.{HasComeToRest}
@@ -40,11 +42,17 @@ module _ (n : NetworkState) (network : IsNetwork n) (events : List Timed) (b : S
   v = view_at n made now (Some b) at
 
   -- what is in flight is gone so much later
-  pub flight_apart : FlightIsGone n (made ++ now) (gone_by n v.paths v.used)
+  abbrev gone : ℕ
+  gone = gone_by n (flight_over_used v.used v.paths.delay)
+
+  pub flight_apart : FlightIsGone n (made ++ now) gone
   flight_apart = by v.used refl
     where
-      by : (used : Bool) → v.used ≡ used → FlightIsGone n (made ++ now) (gone_by n v.paths used)
-      by true is = inl (used_up n network (made ++ now) is, refl)
+      by : (used : Bool) → v.used ≡ used → FlightIsGone n (made ++ now)
+          (gone_by n (flight_over_used used v.paths.delay))
+      by true is =
+          gone_within n (FlightIsGone n (made ++ now)) v.paths.delay (inl (used_up n network (made ++ now) is, refl))
+          (inr refl)
       by false is = inr refl
 
   pub record TakesApart : Type 0 where
@@ -74,12 +82,12 @@ module _ (n : NetworkState) (network : IsNetwork n) (events : List Timed) (b : S
 
   -- so it rests
   pub apart_rests : TakesApart → (sound : ℕ)
-      → sound ≡ quiet_by n (loss_at v) (max (way_span v.paths) (gone_by n v.paths v.used))
+      → sound ≡ quiet_by n (loss_at v) (max (way_span v.paths) gone)
       → RestsTaken n made now sound
   apart_rests x sound is = by v.silent refl is
     where
       span : ℕ
-      span = max (way_span v.paths) (gone_by n v.paths v.used)
+      span = max (way_span v.paths) gone
 
       by : (silent : Bool) → v.silent ≡ silent
           → sound ≡ (if silent then max span (silence_span (pace_of n)) else span) → RestsTaken n made now sound
@@ -87,14 +95,14 @@ module _ (n : NetworkState) (network : IsNetwork n) (events : List Timed) (b : S
         x.takes,
         x.moves,
         x.few,
-        inr (x.farther, (gone_by n v.paths v.used, flight_apart, inr (omega (arith, same)), omega (arith, same))),
+        inr (x.farther, (gone, flight_apart, inr (omega (arith, same)), omega (arith, same))),
       )
       by false silent same =
           let none = none_left n network events b at late silent in (
             x.takes,
             x.moves,
             x.few,
-            inr (x.farther, (gone_by n v.paths v.used, flight_apart, inl none, omega (arith, same))),
+            inr (x.farther, (gone, flight_apart, inl none, omega (arith, same))),
           )
 
   -- and so the choice and the roles are bounded

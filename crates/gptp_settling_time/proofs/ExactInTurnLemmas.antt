@@ -39,7 +39,8 @@ use Rattle.gptp_settling_time.specs.Pasts.{Aging, AnyPast, Cleared, Fallen, Gain
 use Rattle.gptp_settling_time.specs.InTurn.{ChoosesAfter, ChoosesByEvents}
 use Rattle.gptp_settling_time.proofs.AgingClaimedLemmas.{aging_measured}
 use Rattle.gptp_settling_time.proofs.SplitSettlesLemmas.{split_measured}
-use Rattle.gptp_settling_time.proofs.SplitToLemmas.{GoesOver, SetLimits, WereUsed}
+use Rattle.gptp_settling_time.proofs.ArrivalsLemmas.{SetLimits}
+use Rattle.gptp_settling_time.proofs.SplitToLemmas.{GoesOver, WereUsed}
 use Rattle.gptp_settling_time.proofs.LostClaimedLemmas.{lost_measured}
 use Rattle.gptp_settling_time.proofs.BegunLemmas.{begun_last}
 use Rattle.gptp_settling_time.proofs.DocumentLemmas.{run_to}
@@ -105,7 +106,8 @@ module _ (d : DocumentState) (playable : IsPlayable d) (all : List Timed) (calm 
       moved_measured p so.before silent time w so.since.moved links (omega (arith, behind, on, change))
   have_measured (Fallen silent time) w so settles links on =
       let change = (after_keeps d all (Fallen silent time) w so).stands.last in
-      fallen_measured p so.before silent time w so.since links (omega (arith, behind, on, change))
+      fallen_measured p so.before (SetLimits d.network so.ago) silent time w so.since links
+      (omega (arith, behind, on, change))
   have_measured (TurnedTree silent time) w so settles links on =
       let change = (after_keeps d all (TurnedTree silent time) w so).stands.last in
       turned_tree_measured p so.before silent time w so.since.tree links (omega (arith, behind, on, change))

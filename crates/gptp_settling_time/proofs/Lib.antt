@@ -17,7 +17,9 @@ pub mod BetweenFailedLemmas
 pub mod AskedElsewhereLemmas
 pub mod RestartLemmas
 pub mod AsksSoonLemmas
+pub mod FreshWorldLemmas
 pub mod RecoverLemmas
+pub mod RaisesOwnLemmas
 pub mod RecoverAloneLemmas
 pub mod UpSoonLemmas
 pub mod TimedNewsLemmas
@@ -29,6 +31,7 @@ pub mod PassLemmas
 pub mod LaterLemmas
 pub mod SinceSetLemmas
 pub mod DelayWithinLemmas
+pub mod ArrivalsLemmas
 pub mod KeptToLemmas
 pub mod PrioritySparedLemmas
 pub mod MadeLemmas
@@ -40,6 +43,7 @@ pub mod ToldLemmas
 pub mod MasterLemmas
 pub mod OrderedLemmas
 pub mod UntoldLemmas
+pub mod WayLinkLemmas
 pub mod AlwaysClaimedLemmas
 pub mod SeenSettledLemmas
 pub mod StartLemmas

@@ -39,7 +39,7 @@ use Rattle.gptp_invariants.specs.FailedUnanswered.{StandsUnanswered}
 -- ---- a greatest delay
 
 -- it is at most what no link in use exceeds
-delay_most : (systems : List System) (channels : List Channel) (most : ℕ)
+pub delay_most : (systems : List System) (channels : List Channel) (most : ℕ)
     → ((link : ℕ) (channel : Channel) → slice_get channels link ≡ Some channel
     → channel_is_used systems channel ≡ true → channel.bounds.max ≤ most)
     → greatest_channel_delay systems channels ≤ most

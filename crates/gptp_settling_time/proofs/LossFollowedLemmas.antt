@@ -18,6 +18,7 @@ use Rattle.gptp_settling_time.specs.Pasts.{Aging, Cleared, Fallen, Fewer, Left, 
 use Rattle.gptp_settling_time.specs.InTurn.{BeginsBy, ChoosesAfter, LeadOn, SettlesAfter}
 use Rattle.gptp_settling_time.specs.Losses.{AgesWithin, FailsHeard, LowersLink, NoneSilent, TurnsLink}
 use Rattle.gptp_settling_time.specs.TreeLosses.{FallsTree, TurnsTreeLink}
+use Rattle.gptp_settling_time.proofs.ArrivalsLemmas.{ArriveAlike}
 use Rattle.gptp_settling_time.proofs.BesideIdleLemmas.{LeadsTo, chooses_same, repeats_to, settles_same, split_now}
 use Rattle.gptp_theorem.proofs.EventLemmas.{last_behind}
 use Rattle.gptp_settling_time.proofs.CalmLessLemmas.{fails_calm}
@@ -46,8 +47,9 @@ module _ (n : NetworkState) (time choice roles : ℕ) where
       subst (λ x. SettlesAfter n events x (suc (time + roles))) begun (settles (suc (time + roles)) (omega arith))
 
   pub stands_same : NothingLapses n.params → (events more : List Timed) (past : Past) → StandSame n events more
-      → last_change more ≡ last_change events → StandsBeyond events past → StandsBeyond more past
-  stands_same off events more past same last (settles, chooses) = (
+      → last_change more ≡ last_change events → ArriveAlike n events more → StandsBeyond events past
+      → StandsBeyond more past
+  stands_same off events more past same last arrive (settles, chooses) = (
     λ settled late. settles_same n off events more same last past settled (settles settled late),
     λ settled late. chooses_same n off events more same last past settled (chooses settled late),
   )

@@ -35,7 +35,8 @@ use Rattle.gptp_settling_time.proofs.LostToLemmas.{IsLostTo}
 use Rattle.gptp_settling_time.proofs.SamePathsLemmas.{StandSame, idle_same, same_back, same_lives}
 use Rattle.gptp_settling_time.proofs.SilentLinksLemmas.{AgesOver}
 use Rattle.gptp_settling_time.proofs.SplitRestLemmas.{IsSplitAnew}
-use Rattle.gptp_settling_time.proofs.SplitToLemmas.{GoesOver, IsSplitTo, SetLimits, WereUsed, anew_by, over_gone}
+use Rattle.gptp_settling_time.proofs.ArrivalsLemmas.{SetLimits, idle_sets, limits_before}
+use Rattle.gptp_settling_time.proofs.SplitToLemmas.{GoesOver, IsSplitTo, WereUsed, anew_by, over_gone}
 use Rattle.gptp_settling_time.proofs.TakenClaimedLemmas.{IsTakenAlways}
 use Rattle.gptp_settling_time.proofs.TakenToLemmas.{IsTakenTo}
 use Rattle.gptp_settling_time.proofs.TurnedAlwaysLemmas.{IsTurnedAlways}
@@ -136,7 +137,9 @@ module _ (d : DocumentState) (playable : IsPlayable d) (made : List Timed) (even
   fallen_repeated silent time so = record {
     keeps = after;
     before = so.before;
-    since = subst (IsFallenAlways p so.before silent time) (sym same) so.since;
+    ago = so.ago;
+    set = λ limit is. so.set limit (limits_before n made event (idle_sets n made event.act now.0.0) limit is);
+    since = subst (IsFallenAlways p so.before (SetLimits n so.ago) silent time) (sym same) so.since;
   }
 
   pub turned_tree_repeated : (silent time : ℕ) → IsTurnedTreeTo d made silent time then

@@ -504,7 +504,8 @@ RestsAfterLoss n made now rest =
 -- After a tree fell back it has come to rest once the tree has settled and what was in flight is gone.
 abbrev pub RestsTree : NetworkState → ℕ → List Timed → Type 0
 RestsTree n rest events =
-    (gone : ℕ) × FlightIsGone n events gone × (rest ≡ max (2 * way_span (sync_paths n events)) gone)
+    (gone : ℕ) × FlightIsGoneFrom n events (last_change events) gone
+    × (rest ≡ max (2 * way_span (sync_paths n events)) gone)
 
 -- After trees were moved, as a system failed, it has come to rest once right traces have been told by distance since
 -- they settled, and what was in flight is gone. Where all beyond that system was cut off they needn't be told anew.
