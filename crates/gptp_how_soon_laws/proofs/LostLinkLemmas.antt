@@ -94,20 +94,20 @@ module _ (n : NetworkState) (network : IsNetwork n) (made : List Timed) (g : Sna
         elim (stands_or_lost l member) [
           | inl still ↦ inl (inl still)
           | inr (w, same, listed) ↦ inr (record {
-              ends = ends_of n w;
-              listed = listed;
-              between = inl (ends_are w p.clock q.clock i j l same refl refl at at');
-            })
+            ends = ends_of n w;
+            listed = listed;
+            between = inl (ends_are w p.clock q.clock i j l same refl refl at at');
+          })
         ]
     joins_or_lost i j p q at at' (inr member) =
         let l : Link = record { a = q; b = p } in
         elim (stands_or_lost l member) [
           | inl still ↦ inl (inr still)
           | inr (w, same, listed) ↦ inr (record {
-              ends = ends_of n w;
-              listed = listed;
-              between = inr (ends_are w q.clock p.clock j i l same refl refl at' at);
-            })
+            ends = ends_of n w;
+            listed = listed;
+            between = inr (ends_are w q.clock p.clock j i l same refl refl at' at);
+          })
         ]
 
     -- a link in use joins the systems at two places

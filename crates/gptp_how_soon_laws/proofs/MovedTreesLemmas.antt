@@ -338,10 +338,10 @@ module _ (n : NetworkState) (network : IsNetwork n) (made events : List Timed) w
             at_u joins) [
               | inl still ↦ inl (p, q, still)
               | inr lost ↦ inr (only_top i v s in_v (record {
-                  ends = lost.ends;
-                  listed = lost.listed;
-                  end = lost_at n network made g stands well events h stands' well' i j lost;
-                }))
+                ends = lost.ends;
+                listed = lost.listed;
+                end = lost_at n network made g stands well events h stands' well' i j lost;
+              }))
             ]
 
         -- no system with the best of it falls: all tops had that, and what falls has a worse one
