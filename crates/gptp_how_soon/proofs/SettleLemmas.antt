@@ -19,7 +19,7 @@ use Rattle.gptp_how_soon.specs.Silent.{any_silent}
 use Rattle.gptp_how_soon.specs.Times.{settling_time}
 use Rattle.gptp_how_soon.specs.Walk.{moves_seen, view_seen}
 use Rattle.gptp_how_soon.specs.declared.bounds.Row.{Row}
-use Rattle.gptp_how_soon.specs.declared.bounds.Row.TheVariants.{AnyLosses, AnyPast, CutOff, FailedEnd, FailedHeard, FailureCutsOff, FailureMovesTrees, Gained, Lowered, SystemTurned, TakenApart, TakenAway, TreeFalls, TreeTurned, Unchanged}
+use Rattle.gptp_how_soon.specs.declared.bounds.Row.TheVariants.{AnyLosses, AnyPast, CutOff, FailedEnd, FailedHeard, FailureCutsOff, FailureMovesTrees, Gained, Lowered, SystemTurned, TakenApart, TakenAway, TakenHeard, TreeFalls, TreeTurned, Unchanged}
 use Rattle.gptp_how_soon.specs.declared.bounds.SettlingTime.{SettlingTime}
 use Rattle.gptp_how_soon.specs.declared.kinds.Told.{Told}
 use Rattle.gptp_how_soon.specs.declared.rest.Moves.{Moves}
@@ -49,6 +49,7 @@ row_by rest first idle followed lowering failing ending taking worse loses losse
     else if ending && (moves.far && not moves.any_moved) then FailedEnd
     else if taking && moves.apart then TakenApart
     else if taking && moves.taken then TakenAway
+    else if taking && moves.ages then TakenHeard
     else if loses then if losses then AnyLosses else AnyPast
     else Gained
 
@@ -82,6 +83,7 @@ abbrev counts_held : Row → Bool
 counts_held FailedHeard = true
 counts_held FailureCutsOff = true
 counts_held FailureMovesTrees = true
+counts_held TakenHeard = true
 counts_held row = false
 
 -- it counts only where it is asked whom events move
@@ -144,6 +146,7 @@ module _ (n : NetworkState) (at arrived : ℕ) (paths_before paths : SyncPaths)
   held_apart FailureMovesTrees held other all some one any is = absurd cc
   held_apart TakenAway held other all some one any is = refl
   held_apart TakenApart held other all some one any is = refl
+  held_apart TakenHeard held other all some one any is = absurd cc
   held_apart AnyLosses held other all some one any is = refl
   held_apart Gained held other all some one any is = refl
 

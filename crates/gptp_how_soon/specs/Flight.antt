@@ -19,6 +19,11 @@ abbrev pub flight_over : Bool → ℕ → ℕ → ℕ → ℕ → Option ℕ
 flight_over used delay longest arrived at =
     if used then Some delay else if nat_le arrived (at + longest) then Some longest else None
 
+-- What is in flight at a time is due within the greatest delay of its own link: each that is up is in use, or what was
+-- in flight as a link was last set has arrived by then.
+abbrev pub flies_in_time : Bool → ℕ → ℕ → Bool
+flies_in_time used arrived at = used || nat_le arrived at
+
 -- What was in flight is gone so much later: nothing is for longer than an announce interval.
 abbrev pub gone_by : NetworkState → Option ℕ → ℕ
 gone_by n None = largest_interval (pace_of n)

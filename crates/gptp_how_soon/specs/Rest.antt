@@ -9,7 +9,7 @@ use Rattle.gptp_scenario.specs.declared.sync_wait.SyncPaths.{SyncPaths}
 use Rattle.gptp_how_soon.specs.Kinds.{begins_wider, brings_nothing, fails_and_recovers, first_wider_by, is_gain, is_loss, is_other, is_recovery, is_wider, leaves_links, lowers_unused, makes_nothing, tells_nothing}
 use Rattle.gptp_how_soon.specs.Losses.{fails_beside_idle, fails_first, lowers_one, takes_several, worsens_first}
 use Rattle.gptp_how_soon.specs.declared.bounds.Row.{Row}
-use Rattle.gptp_how_soon.specs.declared.bounds.Row.TheVariants.{AnyLosses, AnyPast, CutOff, FailedEnd, FailedHeard, FailureCutsOff, FailureMovesTrees, Gained, Lowered, SystemTurned, TakenApart, TakenAway, TreeFalls, TreeTurned, Unchanged}
+use Rattle.gptp_how_soon.specs.declared.bounds.Row.TheVariants.{AnyLosses, AnyPast, CutOff, FailedEnd, FailedHeard, FailureCutsOff, FailureMovesTrees, Gained, Lowered, SystemTurned, TakenApart, TakenAway, TakenHeard, TreeFalls, TreeTurned, Unchanged}
 use Rattle.gptp_how_soon.specs.declared.bounds.Settling.{Settling}
 use Rattle.gptp_how_soon.specs.declared.bounds.SettlingTime.{SettlingTime}
 use Rattle.gptp_how_soon.specs.declared.kinds.Told.{Told}
@@ -116,6 +116,7 @@ other_row paths_before paths told moves =
     if is_end_followed paths_before paths told && (moves.far && not moves.any_moved) then FailedEnd
     else if is_taking_followed paths_before paths told && moves.apart then TakenApart
     else if is_taking_followed paths_before paths told && moves.taken then TakenAway
+    else if is_taking_followed paths_before paths told && moves.ages then TakenHeard
     else if list_any is_loss told then if list_all brings_nothing told then AnyLosses else AnyPast
     else Gained
 
@@ -126,8 +127,8 @@ other_row paths_before paths told moves =
 -- link that goes down cuts off a far end, and whether the one system that it moves turns, or a tree falls off or turns.
 -- A tree falls back too as its best gets worse. Of a system that fails it matters whether it was a far end, so that no
 -- other heard it, and whether it cuts off another, or trees. Where several are taken away it matters whether all of
--- them together move any system, also one that is cut off, whether a live system lost its link to a nearer one, and
--- whether a link is left silent. All other losses have one row.
+-- them together move any system, also one that is cut off, whether a live system lost its link to a nearer one, whether
+-- a link is left silent, and whether what was in flight is due in time. All other losses have one row.
 abbrev pub row_of : Bool → Bool → SyncPaths → SyncPaths → List Told → Moves → Row
 row_of from_rest first paths_before paths told moves =
     if not from_rest then AnyPast
@@ -166,6 +167,7 @@ no_moves = record {
   trees_move = false;
   taken = false;
   apart = false;
+  ages = false;
   cuts_all = false;
   alone = false;
   far = false;

@@ -36,6 +36,9 @@ pub struct Moves {
     pub taken: bool,
     /// Whether they move none, also none that is cut off, and no live system lost its link to a nearer one.
     pub apart: bool,
+    /// Whether they move no system, also none that is cut off, and what was in flight before is due within the greatest
+    /// delay of its own link: each link that was up was in use, or what was in flight as one was last set has arrived.
+    pub ages: bool,
     /// Whether then each system of these trees gets a worse root, and each live far end of a link that is lost is
     /// moved.
     pub cuts_all: bool,
@@ -290,6 +293,8 @@ fn other_row(paths_before: SyncPaths, paths: SyncPaths, told: &[Told], moves: Mo
         Row::TakenApart
     } else if is_taking_followed(paths_before, paths, told) && moves.taken {
         Row::TakenAway
+    } else if is_taking_followed(paths_before, paths, told) && moves.ages {
+        Row::TakenHeard
     } else if any_loss(told) {
         if all_bring_nothing(told) {
             Row::AnyLosses
