@@ -48,7 +48,8 @@ module _ (n : NetworkState) (network : IsNetwork n) (events : List Timed) (b : S
   pub flight_apart : FlightIsGone n (made ++ now) gone
   flight_apart = by v.used refl
     where
-      by : (used : Bool) → v.used ≡ used → FlightIsGone n (made ++ now) (gone_by n (flight_over_used used v.paths.delay))
+      by : (used : Bool) → v.used ≡ used → FlightIsGone n (made ++ now)
+          (gone_by n (flight_over_used used v.paths.delay))
       by true is =
           gone_within n (FlightIsGone n (made ++ now)) v.paths.delay (inl (used_up n network (made ++ now) is, refl))
           (inr refl)

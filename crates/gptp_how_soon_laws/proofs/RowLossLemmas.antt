@@ -214,7 +214,8 @@ module _ (n : NetworkState) (network : IsNetwork n) (events : List Timed) (b : S
       → FlightIsGoneFrom n (made ++ now) (last_change (made ++ now)) (gone_by n (loss_at v).flight)
   flight_now event others split =
       subst (λ t. FlightIsGoneFrom n (made ++ now) t (gone_by n (loss_at v).flight)) (sym (moment event others split).1)
-      (gone_over n network (made ++ now) (made ++ now) (same_itself n (made ++ now)) (all_within n (made ++ now)) refl at)
+      (gone_over n network (made ++ now) (made ++ now) (same_itself n (made ++ now))
+      (all_within n (made ++ now)) refl at)
 
   -- or behind a link that goes down
   flight_behind : (g : GoesFirst is_lowering)

@@ -106,7 +106,8 @@ module _ (d : DocumentState) (playable : IsPlayable d) (all : List Timed) (calm 
       moved_measured p so.before silent time w so.since.moved links (omega (arith, behind, on, change))
   have_measured (Fallen silent time) w so settles links on =
       let change = (after_keeps d all (Fallen silent time) w so).stands.last in
-      fallen_measured p so.before (SetLimits d.network so.ago) silent time w so.since links (omega (arith, behind, on, change))
+      fallen_measured p so.before (SetLimits d.network so.ago) silent time w so.since links
+      (omega (arith, behind, on, change))
   have_measured (TurnedTree silent time) w so settles links on =
       let change = (after_keeps d all (TurnedTree silent time) w so).stands.last in
       turned_tree_measured p so.before silent time w so.since.tree links (omega (arith, behind, on, change))

@@ -187,4 +187,5 @@ module _ (p : SettlingParams) (silent owner port : ℕ) (w : WorldState) (draws 
         (told_keeps channel (record w { net = taken_down acts.1.place channel w.net; last_change = w.time }) draws w'
         told).change top.touch top.at top.answers outside_at pace measured' past late sound named still_ready
         (silent_down p w is acts.1.place channel here draws w' is' told silent quiet_by)
-        (sound_outside (snapshot_of w) n top_at best next base depth tree other left_but so.in_top so.outside) Limits limited
+        (sound_outside (snapshot_of w) n top_at best next base depth tree other left_but
+        so.in_top so.outside) Limits limited

@@ -264,7 +264,8 @@ module _ (p : SettlingParams) (g : Snapshot) (Limits : ℕ → Type 0) (silent s
     sound = λ old gone fits quiet' off. sound' quiet' off old gone fits;
   }
 
-pub fallen_later : (p : SettlingParams) (g : Snapshot) (Limits : ℕ → Type 0) (silent start time : ℕ) (w : WorldState) → w.time ≤ time
+pub fallen_later : (p : SettlingParams) (g : Snapshot) (Limits : ℕ → Type 0)
+    (silent start time : ℕ) (w : WorldState) → w.time ≤ time
     → NothingBefore time w.net.pending → IsFallenAlways p g Limits silent start w
     → IsFallenAlways p g Limits silent start (at_time time w)
 fallen_later p g Limits silent start time w later first is =
@@ -272,7 +273,8 @@ fallen_later p g Limits silent start time w later first is =
     (asked_later p w.last_change time w is.standing.world later first is.asked) (later_keeps time w)
     (inl (record { time = time; later = later; is = refl })) later
 
-pub fallen_acts : (p : SettlingParams) (g : Snapshot) (Limits : ℕ → Type 0) (silent start : ℕ) (act : Act) (w : WorldState)
+pub fallen_acts : (p : SettlingParams) (g : Snapshot) (Limits : ℕ → Type 0) (silent start : ℕ)
+    (act : Act) (w : WorldState)
     (draws : List Draw) (done : Done) (w' : WorldState) → IsNoChange act → SetsAnOctet act → Acts act w draws done w'
     → IsFallenAlways p g Limits silent start w → IsFallenAlways p g Limits silent start w'
 fallen_acts p g Limits silent start act w draws done w' none octet acts is =
