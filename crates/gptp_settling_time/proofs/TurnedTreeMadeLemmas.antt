@@ -131,7 +131,8 @@ module _ (d : DocumentState) (playable : IsPlayable d) (made : List Timed) (even
             (live_ends d made then keeps came.1.channel
             (at_link d made then keeps draws done w' x.clock x.port came (IsUsed n.systems made) x.used))
             tree x.top x.other last out best base depth is (few_then d playable made more w' after x.paths x.few)
-            (at_link d made then keeps draws done w' x.clock x.port came (λ (u : LinkSpec). ((u.a.clock ≡ x.top) × (u.b.clock ≡ x.other))
+            (at_link d made then keeps draws done w' x.clock x.port came (λ (u : LinkSpec).
+            ((u.a.clock ≡ x.top) × (u.b.clock ≡ x.other))
             ⊎ ((u.b.clock ≡ x.top) × (u.a.clock ≡ x.other))) x.ends) late rest.sound names)
             (time ∙ sym at_time) (changed ∙ time ∙ sym at_time));
       }

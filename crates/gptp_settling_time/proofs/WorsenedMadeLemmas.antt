@@ -104,7 +104,7 @@ module _ (d : DocumentState) (playable : IsPlayable d) (made : List Timed) (even
             (subst (λ act. Acts act then draws done w') x.act acts)
             (λ place station k.
             lives_so n made then keeps.stands keeps.claim.world.sound x.clock x.live place station k) x.octet
-            (omega (arith, over, at_time)) rest.ready rest.silent
-            seen (near_so d playable made then keeps x.few) best next depth is
-            (few_then d playable made more w' after x.paths x.few) late rest.sound names (SetLimits n more) (limits_to d more w' after));
+            (omega (arith, over, at_time)) rest.ready rest.silent seen (near_so d playable made then keeps x.few) best
+            next depth is (few_then d playable made more w' after x.paths x.few) late rest.sound names
+            (SetLimits n more) (limits_to d more w' after));
       }
