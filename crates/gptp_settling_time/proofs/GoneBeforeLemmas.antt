@@ -125,8 +125,9 @@ module _ (n : NetworkState) (network : IsNetwork n) (made : List Timed) where
 
 -- ---- by when it is due
 
--- What is in flight from a time on after these events is gone so much later: by the greatest delay, where each link that
--- is up is in use; or by what none takes longer than, if what was in flight as a link was last set has arrived as soon.
+-- What is in flight from a time on after these events is gone so much later: by the greatest delay, where each link
+-- that is up is in use; or by what none takes longer than, if what was in flight as a link was last set has arrived as
+-- soon.
 abbrev pub IsGoneByDelay : NetworkState → List Timed → ℕ → ℕ → Type 0
 IsGoneByDelay n ago since gone =
     (UpIsUsed n ago × (gone ≡ (sync_paths n ago).delay))
