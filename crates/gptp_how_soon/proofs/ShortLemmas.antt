@@ -34,7 +34,7 @@ use Rattle.gptp_topology.specs.After.{standings_after}
 use Rattle.gptp_topology.specs.Times.{times_from, times_of}
 use Rattle.gptp_topology.specs.declared.course.Cable.{Cable}
 use Rattle.gptp_how_soon.specs.Bounds.{aged_by, aged_echo_span, any_loss_span, apart_by, arrived_by, asked_again, choice_of_row, echo_if_kept, echo_of_row, exact_span, is_again, needed_watch, quiet_by, ready, retold_by, roles_by, roles_of_row, set_span, settling_by, sound_by, sound_of_row, two_exchanges, watch}
-use Rattle.gptp_how_soon.specs.Flight.{flight_over_used, gone_by}
+use Rattle.gptp_how_soon.specs.Flight.{gone_by}
 use Rattle.gptp_how_soon.specs.Kinds.{sets_bounds, sets_link}
 use Rattle.gptp_how_soon.specs.Links.{longest_delay}
 use Rattle.gptp_how_soon.specs.Silent.{is_heard_link, own_intervals}
@@ -215,8 +215,7 @@ module _ (n : NetworkState) (network : IsNetwork n) (paths : SyncPaths) (few : p
             either_most loss.used (max (echo_span (pace_of n) paths) paths.delay) (any_loss_span n loss paths)
             195000000000000 (omega (arith, e, short)) (omega (arith, l))
         by TakenApart =
-            let w = way in let over_used = flight_over_used loss.used paths.delay in let g = gone over_used in
-            quiet (max (way_span paths) (gone_by n over_used)) (omega (arith, w, g))
+            let g = gone loss.flight_before in quiet (gone_by n loss.flight_before) (omega (arith, g))
         by AnyLosses = roles_lost
         by Gained = early
 

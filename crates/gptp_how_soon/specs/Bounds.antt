@@ -9,7 +9,7 @@ use Rattle.gptp_scenario.specs.SettlingAtOnce.{settling_span_at_once}
 use Rattle.gptp_scenario.specs.SettlingTime.{echo_span, loss_span, settling_span_with, silence_span, way_span}
 use Rattle.gptp_scenario.specs.declared.sync_wait.SyncPaths.{SyncPaths}
 use Rattle.gptp_topology.specs.declared.course.Cable.{Cable}
-use Rattle.gptp_how_soon.specs.Flight.{flight_over_used, gone_by}
+use Rattle.gptp_how_soon.specs.Flight.{gone_by}
 use Rattle.gptp_how_soon.specs.Kinds.{recovers}
 use Rattle.gptp_how_soon.specs.Links.{varies}
 use Rattle.gptp_how_soon.specs.declared.bounds.Loss.{Loss}
@@ -139,12 +139,13 @@ apart_by n loss paths =
     else aged_by loss + 2 * way_span paths + gone_by n loss.flight
 
 -- By when all that is held and in flight is sound: as soon as the choice stands, but after a loss it may name what is
--- gone. After a far end is cut off, a tree falls back, or a far end fails, only what was in flight does; of one that
--- fails by links of before too. So it is once the choice stands where a failure cuts off all that it moves. After a
--- link goes down by which no system is moved traces have to be told anew first, and so they have where several are
--- taken away. So they do once the choice stands where one system or a tree turns, or one fails that others heard; where
--- that cuts trees off what was in flight as they settled has to be gone too. After losses without a row of their own
--- all is sound once roles stand. After others it is as soon as the choice stands from any past.
+-- gone. After a far end is cut off, a tree falls back, or a far end fails, only what was in flight does; where one
+-- fails, or several links were lost by far ends alone, by links of before. So it is once the choice stands where a
+-- failure cuts off all that it moves. After a link goes down by which no system is moved traces have to be told anew
+-- first, and so they have where several are taken away that others heard. So they do once the choice stands where one
+-- system or a tree turns, or one fails that others heard; where that cuts trees off what was in flight as they settled
+-- has to be gone too. After losses without a row of their own all is sound once roles stand. After others it is as soon
+-- as the choice stands from any past.
 abbrev pub sound_of_row : NetworkState → Loss → SyncPaths → Row → ℕ → ℕ
 sound_of_row n loss paths AnyPast gained = settling_span_at_once (pace_of n) paths
 sound_of_row n loss paths Unchanged gained = 0
@@ -163,8 +164,7 @@ sound_of_row n loss paths FailureMovesTrees gained =
     (if loss.cuts_all then apart_by n loss paths
     else aged_by loss + 2 * way_span paths + max (echo_span (pace_of n) paths) (largest_interval (pace_of n)))
 sound_of_row n loss paths TakenAway gained = taken_echo_span n loss paths
-sound_of_row n loss paths TakenApart gained =
-    quiet_by n loss (max (way_span paths) (gone_by n (flight_over_used loss.used paths.delay)))
+sound_of_row n loss paths TakenApart gained = quiet_by n loss (gone_by n loss.flight_before)
 sound_of_row n loss paths AnyLosses gained = quiet_by n loss (any_loss_span n loss paths)
 sound_of_row n loss paths Gained gained = gained
 

@@ -19,10 +19,6 @@ abbrev pub flight_over : Bool → ℕ → ℕ → ℕ → ℕ → Option ℕ
 flight_over used delay longest arrived at =
     if used then Some delay else if nat_le arrived (at + longest) then Some longest else None
 
--- the same by the links in use alone
-abbrev pub flight_over_used : Bool → ℕ → Option ℕ
-flight_over_used used delay = if used then Some delay else None
-
 -- What was in flight is gone so much later: nothing is for longer than an announce interval.
 abbrev pub gone_by : NetworkState → Option ℕ → ℕ
 gone_by n None = largest_interval (pace_of n)

@@ -9,7 +9,7 @@ ghost use Rattle.gptp_scenario.specs.SettlingAtOnce.{settling_span_at_once};
 ghost use Rattle.gptp_scenario.specs.SettlingTime.{capability_span, echo_span, silence_span, way_span};
 ghost use Rattle.gptp_how_soon.specs.Bounds.{aged_by, aged_echo_span, any_loss_span, apart_by, arrived_by, asked_again, choice_by, exact_from, exact_span, heard_by, is_again, is_hard_to_hear, quiet_by, ready, retold_by, roles_by, set_span, settled, sound_by, taken_echo_span, times_by, two_exchanges, watch};
 
-use crate::flight::{flight_over_used, gone_by};
+use crate::flight::gone_by;
 use crate::kinds::{Told, recovers};
 use crate::links::varies;
 use gptp_scenario::{Network, SyncPaths};
@@ -398,17 +398,14 @@ fn sound_by(network: &Network, loss: Loss, paths: SyncPaths, row: Row, gained: u
         return network.settling_span_with(paths);
     }
     let gone = gone_by(network, loss.flight);
+    let gone_before = gone_by(network, loss.flight_before);
     match row {
         Row::AnyPast => settling_span_at_once(network, paths),
         Row::Unchanged => 0,
         Row::Lowered => echo_span(network, paths).max(announce_interval(network)),
         Row::TakenAway => taken_echo_span(network, loss, paths),
-        Row::TakenApart => {
-            let flight = flight_over_used(loss.used, paths.delay);
-            quiet_by(network, loss, way_span(paths).max(gone_by(network, flight)))
-        }
         Row::CutOff | Row::TreeFalls => (2 * way_span(paths)).max(gone),
-        Row::FailedEnd => quiet_by(network, loss, gone_by(network, loss.flight_before)),
+        Row::FailedEnd | Row::TakenApart => quiet_by(network, loss, gone_before),
         Row::FailedHeard => aged_echo_span(network, loss, paths),
         Row::FailureCutsOff => {
             if loss.cuts_all {

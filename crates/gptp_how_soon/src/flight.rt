@@ -1,7 +1,7 @@
 //! For how long something is in flight over the links of a network.
 
 ghost use Rattle.std.specs.Prelude.{◌≡◌, ◌≤◌};
-ghost use Rattle.gptp_how_soon.specs.Flight.{delay_up, flight_over, flight_over_used, gone_by, longest_up};
+ghost use Rattle.gptp_how_soon.specs.Flight.{delay_up, flight_over, gone_by, longest_up};
 
 use crate::bounds::announce_interval;
 use gptp_scenario::Network;
@@ -48,13 +48,6 @@ pub(crate) fn flight_over(
     } else {
         None
     }
-}
-
-/// The same by the links in use alone.
-pub(crate) fn flight_over_used(used: bool, delay: u64) -> Option<u64>
-    ensures { result ≡ flight_over_used used delay }
-{
-    if used { Some(delay) } else { None }
 }
 
 /// By how much later than a time what was in flight is gone, in ns, where it is so for so long at most or that isn't

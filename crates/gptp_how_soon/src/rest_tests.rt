@@ -83,10 +83,10 @@ fn events_come_from_rest_soon_after_a_loss(rt: HostRuntime) -> Result<(), Fail> 
         ),
         (
             "d hangs beside a slower link, and cuts c off",
-            "[[event]]\nat = 40000000000\nkind = \"link_set\"\nclock = \"000000000000000c\"\nport = 2\nmin = 380\nmax = 5000\nloss = 0\n[[event]]\nat = 100000000000\nkind = \"fail\"\nclock = \"000000000000000d\"\n[[event]]\nat = 100375005821\nkind = \"recover\"\nclock = \"000000000000000d\"\n[network]\npdelay = -3\nlost = 1\n",
-            375_005_820,
-            100_375_005_821,
-            1_250_026_000,
+            "[[event]]\nat = 40000000000\nkind = \"link_set\"\nclock = \"000000000000000c\"\nport = 2\nmin = 380\nmax = 700\nloss = 0\n[[event]]\nat = 100000000000\nkind = \"fail\"\nclock = \"000000000000000d\"\n[[event]]\nat = 100375001521\nkind = \"recover\"\nclock = \"000000000000000d\"\n[network]\npdelay = -3\nlost = 1\n",
+            375_001_520,
+            100_375_001_521,
+            1_250_004_500,
         ),
         (
             "b hangs",

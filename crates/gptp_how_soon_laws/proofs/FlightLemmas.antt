@@ -9,9 +9,6 @@ use Rattle.gptp_setup.specs.SettlingParams.{largest_interval}
 use Rattle.gptp_scenario.specs.Calm.{last_change}
 use Rattle.gptp_scenario.specs.Network.{IsNetwork, NetworkState, pace_of}
 use Rattle.gptp_scenario.specs.SyncWait.{sync_paths}
-use Rattle.gptp_scenario.specs.declared.change.Act.{Act}
-use Rattle.gptp_scenario.specs.declared.change.Act.TheVariants as acts
-use Rattle.gptp_scenario.specs.declared.change.Change.TheVariants as changes
 use Rattle.gptp_scenario.specs.declared.change.Timed.{Timed}
 use Rattle.gptp_topology.specs.After.{standing_then, standings_after}
 use Rattle.gptp_topology.specs.declared.course.Standing.{Standing}
@@ -21,11 +18,12 @@ use Rattle.gptp_how_soon.specs.Links.{longest_delay}
 use Rattle.gptp_how_soon.specs.Times.{arrived_after}
 use Rattle.gptp_settling_time.specs.Arrivals.{after_set, arrived_by, last_of, last_set, sets_link}
 use Rattle.gptp_settling_time.specs.EventKinds.{FlightIsGoneFrom}
-use Rattle.gptp_settling_time.specs.Gains.{ChangesNothing, HasDelaysWithin, Repeats}
+use Rattle.gptp_settling_time.specs.Gains.{HasDelaysWithin, Repeats}
 use Rattle.gptp_settling_time.specs.HowSoon.{EachEvent, FailsTreesFirst, IsDownToo}
 use Rattle.gptp_settling_time.specs.Losses.{UpIsWithin}
 use Rattle.gptp_settling_time.specs.Rests.{FlightIsGoneSince}
 use Rattle.gptp_settling_time.proofs.DelayWithinLemmas.{within_before}
+use Rattle.gptp_settling_time.proofs.GoneBeforeLemmas.{idle_sets_none}
 use Rattle.gptp_settling_time.proofs.SamePathsLemmas.{StandSame}
 use Rattle.gptp_how_soon_laws.proofs.ArrivedLemmas.{same_set}
 use Rattle.gptp_how_soon_laws.proofs.FailedLemmas.{used_up}
@@ -33,17 +31,6 @@ use Rattle.gptp_how_soon_laws.proofs.RepeatLemmas.{paths_seen, standings_seen}
 use Rattle.gptp_how_soon_laws.proofs.RowTestLemmas.{at_most}
 
 -- ---- when a link was last set
-
-sets_none : (n : NetworkState) (made : List Timed) (act : Act) → ChangesNothing n made act → sets_link act ≡ false
-sets_none n made (acts.Deliver link direction) nothing = refl
-sets_none n made (acts.Expire clock timer) nothing = refl
-sets_none n made (acts.Change (changes.LinkDown clock port)) nothing = refl
-sets_none n made (acts.Change (changes.LinkUp clock port)) nothing = refl
-sets_none n made (acts.Change (changes.LinkSet clock port least greatest loss)) none = absurd none
-sets_none n made (acts.Change (changes.Fail number)) nothing = refl
-sets_none n made (acts.Change (changes.Recover number)) nothing = refl
-sets_none n made (acts.Change (changes.Priority1 number value)) nothing = refl
-sets_none n made (acts.Change (changes.Inject clock port octets)) nothing = refl
 
 -- an event sets none
 abbrev pub SetsNone : List Timed → Timed → Type 0
@@ -53,7 +40,7 @@ pub repeats_set_none : (n : NetworkState) (made others : List Timed) → EachEve
     → EachEvent SetsNone made others
 repeats_set_none n made [] each = tt
 repeats_set_none n made (event ∷ others) (one, each) =
-    (sets_none n made event.act one.0, repeats_set_none n (made ++ event ∷ []) others each)
+    (idle_sets_none n made event.act one.0, repeats_set_none n (made ++ event ∷ []) others each)
 
 downs_set_none : (n : NetworkState) (made others : List Timed) → EachEvent (IsDownToo n) made others
     → EachEvent SetsNone made others
@@ -63,7 +50,7 @@ downs_set_none n made (event ∷ others) (one, each) =
   where
     by : IsDownToo n made event → sets_link event.act ≡ false
     by (inl lowers) = ap sets_link lowers.act
-    by (inr same) = sets_none n made event.act same.0
+    by (inr same) = idle_sets_none n made event.act same.0
 
 pub fails_set_none : (n : NetworkState) (made now : List Timed) → FailsTreesFirst n made now
     → EachEvent SetsNone made now

@@ -14,7 +14,7 @@ use Rattle.gptp_scenario.specs.declared.change.Timed.{Timed}
 use Rattle.gptp_scenario.specs.declared.sync_wait.SyncPaths.{SyncPaths}
 use Rattle.gptp_topology.specs.After.{is_calm}
 use Rattle.gptp_how_soon.specs.Bounds.{aged_by, aged_echo_span, any_loss_span, apart_by, arrived_by, choice_by, choice_of_row, quiet_by, roles_by, roles_of_row, settled, sound_by, sound_of_row, taken_echo_span}
-use Rattle.gptp_how_soon.specs.Flight.{flight_over_used, gone_by}
+use Rattle.gptp_how_soon.specs.Flight.{gone_by}
 use Rattle.gptp_how_soon.specs.Kinds.{sets_link}
 use Rattle.gptp_how_soon.specs.Times.{View, gained_at, loss_at, row_at, settling_time}
 use Rattle.gptp_how_soon.specs.declared.bounds.Loss.{Loss}
@@ -143,8 +143,7 @@ IsSoundSooner n loss paths row sound =
     × (sound ≡ quiet_by n loss
     (aged_by loss + 2 * way_span paths + max (echo_span (pace_of n) paths) (largest_interval (pace_of n)))))
     ⊎ (((row ≡ TakenAway) × (sound ≡ taken_echo_span n loss paths))
-    ⊎ (((row ≡ TakenApart)
-    × (sound ≡ quiet_by n loss (max (way_span paths) (gone_by n (flight_over_used loss.used paths.delay)))))
+    ⊎ (((row ≡ TakenApart) × (sound ≡ quiet_by n loss (gone_by n loss.flight_before)))
     ⊎ (((row ≡ FailureCutsOff) ⊎ (row ≡ FailureMovesTrees)) × (loss.cuts_all ≡ true)
     × (sound ≡ quiet_by n loss (apart_by n loss paths))))))))))))
 

@@ -203,11 +203,17 @@ module _ (n : NetworkState) (network : IsNetwork n) (events : List Timed) (b : S
       )
 
   -- what was in flight before is gone by then
-  flight_before : (event : Timed) (others : List Timed) → now ≡ event ∷ others
+  pub flight_before : (now ≡ [] → ⊥)
       → FlightIsGoneFrom n made (last_change (made ++ now)) (gone_by n (loss_at v).flight_before)
-  flight_before event others split =
-      subst (λ t. FlightIsGoneFrom n made t (gone_by n (loss_at v).flight_before)) (sym (moment event others split).1)
-      (gone_over n network made made (same_itself n made) (all_within n made) refl at)
+  flight_before some = by now refl
+    where
+      by : (es : List Timed) → now ≡ es
+          → FlightIsGoneFrom n made (last_change (made ++ now)) (gone_by n (loss_at v).flight_before)
+      by [] none = absurd (some none)
+      by (event ∷ others) split =
+          subst (λ t. FlightIsGoneFrom n made t (gone_by n (loss_at v).flight_before))
+          (sym (moment event others split).1)
+          (gone_over n network made made (same_itself n made) (all_within n made) refl at)
 
   -- and so is what is in flight behind all
   flight_now : (event : Timed) (others : List Timed) → now ≡ event ∷ others
@@ -453,13 +459,8 @@ module _ (n : NetworkState) (network : IsNetwork n) (events : List Timed) (b : S
   failed well row =
       let (from, which) = why FailedEnd row in
       let first = by which in
-      (rest_so from, first, gone now refl first)
+      (rest_so from, first, flight_before (λ none. subst (FailsEndFirst n made) none first))
     where
-      gone : (es : List Timed) → now ≡ es → FailsEndFirst n made es
-          → FlightIsGoneFrom n made (last_change (made ++ now)) (gone_by n (loss_at v).flight_before)
-      gone [] split none = absurd none
-      gone (event ∷ others) split first = flight_before event others split
-
       followed : Bool
       followed = is_end_followed v.paths_before v.paths v.told
 

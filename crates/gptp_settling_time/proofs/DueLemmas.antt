@@ -58,9 +58,9 @@ in_use_joins w sound used j l f there member =
     (used_joins w at.link at.direction at.channel at.here (used at.link at.channel at.here up))
 
 -- and it is due within the greatest delay
-pub due_by_delay : (p : SettlingParams) (w : WorldState) → IsWorld p w → IsSettledSeen p w → UpIsInUse w
-    → AreDueBy (w.time + delay_in w) w
-due_by_delay p w is seen used j l f a there member said = by (seen.calm.facts.fresh j l f there member joins)
+pub flies_soon : (p : SettlingParams) (w : WorldState) → IsWorld p w → IsSettledSeen p w → UpIsInUse w → (j : ℕ)
+    (l : Lane) (f : AnnounceFrame) → slice_get (view w).lanes j ≡ Some l → In f l.frames → f.due ≤ w.time + delay_in w
+flies_soon p w is seen used j l f there member = by (seen.calm.facts.fresh j l f there member joins)
   where
     joins : Joins seen.n.graph l.from l.to
     joins = subst (λ h. Joins h l.from l.to) (sym seen.graph) (in_use_joins w is.sound used j l f there member)
@@ -73,6 +73,10 @@ due_by_delay p w is seen used j l f a there member said = by (seen.calm.facts.fr
         let grows = since_grows seen.n 0 (pred seen.n.reach) (omega arith) in
         let late = seen.late in
         absurd (omega (arith, old, left, begun, grows, late))
+
+pub due_by_delay : (p : SettlingParams) (w : WorldState) → IsWorld p w → IsSettledSeen p w → UpIsInUse w
+    → AreDueBy (w.time + delay_in w) w
+due_by_delay p w is seen used j l f a there member said = flies_soon p w is seen used j l f there member
 
 -- no link that is up takes longer than this
 abbrev pub UpIsWithinIn : ℕ → WorldState → Type 0

@@ -240,6 +240,7 @@ pub mod SplitMadeLemmas
 pub mod MovedRestLemmas
 pub mod TurnedRestLemmas
 pub mod TurnedTreeRestLemmas
+pub mod GoneBeforeLemmas
 pub mod TakenFartherLemmas
 pub mod WereSoundLemmas
 pub mod PriorityLinkLemmas

@@ -31,7 +31,7 @@ use Rattle.gptp_settling_time.proofs.LossLeadLemmas.{IsLeftBy, dead_lead, heard_
 use Rattle.gptp_settling_time.proofs.LossRestLemmas.{last_at}
 use Rattle.gptp_settling_time.proofs.MomentLemmas.{all_at, last_by, parted}
 use Rattle.gptp_settling_time.proofs.SamePathsLemmas.{StandSame}
-use Rattle.gptp_settling_time.proofs.TakenLeadLemmas.{silent_from, taken_clears, taken_lead}
+use Rattle.gptp_settling_time.proofs.TakenLeadLemmas.{silent_from, taken_clears, taken_lead, way_before}
 use Rattle.gptp_settling_time.proofs.SilentSpanLemmas.{none_silent}
 
 -- ---- what a loss leads to
@@ -204,10 +204,11 @@ module _ (n : NetworkState) (network : IsNetwork n) (off : NothingLapses n.param
       }
       by (inr (inr (inr (inr (inr (takes, leaves, is_choice, inr (loses, few, is_roles))))))) =
           let old : ℕ = time + largest_interval (pace_of n) in
+          let (since, before) = way_before n time earlier seen has in
           record {
-            last = Cleared earlier time (silent_from n time) 0 old;
-            lead = taken_clears n time earlier (event ∷ now) seen 0 old at has calm_then off takes leaves few
-                (inr (loses, refl, refl, (largest_interval (pace_of n), inr refl, refl)));
+            last = Cleared earlier since (silent_from n time) 0 old;
+            lead = taken_clears n time earlier (event ∷ now) seen since 0 old at has calm_then off takes leaves few
+                (inr (loses, before, refl, (largest_interval (pace_of n), inl (inr refl), refl)));
             so = (
               λ settled late. (off, inl (omega (arith, is_roles, late))),
               λ settled late. off,

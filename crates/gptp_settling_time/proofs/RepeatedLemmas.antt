@@ -1,6 +1,6 @@
 -- An event repeats what stands, at the time of the event before: the world stays the very same, and with it all that is
 -- claimed of a loss.
-use Rattle.std.proofs.Common.{◌≡◌, ◌≤◌, ◌+◌, ℕ, suc, true, refl, List, [], ◌∷◌, ◌++◌, sym, ap, subst, ◌∙◌, inl}
+use Rattle.std.proofs.Common.{◌≡◌, ◌≤◌, ◌+◌, ℕ, suc, true, refl, List, [], ◌∷◌, ◌++◌, sym, ap, subst, ◌∙◌, inl, inr}
 use Rattle.gptp_lists.proofs.SystemSpecLemmas.{In-slice_get}
 use Rattle.gptp_graph.specs.Snapshot.{PortIdentity, Snapshot}
 use Rattle.gptp_links.specs.Fate.{Draw}
@@ -38,7 +38,10 @@ use Rattle.gptp_settling_time.proofs.SplitRestLemmas.{IsSplitAnew}
 use Rattle.gptp_settling_time.proofs.ArrivalsLemmas.{SetLimits, idle_sets, limits_before}
 use Rattle.gptp_settling_time.proofs.SplitToLemmas.{GoesOver, IsSplitTo, WereUsed, anew_by, over_gone}
 use Rattle.gptp_settling_time.proofs.TakenClaimedLemmas.{IsTakenAlways}
-use Rattle.gptp_settling_time.proofs.TakenToLemmas.{IsTakenTo}
+use Rattle.gptp_settling_time.proofs.GoneBeforeLemmas.{up_more}
+use Rattle.gptp_settling_time.proofs.LeftClaimedLemmas.{HaveAskedBy}
+use Rattle.gptp_settling_time.proofs.SinceSetLemmas.{AreLimitedBy}
+use Rattle.gptp_settling_time.proofs.TakenToLemmas.{IsTakenTo, way_ago}
 use Rattle.gptp_settling_time.proofs.TurnedAlwaysLemmas.{IsTurnedAlways}
 use Rattle.gptp_settling_time.proofs.TurnedToLemmas.{IsTurnedTo}
 use Rattle.gptp_settling_time.proofs.TurnedTreeRestLemmas.{IsTurnedTreeAnew}
@@ -167,6 +170,9 @@ module _ (d : DocumentState) (playable : IsPlayable d) (made : List Timed) (even
     before = so.before;
     alike = so.alike;
     way = so.way;
+    asked = subst (HaveAskedBy (way_ago n ago since)) (sym same) so.asked;
+    up = up_more n playable.network made ago event so.up since silent (inr now);
+    limited = λ gone flight. subst (AreLimitedBy (since + gone)) (sym same) (so.limited gone flight);
     later = so.later;
     is = subst (IsTakenAlways p so.before silent) (sym same) so.is;
   }
