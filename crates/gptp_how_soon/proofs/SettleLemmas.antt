@@ -10,7 +10,8 @@ use Rattle.gptp_topology.specs.declared.course.Cable.{Cable}
 use Rattle.gptp_topology.specs.declared.course.Standing.{Standing}
 use Rattle.gptp_how_soon.specs.Far.{up_is_used}
 use Rattle.gptp_how_soon.specs.Flight.{flight_over, longest_up}
-use Rattle.gptp_how_soon.specs.Bounds.{arrived_by, heard_by, ready, times_by}
+use Rattle.gptp_how_soon.specs.Bounds.{arrived_by, times_by}
+use Rattle.gptp_how_soon.specs.Gains.{heard_by, ready}
 use Rattle.gptp_how_soon.specs.Kinds.{begins_wider, brings_nothing, is_loss, makes_nothing, sets_link}
 use Rattle.gptp_how_soon.specs.Links.{new_among}
 use Rattle.gptp_how_soon.specs.Rest.{are_losses_followed, asks_who_is_moved, failed_row, is_end_followed, is_failing_followed, is_from_rest, is_lowering_followed, is_taking_followed, is_worsening_followed, no_moves, row_of}

@@ -33,7 +33,8 @@ use Rattle.gptp_setup.proofs.IntervalLemmas.{interval_most}
 use Rattle.gptp_topology.specs.After.{standings_after}
 use Rattle.gptp_topology.specs.Times.{times_from, times_of}
 use Rattle.gptp_topology.specs.declared.course.Cable.{Cable}
-use Rattle.gptp_how_soon.specs.Bounds.{aged_by, aged_echo_span, any_loss_span, apart_by, arrived_by, asked_again, choice_of_row, echo_if_kept, echo_of_row, exact_span, is_again, needed_watch, quiet_by, ready, retold_by, roles_by, roles_of_row, set_span, settling_by, sound_by, sound_of_row, two_exchanges, watch}
+use Rattle.gptp_how_soon.specs.Bounds.{aged_by, aged_echo_span, any_loss_span, apart_by, arrived_by, asked_again, choice_of_row, echo_if_kept, echo_of_row, exact_span, needed_watch, quiet_by, retold_by, roles_by, roles_of_row, set_span, settling_by, sound_by, sound_of_row, two_exchanges, watch}
+use Rattle.gptp_how_soon.specs.Gains.{is_again, ready}
 use Rattle.gptp_how_soon.specs.Flight.{gone_by}
 use Rattle.gptp_how_soon.specs.Kinds.{sets_bounds, sets_link}
 use Rattle.gptp_how_soon.specs.Links.{longest_delay}

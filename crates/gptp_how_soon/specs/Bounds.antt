@@ -1,6 +1,5 @@
 -- How soon the choice and the roles stand at a time, by whether it is from rest and what its events are (profile).
-use Rattle.std.specs.Prelude.{ℕ, ◌+◌, ◌-◌, ◌*◌, ◌==◌, ◌||◌, max, not, Bool, if◌then◌else◌, List, length, Option, Some, None}
-use Rattle.std.specs.List.{list_any}
+use Rattle.std.specs.Prelude.{ℕ, ◌+◌, ◌-◌, ◌*◌, ◌==◌, max, not, Bool, if◌then◌else◌, Option, Some, None}
 use Rattle.gptp_setup.specs.Intervals.{interval_of}
 use Rattle.gptp_setup.specs.SettlingParams.{largest_interval}
 use Rattle.gptp_setup.specs.declared.setup.Params.{Params}
@@ -8,16 +7,12 @@ use Rattle.gptp_scenario.specs.Network.{NetworkState, pace_of}
 use Rattle.gptp_scenario.specs.SettlingAtOnce.{settling_span_at_once}
 use Rattle.gptp_scenario.specs.SettlingTime.{echo_span, loss_span, settling_span_with, silence_span, way_span}
 use Rattle.gptp_scenario.specs.declared.sync_wait.SyncPaths.{SyncPaths}
-use Rattle.gptp_topology.specs.declared.course.Cable.{Cable}
 use Rattle.gptp_how_soon.specs.Flight.{gone_by}
-use Rattle.gptp_how_soon.specs.Kinds.{recovers}
-use Rattle.gptp_how_soon.specs.Links.{varies}
 use Rattle.gptp_how_soon.specs.declared.bounds.Loss.{Loss}
 use Rattle.gptp_how_soon.specs.declared.bounds.Row.{Row}
 use Rattle.gptp_how_soon.specs.declared.bounds.Row.TheVariants.{AnyLosses, AnyPast, CutOff, FailedEnd, FailedHeard, FailureCutsOff, FailureMovesTrees, Gained, Lowered, SystemTurned, TakenApart, TakenAway, TreeFalls, TreeTurned, Unchanged}
 use Rattle.gptp_how_soon.specs.declared.bounds.Settling.{Settling}
 use Rattle.gptp_how_soon.specs.declared.bounds.SettlingTime.{SettlingTime}
-use Rattle.gptp_how_soon.specs.declared.kinds.Told.{Told}
 
 -- ---- spans
 
@@ -42,26 +37,6 @@ aged_by loss = if loss.silent then loss.held else 0
 -- any more.
 abbrev pub quiet_by : NetworkState → Loss → ℕ → ℕ
 quiet_by n loss choice = if loss.silent then max choice (silence_span (pace_of n)) else choice
-
--- ---- after gains
-
--- an end of the link recovers by these events
-abbrev pub is_again : List Told → Cable → Bool
-is_again told c = recovers told c.a.clock || recovers told c.b.clock
-
--- From when on ports at new links are capable: after two exchanges. Where a system recovers, a port that stayed on asks
--- for the first of them within an interval.
-abbrev pub ready : Params → SyncPaths → List Told → List Cable → ℕ
-ready p paths told new =
-    if length new == 0 then 0 else if list_any (is_again told) new then asked_again p paths else two_exchanges p paths
-
--- What is told over a new link may not be heard at once: its delay varies, or an end recovers.
-abbrev pub is_hard_to_hear : List Told → Cable → Bool
-is_hard_to_hear told c = is_again told c || varies c
-
--- An announce interval passes where something may not be heard at once.
-abbrev pub heard_by : NetworkState → List Told → List Cable → ℕ
-heard_by n told new = if list_any (is_hard_to_hear told) new then largest_interval (pace_of n) else 0
 
 -- ---- bounds at a time
 

@@ -12,6 +12,7 @@ pub mod MovedTrees
 pub mod Silent
 pub mod Alone
 pub mod Bounds
+pub mod Gains
 pub mod Rest
 pub mod Times
 pub mod Walk

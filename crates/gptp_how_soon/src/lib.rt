@@ -15,6 +15,7 @@ mod far;
 mod flight;
 #[cfg(test)]
 mod gain_tests;
+mod gains;
 mod kinds;
 #[cfg(test)]
 mod link_tests;

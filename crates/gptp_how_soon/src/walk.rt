@@ -9,14 +9,14 @@ ghost use Rattle.gptp_how_soon.specs.Walk.{IsFirstWalk, WalkGoesOn, WalkPasses, 
 
 use crate::alone::leaves_alone;
 use crate::bounds::{
-    Loss, SettlingTime, announce_interval, arrived_before, arrived_by, heard, ready, times_by,
-    way_span,
+    Loss, SettlingTime, announce_interval, arrived_before, arrived_by, times_by, way_span,
 };
 use crate::chosen::{
     Chosen, Ends, any_counted, any_moved, choose, copy_systems, ends_in_use, ends_of,
 };
 use crate::far::{all_cut_far_ends, are_far, up_is_used};
 use crate::flight::{flight_over, longest_up};
+use crate::gains::{heard, ready};
 use crate::kinds::{Told, sets_bounds, sets_link, tell};
 use crate::links::{delay_set, longest_among, lost_among, mark_used, new_links};
 use crate::losses::takes_one;
