@@ -52,7 +52,7 @@ none_rests n made rest (inl (inr (inr (inr (inl (none, by)))))) = none
 none_rests n made rest (inl (inr (inr (inr (inr (none, by)))))) = none
 none_rests n made rest (inr (inl (choice, (none, is_choice, by)))) = none
 none_rests n made rest (inr (inr (inl (none, leaves, few, by)))) = none
-none_rests n made rest (inr (inr (inr ((none, others), by)))) = none
+none_rests n made rest (inr (inr (inr (heard, by)))) = heard.0
 
 -- it leads on to where the network has come to rest
 rest_leads : (n : NetworkState) → IsNetwork n → NothingLapses n.params → (time rest : ℕ) (made now : List Timed)

@@ -61,7 +61,7 @@ none_lost n made choice roles (inr (inr (inl (turns, is_choice, same)))) = turns
 none_lost n made choice roles (inr (inr (inr (inl (fails, bounds))))) = fails
 none_lost n made choice roles (inr (inr (inr (inr (inl (any, is_choice, after)))))) = any
 none_lost n made choice roles (inr (inr (inr (inr (inr (inl (takes, leaves, is_choice, after))))))) = takes
-none_lost n made choice roles (inr (inr (inr (inr (inr (inr ((takes, others), by))))))) = takes
+none_lost n made choice roles (inr (inr (inr (inr (inr (inr (heard, held, is_roles))))))) = heard.0
 
 module _ (n : NetworkState) (network : IsNetwork n) (off : NothingLapses n.params) (time choice roles : ℕ) where
   abbrev IsLostTo : List Timed → List Timed → Past → Type 0

@@ -215,12 +215,12 @@ module _ (d : DocumentState) (playable : IsPlayable d) (made : List Timed) (even
   -- what is in flight then is due as links say
   flies_limited : (gone since : ℕ) → then.time ≡ since → IsGoneByDelay n_of made since gone → IsSettledSeen p then
       → AreLimitedBy (since + gone) then
-  flies_limited gone since now (is, inl used) seen =
+  flies_limited gone since now (inl (used, is)) seen =
       let delay = ap (λ (x : SyncPaths). x.delay) paths_then in
       limited_weaker (then.time + delay_in then) (since + gone) then (omega (arith, is, now, delay))
       (used_limited p then world_then seen (up_in_use d made then keeps used))
-  flies_limited gone since now (is, inr (slower, (most, within, arrived))) seen =
-      limited_weaker (arrived_by most made) (since + gone) then arrived (keeps.limited most within)
+  flies_limited gone since now (inr (within, (most, bounded, arrived))) seen =
+      limited_weaker (arrived_by most made) (since + gone) then arrived (keeps.limited most bounded)
 
   -- so is all by its own link, where each that is up is in use or what was in flight as one was set has arrived
   flies_prompt : (start since most silent : ℕ) → IsLosing p start since most silent then → then.time ≡ since
