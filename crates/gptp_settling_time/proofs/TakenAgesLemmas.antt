@@ -74,10 +74,10 @@ module _ (d : DocumentState) (ago events : List Timed) (since most silent : ℕ)
       (bare : IsLinked h port → ⊥) (link : ℕ) (direction : Direction) (channel : Channel)
       (here : slice_get w.net.channels link ≡ Some channel) (up : channel.up ≡ true)
       (at_port : port_identity_number (sender direction channel) ≡ port) where
-    way : IsUsedWay n ago from port
+    abbrev way : IsUsedWay n ago from port
     way = so.ways from port joins
 
-    v : LinkSpec
+    abbrev v : LinkSpec
     v = way.link
 
     ends : AreEnds way.begin way.end (link_after events v)
