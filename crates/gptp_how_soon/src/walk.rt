@@ -165,10 +165,7 @@ impl Walk {
                 !any_moved,
                 all_far_ends_move(&systems, &lost, &before, &now),
             ),
-            ages: both(
-                !any_moved,
-                flies_in_time(self.all_used_before, arrived, at),
-            ),
+            ages: both(!any_moved, flies_in_time(self.all_used_before, arrived, at)),
             cuts_all: both(both(come, trees), cuts_all(&systems, &lost, &before, &now)),
             alone: both(
                 self.all_used_before,

@@ -22,10 +22,10 @@ use Rattle.gptp_how_soon.specs.Links.{longest_delay}
 use Rattle.gptp_how_soon.specs.Times.{View, events_at, gained_at, last_set, loss_at, ready_at, row_at, settling_time, settling_times, settling_times_from, time_at, view_at}
 use Rattle.gptp_how_soon.specs.declared.bounds.Loss.{Loss}
 use Rattle.gptp_how_soon.specs.declared.bounds.Row.{Row}
-use Rattle.gptp_how_soon.specs.declared.bounds.Row.TheVariants.{AnyLosses, AnyPast, CutOff, FailedEnd, FailedHeard, FailureCutsOff, FailureMovesTrees, Gained, Lowered, SystemTurned, TakenApart, TakenAway, TreeFalls, TreeTurned, Unchanged}
+use Rattle.gptp_how_soon.specs.declared.bounds.Row.TheVariants.{AnyLosses, AnyPast, CutOff, FailedEnd, FailedHeard, FailureCutsOff, FailureMovesTrees, Gained, Lowered, SystemTurned, TakenApart, TakenAway, TakenHeard, TreeFalls, TreeTurned, Unchanged}
 use Rattle.gptp_how_soon.specs.declared.bounds.Settling.{Settling}
 use Rattle.gptp_how_soon.specs.declared.bounds.SettlingTime.{SettlingTime}
-use Rattle.gptp_settling_time.specs.HowSoon.{BeforeRepeats, BoundsAnyLoss, BoundsChoice, BoundsEvents, BoundsLoss, BoundsSplit, BoundsTree, FailsTreesFirst, IsChoiceBoundAfter, IsLossBoundAfter, IsRestBoundAfter, NoneBetween, RestsAfterAnyLoss, RestsAfterLoss, RestsOnceTold, RestsSplit, RestsTaken, RestsTree, RolesAfterFailure, TreeNext}
+use Rattle.gptp_settling_time.specs.HowSoon.{BeforeRepeats, BoundsAnyLoss, BoundsChoice, BoundsEvents, BoundsLoss, BoundsSplit, BoundsTree, FailsTreesFirst, IsChoiceBoundAfter, IsLossBoundAfter, IsRestBoundAfter, NoneBetween, RestsAfterAnyLoss, RestsAfterLoss, RestsOnceAged, RestsOnceTold, RestsSplit, RestsTaken, RestsTree, RolesAfterFailure, TreeNext, TakesHeard}
 use Rattle.gptp_settling_time.specs.EventKinds.{FlightIsGoneFrom}
 use Rattle.gptp_settling_time.specs.Rests.{turned_echo_span}
 use Rattle.gptp_settling_time.specs.Losses.{NoneSilent}
@@ -37,6 +37,7 @@ use Rattle.gptp_how_soon_laws.specs.Choice.{SettlingsAreChoiceBounds}
 use Rattle.gptp_how_soon_laws.proofs.FailedLemmas.{used_up}
 use Rattle.gptp_how_soon_laws.proofs.RowBoundLemmas.{HasOwnBounds, IsSoundSooner, IsTelling, bounds_choice, choice_or_own, past_row, sound_or_sooner, tells}
 use Rattle.gptp_how_soon_laws.proofs.RowLemmas.{gained, unchanged}
+use Rattle.gptp_how_soon_laws.proofs.RowAgesLemmas.{heard_bounds, heard_rests, heard_taken}
 use Rattle.gptp_how_soon_laws.proofs.RowApartLemmas.{apart_bounds, apart_rests, taken_apart}
 use Rattle.gptp_how_soon_laws.proofs.RowLossLemmas.{ComesLate, CutsAll, FailsLate, FallsLate, GoesFirst, TakesSome, all_cut, cut_off, failed, failure_cuts, flight_since, heard, left_alone, losses, lowered, none_left, same_paths, taken, tree_falls, tree_turned, turned}
 use Rattle.gptp_how_soon_laws.proofs.AgedLemmas.{aged, aging, alone_rests, quiet_later, split_rests}
@@ -276,7 +277,7 @@ module _ (d : DocumentState) (playable : IsPlayable d) where
           split_rests n playable.network all b at late well sound echo (some_trees n made now x.fails) (told ∙ is)
               (λ later. inl later),
         )))
-    rests_by sound told (inr (inr (inr (inr (inr (inr (inr (inr (inr (inr (which, cuts, is))))))))))) =
+    rests_by sound told (inr (inr (inr (inr (inr (inr (inr (inr (inr (inr (inr (which, cuts, is)))))))))))) =
         let x = all_cut n playable.network all b at late well which cuts in
         inr (inr (inr (x.trees, by x loss.alone refl (told ∙ is))))
       where
@@ -301,7 +302,14 @@ module _ (d : DocumentState) (playable : IsPlayable d) where
         let x = taken_apart n playable.network all b at late well row in
         inl (
           x.rested,
-          alone (Resting sound) (inr (inr (apart_rests n playable.network all b at late x sound (told ∙ is)))),
+          alone (Resting sound) (inr (inr (inl (apart_rests n playable.network all b at late x sound (told ∙ is))))),
+        )
+    rests_by sound told (inr (inr (inr (inr (inr (inr (inr (inr (inr (inr (inl (row, long)))))))))))) =
+        let (rest, takes) = heard_taken n playable.network all b at late well row in
+        inl (
+          rest,
+          alone (Resting sound) (inr (inr (heard_rests n playable.network all b at late well takes sound
+              (subst (λ t. aged_echo_span n loss v.paths ≤ t) (sym told) long)))),
         )
     rests_by sound told (inr (inr (inr (inr (inr (inr (inr (inr (inl (row, is)))))))))) =
         let x = taken n playable.network all b at late well row in
@@ -312,9 +320,15 @@ module _ (d : DocumentState) (playable : IsPlayable d) where
 
         by : TakesSome n playable.network all b at late → (used : Bool) → v.used ≡ used
             → sound ≡ (if used then max (echo_span (pace_of n) v.paths) v.paths.delay else span)
-            → RestsAfterAnyLoss n made now sound ⊎ RestsTaken n made now sound
+            → RestsAfterAnyLoss n made now sound
+            ⊎ (RestsTaken n made now sound ⊎ (TakesHeard n made now × RestsOnceAged n made now sound))
         by x true used same =
-            inr (x.takes, x.moves, x.few, inl (used_up n playable.network (made ++ now) used, omega (arith, same)))
+            inr (inl (
+              x.takes,
+              x.moves,
+              x.few,
+              inl (used_up n playable.network (made ++ now) used, omega (arith, same)),
+            ))
         by x false used same =
             inl (span, (several_lost n playable.network made now x.takes, refl, inl (x.none, same)))
 
@@ -470,13 +484,20 @@ module _ (d : DocumentState) (playable : IsPlayable d) where
         ))
     asks_by TakenAway row own =
         let x = taken n playable.network all b at late well row in
-        inl (x.rested, alone (Losing 0 0) (inr (inr (inr (inr (inr (x.takes, x.moves, refl, inl (x.none, refl))))))))
+        inl (x.rested, alone (Losing 0 0) (inr (inr (inr (inr (inr (inl (x.takes, x.moves, refl, inl (x.none, refl)))))))))
     asks_by TakenApart row own =
         let x = taken_apart n playable.network all b at late well row in
         inl (
           x.rested,
           alone (Losing 0 (quiet_by n loss 0))
-              (inr (inr (inr (inr (inr (apart_bounds n playable.network all b at late x)))))),
+              (inr (inr (inr (inr (inr (inl (apart_bounds n playable.network all b at late x))))))),
+        )
+    asks_by TakenHeard row own =
+        let (rest, takes) = heard_taken n playable.network all b at late well row in
+        inl (
+          rest,
+          alone (Losing (aged_by loss) (quiet_by n loss (aged_by loss)))
+              (inr (inr (inr (inr (inr (heard_bounds n playable.network all b at late well takes)))))),
         )
     asks_by AnyLosses row own =
         let (rest, loses, roles) = losses n playable.network all b at late row in

@@ -45,6 +45,7 @@ mod AloneLemmas
 mod CutsAllLemmas
 mod RowLossLemmas
 mod RowApartLemmas
+mod RowAgesLemmas
 mod AnyLossLemmas
 mod AgedLemmas
 mod LossBoundLemmas

@@ -61,6 +61,7 @@ module _ (n : NetworkState) (network : IsNetwork n) (events : List Timed) (b : S
     ends = is_end_followed v.paths_before v.paths v.told && (v.moves.far && not v.moves.any_moved);
     apart = is_taking_followed v.paths_before v.paths v.told && v.moves.apart;
     taken = is_taking_followed v.paths_before v.paths v.told && v.moves.taken;
+    ages = is_taking_followed v.paths_before v.paths v.told && v.moves.ages;
     loss = list_any is_loss v.told;
     only = list_all brings_nothing v.told;
   }
