@@ -42,8 +42,9 @@ quiet_by n loss choice = if loss.silent then max choice (silence_span (pace_of n
 
 -- The choice, by what a loss leaves of before. Where something may lapse for want of Sync it takes the span. Else it is
 -- as the row says, with so much after gains. Where others heard a system that fails it stands once they don't hold that
--- any more, and so it does where several are taken away. A system that turns tells what it chooses, and its neighbours answer: a way there, and one back. A tree
--- that falls off, or turns, drops what it had within a way, and has another within one more.
+-- any more, and so it does where several are taken away. A system that turns tells what it chooses, and its neighbours
+-- answer: a way there, and one back. A tree that falls off, or turns, drops what it had within a way, and has another
+-- within one more.
 abbrev pub choice_of_row : NetworkState → Loss → SyncPaths → Row → ℕ → ℕ
 choice_of_row n loss paths AnyPast gained = settling_span_at_once (pace_of n) paths
 choice_of_row n loss paths Unchanged gained = 0
@@ -93,8 +94,8 @@ roles_by n loss paths row gained =
     else roles_of_row n loss paths row gained
 
 -- How much later than a system fails that others heard, or several are taken away, each tells a right trace, and what
--- was in flight is gone. They do at once where each link that is up is in use. Else they do once nobody holds what names it, 1 ns later than the
--- choice stands; and ports at other links that are up have to be off.
+-- was in flight is gone. They do at once where each link that is up is in use. Else they do once nobody holds what
+-- names it, 1 ns later than the choice stands; and ports at other links that are up have to be off.
 abbrev pub aged_echo_span : NetworkState → Loss → SyncPaths → ℕ
 aged_echo_span n loss paths =
     if loss.used then max (echo_span (pace_of n) paths) paths.delay

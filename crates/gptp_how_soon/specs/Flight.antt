@@ -1,5 +1,5 @@
 -- For how long something is in flight over the links of a network (profile).
-use Rattle.std.specs.Prelude.{ℕ, ◌+◌, max, min, nat_le, Bool, if◌then◌else◌, List, [], ◌∷◌, Option, Some, None}
+use Rattle.std.specs.Prelude.{◌||◌, ℕ, ◌+◌, max, min, nat_le, Bool, if◌then◌else◌, List, [], ◌∷◌, Option, Some, None}
 use Rattle.gptp_setup.specs.SettlingParams.{largest_interval}
 use Rattle.gptp_scenario.specs.Network.{NetworkState, pace_of}
 use Rattle.gptp_topology.specs.declared.course.Standing.{Standing}

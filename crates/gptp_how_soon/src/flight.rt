@@ -50,8 +50,8 @@ pub(crate) fn flight_over(
     }
 }
 
-/// Whether what is in flight at a time is due within the greatest delay of its own link, by whether each link that is up
-/// is in use, and by when what was in flight as one was last set has arrived.
+/// Whether what is in flight at a time is due within the greatest delay of its own link, by whether each link that is
+/// up is in use, and by when what was in flight as one was last set has arrived.
 pub(crate) fn flies_in_time(used: bool, arrived: u128, at: u64) -> bool
     ensures { result ≡ flies_in_time used arrived at }
 {

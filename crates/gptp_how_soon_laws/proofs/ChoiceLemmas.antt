@@ -484,7 +484,10 @@ module _ (d : DocumentState) (playable : IsPlayable d) where
         ))
     asks_by TakenAway row own =
         let x = taken n playable.network all b at late well row in
-        inl (x.rested, alone (Losing 0 0) (inr (inr (inr (inr (inr (inl (x.takes, x.moves, refl, inl (x.none, refl)))))))))
+        inl (
+          x.rested,
+          alone (Losing 0 0) (inr (inr (inr (inr (inr (inl (x.takes, x.moves, refl, inl (x.none, refl)))))))),
+        )
     asks_by TakenApart row own =
         let x = taken_apart n playable.network all b at late well row in
         inl (

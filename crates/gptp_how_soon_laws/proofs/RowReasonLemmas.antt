@@ -25,8 +25,8 @@ pub record Tests : Type 0 where
   pub trees : Bool
   -- or it was a far end, and nobody is moved, beside events that change nothing
   pub ends : Bool
-  -- or several are taken away, and move nobody: none lost its link to a nearer one, or no link is silent; or what was in
-  -- flight is due in time
+  -- or several are taken away, and move nobody: none lost its link to a nearer one, or no link is silent; or what was
+  -- in flight is due in time
   pub apart : Bool
   pub taken : Bool
   pub ages : Bool
@@ -88,26 +88,33 @@ tests rest idle left lowers cut turns falls branch fails far moved trees ends ap
 }
 
 reason : (rest idle left lowers cut turns falls branch fails far moved trees ends apart taken ages loss only : Bool)
-    → ReasonOf (tests rest idle left lowers cut turns falls branch fails far moved trees ends apart taken ages loss only)
+    → ReasonOf
+    (tests rest idle left lowers cut turns falls branch fails far moved trees ends apart taken ages loss only)
     (RowBy (tests rest idle left lowers cut turns falls branch fails far moved trees ends apart taken ages loss only))
 reason false idle left lowers cut turns falls branch fails far moved trees ends apart taken ages loss only = tt
-reason true true left lowers cut turns falls branch fails far moved trees ends apart taken ages loss only = (refl, inl refl)
-reason true false true lowers cut turns falls branch fails far moved trees ends apart taken ages loss only = (refl, inr refl)
+reason true true left lowers cut turns falls branch fails far moved trees ends apart taken ages loss only =
+    (refl, inl refl)
+reason true false true lowers cut turns falls branch fails far moved trees ends apart taken ages loss only =
+    (refl, inr refl)
 reason true false false true true turns falls branch fails far moved trees ends apart taken ages loss only =
     (refl, refl, refl)
-reason true false false true false turns falls branch fails far moved trees ends apart taken ages loss only = (refl, refl)
+reason true false false true false turns falls branch fails far moved trees ends apart taken ages loss only =
+    (refl, refl)
 reason true false false false cut true falls branch fails far moved trees ends apart taken ages loss only = (refl, refl)
 reason true false false false cut false true branch fails far moved trees ends apart taken ages loss only = (refl, refl)
 reason true false false false cut false false true fails far moved trees ends apart taken ages loss only = (refl, refl)
 reason true false false false cut false false false true true moved trees ends apart taken ages loss only =
     (refl, inl (refl, refl))
 reason true false false false cut false false false true false true trees ends apart taken ages loss only = (refl, refl)
-reason true false false false cut false false false true false false trees ends apart taken ages loss only = (refl, refl)
+reason true false false false cut false false false true false false trees ends apart taken ages loss only =
+    (refl, refl)
 reason true false false false cut false false false false far moved true ends apart taken ages loss only = (refl, refl)
-reason true false false false cut false false false false far moved false true apart taken ages loss only = (refl, inr refl)
+reason true false false false cut false false false false far moved false true apart taken ages loss only =
+    (refl, inr refl)
 reason true false false false cut false false false false far moved false false true taken ages loss only = (refl, refl)
 reason true false false false cut false false false false far moved false false false true ages loss only = (refl, refl)
-reason true false false false cut false false false false far moved false false false false true loss only = (refl, refl)
+reason true false false false cut false false false false far moved false false false false true loss only =
+    (refl, refl)
 reason true false false false cut false false false false far moved false false false false false true true =
     (refl, refl, refl)
 reason true false false false cut false false false false far moved false false false false false true false = tt

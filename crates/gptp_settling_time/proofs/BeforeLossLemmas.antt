@@ -159,7 +159,8 @@ module _ (n : NetworkState) (events : List Timed) (w : WorldState) (is : IsWorld
       lanes = λ j l f a at among said known.
           named_stays events time a
           (flight_named says_announce n_set (stay_of p) (old_by p w) (view w) (network_setting n_set)
-          (set_facts p w is) calm.left old named j l f a at among said (subst (λ h. In l.to.clock (clocks h)) graph known));
+          (set_facts p w is) calm.left old named j l f a at among said
+          (subst (λ h. In l.to.clock (clocks h)) graph known));
       stations = λ i s at live place r holds.
           named_stays events time r.said
           (held_named says_announce n_set (stay_of p) (old_by p w) (view w) (network_setting n_set)

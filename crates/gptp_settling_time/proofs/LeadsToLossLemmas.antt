@@ -371,9 +371,11 @@ module _ (d : DocumentState) (playable : IsPlayable d) (made : List Timed) (even
         (rested_any d playable made event then at_time keeps settled) same now
     leads_to_aging Starting ago aged silent none so = absurd none
     leads_to_aging (Gained start) ago aged silent (settled, same, now) so =
-        ages ago start aged silent (rested_gained d playable made event then at_time keeps start settled so.news) same now
+        ages ago start aged silent (rested_gained d playable made event then at_time keeps start settled so.news) same
+        now
     leads_to_aging (Heard start) ago aged silent (settled, same, now) so =
-        ages ago start aged silent (rested_heard d playable made event then at_time keeps start settled so.since) same now
+        ages ago start aged silent (rested_heard d playable made event then at_time keeps start settled so.since) same
+        now
     leads_to_aging (Left was start) ago aged silent none so = absurd none
     leads_to_aging (Turned start was) ago aged silent none so = absurd none
     leads_to_aging (Fallen start was) ago aged silent none so = absurd none
@@ -383,7 +385,8 @@ module _ (d : DocumentState) (playable : IsPlayable d) (made : List Timed) (even
         subst (λ es. IsAgingTo d es more aged silent w') (sym same_ago)
         (subst (λ time. IsAgingTo d old more aged time w') (sym same_silent)
         (elim sooner [
-          | inl same ↦ subst (λ time. IsAgingTo d old more time start w') (sym same) (ages_still old gone start falls so)
+          | inl same ↦
+              subst (λ time. IsAgingTo d old more time start w') (sym same) (ages_still old gone start falls so)
           | inr is ↦ ages_sooner old gone aged start is (ages_still old gone start falls so)
         ]))
     leads_to_aging (Split old gone start) ago aged silent none so = absurd none

@@ -62,8 +62,8 @@ module _ (n : NetworkState) (network : IsNetwork n) (off : NothingLapses n.param
   way_short : way_span (sync_paths n (made ++ now)) ≤ echo_span (pace_of n) (sync_paths n (made ++ now))
   way_short = mul-le-mul_left (pred (sync_paths n (made ++ now)).systems) (omega arith)
 
-  -- Where something that is held ages it is taken as heard from now on once right traces are told since that has aged, or
-  -- no port beside a failed system is capable.
+  -- Where something that is held ages it is taken as heard from now on once right traces are told since that has aged,
+  -- or no port beside a failed system is capable.
   pub aged_led : last_change (made ++ now) ≡ time → (span : ℕ)
       → LeadOn n made past now (Aging made (suc (time + span)) (suc (time + silence_span (pace_of n))))
       → (gone : ℕ) → FlightIsGone n (made ++ now) gone

@@ -193,7 +193,8 @@ module _ (d : DocumentState) (ago events : List Timed) (since most silent : ℕ)
           let stay = stay_of p r.said.log in
           let until = suc (since + (begins.channel.bounds.max + stay)) in (
             until,
-            over_link from port joins (In-clocks h (station_system s) x.known) bare begins.link begins.direction begins.channel begins.here
+            over_link from port joins (In-clocks h (station_system s) x.known) bare begins.link begins.direction
+                begins.channel begins.here
                 begins.up
                 (ap port_identity_number begins.begins ∙ sym is_port) stay until refl
                 (λ span may.
@@ -213,7 +214,8 @@ module _ (d : DocumentState) (ago events : List Timed) (since most silent : ℕ)
           let stay = stay_of p a.log in
           let until = suc (since + (channel.bounds.max + stay)) in
           let soon : at.frame.due ≤ max (w.time + channel.bounds.max) since =
-          in_queue (arrive_limit since w.time) w.time at.direction channel (so.prompt ages.flight at.link channel at.here)
+          in_queue (arrive_limit since w.time) w.time at.direction channel
+          (so.prompt ages.flight at.link channel at.here)
           at.frame at.among in
           let is_due : f.due ≡ at.frame.due = ap (λ (g : AnnounceFrame). g.due) at.is in (
             until,

@@ -145,7 +145,8 @@ taken_acts p g So since most silent act w draws done w' none octet acts lost tel
     let world = lost.standing.world in
     let time = acts_time act w draws done w' acts in
     taken_step p g So since most silent w w' lost
-    (lost_acts p since most silent act w draws done w' none octet acts lost) tells is (acts_keep act w draws done w' none acts)
+    (lost_acts p since most silent act w draws done w' none octet acts lost) tells is
+    (acts_keep act w draws done w' none acts)
     (inr (acts_seen act w draws done w' none world.sound world.encodable acts)) (omega (arith, time))
 
 -- ---- where no system is moved in all, and no port is unanswered

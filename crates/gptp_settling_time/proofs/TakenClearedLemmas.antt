@@ -103,10 +103,12 @@ module _ (d : DocumentState) (ago events : List Timed) (since most silent : ℕ)
     keeps = so.lost.keeps;
     before = snapshot_of w;
     is = rights p (snapshot_of w) w.time silent (delay_in w) w
-        (taken_left p so.before (StaysShort d.network ago since) since most silent w so.lost.is so.is left way near in_use)
+        (taken_left p so.before (StaysShort d.network ago since) since most silent w so.lost.is so.is left way near
+        in_use)
         (subst (λ t. HaveAskedBy t w) (sym so.lost.is.change ∙ now) so.lost.is.asked) (inl (in_use, refl)) so.before
         (was_best so.before (snapshot_of w) so.is.well
-        (taken_well p so.before (StaysShort d.network ago since) since most silent w so.lost.is so.is left way near in_use) left)
+        (taken_well p so.before (StaysShort d.network ago since) since most silent w so.lost.is so.is left way near
+        in_use) left)
         (λ quiet off. itself);
     were = so.lost.were;
   }

@@ -57,7 +57,8 @@ use Rattle.gptp_settling_time.proofs.TakenDownLemmas.{told_keeps}
 use Rattle.gptp_settling_time.proofs.TakenSeenLemmas.{IsTakenSeen, TellsSo, taken_emptied, taken_kept}
 use Rattle.gptp_bmca_machine.proofs.RestLemmas.{left_of}
 
-module _ (p : SettlingParams) (g : Snapshot) (So : Announce → Type 0) (silent owner port : ℕ) (w : WorldState) (draws : List Draw) (done : Done)
+module _ (p : SettlingParams) (g : Snapshot) (So : Announce → Type 0) (silent owner port : ℕ) (w : WorldState)
+    (draws : List Draw) (done : Done)
     (w' : WorldState) (is : IsWorld p w) (is' : IsWorld p w')
     (acts : Acts (Changing (LinkDown owner port)) w draws done w') (up : acts.1.channel.up ≡ true)
     (standing : IsStanding p silent w) (heard : (start : ℕ) → AreHeard p start w) (quiet : HaveQuietLinks p.params w)
@@ -353,8 +354,8 @@ module _ (p : SettlingParams) (g : Snapshot) (So : Announce → Type 0) (silent 
     by_both =
         taken_kept says_announce g n' So (view mid) (view w') well' left' stood' after_mid after' tells_now
         (call_steps tells.place_b k.channel.b mid tells.second other w' e answering_mid apart_mid has_mid)
-        (taken_kept says_announce g n' So (view cut) (view mid) well' left' stood' (after_cut ahead_on back_on) after_mid
-        tells_mid (call_steps tells.place_a k.channel.a cut tells.first one mid c answering apart has_a)
+        (taken_kept says_announce g n' So (view cut) (view mid) well' left' stood' (after_cut ahead_on back_on)
+        after_mid tells_mid (call_steps tells.place_a k.channel.a cut tells.first one mid c answering apart has_a)
         (seen_cut ahead_on back_on))
 
   seen' : IsTakenSeen says_announce g n' So (view w')

@@ -24,7 +24,8 @@ use Rattle.gptp_settling_time.proofs.FailedAloneLemmas as alone
 use Rattle.gptp_settling_time.proofs.TakenClaimedLemmas.{IsTakenAlways, taken_after}
 use Rattle.gptp_settling_time.proofs.TakenSeenLemmas.{taken_emptied}
 
-module _ (p : SettlingParams) (g : Snapshot) (So : Announce → Type 0) (silent number : ℕ) (w : WorldState) (draws : List Draw) (done : Done)
+module _ (p : SettlingParams) (g : Snapshot) (So : Announce → Type 0) (silent number : ℕ) (w : WorldState)
+    (draws : List Draw) (done : Done)
     (w' : WorldState) (is : IsWorld p w) (is' : IsWorld p w') (acts : Acts (Changing (Fail number)) w draws done w')
     (lives : acts.1.station.live ≡ true) (standing' : IsStanding p silent w')
     (heard' : (start : ℕ) → AreHeard p start w') (quiet' : HaveQuietLinks p.params w') (off : NothingLapses p.params)

@@ -288,7 +288,8 @@ module _ (d : DocumentState) (ago events : List Timed) (since most silent : ℕ)
   taken_farther loses now old gone = record {
     keeps = so.lost.keeps;
     before = so.before;
-    is = farther_cleared p_of so.before (StaysShort d.network ago since) since most silent w so.lost.is so.is (loses_so loses) near_then
+    is = farther_cleared p_of so.before (StaysShort d.network ago since) since most silent w so.lost.is so.is
+        (loses_so loses) near_then
         (taken_to_way d ago events since most silent w so playable leaves) (way_ago d.network ago since) old so.asked
         (taken_due old now gone);
     were = so.lost.were;

@@ -173,7 +173,8 @@ module _ (d : DocumentState) (playable : IsPlayable d) (made : List Timed) (even
         → k.1.channel.up ≡ true → IsTakenAlways p before short silent w'
     lowered number port k up =
         let now = losing.now in
-        down_taken p before short silent number port then draws done w' world_then after.claim.world k up losing.standing
+        down_taken p before short silent number port then draws done w' world_then after.claim.world k up
+        losing.standing
         (λ by. asked_are_heard p start by then losing.asked) losing.quiet lost'.standing
         (λ by. asked_are_heard p since by w' lost'.asked) lost'.quiet losing.off shorter (omega (arith, now, later))
         (says_short d ago made since then keeps) (says_short d ago more since w' after) taken

@@ -68,7 +68,8 @@ taken_kept says g n So w w' well' less stood was after tells step seen = record 
 
 -- So it is kept where systems or links are taken away, and nothing else happens but that lanes are emptied.
 module _ (says : Spelling) (g : Snapshot) (n n' : Network) (So : Announce → Type 0) (well' : IsWellFormed n'.graph)
-    (same : SameWiring n n') (well : IsWellFormed g) (first_systems : (s : System) → In s n.graph.systems → In s g.systems)
+    (same : SameWiring n n') (well : IsWellFormed g)
+    (first_systems : (s : System) → In s n.graph.systems → In s g.systems)
     (first_links : (p q : PortIdentity) → Joins n.graph p q → Joins g p q)
     (systems : (s : System) → In s n'.graph.systems → In s n.graph.systems)
     (links : (p q : PortIdentity) → Joins n'.graph p q → Joins n.graph p q) (w w' : MachineState)

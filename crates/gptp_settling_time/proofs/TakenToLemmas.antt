@@ -178,11 +178,13 @@ module _ (d : DocumentState) (ago events : List Timed) (since most silent : ℕ)
       -- its choice stands
       pub taken_to_chooses : ChoiceStands w
       taken_to_chooses =
-          taken_chooses (pace_of d.network) so.before (StaysShort d.network ago since) since most silent w so.lost.is so.is taken_to_left taken_to_way
+          taken_chooses (pace_of d.network) so.before (StaysShort d.network ago since) since most silent w so.lost.is
+          so.is taken_to_left taken_to_way
           quiet
 
       -- it has settled
       pub taken_to_settled : Settled w × IsBoundedWorld w
       taken_to_settled =
-          taken_settles (pace_of d.network) so.before (StaysShort d.network ago since) since most silent w so.lost.is so.is taken_to_left taken_to_way
+          taken_settles (pace_of d.network) so.before (StaysShort d.network ago since) since most silent w so.lost.is
+          so.is taken_to_left taken_to_way
           quiet
