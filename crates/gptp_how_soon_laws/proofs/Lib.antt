@@ -9,6 +9,7 @@ mod GainedLemmas
 mod WorseningLemmas
 mod UnmovedLemmas
 mod RepeatLemmas
+mod WiderLemmas
 mod LoweredLemmas
 mod IdleStandsLemmas
 mod FailedLemmas
