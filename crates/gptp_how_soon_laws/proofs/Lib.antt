@@ -44,6 +44,8 @@ mod RowLemmas
 mod TakenAwayLemmas
 mod AloneLemmas
 mod CutsAllLemmas
+mod LoweredRowLemmas
+mod DownBehindLemmas
 mod RowLossLemmas
 mod RowApartLemmas
 mod AnyLossLemmas
