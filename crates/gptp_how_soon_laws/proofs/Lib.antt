@@ -9,6 +9,7 @@ mod GainedLemmas
 mod WorseningLemmas
 mod UnmovedLemmas
 mod RepeatLemmas
+mod WiderLemmas
 mod LoweredLemmas
 mod IdleStandsLemmas
 mod FailedLemmas
@@ -43,6 +44,8 @@ mod RowLemmas
 mod TakenAwayLemmas
 mod AloneLemmas
 mod CutsAllLemmas
+mod LoweredRowLemmas
+mod DownBehindLemmas
 mod RowLossLemmas
 mod RowApartLemmas
 mod RowAgesLemmas
