@@ -127,7 +127,7 @@ module _ (n : NetworkState) (network : IsNetwork n) (events : List Timed) (b : S
   goes_first is_kind keeps one = lowered_row.goes_first n network made now is_kind (keeps_so keeps) one
 
   -- the last change is that of the first event then, and that of all
-  moment : (event : Timed) (others : List Timed) → now ≡ event ∷ others
+  pub moment : (event : Timed) (others : List Timed) → now ≡ event ∷ others
       → (last_change (made ++ event ∷ []) ≡ at) × (last_change (made ++ now) ≡ at)
   moment = lowered_row.moment n at made now (all_at at events)
 
