@@ -1,5 +1,5 @@
--- After a link gets wider all stands as before, but for its delays: who lives, who chooses what, which links are in use,
--- and all that is computed of what is lost then.
+-- After a link gets wider all stands as before, but for its delays: who lives, who chooses what, which links are in
+-- use, and all that is computed of what is lost then.
 use Rattle.std.proofs.Common.{◌≡◌, ◌⊎◌, ◌≤◌, ◌+◌, ◌-◌, ℕ, Bool, true, false, List, [], ◌∷◌, ◌++◌, map, max, cond, refl, sym, ap, ap₂, subst, ◌∙◌, inl, inr, arith}
 use Rattle.std.specs.Prelude.{◌&&◌, if◌then◌else◌}
 use native.Mathlib.Decide.{dec_le}
@@ -87,7 +87,8 @@ module _ (n : NetworkState) (events more : List Timed) (same : StandWider n even
       → cable_is_used (standing_then n more w) ≡ cable_is_used (standing_then n events w)
   used_each w member =
       ap₂ (λ up lives. up && lives) (same.up w member)
-      (ap₂ (λ a b. a && b) (lives_same n events more live_same w.a.clock) (lives_same n events more live_same w.b.clock))
+      (ap₂ (λ a b. a && b) (lives_same n events more live_same w.a.clock)
+      (lives_same n events more live_same w.b.clock))
 
   pub longer_paths : ((sync_paths n events).delay ≤ (sync_paths n more).delay)
       × ((sync_paths n more).systems ≡ (sync_paths n events).systems)
@@ -154,7 +155,8 @@ greatest_holds P n events (w ∷ ws) none each =
     rest : ℕ
     rest = greatest_delay n.systems events ws
 
-    by : (used : Bool) → is_used n.systems events (link_after events w) ≡ used → P rest → P (cond used (max most rest) rest)
+    by : (used : Bool) → is_used n.systems events (link_after events w) ≡ used → P rest
+        → P (cond used (max most rest) rest)
     by true is so = elim (max_either most rest) [
       | inl same ↦ subst P (sym same) (each w (inl refl) is)
       | inr same ↦ subst P (sym same) so
@@ -239,7 +241,8 @@ module _ (n : NetworkState) (made : List Timed) (event : Timed) (by : ℕ) (x : 
       quiet w false was = was
       quiet w true was = record {
         lossless = refl;
-        good = good_less x.max (sync_paths n made).delay (blur_of n.params) n.params.turnaround n.params.threshold within
+        good = good_less x.max (sync_paths n made).delay (blur_of n.params) n.params.turnaround n.params.threshold
+            within
             (greatest_holds Good n made n.links
             (good_less 0 (link_after made w).bounds.max (blur_of n.params) n.params.turnaround n.params.threshold
             (omega arith) was.good)
