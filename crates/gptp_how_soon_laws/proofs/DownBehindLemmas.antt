@@ -35,8 +35,8 @@ pub record WidensAhead (n : NetworkState) (made now ahead left : List Timed) (se
   pub settles : settled + 2 * by + way_span (sync_paths n (made ++ event ∷ [])) < time + way_span (sync_paths n made)
   pub calm : IsCalm n made → NothingLapses n.params → IsCalm n (made ++ event ∷ [])
 
--- What stands ahead of the link that goes down, and what is left from it on: all, or all but that a link got wider. Ways
--- take as long ahead of it, and who is moved is as before all.
+-- What stands ahead of the link that goes down, and what is left from it on: all, or all but that a link got wider.
+-- Ways take as long ahead of it, and who is moved is as before all.
 pub record GoesDown (n : NetworkState) (made now : List Timed) (settled time : ℕ) : Type 0 where
   pub ahead : List Timed
   pub left : List Timed
