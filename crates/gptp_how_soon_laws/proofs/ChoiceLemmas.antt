@@ -194,12 +194,12 @@ module _ (d : DocumentState) (playable : IsPlayable d) where
     rests_alone : (sound : ℕ) (rest : HasComeToRest b at) → Resting sound made now → Rests sound
     rests_alone sound rest is = inl (rest, alone rest (Resting sound) (some_rested n made now sound) is)
 
-    rests_late : (sound : ℕ) (l : Lowers) → RestsAfterOneLoss n l.down.ahead (l.first.x.event ∷ []) sound → Rests sound
+    rests_late : (sound : ℕ) (l : Lowers) → RestsAfterOneLoss n l.front.ahead (l.first.x.event ∷ []) sound → Rests sound
     rests_late sound l is =
         inl (
           l.rested,
           late_stands n playable.network all b at late l (Resting sound)
-              (some_rested n l.down.ahead l.down.left sound) (inl is),
+              (some_rested n l.front.ahead l.front.left sound) (inl is),
         )
 
     -- it has come to rest by what the row of this loss says
@@ -225,24 +225,24 @@ module _ (d : DocumentState) (playable : IsPlayable d) where
             )
     rests_by sound told (inr (inl (row, is))) =
         let x = lowered n playable.network all b at late well row in
-        let same = late_ways n playable.network all b at late x.late in
+        let same = late_ways n playable.network all b at late x.down in
         let gone : ℕ = largest_interval (pace_of n) in
         let is_first = told ∙ is ∙ ap (λ (p : SyncPaths). max (echo_span (pace_of n) p) gone) same in
-        rests_late sound x.late (inr (inr (inl (x.lowers, (gone, inr refl, is_first)))))
+        rests_late sound x.down (inr (inr (inl (x.lowers, (gone, inr refl, is_first)))))
     rests_by sound told (inr (inr (inl (row, is)))) =
         let x = cut_off n playable.network all b at late well row in
-        let same = late_ways n playable.network all b at late x.none.late in
+        let same = late_ways n playable.network all b at late x.none.down in
         let gone : ℕ = gone_by n loss.flight in
         let is_first = told ∙ is ∙ ap (λ (p : SyncPaths). max (2 * way_span p) gone) same in
-        rests_late sound x.none.late (inl (x.cuts, (gone, x.flight, is_first)))
+        rests_late sound x.none.down (inl (x.cuts, (gone, x.flight, is_first)))
     rests_by sound told (inr (inr (inr (inl (inr row, is))))) =
         let (rest, tree) = tree_turned n playable.network all b at late well row in
         inr (inr (inl (rest, tree, told ∙ is)))
     rests_by sound told (inr (inr (inr (inl (inl row, is))))) =
         let x = turned n playable.network all b at late well row in
-        let same = late_ways n playable.network all b at late x.late in
+        let same = late_ways n playable.network all b at late x.down in
         let is_first = told ∙ is ∙ ap (λ (p : SyncPaths). 2 * way_span p + echo_span (pace_of n) p) same in
-        rests_late sound x.late (inr (inr (inr (inl (x.turns, is_first)))))
+        rests_late sound x.down (inr (inr (inr (inl (x.turns, is_first)))))
     rests_by sound told (inr (inr (inr (inr (inl (row, long)))))) =
         let (rest, fails) = heard n playable.network all b at late well row in
         rests_alone sound rest (inl (inr (inr (inr (inr (
@@ -398,14 +398,14 @@ module _ (d : DocumentState) (playable : IsPlayable d) where
           alone rest (Losing choice roles) (some_lost n made now choice roles) is,
         )
 
-    asks_late : (choice roles : ℕ) (l : Lowers) → Losing choice roles l.down.ahead (l.first.x.event ∷ [])
+    asks_late : (choice roles : ℕ) (l : Lowers) → Losing choice roles l.front.ahead (l.first.x.event ∷ [])
         → Asks choice roles
     asks_late choice roles l is =
         inl (
           l.rested,
-          no_later n l.down.ahead l.down.left choice roles (l.first.x.event ∷ []) is,
+          no_later n l.front.ahead l.front.left choice roles (l.first.x.event ∷ []) is,
           late_stands n playable.network all b at late l (Losing choice roles)
-              (some_lost n l.down.ahead l.down.left choice roles) is,
+              (some_lost n l.front.ahead l.front.left choice roles) is,
         )
 
     -- what is lost at this time asks for what its row says
@@ -417,12 +417,12 @@ module _ (d : DocumentState) (playable : IsPlayable d) where
     asks_by Gained row own = absurd own
     asks_by Lowered row own =
         let x = lowered n playable.network all b at late well row in
-        asks_late 0 0 x.late (inl (x.lowers, refl, inl refl))
+        asks_late 0 0 x.down (inl (x.lowers, refl, inl refl))
     asks_by CutOff row own =
         let x = cut_off n playable.network all b at late well row in
         let way : ℕ = 2 * way_span v.paths in
-        let same = late_ways n playable.network all b at late x.none.late in
-        asks_late way way x.none.late
+        let same = late_ways n playable.network all b at late x.none.down in
+        asks_late way way x.none.down
         (inl (x.none.lowers, refl, inr (x.cuts, ap (λ (p : SyncPaths). 2 * way_span p) same)))
     asks_by FailedEnd row own =
         let (rest, fails, flight) = failed n playable.network all b at late well row in
@@ -435,8 +435,8 @@ module _ (d : DocumentState) (playable : IsPlayable d) where
     asks_by SystemTurned row own =
         let x = turned n playable.network all b at late well row in
         let way : ℕ = 2 * way_span v.paths in
-        let same = late_ways n playable.network all b at late x.late in
-        asks_late way way x.late (inr (inr (inl (x.turns, ap (λ (p : SyncPaths). 2 * way_span p) same, refl))))
+        let same = late_ways n playable.network all b at late x.down in
+        asks_late way way x.down (inr (inr (inl (x.turns, ap (λ (p : SyncPaths). 2 * way_span p) same, refl))))
     asks_by TreeFalls row own =
         let (rest, tree) = tree_falls n playable.network all b at late well (octets_at d playable at) row in
         inr (inl ((rest, inl tree), refl, refl))

@@ -1,6 +1,6 @@
 -- A link goes down by the first event of a time, or behind one that gets wider: what stands before it, and what it is
 -- beside.
-use Rattle.std.proofs.Common.{◌≡◌, ◌<◌, ◌≤◌, ◌+◌, ◌*◌, ℕ, Bool, true, List, [], ◌∷◌, ◌++◌, append_assoc, refl, sym, subst, inl, inr, arith}
+use Rattle.std.proofs.Common.{◌≡◌, ◌<◌, ◌≤◌, ◌+◌, ◌*◌, ℕ, Bool, true, List, [], ◌∷◌, ◌++◌, append_assoc, refl, sym, subst, ◌⊎◌, inl, inr, arith}
 use Rattle.std.specs.List.{AllByRecursion}
 use Rattle.std.proofs.lemmas.Bool.{and_parts}
 use Rattle.gptp_scenario.specs.Calm.{IsCalm, NothingLapses}
@@ -25,11 +25,22 @@ use Rattle.gptp_how_soon_laws.proofs.LossBoundLemmas.{beside, some_before}
 use Rattle.gptp_how_soon_laws.proofs.ToldLemmas.{wider_widens}
 use Rattle.gptp_how_soon_laws.proofs.WiderLemmas.{StandWider, calm_wider, cut_wider, joined_wider, same_ways, stand_wider, turned_wider, wider_short}
 
--- What stands ahead of the link that goes down, and what is left from it on. Ways take as long ahead of it, and who is
--- moved is as before all. Where the network was calm before, what is so of the events left is beside idle ones of all.
+-- A link gets wider by the first event of a time, no slower than the slowest was. It would have settled in time so.
+pub record WidensAhead (n : NetworkState) (made now ahead left : List Timed) (settled time : ℕ) : Type 0 where
+  pub event : Timed
+  pub by : ℕ
+  pub widens : WidensLink n made event by
+  pub split : now ≡ event ∷ left
+  pub ahead_is : made ++ event ∷ [] ≡ ahead
+  pub settles : settled + 2 * by + way_span (sync_paths n (made ++ event ∷ [])) < time + way_span (sync_paths n made)
+  pub calm : IsCalm n made → NothingLapses n.params → IsCalm n (made ++ event ∷ [])
+
+-- What stands ahead of the link that goes down, and what is left from it on: all, or all but that a link got wider.
+-- Ways take as long ahead of it, and who is moved is as before all.
 pub record GoesDown (n : NetworkState) (made now : List Timed) (settled time : ℕ) : Type 0 where
   pub ahead : List Timed
   pub left : List Timed
+  pub front : ((ahead ≡ made) × (left ≡ now)) ⊎ WidensAhead n made now ahead left settled time
   pub whole : ahead ++ left ≡ made ++ now
   pub lowers : lowers_one (told_of n ahead left) ≡ true
   pub at : AllByRecursion (λ (t : Timed). t.at ≡ time) left
@@ -37,9 +48,6 @@ pub record GoesDown (n : NetworkState) (made now : List Timed) (settled time : �
   pub joined : moves_joined n ahead (made ++ now) ≡ moves_joined n made (made ++ now)
   pub cut : cut_far_ends_after n ahead (made ++ now) ≡ cut_far_ends_after n made (made ++ now)
   pub turned : turns_one_after n ahead (made ++ now) ≡ turns_one_after n made (made ++ now)
-  pub stands : IsCalm n made → NothingLapses n.params → (Are : List Timed → List Timed → Type 0)
-      → ((events : List Timed) → Are ahead events → events ≡ [] → ⊥) → BeforeRepeats n Are ahead left
-      → BesideIdle n settled time Are made now
 
 -- it goes down by the first event
 pub goes_down : (n : NetworkState) (made now : List Timed) (settled time : ℕ)
@@ -48,6 +56,7 @@ pub goes_down : (n : NetworkState) (made now : List Timed) (settled time : ℕ)
 goes_down n made now settled time at one = record {
   ahead = made;
   left = now;
+  front = inl (refl, refl);
   whole = refl;
   lowers = one;
   at = at;
@@ -55,13 +64,7 @@ goes_down n made now settled time at one = record {
   joined = refl;
   cut = refl;
   turned = refl;
-  stands = λ calm off Are some is. beside n made now settled time Are (some_before n made now Are some is) is;
 }
-
-after_none : (n : NetworkState) (Are : List Timed → List Timed → Type 0) (made events : List Timed)
-    → Are made events → AfterIdleEvents n Are made events
-after_none n Are made [] is = is
-after_none n Are made (event ∷ events) is = inl is
 
 -- or behind a link that gets wider
 pub goes_down_behind : (n : NetworkState) → IsNetwork n → (made now : List Timed) (settled time : ℕ)
@@ -102,6 +105,16 @@ goes_down_behind n network made (event ∷ others) settled time at lowers short 
         record {
           ahead = ahead;
           left = others;
+          front = inr (record {
+            event = event;
+            by = by;
+            widens = x;
+            split = refl;
+            ahead_is = refl;
+            settles = subst (λ (p : SyncPaths). settled + 2 * by + way_span p
+                < time + way_span (sync_paths n made)) (sym ways) settles;
+            calm = calm_wider n made event by x no_longer;
+          });
           whole = whole;
           lowers = (and_parts wider one lowers).1;
           at = at.1;
@@ -109,15 +122,37 @@ goes_down_behind n network made (event ∷ others) settled time at lowers short 
           joined = joined_wider n made ahead same (made ++ event ∷ others);
           cut = cut_wider n made ahead same (made ++ event ∷ others);
           turned = turned_wider n made ahead same (made ++ event ∷ others);
-          stands = λ calm off Are some is. inr (
-            by,
-            x,
-            subst (λ (p : SyncPaths). settled + 2 * by + way_span p < time + way_span (sync_paths n made)) (sym ways)
-                settles,
-            calm_wider n made event by x no_longer calm off,
-            after_none n (BeforeRepeats n Are) ahead others is,
-          );
         }
+
+after_none : (n : NetworkState) (Are : List Timed → List Timed → Type 0) (made events : List Timed)
+    → Are made events → AfterIdleEvents n Are made events
+after_none n Are made [] is = is
+after_none n Are made (event ∷ events) is = inl is
+
+-- what is so of the events left, before such that repeat what stands, is so of all beside idle ones
+pub stands_beside : (n : NetworkState) (made now : List Timed) (settled time : ℕ) (d : GoesDown n made now settled time)
+    → IsCalm n made → NothingLapses n.params → (Are : List Timed → List Timed → Type 0)
+    → ((events : List Timed) → Are d.ahead events → events ≡ [] → ⊥) → BeforeRepeats n Are d.ahead d.left
+    → BesideIdle n settled time Are made now
+stands_beside n made now settled time d calm off Are some is = by d.front
+  where
+    by : ((d.ahead ≡ made) × (d.left ≡ now)) ⊎ WidensAhead n made now d.ahead d.left settled time
+        → BesideIdle n settled time Are made now
+    by (inl (ahead, left)) =
+        let each : (events : List Timed) → Are made events → events ≡ [] → ⊥ =
+        subst (λ ms. (events : List Timed) → Are ms events → events ≡ [] → ⊥) ahead some in
+        let before = subst (BeforeRepeats n Are made) left (subst (λ ms. BeforeRepeats n Are ms d.left) ahead is) in
+        beside n made now settled time Are (some_before n made now Are each before) before
+    by (inr x) =
+        subst (BesideIdle n settled time Are made) (sym x.split)
+        (inr (
+          x.by,
+          x.widens,
+          x.settles,
+          x.calm calm off,
+          subst (λ ms. AfterIdleEvents n (BeforeRepeats n Are) ms d.left) (sym x.ahead_is)
+              (after_none n (BeforeRepeats n Are) d.ahead d.left is),
+        ))
 
 -- where a network has come to rest it was calm
 pub rest_calm : (n : NetworkState) (events : List Timed) (earlier : List ℕ) (time rest : ℕ)

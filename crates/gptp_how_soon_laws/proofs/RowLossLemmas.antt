@@ -49,7 +49,7 @@ use Rattle.gptp_how_soon_laws.proofs.UnmovedLemmas.{AreWell}
 use Rattle.gptp_how_soon_laws.proofs.RowReasonLemmas.{ReasonOf, Tests}
 use Rattle.gptp_how_soon_laws.proofs.SilentLemmas.{none_silent}
 use Rattle.gptp_how_soon_laws.proofs.RowTestLemmas.{HasComeToRest, counts_joined, failing_takes, link_takes}
-use Rattle.gptp_how_soon_laws.proofs.DownBehindLemmas.{GoesDown, goes_down, goes_down_behind}
+use Rattle.gptp_how_soon_laws.proofs.DownBehindLemmas.{GoesDown, goes_down, goes_down_behind, stands_beside}
 use Rattle.gptp_how_soon_laws.proofs.LoweredRowLemmas as lowered_row
 use Rattle.gptp_how_soon_laws.proofs.RowLemmas as rows
 use Rattle.gptp_how_soon_laws.proofs.TakenAwayLemmas.{several_taken, several_unmoved}
@@ -136,22 +136,22 @@ module _ (n : NetworkState) (network : IsNetwork n) (events : List Timed) (b : S
   -- by which event, and what stands ahead of it
   pub record LowersLate : Type 0 where
     pub rested : HasComeToRest b at
-    pub down : GoesDown n made now (b.at + rested.settling.sound) at
-    pub first : lowered_row.GoesFirst n network down.ahead down.left is_lowering
+    pub front : GoesDown n made now (b.at + rested.settling.sound) at
+    pub first : lowered_row.GoesFirst n network front.ahead front.left is_lowering
 
   -- what is so of it stands beside the other events
   pub late_stands : (l : LowersLate) (Are : List Timed → List Timed → Type 0)
-      → ((es : List Timed) → Are l.down.ahead es → es ≡ [] → ⊥) → Are l.down.ahead (l.first.x.event ∷ [])
+      → ((es : List Timed) → Are l.front.ahead es → es ≡ [] → ⊥) → Are l.front.ahead (l.first.x.event ∷ [])
       → IsCalm n made → NothingLapses n.params → BesideIdle n (b.at + l.rested.settling.sound) at Are made now
   late_stands l Are some is calm off =
-      l.down.stands calm off Are some
-      (before_repeats n network is_lowering l.down.ahead l.down.left l.first.x Are is)
+      stands_beside n made now (b.at + l.rested.settling.sound) at l.front calm off Are some
+      (before_repeats n network is_lowering l.front.ahead l.front.left l.first.x Are is)
 
   -- ways after all take as long as behind it
-  pub late_ways : (l : LowersLate) → v.paths ≡ sync_paths n (l.down.ahead ++ l.first.x.event ∷ [])
+  pub late_ways : (l : LowersLate) → v.paths ≡ sync_paths n (l.front.ahead ++ l.first.x.event ∷ [])
   late_ways l =
-      ap (sync_paths n) (sym l.down.whole)
-      ∙ lowered_row.same_paths n network l.down.ahead l.down.left is_lowering l.first
+      ap (sync_paths n) (sym l.front.whole)
+      ∙ lowered_row.same_paths n network l.front.ahead l.front.left is_lowering l.first
 
   down_so : (rest : HasComeToRest b at) → is_from_rest v.longest at v.paths_before v.paths v.told (Some b) ≡ true
       → takes_link v.told ≡ true → GoesDown n made now (b.at + rest.settling.sound) at
@@ -199,8 +199,8 @@ module _ (n : NetworkState) (network : IsNetwork n) (events : List Timed) (b : S
 
   -- what stands goes on, as a link goes down and no system is moved
   pub record LowersNone : Type 0 where
-    pub late : LowersLate
-    pub lowers : LowersLink n late.down.ahead late.first.x.event
+    pub down : LowersLate
+    pub lowers : LowersLink n down.front.ahead down.first.x.event
 
   lowers_so : AreWell n (made ++ now) → is_from_rest v.longest at v.paths_before v.paths v.told (Some b) ≡ true
       → (is_link_followed v.paths_before v.paths v.told && not v.moves.moved) ≡ true → LowersNone
@@ -213,7 +213,7 @@ module _ (n : NetworkState) (network : IsNetwork n) (events : List Timed) (b : S
       let rest = rest_so from in
       let d = down_so rest from takes in
       let (g, lowers) = lowers_left well rest d keeps unmoved in
-      record { late = record { rested = rest; down = d; first = g }; lowers = lowers }
+      record { down = record { rested = rest; front = d; first = g }; lowers = lowers }
 
   pub lowered : AreWell n (made ++ now) → row_at v ≡ Lowered → LowersNone
   lowered well row = let (from, lowers) = why Lowered row in lowers_so well from lowers
@@ -221,28 +221,28 @@ module _ (n : NetworkState) (network : IsNetwork n) (events : List Timed) (b : S
   -- or it cuts off its far end
   pub record CutsEnd : Type 0 where
     pub none : LowersNone
-    pub cuts : CutsFarEnd n none.late.down.ahead none.late.first.x.event
-    pub flight : FlightIsGoneFrom n (none.late.down.ahead ++ none.late.first.x.event ∷ [])
-        (last_change (none.late.down.ahead ++ none.late.first.x.event ∷ [])) (gone_by n (loss_at v).flight)
+    pub cuts : CutsFarEnd n none.down.front.ahead none.down.first.x.event
+    pub flight : FlightIsGoneFrom n (none.down.front.ahead ++ none.down.first.x.event ∷ [])
+        (last_change (none.down.front.ahead ++ none.down.first.x.event ∷ [])) (gone_by n (loss_at v).flight)
 
   pub cut_off : AreWell n (made ++ now) → row_at v ≡ CutOff → CutsEnd
   cut_off well row =
       let (from, lowers, cut) = why CutOff row in
       let x = lowers_so well from lowers in
-      let l = x.late in
-      let behind : List Timed = l.down.ahead ++ l.first.x.event ∷ [] in
+      let l = x.down in
+      let behind : List Timed = l.front.ahead ++ l.first.x.event ∷ [] in
       record {
         none = x;
-        cuts = cuts_left well l.rested l.down l.first x.lowers cut;
+        cuts = cuts_left well l.rested l.front l.first x.lowers cut;
         flight = subst (λ es. FlightIsGoneFrom n behind (last_change behind) (lowered_row.flight_then n es at))
-            l.down.whole
-            (lowered_row.flight_behind n network l.down.ahead l.down.left at l.down.at l.first);
+            l.front.whole
+            (lowered_row.flight_behind n network l.front.ahead l.front.left at l.front.at l.first);
       }
 
   -- or one system turns
   pub record TurnsOne : Type 0 where
-    pub late : LowersLate
-    pub turns : TurnsLink n late.down.ahead late.first.x.event
+    pub down : LowersLate
+    pub turns : TurnsLink n down.front.ahead down.first.x.event
 
   pub turned : AreWell n (made ++ now) → row_at v ≡ SystemTurned → TurnsOne
   turned well row =
@@ -252,7 +252,7 @@ module _ (n : NetworkState) (network : IsNetwork n) (events : List Timed) (b : S
       let rest = rest_so from in
       let d = down_so rest from takes in
       let (g, turns_link) = turns_left well rest d keeps one in
-      record { late = record { rested = rest; down = d; first = g }; turns = turns_link }
+      record { down = record { rested = rest; front = d; first = g }; turns = turns_link }
 
   -- ---- what is in flight
 
