@@ -1,6 +1,6 @@
 -- Several systems and links are taken away at a time, by its row: no system is moved, and what was in flight before is
 -- due within the delay of its link. So what came over the links that are left silent ages.
-use Rattle.std.proofs.Common.{◌≡◌, ◌⊎◌, ◌≤◌, ◌<◌, ◌+◌, ℕ, Bool, true, false, List, [], ◌∷◌, ◌++◌, Some, inl, inr, refl, sym, subst, max, arith}
+use Rattle.std.proofs.Common.{◌≡◌, ◌⊎◌, ◌≤◌, ◌<◌, ◌+◌, ℕ, Bool, true, false, List, [], ◌∷◌, ◌++◌, Some, inl, inr, refl, sym, subst, max}
 use Rattle.std.specs.Prelude.{if◌then◌else◌, not}
 use Rattle.std.proofs.lemmas.Bool.{and_parts, not-true}
 use Rattle.gptp_setup.specs.SettlingParams.{largest_interval}
@@ -21,7 +21,6 @@ use Rattle.gptp_how_soon.specs.declared.bounds.Row.TheVariants.{TakenHeard}
 use Rattle.gptp_how_soon.specs.declared.bounds.SettlingTime.{SettlingTime}
 use Rattle.gptp_settling_time.specs.EventKinds.{FliesInTime}
 use Rattle.gptp_settling_time.specs.HowSoon.{BoundsAging, BoundsTaken, BoundsTakenHeard, RestsOnceAged, RestsTaken, TakesHeard, TakesSeveral}
-use Rattle.gptp_settling_time.proofs.MomentLemmas.{all_at}
 use Rattle.gptp_how_soon_laws.proofs.AgedLemmas.{aged, aging}
 use Rattle.gptp_how_soon_laws.proofs.FailedLemmas.{used_up}
 use Rattle.gptp_how_soon_laws.proofs.FlightLemmas.{in_time}
