@@ -158,7 +158,8 @@ module _ (item : Item) (n : ℕ) where
   IsLike q = q.place ≡ n → same_item item q.item ≡ true
 
   -- what is at its place is like it
-  pub first_alone : (ps : List PlacedItem) (ns : List ℕ) → map place_of (items_like item ps) ≡ n ∷ ns → ArePlacedApart ps
+  pub first_alone : (ps : List PlacedItem) (ns : List ℕ) → map place_of (items_like item ps) ≡ n ∷ ns
+      → ArePlacedApart ps
       → AllByRecursion (λ (p : PlacedItem). p.place ≡ n → same_item item p.item ≡ true) ps
   first_alone [] ns first apart = tt
   first_alone (p ∷ ps) ns first apart =
