@@ -1,7 +1,6 @@
 -- A tree with one or two tops that a failure cuts off: what is known of any loss says what its systems hold at ports
 -- without a link.
-use Rattle.std.proofs.Common.{◌≡◌, ◌<◌, ◌≤◌, ◌+◌, ℕ, suc, true, slice_get, Some, sym, ap, subst, ◌∙◌, inl, inr, arith}
-use Rattle.gptp_lists.specs.Members.{In}
+use Rattle.std.proofs.Common.{◌≡◌, ◌+◌, ℕ, suc, true, sym, ap, subst, ◌∙◌, inl, inr, arith}
 use Rattle.gptp_graph.specs.Best.{IsBest}
 use Rattle.gptp_graph.specs.Snapshot.{IsLinked, Snapshot, System, port_of}
 use Rattle.gptp_graph.proofs.BestLemmas.{IsBest-unique}
@@ -9,7 +8,7 @@ use Rattle.gptp_bmca_machine.specs.Clean.{HeldFits}
 use Rattle.gptp_bmca_machine.specs.Frame.{Spelling}
 use Rattle.gptp_bmca_machine.specs.LossLaws.{IsAfterLoss}
 use Rattle.gptp_bmca_machine.specs.Network.{Network}
-use Rattle.gptp_bmca_machine.specs.Station.{HoldsAt, MachineState, Reception, Station}
+use Rattle.gptp_bmca_machine.specs.Station.{MachineState}
 use Rattle.gptp_bmca_machine.specs.TwoTops.{Side, CutsOffTwice}
 use Rattle.gptp_bmca_machine.proofs.UnlinkedLemmas.{IsMoved, IsOldTold, UnlinkedDrop, UnlinkedHoldNone}
 use Rattle.gptp_bmca_machine.proofs.FallLemmas.{IsAftermath}

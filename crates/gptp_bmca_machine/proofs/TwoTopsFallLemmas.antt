@@ -1,5 +1,5 @@
 -- A tree with one or two tops that lost what was above it falls back and settles: every step keeps that.
-use Rattle.std.proofs.Common.{◌<◌, ◌≤◌, ◌+◌, ℕ, suc, ◌∙◌, inl, inr, arith}
+use Rattle.std.proofs.Common.{◌<◌, ◌≤◌, ◌+◌, ℕ, suc}
 use Rattle.gptp_graph.specs.Snapshot.{System}
 use Rattle.gptp_bmca_machine.specs.Acts.{MachineSteps}
 use Rattle.gptp_bmca_machine.specs.Frame.{Spelling}

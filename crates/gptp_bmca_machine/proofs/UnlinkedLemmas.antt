@@ -1,6 +1,5 @@
 -- What systems that a loss moves hold at ports without a link: it was told before, until its time is over.
 use Rattle.std.proofs.Common.{◌≡◌, ◌<◌, ℕ, suc, true, Some, slice_get, sym, subst, ◌∙◌}
-use Rattle.gptp_lists.specs.Members.{In}
 use Rattle.gptp_graph.specs.Best.{IsBest}
 use Rattle.gptp_graph.specs.Distance.{IsDistance}
 use Rattle.gptp_graph.specs.Snapshot.{Adjacent, IsLinked, Snapshot, System, port_of}

@@ -1,6 +1,5 @@
 -- A change that leaves a link alone leaves it watched, with the times that it had.
-use Rattle.std.proofs.Common.{◌≡◌, ◌≢◌, ◌⊎◌, ℕ, Bool, true, false, List, Option, Some, None, slice_get, slice_set, refl, sym, ap, subst, ◌∙◌, inl, inr, eqb-true}
-use Rattle.std.specs.Prelude.{⊤, if◌then◌else◌, ◌==◌}
+use Rattle.std.proofs.Common.{◌≡◌, ◌≢◌, ◌⊎◌, ℕ, Bool, true, false, List, Option, Some, None, slice_get, slice_set, refl, sym, ap, subst, ◌∙◌, inl, inr}
 use Rattle.gptp_lists.proofs.MappedLemmas.{same_there}
 use Rattle.gptp_lists.proofs.PlaceLemmas.{get-set_all, get-set_other, get-set_same, same_place}
 use Rattle.gptp_vector.specs.declared.port.PortId.{PortId}
@@ -13,22 +12,21 @@ use Rattle.gptp_scenario.specs.declared.change.Change.{Change}
 use Rattle.gptp_scenario.specs.declared.change.Change.TheVariants.{LinkDown, LinkUp, LinkSet, Fail, Recover, Priority1, Inject}
 use Rattle.gptp_setup.specs.Intervals.{AreParams, interval_of}
 use Rattle.gptp_system.specs.declared.answer.Answer.{Answer}
-use Rattle.gptp_system.specs.Input.{Input, IsTimely, PortUp, PortDown, Frame as FrameHeard, Expires as TimerExpires, Priority}
-use Rattle.gptp_system.specs.Measures.{IsPartAfter, Part, only_at, part_asked, part_down, measure_at}
+use Rattle.gptp_system.specs.Input.{Input, IsTimely, PortUp, PortDown, Priority}
+use Rattle.gptp_system.specs.Measures.{measure_at}
 use Rattle.gptp_system.specs.State.{SystemState, clock}
 use Rattle.gptp_system.specs.Steps.{HasPortNumber}
 use Rattle.gptp_pdelay.specs.Clock.{clock_stamp}
-use Rattle.gptp_pdelay.specs.Peer.{reset_peer}
 use Rattle.gptp_model.specs.declared.done.Done.{Done}
 use Rattle.gptp_model.specs.declared.station.Station.{Station}
-use Rattle.gptp_model.specs.Act.{Calls, all_timers, in_state}
+use Rattle.gptp_model.specs.Act.{Calls, all_timers}
 use Rattle.gptp_model.specs.Acts.{Acts, Changes, set_to}
 use Rattle.gptp_model.specs.Changing.{CallsIfLive, ComesUpIf, FailsIf, GoesDownIf, InjectsIf, RecoversIf, TellsEnds, brought_up, failed, fresh, lost, taken_down, with_bounds, with_setup, with_station}
 use Rattle.gptp_model.specs.Sends.{entered}
 use Rattle.gptp_model.specs.Sound.{IsSound, JoinPorts}
 use Rattle.gptp_model.specs.World.{Channel, Net, WorldState, port_id, receiver, sender}
 use Rattle.gptp_model.proofs.EndLemmas.{each_end_told}
-use Rattle.gptp_model.proofs.StayLemmas.{JoinTheSame, Stays, begins_same, calls_stay, join_on, refreshed_stays, set_join, stays_apart, stays_clocks, stays_setups, with_setup_stays}
+use Rattle.gptp_model.proofs.StayLemmas.{JoinTheSame, Stays, begins_same, join_on, refreshed_stays, set_join, stays_apart, stays_clocks, stays_setups, with_setup_stays}
 use Rattle.gptp_pdelay_machine.specs.Facts.{Facts, IsGood}
 use Rattle.gptp_pdelay_machine.specs.Measured.{MeterInv}
 use Rattle.gptp_pdelay_machine.specs.Meter.{Meter, act_of}
@@ -37,133 +35,18 @@ use Rattle.gptp_pdelay_machine.proofs.FactLemmas.{facts_kept}
 use Rattle.gptp_pdelay_machine.proofs.CapabilityLemmas.{capable_from_calm}
 use Rattle.gptp_pdelay_machine.proofs.MeasuredLemmas.{measured_from_calm, meter_is_inv, meter_kept}
 use Rattle.gptp_invariants.specs.DelayLinkActs.{IsOneAct}
-use Rattle.gptp_invariants.specs.DelayLinkView.{IsEndAmong, IsEndOf, IsLinkOf, LinkPlace, reads_as_request, link_identity, least_delay, meter, other_direction, pair, pair_view, reads_as_reply, link_setting, waits_view, setup_stamps, kept_view}
+use Rattle.gptp_invariants.specs.DelayLinkView.{IsEndAmong, IsEndOf, IsLinkOf, LinkPlace, reads_as_request, link_identity, least_delay, meter, other_direction, pair, pair_view, reads_as_reply, link_setting, setup_stamps, kept_view}
 use Rattle.gptp_invariants.specs.DelayMeasured.{LinkIsMeasured}
 use Rattle.gptp_invariants.specs.DelayWatched.{IsWatched}
 use Rattle.gptp_invariants.specs.DelayElsewhereLaws.{WatchGoesThrough, WatchSurvives, WatchedPortsStayCapable, WatchedPortsStayMeasured}
 use Rattle.gptp_invariants.proofs.DelayWatchLemmas.{watch_kept}
 use Rattle.gptp_invariants.specs.DelayElsewhere.{IsElsewhere, IsOtherLink}
-use Rattle.gptp_invariants.proofs.DelayEndLemmas.{HearsWhatFits}
-use Rattle.gptp_invariants.proofs.DelayLinkCallLemmas.{back_in_time, back_late, back_mute, others_send, out_in_time, out_late, out_mute}
-use Rattle.gptp_model.proofs.ActsByLemmas.{PortCallsKeep, join_among, start_ports_told}
-use Rattle.gptp_invariants.proofs.DelayLinkLemmas.{IsOrderly, LinkStep, link_called, net_orderly, sender_opposite, sound_orderly}
-use Rattle.gptp_invariants.proofs.DelayPartLemmas.{AsksAsBefore, asks_still}
-use Rattle.gptp_system.proofs.StepLemmas.{steps_sound}
+use Rattle.gptp_model.proofs.ActsByLemmas.{join_among, start_ports_told}
+use Rattle.gptp_invariants.proofs.DelayLinkLemmas.{IsOrderly, net_orderly, sender_opposite, sound_orderly}
 use Rattle.gptp_system.proofs.TimersChangedLemmas.{priority_clock}
 use Rattle.gptp_system.specs.Start.{started}
+use Rattle.gptp_invariants.proofs.CallAsideLemmas.{IsAside, LeavesPort, call_aside, calls_orderly}
 
--- ---- a call
-
--- an input that is none of this port
-abbrev LeavesPort : ℕ → Input → Type 0
-LeavesPort n (PortUp p) = n ≢ p
-LeavesPort n (PortDown p) = n ≢ p
-LeavesPort n (FrameHeard p octets) = ⊥
-LeavesPort n (TimerExpires timer) = ⊥
-LeavesPort n (Priority value) = ⊤
-
-only_other : (p n : ℕ) (f : Part → Part) (x x' : Part) → n ≢ p → x' ≡ only_at p f n x → x' ≡ x
-only_other p n f x x' apart is = go (n == p) refl is
-  where
-    go : (b : Bool) → (n == p) ≡ b → x' ≡ (if b then f x else x) → x' ≡ x
-    go true e here = absurd (apart (eqb-true n p e))
-    go false e here = here
-
-part_left : (s : SystemState) (now : ℕ) (input : Input) (n : ℕ) (x x' : Part) → LeavesPort n input
-    → IsPartAfter s now input n x x' → x' ≡ x
-part_left s now (PortUp p) n x x' apart k = only_other p n (part_asked s now reset_peer) x x' apart k
-part_left s now (PortDown p) n x x' apart k = only_other p n part_down x x' apart k
-part_left s now (FrameHeard p octets) n x x' apart k = absurd apart
-part_left s now (TimerExpires timer) n x x' apart k = absurd apart
-part_left s now (Priority value) n x x' apart k = k
-
-left_fits : (n : ℕ) (input : Input) → LeavesPort n input → HearsWhatFits n input
-left_fits n (PortUp p) apart = tt
-left_fits n (PortDown p) apart = tt
-left_fits n (FrameHeard p octets) apart = absurd apart
-left_fits n (TimerExpires timer) apart = tt
-left_fits n (Priority value) apart = tt
-
--- the input is none of the link's two ports
-record IsAside (at : LinkPlace) (place : ℕ) (input : Input) (channel : Channel) : Type 0 where
-  asking : at.asking ≡ place → LeavesPort (sender at.direction channel).port input
-  answering : at.answering ≡ place → LeavesPort (receiver at.direction channel).port input
-
-module _ (at : LinkPlace) (place : ℕ) (input : Input) (w : WorldState) (draws : List Draw) (answer : Answer)
-    (w' : WorldState) (k : Calls place input w draws answer w') (timely : IsTimely k.station.system w.time input)
-    (orderly : IsOrderly w) (l : IsLinkOf at w) (aside : IsAside at place input l.channel) where
-  step : LinkStep at place input w w' l k.station.system k.after k.sends
-  step =
-      link_called at place input w draws answer w' k timely orderly l
-      (λ same. left_fits (sender at.direction l.channel).port input (aside.asking same))
-      (λ same. left_fits (receiver at.direction l.channel).port input (aside.answering same))
-
-  asks_as_before : AsksAsBefore (interval_of l.asking.station.setup.params.pdelay) (measure_at l.asking.state)
-      (measure_at step.after.asking.state)
-  asks_as_before =
-      asks_still (interval_of l.asking.station.setup.params.pdelay) (measure_at l.asking.state)
-      (measure_at step.after.asking.state)
-      (elim step.asking [
-        | inl called ↦ part_left l.asking.station.system w.time input (sender at.direction l.channel).port
-            (measure_at l.asking.state) (measure_at step.after.asking.state) (aside.asking called.0) called.1
-        | inr left ↦ left.1
-      ])
-
-  waits_as_before : measure_at step.after.answering.state ≡ measure_at l.answering.state
-  waits_as_before = elim step.answering [
-    | inl called ↦ part_left l.answering.station.system w.time input (receiver at.direction l.channel).port
-        (measure_at l.answering.state) (measure_at step.after.answering.state) (aside.answering called.0) called.1
-    | inr left ↦ left.1
-  ]
-
-  -- it is one act, in which others send
-  call_aside : IsOneAct at w w' l
-  call_aside = record {
-    after = step.after;
-    settled = step.settled;
-    bounds = step.grows.bounds;
-    so = record {
-      acts = others_send step asks_as_before (ap waits_view waits_as_before)
-          (out_mute step
-          (λ same e. subst (LeavesPort (sender at.direction l.channel).port) e (aside.asking same))
-          (λ same e. subst (LeavesPort (sender at.direction l.channel).port) e (aside.asking same) refl))
-          (back_mute step
-          (λ same e. subst (LeavesPort (receiver at.direction l.channel).port) e (aside.answering same)));
-      out = out_in_time step;
-      back = back_in_time step;
-      out_late = out_late step;
-      back_late = back_late step;
-    };
-  }
-
--- what is used of the world stays
-pub calls_orderly : (place : ℕ) (input : Input) (w : WorldState) (draws : List Draw) (answer : Answer) (w' : WorldState)
-    → IsOrderly w → Calls place input w draws answer w' → IsOrderly w'
-calls_orderly place input w draws answer w' is k =
-    let stays = calls_stay place input w draws answer w' is.setups k in
-    let kept = (steps_sound input w.time k.station.system k.after k.sends answer k.steps).kept in
-    record {
-      setups = stays_setups w w' stays;
-      clocks = stays_clocks w w' stays is.clocks;
-      apart = stays_apart w w' stays is.apart;
-      params = λ other station there.
-          get-set_all (λ (x : Station). AreParams x.system.params) w.stations place k.station
-          (in_state k.after k.station) k.here (subst AreParams (sym kept.params) (is.params place k.station k.here))
-          is.params other station (ap (λ (v : WorldState). slice_get v.stations other) (sym k.is) ∙ there);
-    }
-
--- and so does what a call keeps of an orderly world
-pub orderly_too : (Known : Type 0) (input : ℕ → Input) (So : WorldState → Type 0)
-    → ((place port : ℕ) (w : WorldState) (draws : List Draw) (answer : Answer) (w' : WorldState)
-    (k : Calls place (input port) w draws answer w') → (Known → HasPortNumber k.station.system port) → IsOrderly w
-    → So w → So w')
-    → PortCallsKeep Known input (λ w. IsOrderly w × So w)
-orderly_too Known input So keeps place port w draws answer w' k of (orderly, so) = (
-  calls_orderly place (input port) w draws answer w' orderly k,
-  keeps place port w draws answer w' k of orderly so,
-)
-
--- What is known of a link that is seen, and kept by each act that is seen there, goes through changes elsewhere.
 module _ (at : LinkPlace) (P : WorldState → Type 0) (link_in : (w : WorldState) → P w → IsLinkOf at w)
     (acted : (w w' : WorldState) (h : P w) → IsOneAct at w w' (link_in w h) → P w')
     (like : (w w' : WorldState) (h : P w) (l : IsLinkOf at w') → link_setting at w' l ≡ link_setting at w (link_in w h)

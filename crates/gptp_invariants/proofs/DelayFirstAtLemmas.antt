@@ -46,7 +46,8 @@ use Rattle.gptp_invariants.specs.DelayLinkActs.{IsOneAct}
 use Rattle.gptp_invariants.specs.DelayLinkView.{IsLinkOf, LinkPlace, RequestFits, asker_view, reads_as_request, link_frame_view, least_delay, meter, other_direction, pair, reads_as_reply, request_from, link_setting, waits_view, setup_stamps}
 use Rattle.gptp_invariants.specs.DelayMeasured.{LinkIsMeasured}
 use Rattle.gptp_invariants.specs.ChoiceSaid.{said_at}
-use Rattle.gptp_invariants.proofs.DelayElsewhereLemmas.{calls_orderly, goes_through}
+use Rattle.gptp_invariants.proofs.CallAsideLemmas.{calls_orderly}
+use Rattle.gptp_invariants.proofs.DelayElsewhereLemmas.{goes_through}
 use Rattle.gptp_invariants.proofs.DelayLinkActLemmas.{acts_seen}
 use Rattle.gptp_invariants.proofs.DelayLinkCallLemmas.{asker_is, at_own, back_in_time, back_is, back_late, back_mute, back_stays, others_send, out_in_time, out_is, out_late, out_mute}
 use Rattle.gptp_invariants.proofs.DelayLinkExpiryLemmas.{clock_is}

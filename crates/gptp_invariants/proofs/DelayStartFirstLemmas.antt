@@ -5,7 +5,7 @@ use Rattle.std.specs.List.{filter, range_with_len}
 use Rattle.std.proofs.lemmas.Option.{none-some, same_Some}
 use Rattle.gptp_lists.specs.Members.{Different, In}
 use Rattle.gptp_lists.proofs.MappedLemmas.{mapped, mapped_there, same_there}
-use Rattle.gptp_lists.proofs.PlaceLemmas.{get-set_other, get-set_same, map-set, map-set_same, same_place}
+use Rattle.gptp_lists.proofs.PlaceLemmas.{get-set_other, get-set_same, map-set_same, same_place}
 use Rattle.gptp_vector.specs.declared.port.PortId.{PortId}
 use Rattle.gptp_links.specs.declared.bounds.Bounds.{Bounds}
 use Rattle.gptp_links.specs.declared.link.Direction.{Direction}
@@ -47,6 +47,7 @@ use Rattle.gptp_invariants.proofs.DelayFirstAtLemmas.{Came, IsReady, came_beside
 use Rattle.gptp_invariants.proofs.DelayLinkLemmas.{IsOrderly, sender_opposite, sound_orderly}
 use Rattle.gptp_invariants.proofs.DelayLinkStandLemmas.{end_is}
 use Rattle.gptp_model.proofs.ActsByLemmas.{ports_told}
+use Rattle.gptp_invariants.proofs.AwakeLemmas.{awake, calls_woken, came_timed, ready_timed, timed, wake, woken}
 
 -- ---- lists
 
@@ -90,82 +91,6 @@ in_range a (suc n) k least most = elim (same_place k a) [
   | inl same ↦ inl same
   | inr apart ↦ inr (in_range (a + 1) n k (omega (arith, apart, least)) (omega arith))
 ]
-
--- ---- all systems awake
-
-abbrev wake : Station → Station
-wake s = record s { live = true }
-
--- the world in which all its systems live
-abbrev woken : WorldState → WorldState
-woken w = record w { stations = map wake w.stations }
-
-awake : (s : Station) → s.live ≡ true → wake s ≡ s
-awake s live = λ i. record s { live = sym live i }
-
-call_woken : (place : ℕ) (input : Input) (w : WorldState) (draws : List Draw) (answer : Answer) (w' : WorldState)
-    → Calls place input w draws answer w' → Calls place input (woken w) draws answer (woken w')
-call_woken place input w draws answer w' k =
-    let new = in_state k.after k.station in
-    record {
-      station = k.station;
-      after = k.after;
-      sends = k.sends;
-      net = k.net;
-      here = mapped_there wake w.stations place k.station k.here ∙ ap Some (awake k.station k.live);
-      live = k.live;
-      steps = k.steps;
-      sent = k.sent;
-      is = ap woken k.is
-          ∙ ap (λ (xs : List Station). record w { stations = xs; net = k.net })
-          (map-set wake w.stations place new
-          ∙ ap (λ (s : Station). slice_set (map wake w.stations) place s) (awake new k.live));
-    }
-
-calls_woken : (place : ℕ) (inputs : List Input) (w : WorldState) (draws : List Draw) (w' : WorldState)
-    → CallsAll place inputs w draws w' → CallsAll place inputs (woken w) draws (woken w')
-calls_woken place [] w draws w' (none, same) = (none, ap woken same)
-calls_woken place (x ∷ xs) w draws w' (first, rest, between, answer, split, k, more) = (
-  first,
-  rest,
-  woken between,
-  answer,
-  split,
-  call_woken place x w first answer between k,
-  calls_woken place xs between rest w' more,
-)
-
--- timers alone
-abbrev timed : ℕ → Station → WorldState → WorldState
-timed place station w = record w { net = all_timers place station w.net }
-
-orderly_timed : (place : ℕ) (station : Station) (w : WorldState) → IsOrderly w → IsOrderly (timed place station w)
-orderly_timed place station w is =
-    record { setups = is.setups; clocks = is.clocks; apart = is.apart; params = is.params }
-
-ready_timed : (at : LinkPlace) (time port place : ℕ) (station : Station) (w : WorldState) → IsReady at time port w
-    → IsReady at time port (timed place station w)
-ready_timed at time port place station w is = record {
-  link = is.link;
-  orderly = orderly_timed place station w is.orderly;
-  now = is.now;
-  port_is = is.port_is;
-  short = is.short;
-  silent = is.silent;
-  sent = is.sent;
-  waits = is.waits;
-  mute = is.mute;
-  dues = is.dues;
-}
-
-came_timed : (at : LinkPlace) (time port place : ℕ) (station : Station) (w : WorldState) → Came at time port w
-    → Came at time port (timed place station w)
-came_timed at time port place station w is = record {
-  first = record { link = is.first.link; short = is.first.short; facts = is.first.facts; inv = is.first.inv };
-  orderly = orderly_timed place station w is.orderly;
-  now = is.now;
-  port_is = is.port_is;
-}
 
 -- ---- a system starts
 

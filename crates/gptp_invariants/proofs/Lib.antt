@@ -58,7 +58,9 @@ pub mod SyncActLemmas
 pub mod ChoiceSettlesAsMachineLemmas
 pub mod WorldSoundCallLemmas
 pub mod WorldSoundLemmas
+pub mod AwakeLemmas
 pub mod DelayStartFirstLemmas
+pub mod WayLinkLemmas
 pub mod WorldNewsLemmas
 pub mod FailedSilentElsewhereLemmas
 pub mod WorldLinkUpNewsLemmas
@@ -86,6 +88,7 @@ pub mod DelayLinkStandLemmas
 pub mod DelayLinkFactLemmas
 pub mod WorldShortLemmas
 pub mod DelayWatchLemmas
+pub mod CallAsideLemmas
 pub mod DelayElsewhereLemmas
 pub mod DelayFirstAtLemmas
 pub mod DelayFirstUpLemmas

@@ -6,7 +6,7 @@ use Rattle.gptp_lists.proofs.SystemSpecLemmas.{In-map}
 use Rattle.gptp_graph.specs.PathBound.{BoundsPaths}
 use Rattle.std.specs.Prelude.{if◌then◌else◌}
 use native.Mathlib.Nat.{mul-zero}
-use Rattle.gptp_graph.specs.Snapshot.{Joins, PortIdentity, System}
+use Rattle.gptp_graph.specs.Snapshot.{Joins, PortIdentity}
 use Rattle.gptp_vector.specs.declared.port.PortId.{PortId}
 use Rattle.gptp_links.specs.Fate.{Draw}
 use Rattle.gptp_pdelay.specs.Peer.{is_capable}
@@ -27,7 +27,7 @@ use Rattle.gptp_setup.specs.declared.setup.Params.{Params}
 use Rattle.gptp_system.specs.declared.answer.Answer.{Answer}
 use Rattle.gptp_system.specs.Input.{Input}
 use Rattle.gptp_model.specs.Sound.{IsSound}
-use Rattle.gptp_model.specs.World.{Channel, WorldState, world_queue, receiver, sender}
+use Rattle.gptp_model.specs.World.{Channel, WorldState, world_queue, sender}
 use Rattle.gptp_model.proofs.SoundLemmas.{later_sound}
 use Rattle.gptp_pdelay_machine.specs.Lanes.{LaneFrame as MeasuredFrame}
 use Rattle.gptp_bmca_machine.specs.Acts.{MachineSteps}
@@ -51,13 +51,13 @@ use Rattle.gptp_bmca_machine.proofs.SoundLemmas.{received_fits}
 use Rattle.gptp_invariants.specs.ChoiceCalm.{AreCapableFrom, HaveQuietLinks, SettlingTimes, delay_in, network_with, paths_with}
 use Rattle.gptp_invariants.specs.ChoiceSettlesAsMachine.{IsWorld}
 use Rattle.gptp_invariants.specs.WorldKnown.{IsKnown}
-use Rattle.gptp_invariants.specs.DelayLinkView.{IsLinkOf, LinkPlace, link_frame_view as measured_view, link_identity, other_direction, pair, link_setting}
-use Rattle.gptp_invariants.specs.DelayMeasured.{StationIsLiveAt, LinkIsMeasured, LinkStandsAt}
+use Rattle.gptp_invariants.specs.DelayLinkView.{IsLinkOf, LinkPlace, link_frame_view as measured_view, link_identity, pair, link_setting}
+use Rattle.gptp_invariants.specs.DelayMeasured.{StationIsLiveAt, LinkIsMeasured}
 use Rattle.gptp_invariants.specs.WorldNews.{AllLive, AreReadyBy, AreSilentBy, IsExpecting, IsNews, IsReadyBy, at_news, news_in_turn, news_network, turn_network}
 use Rattle.gptp_invariants.specs.WorldNewsLaws.{NewsAreKept, NewsBegin, NewsGoOn, NewsWorldsSettle, NewsWorldsSettleInTurn}
 use Rattle.gptp_invariants.specs.ChoiceSeenLaws.{IsNoChange}
 use Rattle.gptp_invariants.specs.WorldSound.{IsSoundWorld}
-use Rattle.gptp_invariants.specs.WorldStanding.{stations_have_clock, channel_is_used, live_stations, snapshot_of}
+use Rattle.gptp_invariants.specs.WorldStanding.{channel_is_used, live_stations, snapshot_of}
 use Rattle.gptp_invariants.specs.ChoiceView.{lanes_view, says_announce, says_sync, view}
 use Rattle.gptp_invariants.proofs.WorldBoundedLemmas.{AreAbove, are_above}
 use Rattle.gptp_invariants.proofs.ChoiceCalmFactLemmas.{facts, frame_from}
@@ -79,83 +79,14 @@ use Rattle.gptp_invariants.proofs.WorldGreatestDelayLemmas.{delay_of_used, delay
 use Rattle.gptp_invariants.proofs.DelayElsewhereLemmas.{watch_goes_through, watched_stay_capable}
 use Rattle.gptp_invariants.proofs.DelayFirstAtLemmas.{by_goes_on, by_goes_through, first_full}
 use Rattle.gptp_bmca_machine.proofs.TimesLemmas.{times_fit}
-use Rattle.gptp_invariants.proofs.DelayLinkLemmas.{sender_opposite, good_between}
 use Rattle.gptp_invariants.proofs.ChoiceSeenActLemmas.{acts_seen}
 use Rattle.gptp_invariants.proofs.ChoiceSettledLemmas.{settles_so}
 use Rattle.gptp_invariants.proofs.WorldSettledLemmas.{still_acts_stay, time_stays}
 use Rattle.gptp_invariants.proofs.WorldSoundLemmas.{sound_acts, sound_later}
-use Rattle.gptp_invariants.proofs.WorldStandsLemmas.{sender_lives, stands_well, used_up}
-use Rattle.gptp_invariants.proofs.WorldSystemLemmas.{clock_lives, live_from}
+use Rattle.gptp_invariants.proofs.WorldStandsLemmas.{stands_well}
 use Rattle.gptp_invariants.proofs.DelayWatchLemmas.{watch_goes_on}
 use Rattle.gptp_invariants.proofs.WorldWayLemmas.{IsWay, one_way, way_of}
-
--- ---- where a link of the snapshot stands
-
--- a live system with the clock stands somewhere
-record Lives (number : ℕ) (w : WorldState) : Type 0 where
-  place : ℕ
-  at : StationIsLiveAt place number w
-
-lives_there : (w : WorldState) (number : ℕ) → stations_have_clock (live_stations w.stations) number ≡ true
-    → Lives number w
-lives_there w number has =
-    let (s, member, same) = clock_lives w.stations number has in
-    let there = live_from w.stations s member in
-    record {
-      place = there.place;
-      at = record {
-        station = there.station;
-        here = there.here;
-        live = there.live;
-        named = ap (λ (x : System). x.clock) (sym there.is) ∙ same;
-      };
-    }
-
-module _ (p : SettlingParams) (w : WorldState) (is : IsWorld p w) (quiet : HaveQuietLinks p.params w)
-    (from to : PortIdentity)
-    (joins : Joins (snapshot_of w) from to) (way : IsWay w from to) where
-  asks_there : Lives (sender way.direction way.channel).clock w
-  asks_there = lives_there w _ (sender_lives (live_stations w.stations) way.direction way.channel way.used)
-
-  answers_there : Lives (receiver way.direction way.channel).clock w
-  answers_there = lives_there w _
-      (subst (λ (q : PortId). stations_have_clock (live_stations w.stations) q.clock ≡ true)
-      (sender_opposite way.direction way.channel)
-      (sender_lives (live_stations w.stations) (other_direction way.direction) way.channel way.used))
-
-  abbrev way_place : LinkPlace
-  way_place = record {
-    link = way.link;
-    direction = way.direction;
-    asking = asks_there.place;
-    answering = answers_there.place;
-  }
-
-  way_stands : LinkStandsAt way_place w
-  way_stands =
-      let links = quiet way.link way.channel way.here way.used in
-      let one = asks_there.at in
-      let other = answers_there.at in
-      let asking = (is.known.set asks_there.place one.station one.here).starts.params in
-      let answering = (is.known.set answers_there.place other.station other.here).starts.params in
-      record {
-        channel = way.channel;
-        here = way.here;
-        up = used_up (live_stations w.stations) way.channel way.used;
-        lossless = links.lossless;
-        asking = one;
-        answering = other;
-        apart = λ same.
-            let alike : one.station ≡ other.station =
-            same_there w.stations asks_there.place one.station other.station one.here
-            (subst (λ at. slice_get w.stations at ≡ Some other.station) (sym same) other.here) in
-            (stands_well w is.sound is.between is.encodable).apart from to joins
-            (ap (λ (x : PortIdentity). x.clock) (sym way.from) ∙ sym one.named
-            ∙ ap (λ (x : Station). clock x.system) alike ∙ other.named
-            ∙ ap (λ (x : PortIdentity). x.clock) way.to);
-        good = good_between way.channel.bounds.max p.params one.station.setup.params other.station.setup.params asking
-            answering links.good;
-      }
+use Rattle.gptp_invariants.proofs.WayLinkLemmas.{place_of_way, way_stands}
 
 -- ---- a link that is ready
 
@@ -273,8 +204,8 @@ module _ (p : SettlingParams) (start : ℕ) (w : WorldState) (is : IsWorld p w)
       → IsWay w (link_identity (own station.system (suc i))) to → is_capable q.peer ≡ true
   linked_capable late place station here i q to there joins way =
       let from = link_identity (own station.system (suc i)) in
-      let at = way_place p w is quiet from to joins way in
-      let r = ready at (way_stands p w is quiet from to joins way) in
+      let at = place_of_way p w is quiet from to way in
+      let r = ready at (way_stands p w is quiet from to way joins) in
       let l = link_in p start at w r in
       let asking = l.asking in
       let same_channel = same_there w.net.channels way.link l.channel way.channel l.here way.here in
@@ -321,8 +252,8 @@ module _ (p : SettlingParams) (start : ℕ) (w : WorldState) (is : IsWorld p w)
       let way = way_of w l.from l.to joins in
       let one = one_way w is.sound is.encodable way.link seen.link way.direction seen.direction way.channel seen.channel
       way.here seen.here (way.from ∙ ap (λ (z : Lane). z.from) seen.lane_is) in
-      let at = way_place p w is quiet l.from l.to joins way in
-      let r = ready at (way_stands p w is quiet l.from l.to joins way) in
+      let at = place_of_way p w is quiet l.from l.to way in
+      let r = ready at (way_stands p w is quiet l.from l.to way joins) in
       let link = link_in p start at w r in
       let same_channel : link.channel ≡ way.channel =
       same_there w.net.channels way.link link.channel way.channel link.here way.here in

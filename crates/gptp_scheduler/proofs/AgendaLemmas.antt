@@ -17,7 +17,7 @@ use Rattle.gptp_scheduler.specs.declared.key.Node.{Node}
 use Rattle.gptp_scheduler.specs.declared.slots.Ends.{Ends}
 use Rattle.std.proofs.lemmas.List.{get_or_past}
 use Rattle.gptp_scheduler.proofs.NumberLemmas.{less_than, no_less}
-use Rattle.gptp_scheduler.proofs.ChainLemmas.{number-stands}
+use Rattle.gptp_scheduler.proofs.MovedEntryLemmas.{number-stands}
 use Rattle.gptp_scheduler.proofs.WheelLemmas.{held-is, held-node, held-placed, place-within}
 use Rattle.gptp_scheduler.proofs.FiledLemmas.{below-next, entry-found, filed-put, filed-taken, listed-all, listed-put, listed-rise, listed-taken}
 

@@ -13,7 +13,7 @@ use Rattle.gptp_scheduler.specs.declared.key.Key.{Key}
 use Rattle.gptp_scheduler.specs.declared.key.Node.{Node}
 use Rattle.gptp_scheduler.specs.declared.slots.Ends.{Ends}
 use Rattle.gptp_scheduler.proofs.NumberLemmas.{less_than, no_less}
-use Rattle.gptp_scheduler.proofs.ChainLemmas.{number-stands, number-own}
+use Rattle.gptp_scheduler.proofs.MovedEntryLemmas.{number-stands, number-own}
 use Rattle.gptp_scheduler.proofs.SlotLemmas.{ends-set_same, ends-set_other}
 use Rattle.gptp_scheduler.proofs.PlaceLemmas.{earlier-slot, same-time, place-in-levels, place-below}
 use Rattle.gptp_scheduler.proofs.WheelLemmas.{first-stands, held-is, held-placed, none-in, place-within, rank-at, rank-falls}

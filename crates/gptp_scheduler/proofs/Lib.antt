@@ -1,5 +1,6 @@
 pub mod SlotLemmas
 pub mod NumberLemmas
+pub mod MovedEntryLemmas
 pub mod ChainLemmas
 pub mod PlaceLemmas
 pub mod WheelLemmas

@@ -12,7 +12,7 @@ use Rattle.gptp_scheduler.specs.declared.key.Key.{Key}
 use Rattle.gptp_scheduler.specs.declared.key.Node.{Node}
 use Rattle.gptp_scheduler.specs.declared.slots.Ends.{Ends}
 use Rattle.gptp_scheduler.proofs.NumberLemmas.{least-same, greatest-same}
-use Rattle.gptp_scheduler.proofs.ChainLemmas.{number-stands, number-own, number-other, at-moved}
+use Rattle.gptp_scheduler.proofs.MovedEntryLemmas.{number-stands, number-own, number-other, at-moved}
 use Rattle.gptp_scheduler.proofs.PlaceLemmas.{earlier-slot, place-stays, same-tick, place-settled, place-lower, place-in-levels, place-ahead}
 
 -- a place lies within the wheel

@@ -69,7 +69,8 @@ use Rattle.gptp_settling_time.proofs.LinkStoodLemmas.{stood_in}
 use Rattle.gptp_settling_time.proofs.OrderedLemmas.{link_seen, tells}
 use Rattle.gptp_invariants.proofs.DelayCapableKeptLemmas.{stood}
 use Rattle.gptp_invariants.proofs.WorldNewsCourseLemmas.{later_keeps}
-use Rattle.gptp_settling_time.proofs.WayLinkLemmas.{asks_back, capable_is_on, lane_at, on_is_capable, place_of_way, way_back, way_stands}
+use Rattle.gptp_invariants.proofs.WayLinkLemmas.{asks_back, lane_at, place_of_way, way_back, way_stands}
+use Rattle.gptp_settling_time.proofs.OnCapableLemmas.{capable_is_on, on_is_capable}
 
 -- ---- the network
 

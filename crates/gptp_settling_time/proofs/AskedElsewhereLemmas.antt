@@ -25,7 +25,7 @@ use Rattle.gptp_invariants.specs.DelayLinkView.{LinkPlace, asked_at, IsEndOf, Re
 use Rattle.gptp_invariants.specs.FailedUnanswered.{StandsUnanswered}
 use Rattle.gptp_invariants.proofs.DelayLinkCallLemmas.{at_own}
 use Rattle.gptp_invariants.proofs.DelayLinkLemmas.{IsOrderly, net_orderly, sound_orderly}
-use Rattle.gptp_invariants.proofs.DelayElsewhereLemmas.{orderly_too}
+use Rattle.gptp_invariants.proofs.CallAsideLemmas.{orderly_too}
 use Rattle.gptp_model.proofs.ActsByLemmas.{PortCallsKeep, ends_told, join_among}
 use Rattle.gptp_invariants.proofs.FailedSilentElsewhereLemmas.{changed_stood, stood_up}
 use Rattle.gptp_settling_time.proofs.BetweenFailedLemmas.{AreGoneBetween, IsGoneBetween, gone_still, gone_up}

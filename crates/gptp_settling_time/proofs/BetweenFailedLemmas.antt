@@ -31,7 +31,7 @@ use Rattle.gptp_invariants.specs.WorldShort.{IsShort}
 use Rattle.gptp_invariants.proofs.DelayLinkLemmas.{IsOrderly, receiver_same, sender_opposite}
 use Rattle.gptp_invariants.proofs.FailedUnansweredCallLemmas.{failed_apart}
 use Rattle.gptp_invariants.proofs.FailedUnansweredLaneLemmas.{calls_shrink, takes_shrink}
-use Rattle.gptp_invariants.proofs.DelayElsewhereLemmas.{orderly_too}
+use Rattle.gptp_invariants.proofs.CallAsideLemmas.{orderly_too}
 use Rattle.gptp_model.proofs.ActsByLemmas.{PortCallsKeep}
 use Rattle.gptp_settling_time.proofs.AsksSoonLemmas.{both_ways}
 

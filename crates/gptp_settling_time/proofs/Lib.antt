@@ -45,7 +45,7 @@ pub mod ToldLemmas
 pub mod MasterLemmas
 pub mod OrderedLemmas
 pub mod UntoldLemmas
-pub mod WayLinkLemmas
+pub mod OnCapableLemmas
 pub mod AlwaysClaimedLemmas
 pub mod SeenSettledLemmas
 pub mod StartLemmas

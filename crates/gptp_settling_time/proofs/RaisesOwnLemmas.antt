@@ -20,7 +20,7 @@ use Rattle.gptp_bmca_machine.specs.Frame.{Lane}
 use Rattle.gptp_invariants.specs.ChoiceView.{lanes_view, view}
 use Rattle.gptp_invariants.specs.DelayLinkView.{IsLinkOf, LinkPlace}
 use Rattle.gptp_invariants.proofs.ChoiceTakeUpLemmas.{BeginApart, begin_apart}
-use Rattle.gptp_invariants.proofs.DelayElsewhereLemmas.{calls_orderly}
+use Rattle.gptp_invariants.proofs.CallAsideLemmas.{calls_orderly}
 use Rattle.gptp_invariants.proofs.DelayLinkLemmas.{IsOrderly}
 use Rattle.gptp_invariants.proofs.PortInputLemmas.{of_up}
 use Rattle.gptp_settling_time.proofs.QuietUpLemmas.{RaisesAlone, raises}

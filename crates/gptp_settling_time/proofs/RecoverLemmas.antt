@@ -41,7 +41,7 @@ use Rattle.gptp_invariants.proofs.DelayCapableKeptLemmas.{known_params, stood_am
 use Rattle.gptp_invariants.proofs.DelayLinkCallLemmas.{seen_from}
 use Rattle.gptp_invariants.proofs.DelayLinkLemmas.{IsOrderly, sender_opposite}
 use Rattle.gptp_invariants.proofs.DelayLinkStandLemmas.{end_is}
-use Rattle.gptp_invariants.proofs.DelayElsewhereLemmas.{calls_orderly, orderly_too}
+use Rattle.gptp_invariants.proofs.CallAsideLemmas.{calls_orderly, orderly_too}
 use Rattle.gptp_model.proofs.ActsByLemmas.{PortCallsKeep, start_ports_told, start_told}
 use Rattle.gptp_invariants.proofs.FailedSilentElsewhereLemmas.{stood_up}
 use Rattle.gptp_invariants.proofs.WorldNewsLemmas.{news_begin, ready_goes_through}

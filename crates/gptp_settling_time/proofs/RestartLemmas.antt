@@ -21,7 +21,7 @@ use Rattle.gptp_pdelay_machine.specs.Messages.{Request}
 use Rattle.gptp_pdelay_machine.specs.Setting.{Setting}
 use Rattle.gptp_pdelay_machine.proofs.LaneLemmas.{mute_append}
 use Rattle.gptp_invariants.specs.DelayLinkView.{IsLinkOf, LinkPlace, asked_at, asker_view, link_frame_view, link_setting, other_direction, pair, reads_as_reply, reads_as_request}
-use Rattle.gptp_invariants.proofs.DelayElsewhereLemmas.{calls_orderly}
+use Rattle.gptp_invariants.proofs.CallAsideLemmas.{calls_orderly}
 use Rattle.gptp_invariants.proofs.DelayFirstAtLemmas.{up_step, up_waits_still}
 use Rattle.gptp_invariants.proofs.DelayLinkCallLemmas.{asker_is, at_own, back_in_time, back_is, back_mute, out_in_time, out_stays}
 use Rattle.gptp_invariants.proofs.DelayLinkLemmas.{IsOrderly}

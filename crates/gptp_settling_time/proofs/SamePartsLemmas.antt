@@ -20,7 +20,7 @@ use Rattle.gptp_model.proofs.EndLemmas.{EndCallsKeep, each_end_told}
 use Rattle.gptp_model.proofs.StayLemmas.{JoinTheSame, begins_same, join_on, sender_same, set_join}
 use Rattle.gptp_invariants.specs.ChoiceSettlesAsMachine.{IsWorld}
 use Rattle.gptp_invariants.specs.DelayLinkView.{IsLinkOf, LinkPlace, link_setting, other_direction}
-use Rattle.gptp_invariants.proofs.DelayElsewhereLemmas.{calls_orderly}
+use Rattle.gptp_invariants.proofs.CallAsideLemmas.{calls_orderly}
 use Rattle.gptp_invariants.proofs.PortInputLemmas.{IsOfPort}
 use Rattle.gptp_invariants.proofs.DelayLinkLemmas.{IsOrderly, LinkStep, link_called, net_orderly, sender_opposite, sound_orderly}
 

@@ -1,4 +1,6 @@
 pub mod PlacedLemmas
+pub mod PendingPlaceLemmas
+pub mod PlacedItemLemmas
 pub mod PendingIndexLemmas
 pub mod QueueLemmas
 pub mod PendingLemmas

@@ -5,7 +5,7 @@ use Rattle.gptp_links.specs.Flights.{queue_of}
 use Rattle.gptp_links.specs.Queue.{Queue}
 use Rattle.gptp_links.specs.State.{LinkState}
 use Rattle.gptp_links.specs.declared.lane.Lane.{Lane}
-use Rattle.gptp_links.proofs.FlightLemmas.{linked-cloned, queue-copied}
+use Rattle.gptp_links.proofs.FlightCopyLemmas.{linked-cloned, queue-copied}
 use Rattle.gptp_links.proofs.link.Link.copy.Goals as goal
 
 pub overflow_sub-capacity : goal.overflow_sub-capacity

@@ -1,5 +1,5 @@
 use Rattle.gptp_traffic.specs.PendingIndex.{placed_items}
-use Rattle.gptp_traffic.proofs.PendingIndexLemmas.{known-plain}
+use Rattle.gptp_traffic.proofs.PlacedItemLemmas.{known-plain}
 use Rattle.gptp_traffic.proofs.pending.Pending.items_are_known.Goals as goal
 
 pub returns : goal.returns

@@ -7,7 +7,8 @@ use Rattle.gptp_traffic.specs.Flight.{places_of}
 use Rattle.gptp_traffic.specs.PendingIndex.{placed_items, AreFree}
 use Rattle.gptp_traffic.proofs.FlightLemmas.{frames-put, many-lanes, places-put}
 use Rattle.gptp_traffic.proofs.PendingLemmas.{same_state}
-use Rattle.gptp_traffic.proofs.PendingIndexLemmas.{arrival_within, last_free, index-arrival, plain-arrival}
+use Rattle.gptp_traffic.proofs.PendingPlaceLemmas.{arrival_within}
+use Rattle.gptp_traffic.proofs.PendingIndexLemmas.{last_free, index-arrival, plain-arrival}
 use Rattle.gptp_traffic.proofs.pending.Pending.put_arrival.Goals as goal
 
 pub put_item-requires-clause-place : goal.put_item-requires-clause-place

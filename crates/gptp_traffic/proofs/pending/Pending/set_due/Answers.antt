@@ -6,7 +6,8 @@ use Rattle.gptp_traffic.specs.Flight.{places_of}
 use Rattle.gptp_traffic.specs.PendingIndex.{placed_items, plain_items, timer_place}
 use Rattle.gptp_traffic.proofs.PendingLemmas.{same_state}
 use Rattle.gptp_traffic.proofs.PlacedLemmas.{placed-without}
-use Rattle.gptp_traffic.proofs.PendingIndexLemmas.{timer_within, index-cancelled, plain-cancelled, spare-left}
+use Rattle.gptp_traffic.proofs.PendingPlaceLemmas.{timer_within}
+use Rattle.gptp_traffic.proofs.PendingIndexLemmas.{index-cancelled, plain-cancelled, spare-left}
 use Rattle.gptp_traffic.proofs.pending.Pending.set_due.Goals as goal
 
 pub returns-in-Some-clause-kept : goal.returns-in-Some-clause-kept

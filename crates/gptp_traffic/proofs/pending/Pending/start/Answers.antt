@@ -2,7 +2,8 @@ use Rattle.std.proofs.Common.{refl, arith}
 use Rattle.gptp_traffic.specs.Flight.{places_of}
 use Rattle.gptp_traffic.specs.PendingIndex.{placed_items}
 use Rattle.gptp_traffic.proofs.PendingLemmas.{same_state}
-use Rattle.gptp_traffic.proofs.PendingIndexLemmas.{timer_within, index-started, plain-started}
+use Rattle.gptp_traffic.proofs.PendingPlaceLemmas.{timer_within}
+use Rattle.gptp_traffic.proofs.PendingIndexLemmas.{index-started, plain-started}
 use Rattle.gptp_traffic.proofs.pending.Pending.start.Goals as goal
 
 pub put_item-requires-clause-place : goal.put_item-requires-clause-place

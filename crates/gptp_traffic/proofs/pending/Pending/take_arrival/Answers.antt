@@ -9,7 +9,8 @@ use Rattle.gptp_traffic.proofs.FlightLemmas.{frames-first, frames-none, frames-t
 use Rattle.gptp_traffic.proofs.PendingLemmas.{same_state}
 use Rattle.gptp_traffic.proofs.QueueLemmas.{no_front}
 use Rattle.gptp_traffic.proofs.PlacedLemmas.{all-placed, apart-placed, placed-without}
-use Rattle.gptp_traffic.proofs.PendingIndexLemmas.{index-put_back, plain-taken, length-taken, first_holds, place_within, puts-longer, spare-left, times-none}
+use Rattle.gptp_traffic.proofs.PlacedItemLemmas.{plain-taken, length-taken, first_holds, place_within, times-none}
+use Rattle.gptp_traffic.proofs.PendingIndexLemmas.{index-put_back, puts-longer, spare-left}
 use Rattle.gptp_traffic.proofs.pending.Pending.take_arrival.Goals as goal
 
 pub take-requires : goal.take-requires
