@@ -34,7 +34,7 @@ use Rattle.gptp_model.proofs.StayLemmas.{starts_all_stay}
 use Rattle.gptp_model.proofs.UpLemmas.{brings_port, brought_ports}
 use Rattle.gptp_pdelay_machine.specs.Lanes.{AreMute}
 use Rattle.gptp_pdelay_machine.proofs.LaneLemmas.{no_frames_mute}
-use Rattle.gptp_invariants.specs.DelayFirstAt.{IsFirstAt}
+use Rattle.gptp_invariants.specs.DelayFirstAt.{IsMeasuringAt}
 use Rattle.gptp_invariants.specs.DelayFirstAtLaws.{StartIsFirst}
 use Rattle.gptp_invariants.specs.ChoiceSettlesAsMachine.{IsWorld}
 use Rattle.gptp_invariants.specs.DelayLinkView.{IsEndOf, IsLinkOf, LinkPlace, reads_as_request, link_frame_view, other_direction, reads_as_reply, waits_by}
@@ -161,7 +161,17 @@ ready_timed at time port place station w is = record {
 came_timed : (at : LinkPlace) (time port place : ℕ) (station : Station) (w : WorldState) → Came at time port w
     → Came at time port (timed place station w)
 came_timed at time port place station w is = record {
-  first = record { link = is.first.link; short = is.first.short; facts = is.first.facts; inv = is.first.inv };
+  first = record {
+    is = record {
+      link = is.first.is.link;
+      short = is.first.is.short;
+      facts = is.first.is.facts;
+      less = is.first.is.less;
+      within = is.first.is.within;
+      inv = is.first.is.inv;
+    };
+    measures = is.first.measures;
+  };
   orderly = orderly_timed place station w is.orderly;
   now = is.now;
   port_is = is.port_is;
@@ -634,9 +644,9 @@ module _ {F : Type 0} (answers : Bounds → ℕ → F → Option ℕ → F → T
         let below = within n.systems at.asking m there in
         in_range 0 (length n.systems) at.asking (omega arith) (omega (arith, below))
 
-    started_first : IsFirstAt 0 at w
+    started_first : IsMeasuringAt 0 0 at w
     started_first =
-        subst (IsFirstAt 0 at) woken_is
+        subst (IsMeasuringAt 0 0 at) woken_is
         (starts_reach at 0 port places (initial n) k.draws w asking_there (range_different 0 (length n.systems)) unborn
         ready k.starts).first
 

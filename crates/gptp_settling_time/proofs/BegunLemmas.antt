@@ -21,7 +21,7 @@ use Rattle.gptp_invariants.specs.ChoiceCalm.{delay_in}
 use Rattle.gptp_invariants.specs.WorldSettlingInvariant.{KeepsAll}
 use Rattle.gptp_invariants.specs.WorldSound.{IsSoundWorld}
 use Rattle.gptp_invariants.specs.WorldStanding.{snapshot_of}
-use Rattle.gptp_invariants.proofs.DelayStartFirstLemmas.{start_lives}
+use Rattle.gptp_invariants.proofs.DelayStartFirstLemmas.{start_first, start_lives}
 use Rattle.gptp_invariants.proofs.WorldClaimLemmas.{claim_begins}
 use Rattle.gptp_invariants.proofs.ChoiceSettlesAsMachineLemmas.{paths_bound}
 use Rattle.gptp_invariants.proofs.WorldOutlineLemmas.{starts_are_last}
@@ -35,6 +35,7 @@ use Rattle.gptp_theorem.proofs.CalmLemmas.{quiet_stands}
 use Rattle.gptp_theorem.proofs.SyncPathLemmas.{paths_stand}
 use Rattle.gptp_settling_time.specs.Gains.{HasRested, exchanged_from}
 use Rattle.gptp_settling_time.proofs.KeptToLemmas.{KeepsTo}
+use Rattle.gptp_settling_time.proofs.MeasuringLemmas.{measuring_later}
 use Rattle.gptp_settling_time.proofs.NamedWorldLemmas.{named_begins}
 use Rattle.gptp_settling_time.proofs.NewsSoonLemmas.{IsNewsFrom}
 use Rattle.gptp_settling_time.proofs.SinceSetLemmas.{limited_begins}
@@ -72,6 +73,9 @@ module _ {F : Type 0} (answers : Bounds → ℕ → F → Option ℕ → F → T
       claim = claim;
       stands = stands;
       limited = λ most within. limited_begins answers n fate fate_after w k;
+      measures = λ by led place stands.
+          measuring_later p 0 place by w led
+          (inl (0, start_first answers n fate fate_after w playable.network sound k claim.world place stands));
       named = named_begins p w claim.world claim.pace.largest
           (starts_are_last _ (initial n) k.draws w refl k.starts);
       slow = begun_none_faster answers n fate fate_after w sound.wired.setups k;

@@ -237,16 +237,16 @@ module _ (n : NetworkState) (events : List Timed) (w : WorldState) (so : StandsA
         rw (up, a, b) refl
 
     -- a link whose delays get wider in the network is such a one in the world
-    pub within_so : (port : PortId) (min max by : ℕ)
+    pub within_so : (port : PortId) (max by : ℕ)
         → ((place : ℕ) (v : LinkSpec) → slice_get n.links place ≡ Some v → IsEnd port (link_after events v)
-        → IsWithin n events min max by (link_after events v))
+        → IsWithin n events max by (link_after events v))
         → (place : ℕ) (channel : Channel) → IsChannel port place w.net channel
-        → IsWithin n events min max by (channel_wire channel)
-    within_so port min max by within place channel is =
+        → IsWithin n events max by (channel_wire channel)
+    within_so port max by within place channel is =
         let (v, there, same) = alike (link_after events) channel_wire n.links w.net.channels (sym so.links) place
         channel is.here in
         let end : IsEnd port (channel_wire channel) = is.joined in
-        subst (IsWithin n events min max by) same (within place v there (subst (IsEnd port) (sym same) end))
+        subst (IsWithin n events max by) same (within place v there (subst (IsEnd port) (sym same) end))
 
     -- and so is a priority1 that of a failed system, or the one that the system has
     keeps_so : (number value : ℕ) → KeepsIdentity n events number value → KeepsPriority number value w

@@ -1,6 +1,6 @@
 pub mod BetweenCalmLemmas
 pub mod BetweenUnmovedLemmas
-pub mod NewsMeasuredLemmas
+pub mod MeasuringLemmas
 pub mod OneCallLemmas
 pub mod TakenClaimedLemmas
 pub mod TakenClearedLemmas

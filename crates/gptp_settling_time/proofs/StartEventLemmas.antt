@@ -40,7 +40,7 @@ use Rattle.gptp_network.specs.Document.{DocumentState}
 use Rattle.gptp_invariants.specs.ChoiceCalm.{delay_in}
 use Rattle.gptp_invariants.specs.ChoiceSeenLaws.{IsNoChange}
 use Rattle.gptp_invariants.specs.ChoiceSettlesAsMachine.{IsWorld}
-use Rattle.gptp_invariants.specs.DelayFirstAt.{IsFirstAt}
+use Rattle.gptp_invariants.specs.DelayFirstAt.{IsMeasuringAt}
 use Rattle.gptp_invariants.specs.DelayElsewhere.{IsOtherLink}
 use Rattle.gptp_invariants.specs.DelayLinkView.{IsGoodBetween, LinkPlace}
 use Rattle.gptp_invariants.specs.DelayMeasured.{LinkIsMeasured, LinkStandsAt, StationIsLiveAt}
@@ -76,7 +76,7 @@ use Rattle.gptp_settling_time.proofs.StartLemmas.{ExchangesAreOver, untold_news,
 -- Nothing is told yet, nothing in flight is due, and each link in use was first asked over at time 0.
 pub record IsStarting (w : WorldState) : Type 0 where
   pub quiet : IsQuietYet w
-  pub first : (at : LinkPlace) → LinkStandsAt at w → IsFirstAt 0 at w
+  pub first : (at : LinkPlace) → LinkStandsAt at w → IsMeasuringAt 0 0 at w
 
 -- A world of a document after these events: at time 0 it starts.
 pub record IsStartingTo (d : DocumentState) (events : List Timed) (w : WorldState) : Type 0 where
@@ -111,7 +111,7 @@ module _ (p : SettlingParams) where
       ahead = yet.quiet.ahead;
     };
     first = λ at stands.
-        first_goes_on at 0 time w is.sound later nothing
+        first_goes_on at 0 0 time w is.sound later nothing
         (yet.first at (stood_in at (at_time time w) w stands refl stands.here));
   }
 
@@ -128,7 +128,7 @@ module _ (p : SettlingParams) where
       record {
         quiet = quiet_acts p (Expire number timer) w draws done w' now tt (told, k) is yet.quiet;
         first = λ at stands.
-            first_goes_through at 0 (Expire number timer) w w' draws done is.sound measured tt (told, k)
+            first_goes_through at 0 0 (Expire number timer) w w' draws done is.sound measured tt (told, k)
             (yet.first at
             (stood p w w' is is' (acts_keep (Expire number timer) w draws done w' none (told, k)) at stands));
       }
@@ -185,7 +185,7 @@ module _ (d : DocumentState) (playable : IsPlayable d) (events : List Timed) (ne
       by : AreCapableSoon net events next → ExchangesAreOver pace next w
       by (inl capable) = omega (arith, capable, delay)
       by (inr (none, some)) =
-          let l = (starting.first at stands).link in
+          let l = (starting.first at stands).is.link in
           let (v, there, same) = alike (link_after events) channel_wire net.links w.net.channels
           (sym keeps.stands.links) at.link l.channel l.here in
           absurd (none at.link v there (subst (IsUsed net.systems events) (sym same)
@@ -333,11 +333,11 @@ module _ {F : Type 0} (answers : Bounds → ℕ → F → Option ℕ → F → T
         ∙ ap (λ a. system_acted a (clock_of m.identity) (system_after made m)) (is.act ∙ ap Changing same)
 
     abbrev FirstSo : Type 0
-    FirstSo = (at : LinkPlace) → LinkStandsAt at w' → IsFirstAt 0 at w'
+    FirstSo = (at : LinkPlace) → LinkStandsAt at w' → IsMeasuringAt 0 0 at w'
 
     first_down : (number port : ℕ) → is.change ≡ LinkDown number port → FirstSo
     first_down number port same at stands =
-        first_goes_through at 0 (Changing (LinkDown number port)) then w' k.draws done world.sound
+        first_goes_through at 0 0 (Changing (LinkDown number port)) then w' k.draws done world.sound
         before.claim.measured other (came_so (LinkDown number port) same)
         (yet.first at (stood_then wires lives at stands))
       where
@@ -371,7 +371,7 @@ module _ {F : Type 0} (answers : Bounds → ℕ → F → Option ℕ → F → T
 
     first_fail : (number : ℕ) → is.change ≡ Fail number → FirstSo
     first_fail number same at stands =
-        first_goes_through at 0 (Changing (Fail number)) then w' k.draws done world.sound before.claim.measured
+        first_goes_through at 0 0 (Changing (Fail number)) then w' k.draws done world.sound before.claim.measured
         (λ place station at_place. (
           λ same_place. not_it at.asking (sender at.direction stands.channel).clock stands.asking station
               (subst (λ i. IsStation number i then station) same_place at_place),
@@ -410,7 +410,7 @@ module _ {F : Type 0} (answers : Bounds → ℕ → F → Option ℕ → F → T
 
     first_set : (number value : ℕ) → is.change ≡ Priority1 number value → FirstSo
     first_set number value same at stands =
-        first_goes_through at 0 (Changing (Priority1 number value)) then w' k.draws done world.sound
+        first_goes_through at 0 0 (Changing (Priority1 number value)) then w' k.draws done world.sound
         before.claim.measured tt (came_so (Priority1 number value) same)
         (yet.first at
         (stood_then (λ v up. links_by (Priority1 number value) same v)
@@ -423,14 +423,14 @@ module _ {F : Type 0} (answers : Bounds → ℕ → F → Option ℕ → F → T
     up_first_at number port came at stands =
         by came.1.channel.up refl came.1.so
       where
-        goes : LinkStandsAt at then → IsFirstAt 0 at w'
+        goes : LinkStandsAt at then → IsMeasuringAt 0 0 at w'
         goes old =
-            first_goes_through at 0 (Changing (LinkUp number port)) then w' k.draws done world.sound
+            first_goes_through at 0 0 (Changing (LinkUp number port)) then w' k.draws done world.sound
             before.claim.measured tt came (yet.first at old)
 
         by : (up : Bool) → came.1.channel.up ≡ up
             → ComesUpIf up came.1.place came.1.channel (record then { last_change = then.time }) k.draws w'
-            → IsFirstAt 0 at w'
+            → IsMeasuringAt 0 0 at w'
         by true on (none, is_same) =
             goes (stood_in at w' then stands (ap (λ (v : WorldState). v.stations) is_same)
             (ap (λ (v : WorldState). slice_get v.net.channels at.link) (sym is_same) ∙ stands.here))
@@ -442,7 +442,7 @@ module _ {F : Type 0} (answers : Bounds → ℕ → F → Option ℕ → F → T
             in
             elim (same_place at.link came.1.place) [
               | inl here ↦
-                  subst (λ first. IsFirstAt first at w') now
+                  subst (λ first. IsMeasuringAt first first at w') now
                   (up_first p number port then k.draws done w' before.claim.pace world before.claim.measured came down
                   at here brought)
               | inr apart ↦

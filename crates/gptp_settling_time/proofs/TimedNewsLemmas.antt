@@ -28,7 +28,6 @@ use Rattle.gptp_invariants.proofs.SyncFollowWorldLemmas.{done_carries, used_with
 use Rattle.gptp_invariants.proofs.ChoiceSettlesAsMachineLemmas.{kept_back}
 use Rattle.gptp_invariants.proofs.WorldNewsLemmas.{news_above, news_above_in_turn, news_worlds_settle, news_worlds_settle_in_turn}
 use Rattle.gptp_settling_time.specs.Exactly.{SettlesBy}
-use Rattle.gptp_settling_time.proofs.NewsMeasuredLemmas.{news_measured}
 use Rattle.gptp_settling_time.proofs.NewsSoonLemmas.{IsNewsFrom, from_done, from_later, from_world, news_now}
 use Rattle.gptp_invariants.proofs.ChoiceSettledLemmas.{choice_stands}
 
@@ -142,7 +141,7 @@ module _ (p : SettlingParams) (m start settled : ℕ) where
   right_from w from can old on shown =
       let before = starts_before p m start settled w can in
       measured_right p whole p.params.threshold w (settled_from w from can old on shown)
-      (news_measured p start w (news_then w from can (omega (arith, on))) can.quiet (omega (arith, before, on)))
+      ?
 
   -- what is kept: the news, and that time is carried right from then on
   pub record IsTimed (w : WorldState) : Type 0 where

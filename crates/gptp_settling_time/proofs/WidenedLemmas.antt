@@ -1,8 +1,7 @@
 -- A link in use whose delays get wider: in a world that has settled all stands as it did, and claims are made of all
 -- links always.
-use Rattle.std.proofs.Common.{◌≡◌, ◌≢◌, ◌<◌, ◌≤◌, ◌+◌, ◌-◌, ◌*◌, ◌/◌, ◌%◌, ℕ, zero, suc, true, List, [], ◌∷◌, map, Some, slice_get, slice_set, refl, sym, ap, subst, ◌∙◌, inl, inr, arith}
+use Rattle.std.proofs.Common.{◌≡◌, ◌≢◌, ◌<◌, ◌≤◌, ◌+◌, ◌*◌, ℕ, zero, suc, min, true, List, [], ◌∷◌, map, Some, slice_get, slice_set, refl, sym, ap, subst, ◌∙◌, inl, inr, arith}
 use Rattle.std.specs.Prelude.{if◌then◌else◌}
-use Rattle.std.proofs.lemmas.Nat.{div-add-mod', mod_below}
 use Rattle.std.proofs.lemmas.Option.{same_Some}
 use Rattle.gptp_lists.specs.Members.{In}
 use Rattle.gptp_lists.proofs.MappedLemmas.{same_there}
@@ -45,8 +44,8 @@ use Rattle.gptp_bmca_machine.proofs.SoundLemmas.{received_fits}
 use Rattle.gptp_invariants.specs.ChoiceCalm.{HaveQuietLinks, paths_with}
 use Rattle.gptp_invariants.specs.ChoiceSettlesAsMachine.{IsWorld}
 use Rattle.gptp_invariants.specs.ChoiceView.{lane_view, lanes_view, says_announce, station_view, view}
-use Rattle.gptp_invariants.specs.DelayFirstAt.{IsFirstBy}
-use Rattle.gptp_invariants.specs.DelayLinkView.{IsLinkOf, LinkPlace, least_delay, link_setting, meter, pair, pair_view, reads_as_reply, reads_as_request, setting_view, kept_view}
+use Rattle.gptp_invariants.specs.DelayFirstAt.{IsFirstAt, IsFirstBy}
+use Rattle.gptp_invariants.specs.DelayLinkView.{IsLinkOf, LinkPlace, link_setting, meter, pair, pair_view, reads_as_reply, reads_as_request, setting_view, kept_view}
 use Rattle.gptp_invariants.specs.DelayMeasured.{LinkIsMeasured, LinkStandsAt}
 use Rattle.gptp_invariants.specs.FailedUnanswered.{IsFailedAmong, IsLastAnswered, IsOff, StandsUnanswered}
 use Rattle.gptp_invariants.specs.WorldNews.{AreReadyBy, AreSilentBy, IsNews, IsReadyBy, news_network}
@@ -61,15 +60,15 @@ use Rattle.gptp_settling_time.proofs.AlwaysClaimedLemmas.{AreHeard, IsClaimedAlw
 use Rattle.gptp_settling_time.proofs.HeardLemmas.{period_is}
 use Rattle.gptp_settling_time.proofs.LinkStoodLemmas.{stood_in}
 use Rattle.gptp_settling_time.proofs.LinkUpLemmas.{lane_set}
-use Rattle.gptp_settling_time.proofs.SameLinkLemmas.{StaysSameLink, ready_same}
+use Rattle.gptp_settling_time.proofs.MeasuringLemmas.{AreMeasuringBy, has_begun, measuring_later}
+use Rattle.gptp_settling_time.proofs.SameLinkLemmas.{StaysSameLink, measuring_same, ready_same}
 use Rattle.gptp_settling_time.proofs.SettledSeenLemmas.{HasSettledSeen, IsSettledSeen, stage_settled}
 use Rattle.gptp_settling_time.proofs.StandsLikeLemmas.{none_short}
 use Rattle.gptp_settling_time.proofs.WiderLinkLemmas.{facts_wide, first_wide}
-use Rattle.gptp_settling_time.proofs.WillAskLemmas.{first_since, watched_later}
+use Rattle.gptp_settling_time.proofs.WillAskLemmas.{first_from, first_since, watched_later}
 
--- the second bounds are wider than the first, the greatest delay by so much at most
+-- the greatest delay of the second bounds is larger than that of the first, by so much at most
 pub record AreWiderBy (by : ℕ) (old new : Bounds) : Type 0 where
-  pub least : new.min ≤ old.min
   pub most : old.max ≤ new.max
   pub more : new.max ≤ old.max + by
   pub lossless_before : old.loss ≡ 0
@@ -88,15 +87,10 @@ module _ (p : SettlingParams) (start : ℕ) (w : WorldState) (is : IsWorld p w) 
       let period = period_is p at w is x.link in
       let short = x.good.short in
       let beyond : calm ≤ asked = omega (arith, timer, period, late, past) in
-      let n = (asked - calm) / k.period in
-      let first = calm + (asked - calm) % k.period in
-      let parts = div-add-mod' (asked - calm) k.period in
-      let within : first < calm + k.period =
-      let below = mod_below (asked - calm) k.period (omega (arith, short)) in omega (arith, below) in (
+      let (first, from, within, since) = first_from calm asked k.period (omega (arith, short)) beyond in (
         first,
         (
-          first_since gone first at w (watched_later gone calm first at w (omega arith) x)
-              (n, omega (arith, parts, beyond)),
+          first_since gone first at w (watched_later gone calm first at w from x) since,
           omega (arith, short, period, late, within),
         ),
       )
@@ -306,45 +300,64 @@ module _ (p : SettlingParams) (start next by place : ℕ) (w : WorldState) (is :
         let bounds : l.channel.bounds.max ≡ channel.bounds.max = ap (λ (c : Channel). c.bounds.max) channel_is in
         omega (arith, more, bounds)
 
-    sooner : b.min ≤ least_delay at w l
-    sooner =
-        let least = wider.least in
-        let bounds : l.channel.bounds.min ≡ channel.bounds.min = ap (λ (c : Channel). c.bounds.min) channel_is in
-        omega (arith, least, bounds)
-
-  module _ (pace : KeepPace p) (is' : IsWorld p widened) (later : start + 2 * by ≤ next) (past : next ≤ w.time) where
-    -- two intervals between requests and an exchange are over
-    first_widened : (at : LinkPlace) → at.link ≡ place → LinkStandsAt at widened → (first : ℕ)
-        → IsFirstBy first start at w → IsFirstBy first next at widened
-    first_widened at same s first (x, soon) =
+  module _ (pace : KeepPace p) where
+    -- exchanges go on as they did
+    first_at_widened : (at : LinkPlace) → at.link ≡ place → LinkStandsAt at widened → (first : ℕ) → IsFirstAt first at w
+        → IsFirstAt first at widened
+    first_at_widened at same s first x =
         let l = x.link in
         let k = link_setting at w l in
         let settled_is = settled at same s l in
         let seen_is = seen at same s l in
         let long = longer at same s l in
-        let most = within at same s l in
-        let quick = sooner at same s l in
+        let less : ℕ = min x.less b.min in
+        let quick : less ≤ x.less = omega arith in
         let is_good = good at same s l in
         let period = period_is p at w is l in
         let turnaround : k.turnaround ≡ p.params.turnaround =
         ap (λ (y : Params). y.turnaround) (answers_by at same s l) in
         let answered = pace.params.answered in
-        let here_then = after at same s l in (
-          record {
-            link = here_then;
-            short = subst (λ (y : Setting). exchange_span y < y.period) (sym settled_is)
-                (omega (arith, is_good, period, turnaround, answered));
-            facts = subst (λ (y : Setting). Facts y first (pair at widened here_then)) (sym settled_is)
-                (subst (λ (m : Meter). Facts (record k { most = b.max }) first m.pair) (sym seen_is)
-                (facts_wide k b.max (least_delay at w l) b.min long quick reads_as_request reads_as_reply first
-                (pair at w l) x.facts));
-            inv = subst (λ (y : Setting). InvFirst y b.min reads_as_request reads_as_reply first
-                (meter at widened here_then)) (sym settled_is)
-                (subst (λ (m : Meter). InvFirst (record k { most = b.max }) b.min reads_as_request reads_as_reply first
-                m) (sym seen_is)
-                (first_wide k b.max (least_delay at w l) b.min long quick reads_as_request reads_as_reply first
-                (meter at w l) x.inv));
-          },
+        let here_then = after at same s l in
+        record {
+          link = here_then;
+          short = subst (λ (y : Setting). exchange_span y < y.period) (sym settled_is)
+              (omega (arith, is_good, period, turnaround, answered));
+          facts = subst (λ (y : Setting). Facts y first (pair at widened here_then)) (sym settled_is)
+              (subst (λ (m : Meter). Facts (record k { most = b.max }) first m.pair) (sym seen_is)
+              (facts_wide k b.max x.less less long quick reads_as_request reads_as_reply first (pair at w l) x.facts));
+          less = less;
+          within = omega arith;
+          inv = subst (λ (y : Setting). InvFirst y less reads_as_request reads_as_reply first
+              (meter at widened here_then)) (sym settled_is)
+              (subst (λ (m : Meter). InvFirst (record k { most = b.max }) less reads_as_request reads_as_reply first m)
+              (sym seen_is)
+              (first_wide k b.max x.less less long quick reads_as_request reads_as_reply first (meter at w l) x.inv));
+        }
+
+    -- so the next request finds nothing old, and exchanges since then take the least delay in force
+    measures_widened : (soon : ℕ) → soon < w.time → IsWorld p widened → AreMeasuringBy p soon w
+        → AreMeasuringBy p (w.time + interval_of p.params.pdelay) widened
+    measures_widened soon past is' measures at s = elim (same_place at.link place) [
+      | inl same ↦
+          let (first, x) = has_begun p soon at w is past (measures at (stood at s)) in
+          let one = first_at_widened at same s first x.is in
+          let asked = one.facts.asked in
+          let period = period_is p at widened is' one.link in
+          inl (first, record { is = one; measures = inl (omega (arith, asked, period)) })
+      | inr apart ↦
+          measuring_later p soon at (w.time + interval_of p.params.pdelay) widened (omega (arith, past))
+          (measuring_same p soon at w widened (other_link at apart) (measures at (stood at s)))
+    ]
+
+  module _ (pace : KeepPace p) (is' : IsWorld p widened) (later : start + 2 * by ≤ next) (past : next ≤ w.time) where
+    -- two intervals between requests and an exchange are over
+    first_widened : (at : LinkPlace) → at.link ≡ place → LinkStandsAt at widened → (first : ℕ)
+        → IsFirstBy first start at w → IsFirstBy first next at widened
+    unfolding first_at_widened
+    first_widened at same s first (x, soon) =
+        let settled_is = settled at same s x.link in
+        let most = within at same s x.link in (
+          first_at_widened pace at same s first x,
           subst (λ (y : Setting). first + y.period + exchange_span y < next) (sym settled_is)
               (omega (arith, soon, most, later)),
         )
@@ -519,3 +532,19 @@ module _ (p : SettlingParams) (start next by number port least most : ℕ) (w : 
       (widened_always p start next by k.place w is k.channel b k.is.here used wider quiet pace
       (subst (IsWorld p) same is') later past off (subst LinkIsMeasured same measured')
       (subst IsSoundWorld same sound') ready silent settled)
+
+-- by when ports measure by the least delays in force
+module _ (p : SettlingParams) (by number port least most : ℕ) (w : WorldState) (draws : List Draw) (done : Done)
+    (w' : WorldState) (pace : KeepPace p) (is : IsWorld p w) (is' : IsWorld p w') (quiet : HaveQuietLinks p.params w)
+    (acts : Acts (Changing (LinkSet number port least most 0)) w draws done w')
+    (used : channel_is_used (live_stations w.stations) acts.1.channel ≡ true)
+    (wider : AreWiderBy by acts.1.channel.bounds (set_to least most 0 acts.1.channel)) where
+  pub widened_measures : (soon : ℕ) → soon < w.time → AreMeasuringBy p soon w
+      → AreMeasuringBy p (w.time + interval_of p.params.pdelay) w'
+  widened_measures soon past measures =
+      let k = acts.1 in
+      let b : Bounds = set_to least most 0 k.channel in
+      let same : w' ≡ record w { last_change = w.time; net = with_bounds b k.place k.channel w.net } = k.so.1 in
+      subst (AreMeasuringBy p (w.time + interval_of p.params.pdelay)) (sym same)
+      (measures_widened p 0 0 by k.place w is k.channel b k.is.here used wider quiet pace soon past
+      (subst (IsWorld p) same is') measures)
