@@ -40,7 +40,7 @@ use Rattle.gptp_pdelay_machine.proofs.FactLemmas.{facts_kept, facts_later}
 use Rattle.gptp_pdelay_machine.proofs.FirstLemmas.{asked_first, exchange_full, first_kept, first_later, has_measured_by, measures_by_kept, measures_by_later}
 use Rattle.gptp_pdelay_machine.proofs.LaneLemmas.{mute_append}
 use Rattle.gptp_invariants.specs.DelayElsewhereLaws.{LeavesAlone}
-use Rattle.gptp_invariants.specs.DelayFirstAt.{IsFirstAt, IsFirstBy, IsMeasuringAt}
+use Rattle.gptp_invariants.specs.DelayFirstAt.{IsFirstAt, IsFirstBy, IsMeasuringAt, IsMeasuringBefore}
 use Rattle.gptp_invariants.specs.DelayFirstAtLaws.{FirstGoesOn, FirstGoesThrough, FirstIsFull, FirstIsMeasured}
 use Rattle.gptp_invariants.specs.DelayLinkActs.{IsOneAct}
 use Rattle.gptp_invariants.specs.DelayLinkView.{IsLinkOf, LinkPlace, RequestFits, asker_view, reads_as_request, link_frame_view, least_delay, meter, other_direction, pair, reads_as_reply, request_from, link_setting, waits_view, setup_stamps}
@@ -213,6 +213,42 @@ pub by_goes_on : (at : LinkPlace) (first start time : ℕ) (w : WorldState) → 
 unfolding first_on
 by_goes_on at first start time w sound later nothing (l, by) =
     (first_on at first time w sound later nothing l, by)
+
+-- so is when an interval and an exchange after that request are over
+module _ (at : LinkPlace) (first by start : ℕ) where
+  abbrev Over : Setting → Type 0
+  Over k = by + k.period + exchange_span k < start
+
+  over_acted : (w w' : WorldState) (x : IsMeasuringBefore first by start at w) → IsOneAct at w w' x.0.is.link
+      → IsMeasuringBefore first by start at w'
+  unfolding first_acted measuring_acted
+  over_acted w w' (x, over) seen =
+      (measuring_acted at first by w w' x seen, subst Over (sym seen.settled) over)
+
+  over_like : (w w' : WorldState) (x : IsMeasuringBefore first by start at w) (l : IsLinkOf at w')
+      → link_setting at w' l ≡ link_setting at w x.0.is.link → meter at w' l ≡ meter at w x.0.is.link
+      → least_delay at w' l ≡ least_delay at w x.0.is.link → IsMeasuringBefore first by start at w'
+  unfolding first_like measuring_like
+  over_like w w' (x, over) l set seen least =
+      (measuring_like at first by w w' x l set seen least, subst Over (sym set) over)
+
+  pub over_goes_through : (act : Act) (w w' : WorldState) (draws : List Draw) (done : Done)
+      → IsSound w → LinkIsMeasured w → LeavesAlone at act w → Acts act w draws done w'
+      → IsMeasuringBefore first by start at w → IsMeasuringBefore first by start at w'
+  over_goes_through (Deliver link direction) w w' draws done sound measured alone acts x =
+      over_acted w w' x
+      (acts_seen at (Deliver link direction) w w' draws done x.0.is.link sound (λ change same. absurd cc) acts)
+  over_goes_through (Expire number timer) w w' draws done sound measured alone acts x =
+      over_acted w w' x
+      (acts_seen at (Expire number timer) w w' draws done x.0.is.link sound (λ change same. absurd cc) acts)
+  over_goes_through (Changing change) w w' draws done sound measured alone acts x =
+      goes_through at (IsMeasuringBefore first by start at) (λ v h. h.0.is.link) over_acted over_like change w w' draws
+      done sound measured alone acts x
+
+  pub over_goes_on : (time : ℕ) (w : WorldState) → IsSound w → w.time ≤ time → NothingBefore time w.net.pending
+      → IsMeasuringBefore first by start at w → IsMeasuringBefore first by start at (at_time time w)
+  unfolding first_on first_goes_on
+  over_goes_on time w sound later nothing (x, over) = (first_goes_on at first by time w sound later nothing x, over)
 
 pub first_full : FirstIsFull
 first_full at first w l late =

@@ -31,6 +31,13 @@ IsFirstBy first start at w =
     (l : IsFirstAt first at w)
     × (first + (link_setting at w l.link).period + exchange_span (link_setting at w l.link) < start)
 
+-- and it measures by the least delay in force from a request on that is sent by this time, after which an interval and
+-- an exchange are over before this start
+abbrev pub IsMeasuringBefore : ℕ → ℕ → ℕ → LinkPlace → WorldState → Type 0
+IsMeasuringBefore first by start at w =
+    (x : IsMeasuringAt first by at w)
+    × (by + (link_setting at w x.is.link).period + exchange_span (link_setting at w x.is.link) < start)
+
 -- At this place stands a link that is down, loses nothing and is good, and at its ends two live stations; the pdelay
 -- interval leaves an exchange over it its time.
 pub record StandsDown (at : LinkPlace) (w : WorldState) : Type 0 where

@@ -45,14 +45,18 @@ use Rattle.gptp_settling_time.proofs.DocumentLemmas.{run_to}
 use Rattle.gptp_settling_time.proofs.AfterLemmas.{IsAfter, after_act, after_chooses, after_keeps, after_later, begins_after}
 use Rattle.gptp_settling_time.proofs.InTurnLemmas.{in_turn}
 use Rattle.gptp_settling_time.proofs.LaterLemmas.{AreSteps}
-use Rattle.gptp_settling_time.proofs.MeasuringLemmas.{measuring_measures}
+use Rattle.gptp_settling_time.proofs.MeasureToLemmas.{AreMeasuredTo, AsksLater}
+use Rattle.gptp_settling_time.proofs.MeasuredEventLemmas.{measured_so}
+use Rattle.gptp_settling_time.proofs.MeasuredInTurnLemmas.{measured_in_turn}
+use Rattle.gptp_settling_time.proofs.MeasuringLemmas.{asked_over, measured_links}
 use Rattle.gptp_settling_time.proofs.SinceSetLemmas.{limited_arrive}
 use Rattle.gptp_settling_time.proofs.SoonOffsetLemmas.{CarriesRight, carried_exact}
 
 module _ (d : DocumentState) (playable : IsPlayable d) (all : List Timed) (calm : IsCalm d.network all) (last : Past)
     (settled : ℕ) (settles : ChoosesAfter d.network all last settled)
     (behind : last_change all < settled) (most : ℕ) (within : HasDelaysWithin d.network all most)
-    (old : arrived_by most all ≤ settled) (measured : AreMeasuredBefore d.network all settled) where
+    (old : arrived_by most all ≤ settled) (measured : AreMeasuredTo d.network all settled)
+    (again : AreMeasuredBefore d.network all settled) where
   abbrev p : SettlingParams
   p = pace_of d.network
 
@@ -71,12 +75,14 @@ module _ (d : DocumentState) (playable : IsPlayable d) (all : List Timed) (calm 
   have_measured : (w : WorldState) → IsAfter d all last w → whole ≤ w.time → HaveMeasuredLinks w
   have_measured w so on =
       let keeps = after_keeps d all last w so in
-      let (by, led, soon) = measured in
       let delay : (sync_paths d.network all).delay ≡ delay_in w =
       ap (λ (x : SyncPaths). x.delay)
       (paths_stand d.network all w playable.network keeps.stands keeps.claim.world.sound) in
-      measuring_measures p by w keeps.claim.world (keeps.measures by led) (quiet w so)
-      (omega (arith, soon, on, delay))
+      measured_links p settled w keeps.claim.world
+      (asked_over p settled (AsksLater d.network all measured.how) w keeps.claim.world
+      (λ time (anew, asks). (let over = again time asks in omega (arith, over, delay)))
+      (measured_so d playable all settled w keeps measured))
+      (quiet w so) on
 
   -- what was in flight before has arrived
   arrive : (w : WorldState) → IsAfter d all last w → ArriveBy whole w
@@ -189,7 +195,7 @@ module _ {F : Type 0} (answers : Bounds → ℕ → F → Option ℕ → F → T
     (behind : last_change (events_by t.told.timed.at d.events) < settled)
     (within : HasDelaysWithin d.network (events_by t.told.timed.at d.events) most)
     (old : arrived_by most (events_by t.told.timed.at d.events) ≤ settled)
-    (measured : AreMeasuredBefore d.network (events_by t.told.timed.at d.events) settled) where
+    (again : AreMeasuredBefore d.network (events_by t.told.timed.at d.events) settled) where
   abbrev now : ℕ
   now = t.told.timed.at
 
@@ -199,16 +205,20 @@ module _ {F : Type 0} (answers : Bounds → ℕ → F → Option ℕ → F → T
   begun : IsAfter d [] is.first first
   begun = begins_after answers d playable fate now first w ts k is.first is.begins
 
+  measured : AreMeasuredTo d.network events settled
+  measured =
+      measured_in_turn d now settled playable (after_keeps d [] is.first first begun).claim.pace is behind
+
   abbrev Exact : WorldState → Type 0
-  Exact = IsExactTo d playable events is.calm is.last settled is.settles behind most within old measured
+  Exact = IsExactTo d playable events is.calm is.last settled is.settles behind most within old measured again
 
   steps : AreSteps answers Exact events ts first
   steps =
       in_turn answers d playable events is.last now Exact
-      (exact_begins d playable events is.calm is.last settled is.settles behind most within old measured)
-      (exact_later d playable events is.calm is.last settled is.settles behind most within old measured)
+      (exact_begins d playable events is.calm is.last settled is.settles behind most within old measured again)
+      (exact_later d playable events is.calm is.last settled is.settles behind most within old measured again)
       (λ u one drawn v next was v_is.
-      exact_act d playable events is.calm is.last settled is.settles behind most within old measured answers u one
+      exact_act d playable events is.calm is.last settled is.settles behind most within old measured again answers u one
       drawn v next was v_is)
       [] is.first events ts k.started k.drawn first w refl (events_made d now playable.network playable.events)
       (events_fit d now playable) is.lead k.courses begun (begun_last answers d playable fate k.started first k.begun)
@@ -221,8 +231,8 @@ module _ {F : Type 0} (answers : Bounds → ℕ → F → Option ℕ → F → T
         drawn = step.drawn;
         was = step.was;
         right = λ on.
-            carries_right d playable events is.calm is.last settled is.settles behind most within old measured (at now t.before)
-            (exact_later d playable events is.calm is.last settled is.settles behind most within old measured t.before now
+            carries_right d playable events is.calm is.last settled is.settles behind most within old measured again (at now t.before)
+            (exact_later d playable events is.calm is.last settled is.settles behind most within old measured again t.before now
             step.was.ready.timely.now step.was.ready.timely.first step.before)
             on shown;
       }
@@ -236,10 +246,10 @@ module _ {F : Type 0} (answers : Bounds → ℕ → F → Option ℕ → F → T
 pub acts_are_exact_in_turn : {F : Type 0} (answers : Bounds → ℕ → F → Option ℕ → F → Type 0)
     → ActsAreExactInTurn answers
 acts_are_exact_in_turn answers d until settled most fate first w ts t playable k member shown is behind within old
-    measured =
+    again =
     let run = run_to answers d until fate first w ts t playable k member in
     exact_then answers d settled most fate first run.w run.ts t playable run.unfolds run.member shown is behind within
-    old measured
+    old again
 
 -- so it is of each act of a run from then on
 pub acts_are_carried_in_turn : {F : Type 0} (answers : Bounds → ℕ → F → Option ℕ → F → Type 0) (d : DocumentState)
@@ -253,7 +263,7 @@ pub acts_are_carried_in_turn : {F : Type 0} (answers : Bounds → ℕ → F → 
     → settled ≤ t.told.timed.at
     → IsCarried answers (pace_of d.network) settled t
 acts_are_carried_in_turn answers d until settled most fate first w ts t playable k member shown is behind within old
-    measured =
+    again =
     let run = run_to answers d until fate first w ts t playable k member in
     carried answers d settled most fate first run.w run.ts t playable run.unfolds run.member shown is behind within old
-    measured
+    again

@@ -1,6 +1,11 @@
 pub mod BetweenCalmLemmas
 pub mod BetweenUnmovedLemmas
 pub mod MeasuringLemmas
+pub mod MeasureToLemmas
+pub mod MeasuredEventLemmas
+pub mod MeasureLeadLemmas
+pub mod MeasuredInTurnLemmas
+pub mod StoodEventLemmas
 pub mod OneCallLemmas
 pub mod TakenClaimedLemmas
 pub mod TakenClearedLemmas

@@ -49,39 +49,33 @@ use Rattle.gptp_theorem.proofs.SyncPathLemmas.{paths_stand}
 use Rattle.gptp_theorem.proofs.CalmLemmas.{quiet_stands}
 use Rattle.gptp_settling_time.specs.Arrivals.{arrived_by}
 use Rattle.gptp_settling_time.specs.Gains.{AreCapableAnyway, AreCapableNext, AreCapableStill, AreSparedBy, ChangesNothing, HasDelaysWithin, IsGainAfter, IsIdleAfter, IsSparedBy, JoinsLive, LeavesCapable, SparesFailed, TakesNothing, UsesNoLink}
-use Rattle.gptp_settling_time.specs.Measuring.{LeavesMeasuring, MeasureBy, MeasureNext}
 use Rattle.gptp_settling_time.specs.Idle.{Lives}
 use Rattle.gptp_settling_time.specs.EventKinds.{AddsHeard}
-use Rattle.gptp_settling_time.proofs.GainLemmas.{all_live, better_lives, failed_so, gain_so, idle_so, lives_so, used_as, used_so, within_so}
+use Rattle.gptp_settling_time.proofs.GainLemmas.{all_live, better_lives, failed_so, gain_so, idle_so, lives_so, none_uses}
 use Rattle.gptp_settling_time.proofs.IdleLemmas.{idle_still}
 use Rattle.gptp_settling_time.proofs.AskedElsewhereLemmas.{up_gone_still, up_in_time_still}
 use Rattle.gptp_settling_time.proofs.AskedInTimeLemmas.{AreAskedInTime, are_asked_begin, are_asked_later}
 use Rattle.gptp_settling_time.proofs.BetweenFailedLemmas.{AreGoneBetween, gone_begins, gone_later}
 use Rattle.gptp_settling_time.proofs.DelayWithinLemmas.{within_before, within_last}
 use Rattle.gptp_settling_time.proofs.KeptToLemmas.{IsNewsTo, KeepsTo, WereAskedInTime, keeps_later}
-use Rattle.gptp_settling_time.proofs.MeasuringLemmas.{AreMeasuringBy, measuring_anew, measuring_later, measuring_time}
+use Rattle.gptp_settling_time.proofs.MeasureToLemmas.{AsksAt, HowAsked, MeasureTo, one_more_measured}
+use Rattle.gptp_settling_time.proofs.MeasuredEventLemmas.{measured_event}
+use Rattle.gptp_settling_time.proofs.MeasuringLemmas.{AreMeasuredOr}
 use Rattle.gptp_settling_time.proofs.NamedWorldLemmas.{named_begins}
 use Rattle.gptp_settling_time.proofs.NewsSoonLemmas.{AreComing, HowComing, IsNewsFrom, IsNewsSoon, coming_later, from_coming, from_later, from_sound}
 use Rattle.gptp_settling_time.proofs.PriorityNewsLemmas.{priority_soon, priority_stays_news}
 use Rattle.gptp_settling_time.proofs.PrioritySparedLemmas.{priority_gone, priority_in_time}
-use Rattle.gptp_settling_time.proofs.RecoverLemmas.{recover_alone, recover_in_time, recover_measures, recover_soon}
+use Rattle.gptp_settling_time.proofs.RecoverLemmas.{recover_alone, recover_in_time, recover_soon}
 use Rattle.gptp_settling_time.proofs.RecoverAloneLemmas.{UsesNone, none_stands}
 use Rattle.gptp_settling_time.proofs.SinceSetLemmas.{limited_later, limited_made}
 use Rattle.gptp_settling_time.proofs.StandsStillLemmas.{StandsStill, asked_still, between_still, from_stands}
-use Rattle.gptp_settling_time.proofs.UpSoonLemmas.{up_measures, up_soon}
-use Rattle.gptp_settling_time.proofs.WidenedLemmas.{widened_measures}
+use Rattle.gptp_settling_time.proofs.UpSoonLemmas.{up_soon}
 
 -- what is so at both ends of a link is so where it leads to
 end_so : (So : ℕ → Type 0) (direction : Direction) (channel : Channel) → So channel.a.clock → So channel.b.clock
     → So (receiver direction channel).clock
 end_so So FromA channel a b = b
 end_so So FromB channel a b = a
-
--- and where it begins is one of its ends
-end_is : (number : ℕ) (direction : Direction) (channel : Channel) → (sender direction channel).clock ≡ number
-    → (channel.a.clock ≡ number) ⊎ (channel.b.clock ≡ number)
-end_is number FromA channel same = inl same
-end_is number FromB channel same = inr same
 
 -- ports are capable later than an event comes that leaves others so
 pub leaves_later : (n : NetworkState) (before : List Timed) (event : Timed) (next : ℕ) (change : Change)
@@ -149,21 +143,6 @@ one_more n before (first ∷ events) event time (one, more) =
     let (rest, last) = one_more n (before ++ first ∷ []) events event time more in
     ((one, rest), subst (λ es. IsSparedBy n es event time) (append_assoc before (first ∷ []) events) last)
 
-one_more_measures : (n : NetworkState) (before : List Timed) (by : ℕ) (events : List Timed) (event : Timed) (time : ℕ)
-    → MeasureBy n before by (events ++ event ∷ []) time
-    → (now : ℕ) × MeasureBy n before by events now × (next : ℕ) × MeasureNext n (before ++ events) now event next
-    × (next ≤ time)
-one_more_measures n before by [] event time (next, one, until) =
-    (by, omega arith, next, subst (λ es. MeasureNext n es by event next) (sym (append-nil before)) one, until)
-one_more_measures n before by (first ∷ events) event time (next, one, more) =
-    let (now, rest, then, last, until) = one_more_measures n (before ++ first ∷ []) next events event time more in (
-      now,
-      (next, one, rest),
-      then,
-      subst (λ es. MeasureNext n es now event then) (append_assoc before (first ∷ []) events) last,
-      until,
-    )
-
 -- ---- an event is made
 
 module _ {F : Type 0} (answers : Bounds → ℕ → F → Option ℕ → F → Type 0) (d : DocumentState)
@@ -214,14 +193,7 @@ module _ {F : Type 0} (answers : Bounds → ℕ → F → Option ℕ → F → T
 
     -- no link in use ends at a system that uses none
     pub uses_none : (number : ℕ) → UsesNoLink n more number → UsesNone number w'
-    uses_none number unused link channel here used direction same =
-        let (v, there, wire) = alike (link_after more) channel_wire n.links w'.net.channels (sym stands_after.links)
-        link channel here in
-        unused link v there
-        (subst (IsUsed n.systems more) (sym wire)
-        (used_as n more w' stands_after claim_after.world.sound channel used))
-        (subst (λ (x : LinkSpec). (x.a.clock ≡ number) ⊎ (x.b.clock ≡ number)) (sym wire)
-        (end_is number direction channel same))
+    uses_none number unused = none_uses n more w' stands_after claim_after.world.sound number unused
 
     -- a link between live systems isn't one that leads to a failed one
     apart : (number port : ℕ) → JoinsLive n more (port_id number port) → (place : LinkPlace)
@@ -321,57 +293,16 @@ module _ {F : Type 0} (answers : Bounds → ℕ → F → Option ℕ → F → T
               (gone, past, both.0, both.1)
         ]
 
-    -- by when ports measure by the least delays in force
-    measured_event : (now next : ℕ) → now ≤ next → AreMeasuringBy p now then → (change : Change) → is.change ≡ change
-        → LeavesMeasuring n made now event next (Changing change) → AreMeasuringBy p next w'
-    measured_event now next longer measures (LinkUp number port) same late =
-        up_measures p number port then k.draws done w' claim_now.pace claim_now.world claim_after.world
-        claim_now.measured (acts_as (LinkUp number port) same) now next longer late measures
-    measured_event now next longer measures (LinkDown number port) same leaves = ?
-    measured_event now next longer measures (LinkSet number port min max loss) same ((wider, x), calm, past, late) =
-        let came : Acts (Changing (LinkSet x.clock x.port x.min x.max 0)) then k.draws done w' =
-        subst (λ act. Acts act then k.draws done w') x.act k.acts in
-        let quiet = (quiet_stands n made then playable.network stands_now claim_now.world.sound calm).links in
-        let within = within_so n made then stands_now claim_now.world.sound (port_id x.clock x.port) x.max wider
-        x.within came.1.place came.1.channel came.1.is in
-        let used = used_so n made then stands_now claim_now.world.sound came.1.channel within.used in
-        let measured_then = widened_measures p wider x.clock x.port x.min x.max then k.draws done w' claim_now.pace
-        claim_now.world claim_after.world quiet came used
-        (record {
-          most = within.most;
-          more = within.more;
-          lossless_before = (quiet came.1.place came.1.channel came.1.is.here used).lossless;
-          lossless = refl;
-        }) now past measures in
-        λ place stands.
-        measuring_later p (event.at + interval_of p.params.pdelay) next place w' late (measured_then place stands)
-    measured_event now next longer measures (Fail number) same leaves = ?
-    measured_event now next longer measures (Recover number) same (failed, alone, late) =
-        let (gone, past, asked, all) = keeps.asked event.at alone in
-        let came = acts_as (Recover number) same in
-        let exchange = delay_in w' + p.params.turnaround + delay_in w' in
-        recover_measures p next (event.at + 2 * interval_of p.params.pdelay + exchange + 1) number then k.draws done w'
-        claim_now.pace claim_now.world claim_after.world claim_now.measured claim_after.measured came
-        (failed_so n made then stands_now claim_now.world.sound number failed came.1.place came.1.station
-        (record { here = came.1.is.here; named = came.1.is.named })) gone past (asked_now gone asked) now longer late
-        (omega arith) measures
-    measured_event now next longer measures (Priority1 number value) same leaves = ?
-    measured_event now next longer measures (Inject number port octets) same none = absurd none
-
-    measures_after : (by : ℕ) → MeasureBy n [] 0 more by → AreMeasuringBy p by w'
-    measures_after by led =
-        let (now, before, next, last, until) = one_more_measures n [] 0 made event by led in
-        let change = made_last in
+    -- from when ports measure by the least delays in force
+    measures_after : (how : HowAsked) (start : ℕ) → MeasureTo n more how start
+        → AreMeasuredOr p start (AsksAt n more how) w'
+    measures_after how start led =
+        let (then_how, now, before, last) = one_more_measured n made event how start led in
+        let keeps_then = keeps_later d made w event.at k.ready.timely.now k.ready.timely.first keeps in
+        let changed = made_last in
         let time = made_time in
-        elim last [
-          | inl anew ↦ measuring_anew p by w' claim_after.watched (omega (arith, anew, until, change, time))
-          | inr (longer, leaves) ↦
-              let measures = measuring_time p now event.at w keeps.claim.world.sound k.ready.timely.now
-              k.ready.timely.first (keeps.measures now before) in
-              let then = measured_event now next longer measures is.change refl
-              (subst (LeavesMeasuring n made now event next) is.act leaves) in
-              λ place stands. measuring_later p next place by w' until (then place stands)
-        ]
+        measured_event d playable made event then w' k.draws done keeps_then refl claim_after stands_after
+        (changed ∙ time) k.acts is.change is.act then_how how now start last (keeps_then.measures then_how now before)
 
     pub made_keeps : KeepsTo d more w'
     made_keeps = record {

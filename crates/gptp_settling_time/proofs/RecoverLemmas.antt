@@ -61,7 +61,7 @@ use Rattle.gptp_settling_time.proofs.AskedElsewhereLemmas.{asked_up, still_in_ti
 use Rattle.gptp_settling_time.proofs.AskedInTimeLemmas.{AreAskedInTime, IsAskedInTime}
 use Rattle.gptp_settling_time.proofs.AsksSoonLemmas.{alone_asks, asked_before, both_ways, due_now, now_asks, seen_due, soon_after}
 use Rattle.gptp_settling_time.proofs.BetweenFailedLemmas.{AreGoneBetween, IsGoneBetween, StandsFailed, gone_still, gone_up}
-use Rattle.gptp_settling_time.proofs.MeasuringLemmas.{AreMeasuringBy, IsMeasuringBy, measuring_goes_through, measuring_later}
+use Rattle.gptp_settling_time.proofs.MeasuringLemmas.{AreMeasuredOr, IsMeasuredOr, measured_for, measured_goes_through}
 use Rattle.gptp_settling_time.proofs.NewsSoonLemmas.{AreComing, IsComing, IsNewsSoon, coming_goes_through}
 use Rattle.gptp_settling_time.proofs.OrderedLemmas.{opposite, turned}
 use Rattle.gptp_settling_time.proofs.RestartLemmas.{AskedAlone, AsksIn, HasAskedNow, IsPrompt, alone_up, asks_in}
@@ -711,18 +711,25 @@ module _ (p : SettlingParams) (by next number : ℕ) (w : WorldState) (draws : L
         ];
       }
 
-  -- by when ports measure by the least delays in force
-  pub recover_measures : k.station.live ≡ false → (gone : ℕ) → gone < w.time → AreAskedInTime gone w → (before : ℕ)
-      → before ≤ by → w.time + interval_of p.params.pdelay ≤ by
-      → w.time + 2 * interval_of p.params.pdelay + (delay_in w' + p.params.turnaround + delay_in w') < next
-      → AreMeasuringBy p before w → AreMeasuringBy p by w'
-  recover_measures dead gone past asked before longer reach soon measures =
-      recovers_so dead gone past asked reach soon (λ at. IsMeasuringBy p by at w')
-      (λ at stands.
-      measuring_later p before at by w' longer
-      (measuring_goes_through p before at (Changing (Recover number)) w w' draws done is.sound measured tt acts
-      (measures at stands)))
-      (λ at old calm less will. inr (inr (old, calm, next, less, will)))
+  -- From when ports measure by the least delays in force: those that ask soon are in time, or it uses no link.
+  module _ (dead : k.station.live ≡ false) (start : ℕ) (Asks Others : ℕ → Type 0) (longer : start ≤ next)
+      (others : (time : ℕ) → Asks time → Others time) (measures : AreMeasuredOr p start Asks w) where
+    measured_on : (at : LinkPlace) → LinkStandsAt at w → IsMeasuredOr p next Others at w'
+    measured_on at stands =
+        measured_for p start Asks at next Others w' longer others
+        (measured_goes_through p start Asks at (Changing (Recover number)) w w' draws done is.sound measured tt acts
+        (measures at stands))
+
+    pub recover_measures : (gone : ℕ) → gone < w.time → AreAskedInTime gone w
+        → w.time + interval_of p.params.pdelay ≤ by
+        → w.time + 2 * interval_of p.params.pdelay + (delay_in w' + p.params.turnaround + delay_in w') < next
+        → AreMeasuredOr p next Others w'
+    recover_measures gone past asked reach soon =
+        recovers_so dead gone past asked reach soon (λ at. IsMeasuredOr p next Others at w') measured_on
+        (λ at old calm less will. inl (inr (old, calm, will)))
+
+    pub alone_measures : UsesNone → AreMeasuredOr p next Others w'
+    alone_measures unused at stands = measured_on at (stood_alone dead unused at stands)
 
   -- where it uses no link the others are capable as before
   pub recover_alone : k.station.live ≡ false → IsSoundWorld w → (gone : ℕ) → gone < w.time → AreGoneBetween gone w

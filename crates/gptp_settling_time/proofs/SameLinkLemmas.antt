@@ -10,12 +10,12 @@ use Rattle.gptp_pdelay_machine.specs.Measured.{MeterInv}
 use Rattle.gptp_pdelay_machine.specs.Meter.{Meter}
 use Rattle.gptp_pdelay_machine.specs.Order.{IsNotBefore, IsOrdered}
 use Rattle.gptp_pdelay_machine.specs.Setting.{Setting}
-use Rattle.gptp_invariants.specs.DelayFirstAt.{IsFirstAt, IsFirstBy}
+use Rattle.gptp_invariants.specs.DelayFirstAt.{IsFirstAt, IsFirstBy, IsMeasuringAt}
 use Rattle.gptp_invariants.specs.DelayLinkView.{IsLinkOf, LinkPlace, least_delay, link_setting, meter, reads_as_reply, reads_as_request}
 use Rattle.gptp_invariants.specs.DelayWatched.{IsWatched}
 use Rattle.gptp_invariants.specs.WorldNews.{IsReadyBy}
 use Rattle.gptp_settling_time.proofs.HeardLemmas.{IsHeardAt, IsToldAt}
-use Rattle.gptp_settling_time.proofs.MeasuringLemmas.{IsMeasuringBy}
+use Rattle.gptp_settling_time.proofs.MeasuringLemmas.{IsMeasuredOr}
 use Rattle.gptp_settling_time.proofs.OrderedLemmas.{IsTimelyAt, opposite, tells}
 use Rattle.gptp_settling_time.proofs.WillAskLemmas.{IsBeforeOrAsked, WillAsk}
 
@@ -88,24 +88,35 @@ will_same gone calm start at w w' x s =
       by = goes_over at w w' l s (λ k least m. calm + k.period + exchange_span k < start) x.by;
     }
 
--- by when its ports measure
-pub measuring_same : (p : SettlingParams) (by : ℕ) (at : LinkPlace) (w w' : WorldState) → StaysSameLink at w w'
-    → IsMeasuringBy p by at w → IsMeasuringBy p by at w'
+measuring_at_same : (first by : ℕ) (at : LinkPlace) (w w' : WorldState) (x : IsMeasuringAt first by at w)
+    → IsSameLink at w w' x.is.link → IsMeasuringAt first by at w'
 unfolding first_at_same
-measuring_same p by at w w' same (inl (first, x)) =
+measuring_at_same first by at w w' x s = record {
+  is = first_at_same first at w w' x.is s;
+  measures = goes_over at w w' x.is.link s
+      (λ k least m. MeasuresBy k least reads_as_request reads_as_reply first by m) x.measures;
+}
+
+-- from when its ports measure by the least delay in force
+pub measured_same : (p : SettlingParams) (start : ℕ) (Asks : ℕ → Type 0) (at : LinkPlace) (w w' : WorldState)
+    → StaysSameLink at w w' → IsMeasuredOr p start Asks at w → IsMeasuredOr p start Asks at w'
+unfolding first_at_same measuring_at_same
+measured_same p start Asks at w w' same (inl (inl (inl (first, by, (x, over))))) =
     let s = same x.is.link in
-    inl (
+    inl (inl (inl (
       first,
-      record {
-        is = first_at_same first at w w' x.is s;
-        measures = goes_over at w w' x.is.link s
-            (λ k least m. MeasuresBy k least reads_as_request reads_as_reply first by m) x.measures;
-      },
-    )
-measuring_same p by at w w' same (inr (inl (gone, calm, soon, x))) =
-    inr (inl (gone, calm, soon, watched_same gone calm at w w' x (same x.link)))
-measuring_same p by at w w' same (inr (inr (gone, calm, start, soon, x))) =
-    inr (inr (gone, calm, start, soon, will_same gone calm start at w w' x (same x.watched.link)))
+      by,
+      (
+        measuring_at_same first by at w w' x s,
+        goes_over at w w' x.is.link s (λ k least m. by + k.period + exchange_span k < start) over,
+      ),
+    )))
+measured_same p start Asks at w w' same (inl (inl (inr (gone, calm, x, soon)))) =
+    inl (inl (inr (gone, calm, watched_same gone calm at w w' x (same x.link), soon)))
+measured_same p start Asks at w w' same (inl (inr (gone, calm, x))) =
+    inl (inr (gone, calm, will_same gone calm start at w w' x (same x.watched.link)))
+measured_same p start Asks at w w' same (inr (time, asks, first, x)) =
+    inr (time, asks, first, measuring_at_same first time at w w' x (same x.is.link))
 
 -- when its ports are capable
 pub ready_same : (p : SettlingParams) (start : ℕ) (at : LinkPlace) (w w' : WorldState) → StaysSameLink at w w'

@@ -69,6 +69,7 @@ use Rattle.gptp_settling_time.proofs.KeptToLemmas.{KeepsTo, keeps_act, keeps_lat
 use Rattle.gptp_settling_time.proofs.LinkStoodLemmas.{stood_in, stood_untold, up_first}
 use Rattle.gptp_settling_time.proofs.MadeLemmas.{made_keeps, made_time}
 use Rattle.gptp_settling_time.proofs.StartCallLemmas.{IsQuietYet, begun_quiet, quiet_acts, starting_off}
+use Rattle.gptp_settling_time.proofs.StoodEventLemmas.{stood_down, stood_fail, stood_set}
 use Rattle.gptp_settling_time.proofs.StartLemmas.{ExchangesAreOver, untold_news, untold_since}
 
 -- ---- as a network starts
@@ -208,7 +209,7 @@ module _ (d : DocumentState) (playable : IsPlayable d) (events : List Timed) (ne
       untold_since pace w begun_world starting.quiet.untold starting.first next soon_news over
       (varies_little d events w keeps vary)
 
--- ---- what stood before an event
+-- ---- an event of time 0
 
 module _ {F : Type 0} (answers : Bounds → ℕ → F → Option ℕ → F → Type 0) (d : DocumentState)
     (playable : IsPlayable d) (made : List Timed) (event : Timed) (fate fate_after : F) (w w' : WorldState)
@@ -238,81 +239,6 @@ module _ {F : Type 0} (answers : Bounds → ℕ → F → Option ℕ → F → T
   world' : IsWorld p w'
   world' = after.claim.world
 
-  -- an event that takes up no link, brings no system to life and sets no bounds
-  module _ (wires : (v : LinkSpec) → (link_after more v).up ≡ true → link_after more v ≡ link_after made v)
-      (lives : (m : SystemSpec) → (system_after more m).live ≡ true → (system_after made m).live ≡ true) where
-    live_before : (place number : ℕ) → StationIsLiveAt place number w' → StationIsLiveAt place number then
-    live_before place number x =
-        let stays = acts_stay event.act then k.draws done w' world.sound.wired.setups k.acts in
-        let old = stays.stations place x.station x.here in
-        let now = member_at n more w' after.stands place x.station x.here in
-        let was = member_at n made then before.stands place old.old old.here in
-        let one : was.member ≡ now.member =
-        same_there n.systems place was.member now.member was.there now.there in
-        record {
-          station = old.old;
-          here = old.here;
-          live = sym (lives_as n made then before.stands place old.old was)
-              ∙ ap (λ (m : SystemSpec). (system_after made m).live) one
-              ∙ lives now.member (lives_as n more w' after.stands place x.station now ∙ x.live);
-          named = sym old.same.named ∙ x.named;
-        }
-
-    same_params : (place number : ℕ) (x : StationIsLiveAt place number w')
-        → (live_before place number x).station.setup.params ≡ x.station.setup.params
-    same_params place number x =
-        let old = live_before place number x in
-        (world.known.set place old.station old.here).starts.params
-        ∙ sym (world'.known.set place x.station x.here).starts.params
-
-    stood_then : (at : LinkPlace) → LinkStandsAt at w' → LinkStandsAt at then
-    stood_then at stands =
-        let (v, there, same) = alike (link_after more) channel_wire n.links w'.net.channels (sym after.stands.links)
-        at.link stands.channel stands.here in
-        let (old, here, was) =
-        alike channel_wire (link_after made) then.net.channels n.links before.stands.links at.link
-        v there in
-        let wire : channel_wire old ≡ channel_wire stands.channel =
-        was ∙ sym (wires v (ap (λ (x : LinkSpec). x.up) same ∙ stands.up)) ∙ same in
-        let asking = live_before at.asking (sender at.direction stands.channel).clock stands.asking in
-        let answering = live_before at.answering (receiver at.direction stands.channel).clock stands.answering in
-        let asks = same_params at.asking (sender at.direction stands.channel).clock stands.asking in
-        let answered = same_params at.answering (receiver at.direction stands.channel).clock stands.answering in
-        record {
-          channel = old;
-          here = here;
-          up = ap (λ (x : LinkSpec). x.up) wire ∙ stands.up;
-          lossless = ap (λ (x : LinkSpec). x.bounds.loss) wire ∙ stands.lossless;
-          asking = record {
-            station = asking.station;
-            here = asking.here;
-            live = asking.live;
-            named = asking.named ∙ sym (sender_wire at.direction old stands.channel wire);
-          };
-          answering = record {
-            station = answering.station;
-            here = answering.here;
-            live = answering.live;
-            named = answering.named ∙ sym (receiver_wire at.direction old stands.channel wire);
-          };
-          apart = stands.apart;
-          good = subst (λ (x : LinkSpec). IsGoodBetween x.bounds.max asking.station.setup.params
-              answering.station.setup.params) (sym wire)
-              (subst (IsGoodBetween stands.channel.bounds.max asking.station.setup.params) (sym answered)
-              (subst (λ (x : Params). IsGoodBetween stands.channel.bounds.max x
-              stands.answering.station.setup.params) (sym asks) stands.good));
-        }
-      where
-        sender_wire : (direction : Direction) (c e : Channel) → channel_wire c ≡ channel_wire e
-            → (sender direction c).clock ≡ (sender direction e).clock
-        sender_wire FromA c e same = ap (λ (x : LinkSpec). x.a.clock) same
-        sender_wire FromB c e same = ap (λ (x : LinkSpec). x.b.clock) same
-
-        receiver_wire : (direction : Direction) (c e : Channel) → channel_wire c ≡ channel_wire e
-            → (receiver direction c).clock ≡ (receiver direction e).clock
-        receiver_wire FromA c e same = ap (λ (x : LinkSpec). x.b.clock) same
-        receiver_wire FromB c e same = ap (λ (x : LinkSpec). x.a.clock) same
-
   -- ---- each link in use was first asked over at time 0
 
   module _ (now : event.at ≡ 0) (yet : IsStarting then) where
@@ -321,103 +247,29 @@ module _ {F : Type 0} (answers : Bounds → ℕ → F → Option ℕ → F → T
         subst (λ c. Acts (Changing c) then k.draws done w') same
         (subst (λ act. Acts act then k.draws done w') is.act k.acts)
 
-    links_by : (change : Change) → is.change ≡ change → (v : LinkSpec)
-        → link_after more v ≡ link_changed change (link_after made v)
-    links_by change same v =
-        link_behind made event v ∙ ap (λ a. link_acted a (link_after made v)) (is.act ∙ ap Changing same)
-
-    systems_by : (change : Change) → is.change ≡ change → (m : SystemSpec)
-        → system_after more m ≡ system_changed change (clock_of m.identity) (system_after made m)
-    systems_by change same m =
-        system_behind made event (clock_of m.identity) (standing m)
-        ∙ ap (λ a. system_acted a (clock_of m.identity) (system_after made m)) (is.act ∙ ap Changing same)
-
     abbrev FirstSo : Type 0
     FirstSo = (at : LinkPlace) → LinkStandsAt at w' → IsMeasuringAt 0 0 at w'
 
     first_down : (number port : ℕ) → is.change ≡ LinkDown number port → FirstSo
     first_down number port same at stands =
+        let (old, alone) = stood_down p n made event then w' k.draws done before.stands after.stands world world' k.acts
+        number port (is.act ∙ ap Changing same) at stands in
         first_goes_through at 0 0 (Changing (LinkDown number port)) then w' k.draws done world.sound
-        before.claim.measured other (came_so (LinkDown number port) same)
-        (yet.first at (stood_then wires lives at stands))
-      where
-        wires : (v : LinkSpec) → (link_after more v).up ≡ true → link_after more v ≡ link_after made v
-        wires v up =
-            let is_now = links_by (LinkDown number port) same v in
-            is_now
-            ∙ (down_still number port (link_after made v) (ap (λ (x : LinkSpec). x.up) (sym is_now) ∙ up)).1
-
-        lives : (m : SystemSpec) → (system_after more m).live ≡ true → (system_after made m).live ≡ true
-        lives m live = ap (λ s. s.live) (sym (systems_by (LinkDown number port) same m)) ∙ live
-
-        other : IsOtherLink at (port_id number port) then
-        other place channel at_port same_link =
-            let (v, there, wire) = alike (link_after more) channel_wire n.links w'.net.channels
-            (sym after.stands.links) at.link stands.channel stands.here in
-            let (old, here, was) = alike channel_wire (link_after made) then.net.channels n.links before.stands.links
-            at.link v there in
-            let one : channel ≡ old =
-            same_there then.net.channels at.link channel old
-            (subst (λ i. slice_get then.net.channels i ≡ Some channel) same_link at_port.here) here in
-            let is_now = links_by (LinkDown number port) same v in
-            let up : (link_after more v).up ≡ true = ap (λ (x : LinkSpec). x.up) wire ∙ stands.up in
-            let off = (down_still number port (link_after made v)
-            (ap (λ (x : LinkSpec). x.up) (sym is_now) ∙ up)).0 in
-            let joined : IsEnd (port_id number port) (channel_wire channel) = at_port.joined in
-            let on = at_end number port (link_after made v)
-            (subst (IsEnd (port_id number port)) (ap channel_wire one ∙ was) joined) in
-            let both : true ≡ false = sym on ∙ off in
-            cc
+        before.claim.measured alone (came_so (LinkDown number port) same) (yet.first at old)
 
     first_fail : (number : ℕ) → is.change ≡ Fail number → FirstSo
     first_fail number same at stands =
-        first_goes_through at 0 0 (Changing (Fail number)) then w' k.draws done world.sound before.claim.measured
-        (λ place station at_place. (
-          λ same_place. not_it at.asking (sender at.direction stands.channel).clock stands.asking station
-              (subst (λ i. IsStation number i then station) same_place at_place),
-          λ same_place. not_it at.answering (receiver at.direction stands.channel).clock stands.answering station
-              (subst (λ i. IsStation number i then station) same_place at_place),
-        ))
-        (came_so (Fail number) same)
-        (yet.first at (stood_then wires lives at stands))
-      where
-        wires : (v : LinkSpec) → (link_after more v).up ≡ true → link_after more v ≡ link_after made v
-        wires v up = links_by (Fail number) same v
-
-        still : (m : SystemSpec) → (system_after more m).live ≡ true
-            → ((number == clock_of m.identity) ≡ false) × ((system_after made m).live ≡ true)
-        still m live =
-            fail_still number (clock_of m.identity) made m
-            (ap (λ s. s.live) (sym (systems_by (Fail number) same m)) ∙ live)
-
-        lives : (m : SystemSpec) → (system_after more m).live ≡ true → (system_after made m).live ≡ true
-        lives m live = (still m live).1
-
-        not_it : (place clock_there : ℕ) → StationIsLiveAt place clock_there w' → (station : Station)
-            → IsStation number place then station → ⊥
-        not_it place clock_there x station at_place =
-            let of = member_at n more w' after.stands place x.station x.here in
-            let was = member_at n made then before.stands place station at_place.here in
-            let one : was.member ≡ of.member =
-            same_there n.systems place was.member of.member was.there of.there in
-            let off = (still of.member (lives_as n more w' after.stands place x.station of ∙ x.live)).0 in
-            let named : clock_of of.member.identity ≡ number =
-            ap (λ (m : SystemSpec). clock_of m.identity) (sym one)
-            ∙ named_as n made then before.stands world.sound place number station at_place was in
-            let on = eq-eqb number (clock_of of.member.identity) (sym named) in
-            let both : true ≡ false = sym on ∙ off in
-            cc
+        let (old, alone) = stood_fail p n made event then w' k.draws done before.stands after.stands world world' k.acts
+        number (is.act ∙ ap Changing same) at stands in
+        first_goes_through at 0 0 (Changing (Fail number)) then w' k.draws done world.sound before.claim.measured alone
+        (came_so (Fail number) same) (yet.first at old)
 
     first_set : (number value : ℕ) → is.change ≡ Priority1 number value → FirstSo
     first_set number value same at stands =
+        let (old, alone) = stood_set p n made event then w' k.draws done before.stands after.stands world world' k.acts
+        number value (is.act ∙ ap Changing same) at stands in
         first_goes_through at 0 0 (Changing (Priority1 number value)) then w' k.draws done world.sound
-        before.claim.measured tt (came_so (Priority1 number value) same)
-        (yet.first at
-        (stood_then (λ v up. links_by (Priority1 number value) same v)
-        (λ m live.
-        sym (set_still number (clock_of m.identity) value made m)
-        ∙ ap (λ s. s.live) (sym (systems_by (Priority1 number value) same m)) ∙ live)
-        at stands))
+        before.claim.measured alone (came_so (Priority1 number value) same) (yet.first at old)
 
     up_first_at : (number port : ℕ) → Acts (Changing (LinkUp number port)) then k.draws done w' → FirstSo
     up_first_at number port came at stands =

@@ -1,6 +1,7 @@
 -- A link that comes up between live systems, where some ports ask again soon.
-use Rattle.std.proofs.Common.{◌≡◌, ◌≢◌, ◌<◌, ◌≤◌, ◌+◌, ℕ, Bool, true, false, List, slice_get, refl, sym, ap, subst, ◌∙◌, inl, inr, arith}
-use Rattle.gptp_lists.proofs.PlaceLemmas.{get-set_other, same_place}
+use Rattle.std.proofs.Common.{◌≡◌, ◌≢◌, ◌⊎◌, ◌<◌, ◌≤◌, ◌+◌, ℕ, Bool, true, false, List, Some, slice_get, refl, sym, ap, subst, ◌∙◌, inl, inr, arith}
+use Rattle.gptp_lists.proofs.MappedLemmas.{same_there}
+use Rattle.gptp_lists.proofs.PlaceLemmas.{get-set_other, get-set_same, same_place}
 use Rattle.gptp_links.specs.Fate.{Draw}
 use Rattle.gptp_scenario.specs.Params.{KeepPace}
 use Rattle.gptp_scenario.specs.declared.change.Act.TheVariants.{Change as Changing}
@@ -21,14 +22,16 @@ use Rattle.gptp_invariants.specs.DelayMeasured.{LinkIsMeasured, LinkStandsAt}
 use Rattle.gptp_invariants.specs.FailedUnanswered.{StandsUnanswered}
 use Rattle.gptp_invariants.specs.WorldNews.{AreSilentBy}
 use Rattle.gptp_invariants.specs.WorldSound.{IsSoundWorld}
+use Rattle.gptp_invariants.specs.WorldStanding.{channel_is_used, live_stations}
 use Rattle.gptp_invariants.proofs.ChoiceCalmKeptLemmas.{KeepsNetwork}
 use Rattle.gptp_invariants.proofs.DelayChangeKeptLemmas.{acts_measured}
+use Rattle.gptp_invariants.proofs.DelayClaimedCapableLemmas.{clock_has, used_if}
 use Rattle.gptp_invariants.proofs.FailedSilentElsewhereLemmas.{changed_silent, stood_elsewhere, up_silences}
 use Rattle.gptp_invariants.proofs.WorldOutlineLemmas.{acts_time}
 use Rattle.gptp_invariants.proofs.WorldSoundCallLemmas.{tells_keep}
 use Rattle.gptp_invariants.proofs.WorldSoundLemmas.{sound_gains}
 use Rattle.gptp_settling_time.proofs.LinkStoodLemmas.{exchange_over, stood_in, stood_untold, up_first}
-use Rattle.gptp_settling_time.proofs.MeasuringLemmas.{AreMeasuringBy, IsMeasuringBy, measuring_goes_through, measuring_later}
+use Rattle.gptp_settling_time.proofs.MeasuringLemmas.{AreMeasuredOr, IsMeasuredOr, measured_for, measured_goes_through}
 use Rattle.gptp_settling_time.proofs.NewsSoonLemmas.{AreComing, IsComing, IsNewsSoon, coming_goes_through}
 
 module _ (p : SettlingParams) (number port : ℕ) (w : WorldState) (draws : List Draw) (done : Done) (w' : WorldState)
@@ -54,19 +57,34 @@ module _ (p : SettlingParams) (number port : ℕ) (w : WorldState) (draws : List
   told : k.channel.up ≡ false → TellsEnds PortUp k.channel brought draws w'
   told down = subst (λ b. ComesUpIf b k.place k.channel now draws w') down k.so
 
-  -- what is so of the links that stood, and of one that is first asked over now, is so of each
+  -- What is so of the links that stood, and of one that is in use now and first asked over, is so of each.
   module _ (So : LinkPlace → Type 0) (on : (at : LinkPlace) → LinkStandsAt at w → So at)
-      (new : (at : LinkPlace) → IsMeasuringAt w.time w.time at w' → So at) where
+      (new : (at : LinkPlace) → channel_is_used (live_stations w.stations) raised ≡ true
+      → IsMeasuringAt w.time w.time at w' → So at) where
     module _ (down : k.channel.up ≡ false) where
       before : (at : LinkPlace) → LinkStandsAt at w' → LinkStandsAt at brought
       before =
           stood_untold p w (brought_up k.place k.channel w.net) w' is is'
           (tells_keep k.channel brought draws w' (told down))
 
+      -- the link that comes up is in use
+      is_used : (at : LinkPlace) → at.link ≡ k.place → LinkStandsAt at brought
+          → channel_is_used (live_stations w.stations) raised ≡ true
+      is_used at place_is old =
+          let one : old.channel ≡ raised =
+          same_there brought.net.channels k.place old.channel raised
+          (subst (λ i. slice_get brought.net.channels i ≡ Some old.channel) place_is old.here)
+          (get-set_same w.net.channels k.place k.channel raised k.is.here) in
+          subst (λ (c : Channel). channel_is_used (live_stations w.stations) c ≡ true) one
+          (used_if w.stations at.direction old.channel old.up
+          (clock_has w.stations at.asking old.asking.station _ old.asking.here old.asking.live old.asking.named)
+          (clock_has w.stations at.answering old.answering.station _ old.answering.here old.answering.live
+          old.answering.named))
+
       so_down : (at : LinkPlace) → LinkStandsAt at w' → So at
       so_down at stands = elim (same_place at.link k.place) [
         | inl place_is ↦
-            new at (up_first p number port w draws done w' pace is measured acts down at place_is (before at stands))
+            new at (is_used at place_is (before at stands)) (up_first p number port w draws done w' pace is measured acts down at place_is (before at stands))
         | inr apart ↦
             let old = before at stands in
             on at (stood_in at brought w old refl
@@ -82,15 +100,27 @@ module _ (p : SettlingParams) (number port : ℕ) (w : WorldState) (draws : List
             (ap (λ (v : WorldState). slice_get v.net.channels at.link) (sym (same up)) ∙ stands.here))
         go false down = so_down down at stands
 
-  -- by when its ports measure by the least delays in force
-  pub up_measures : (by next : ℕ) → by ≤ next → w.time ≤ next → AreMeasuringBy p by w → AreMeasuringBy p next w'
-  up_measures by next longer late measures =
-      links_up (λ at. IsMeasuringBy p next at w')
+  -- From when its ports measure by the least delays in force: the link that comes up is in time, or isn't in use.
+  pub up_measures : (start next : ℕ) (Asks Others : ℕ → Type 0) → start ≤ next
+      → ((time : ℕ) → Asks time → Others time)
+      → (channel_is_used (live_stations w.stations) raised ≡ true
+      → (w.time + interval_of p.params.pdelay + (delay_in w' + p.params.turnaround + delay_in w') < next)
+      ⊎ Others w.time)
+      → AreMeasuredOr p start Asks w → AreMeasuredOr p next Others w'
+  up_measures start next Asks Others longer others soon measures =
+      links_up (λ at. IsMeasuredOr p next Others at w')
       (λ at stands.
-      measuring_later p by at next w' longer
-      (measuring_goes_through p by at (Changing (LinkUp number port)) w w' draws done is.sound measured tt acts
+      measured_for p start Asks at next Others w' longer others
+      (measured_goes_through p start Asks at (Changing (LinkUp number port)) w w' draws done is.sound measured tt acts
       (measures at stands)))
-      (λ at one. measuring_later p w.time at next w' late (inl (w.time, one)))
+      (λ at used one. elim (soon used) [
+        | inl over ↦ inl (inl (inl (
+            w.time,
+            w.time,
+            (one, exchange_over p w.time next at w' is' one.is.link over),
+          )))
+        | inr asks ↦ inr (w.time, asks, w.time, one)
+      ])
 
 module _ (p : SettlingParams) (by next number port : ℕ) (w : WorldState) (draws : List Draw) (done : Done)
     (w' : WorldState) (pace : KeepPace p) (is : IsWorld p w) (is' : IsWorld p w') (measured : LinkIsMeasured w)
@@ -107,7 +137,7 @@ module _ (p : SettlingParams) (by next number port : ℕ) (w : WorldState) (draw
       (λ at stands.
       coming_goes_through p by next at (Changing (LinkUp number port)) w w' draws done is.sound measured tt acts
       (coming at stands))
-      (λ at one. inl (inl (w.time, (one.is, exchange_over p w.time next at w' is' one.is.link soon))))
+      (λ at used one. inl (inl (w.time, (one.is, exchange_over p w.time next at w' is' one.is.link soon))))
 
   module _ (silent : AreSilentBy p next w)
       (apart : (at : LinkPlace) → StandsUnanswered at w' → IsOtherLink at (port_id number port) w) where

@@ -1,7 +1,8 @@
 -- A link in use whose delays get wider: in a world that has settled all stands as it did, and claims are made of all
 -- links always.
-use Rattle.std.proofs.Common.{◌≡◌, ◌≢◌, ◌<◌, ◌≤◌, ◌+◌, ◌*◌, ℕ, zero, suc, min, true, List, [], ◌∷◌, map, Some, slice_get, slice_set, refl, sym, ap, subst, ◌∙◌, inl, inr, arith}
+use Rattle.std.proofs.Common.{◌≡◌, ◌≢◌, ◌⊎◌, ◌<◌, ◌≤◌, ◌+◌, ◌*◌, ℕ, zero, suc, min, true, List, [], ◌∷◌, map, Some, slice_get, slice_set, refl, sym, ap, subst, ◌∙◌, inl, inr, arith}
 use Rattle.std.specs.Prelude.{if◌then◌else◌}
+use Rattle.std.proofs.lemmas.Bool.{cases_lt}
 use Rattle.std.proofs.lemmas.Option.{same_Some}
 use Rattle.gptp_lists.specs.Members.{In}
 use Rattle.gptp_lists.proofs.MappedLemmas.{same_there}
@@ -30,7 +31,7 @@ use Rattle.gptp_model.specs.Changing.{with_bounds}
 use Rattle.gptp_model.specs.declared.done.Done.{Done}
 use Rattle.gptp_model.specs.World.{Channel, WorldState, receiver, sender, world_queue}
 use Rattle.gptp_pdelay_machine.specs.Facts.{Facts}
-use Rattle.gptp_pdelay_machine.specs.First.{InvFirst}
+use Rattle.gptp_pdelay_machine.specs.First.{InvFirst, MeasuresBy}
 use Rattle.gptp_pdelay_machine.specs.FirstLaws.{exchange_span}
 use Rattle.gptp_pdelay_machine.specs.Meter.{Meter}
 use Rattle.gptp_pdelay_machine.specs.Setting.{Setting}
@@ -44,8 +45,8 @@ use Rattle.gptp_bmca_machine.proofs.SoundLemmas.{received_fits}
 use Rattle.gptp_invariants.specs.ChoiceCalm.{HaveQuietLinks, paths_with}
 use Rattle.gptp_invariants.specs.ChoiceSettlesAsMachine.{IsWorld}
 use Rattle.gptp_invariants.specs.ChoiceView.{lane_view, lanes_view, says_announce, station_view, view}
-use Rattle.gptp_invariants.specs.DelayFirstAt.{IsFirstAt, IsFirstBy}
-use Rattle.gptp_invariants.specs.DelayLinkView.{IsLinkOf, LinkPlace, link_setting, meter, pair, pair_view, reads_as_reply, reads_as_request, setting_view, kept_view}
+use Rattle.gptp_invariants.specs.DelayFirstAt.{IsFirstAt, IsFirstBy, IsMeasuringAt, IsMeasuringBefore}
+use Rattle.gptp_invariants.specs.DelayLinkView.{IsLinkOf, LinkPlace, least_delay, link_setting, meter, pair, pair_view, reads_as_reply, reads_as_request, setting_view, kept_view}
 use Rattle.gptp_invariants.specs.DelayMeasured.{LinkIsMeasured, LinkStandsAt}
 use Rattle.gptp_invariants.specs.FailedUnanswered.{IsFailedAmong, IsLastAnswered, IsOff, StandsUnanswered}
 use Rattle.gptp_invariants.specs.WorldNews.{AreReadyBy, AreSilentBy, IsNews, IsReadyBy, news_network}
@@ -60,11 +61,11 @@ use Rattle.gptp_settling_time.proofs.AlwaysClaimedLemmas.{AreHeard, IsClaimedAlw
 use Rattle.gptp_settling_time.proofs.HeardLemmas.{period_is}
 use Rattle.gptp_settling_time.proofs.LinkStoodLemmas.{stood_in}
 use Rattle.gptp_settling_time.proofs.LinkUpLemmas.{lane_set}
-use Rattle.gptp_settling_time.proofs.MeasuringLemmas.{AreMeasuringBy, has_begun, measuring_later}
-use Rattle.gptp_settling_time.proofs.SameLinkLemmas.{StaysSameLink, measuring_same, ready_same}
+use Rattle.gptp_settling_time.proofs.MeasuringLemmas.{AreMeasuredOr, IsMeasuredOr, has_begun, measured_for}
+use Rattle.gptp_settling_time.proofs.SameLinkLemmas.{StaysSameLink, measured_same, ready_same}
 use Rattle.gptp_settling_time.proofs.SettledSeenLemmas.{HasSettledSeen, IsSettledSeen, stage_settled}
 use Rattle.gptp_settling_time.proofs.StandsLikeLemmas.{none_short}
-use Rattle.gptp_settling_time.proofs.WiderLinkLemmas.{facts_wide, first_wide}
+use Rattle.gptp_settling_time.proofs.WiderLinkLemmas.{facts_wide, first_wide, measures_wide}
 use Rattle.gptp_settling_time.proofs.WillAskLemmas.{first_from, first_since, watched_later}
 
 -- the greatest delay of the second bounds is larger than that of the first, by so much at most
@@ -334,20 +335,75 @@ module _ (p : SettlingParams) (start next by place : ℕ) (w : WorldState) (is :
               (first_wide k b.max x.less less long quick reads_as_request reads_as_reply first (meter at w l) x.inv));
         }
 
-    -- so the next request finds nothing old, and exchanges since then take the least delay in force
-    measures_widened : (soon : ℕ) → soon < w.time → IsWorld p widened → AreMeasuringBy p soon w
-        → AreMeasuringBy p (w.time + interval_of p.params.pdelay) widened
-    measures_widened soon past is' measures at s = elim (same_place at.link place) [
-      | inl same ↦
-          let (first, x) = has_begun p soon at w is past (measures at (stood at s)) in
-          let one = first_at_widened at same s first x.is in
+    -- Where the least delay doesn't rise they measure by it as they did.
+    module _ (at : LinkPlace) (same : at.link ≡ place) (s : LinkStandsAt at widened) where
+      measuring_at_widened : (first since : ℕ) → b.min ≤ channel.bounds.min → IsMeasuringAt first since at w
+          → IsMeasuringAt first since at widened
+      unfolding first_at_widened
+      measuring_at_widened first since falls x =
+          let l = x.is.link in
+          let k = link_setting at w l in
+          let bounds : l.channel.bounds.min ≡ channel.bounds.min =
+          ap (λ (c : Channel). c.bounds.min) (channel_is at same s l) in
+          let quick : b.min ≤ least_delay at w l = omega (arith, falls, bounds) in
+          record {
+            is = first_at_widened at same s first x.is;
+            measures = subst (λ (y : Setting). MeasuresBy y b.min reads_as_request reads_as_reply first since
+                (meter at widened (after at same s l))) (sym (settled at same s l))
+                (subst (λ (m : Meter). MeasuresBy (record k { most = b.max }) b.min reads_as_request reads_as_reply
+                first since m) (sym (seen at same s l))
+                (measures_wide k b.max (least_delay at w l) b.min (longer at same s l) quick reads_as_request
+                reads_as_reply first since (meter at w l) x.measures));
+          }
+
+      before_widened : (first since : ℕ) → start + 2 * by ≤ next → b.min ≤ channel.bounds.min
+          → IsMeasuringBefore first since start at w → IsMeasuringBefore first since next at widened
+      unfolding first_at_widened measuring_at_widened
+      before_widened first since later falls (x, over) =
+          let settled_is = settled at same s x.is.link in
+          let most = within at same s x.is.link in (
+            measuring_at_widened first since falls x,
+            subst (λ (y : Setting). since + y.period + exchange_span y < next) (sym settled_is)
+                (omega (arith, over, most, later)),
+          )
+
+    -- Where it rises the next request finds nothing old, and exchanges since then take the least delay in force.
+    module _ (is' : IsWorld p widened) (later : start + 2 * by ≤ next) (past : start ≤ w.time)
+        (Asks Others : ℕ → Type 0) (others : (time : ℕ) → Asks time → Others time)
+        (anew : channel.bounds.min < b.min → Others (w.time + interval_of p.params.pdelay)) where
+      risen : (at : LinkPlace) → at.link ≡ place → LinkStandsAt at widened → channel.bounds.min < b.min → (first : ℕ)
+          → IsFirstAt first at w → IsMeasuredOr p next Others at widened
+      risen at same s rises first x =
+          let one = first_at_widened at same s first x in
           let asked = one.facts.asked in
           let period = period_is p at widened is' one.link in
-          inl (first, record { is = one; measures = inl (omega (arith, asked, period)) })
-      | inr apart ↦
-          measuring_later p soon at (w.time + interval_of p.params.pdelay) widened (omega (arith, past))
-          (measuring_same p soon at w widened (other_link at apart) (measures at (stood at s)))
-    ]
+          inr (
+            w.time + interval_of p.params.pdelay,
+            anew rises,
+            first,
+            record { is = one; measures = inl (omega (arith, asked, period)) },
+          )
+
+      link_widened : (at : LinkPlace) → at.link ≡ place → LinkStandsAt at widened → IsMeasuredOr p start Asks at w
+          → (channel.bounds.min < b.min) ⊎ (b.min ≤ channel.bounds.min) → IsMeasuredOr p next Others at widened
+      link_widened at same s (inl x) (inl rises) =
+          let (first, since, (one, over)) = has_begun p start at w is past x in
+          risen at same s rises first one.is
+      link_widened at same s (inl x) (inr falls) =
+          let (first, since, one) = has_begun p start at w is past x in
+          inl (inl (inl (first, since, before_widened at same s first since later falls one)))
+      link_widened at same s (inr (time, asks, first, x)) (inl rises) = risen at same s rises first x.is
+      link_widened at same s (inr (time, asks, first, x)) (inr falls) =
+          inr (time, others time asks, first, measuring_at_widened at same s first time falls x)
+
+      measures_widened : AreMeasuredOr p start Asks w → AreMeasuredOr p next Others widened
+      measures_widened measures at s = elim (same_place at.link place) [
+        | inl same ↦
+            link_widened at same s (measures at (stood at s)) (cases_lt channel.bounds.min b.min)
+        | inr apart ↦
+            measured_for p start Asks at next Others widened (omega (arith, later)) others
+            (measured_same p start Asks at w widened (other_link at apart) (measures at (stood at s)))
+      ]
 
   module _ (pace : KeepPace p) (is' : IsWorld p widened) (later : start + 2 * by ≤ next) (past : next ≤ w.time) where
     -- two intervals between requests and an exchange are over
@@ -533,18 +589,21 @@ module _ (p : SettlingParams) (start next by number port least most : ℕ) (w : 
       (subst (IsWorld p) same is') later past off (subst LinkIsMeasured same measured')
       (subst IsSoundWorld same sound') ready silent settled)
 
--- by when ports measure by the least delays in force
-module _ (p : SettlingParams) (by number port least most : ℕ) (w : WorldState) (draws : List Draw) (done : Done)
+-- from when ports measure by the least delays in force
+module _ (p : SettlingParams) (start next by number port least most : ℕ) (w : WorldState) (draws : List Draw)
+    (done : Done)
     (w' : WorldState) (pace : KeepPace p) (is : IsWorld p w) (is' : IsWorld p w') (quiet : HaveQuietLinks p.params w)
     (acts : Acts (Changing (LinkSet number port least most 0)) w draws done w')
     (used : channel_is_used (live_stations w.stations) acts.1.channel ≡ true)
     (wider : AreWiderBy by acts.1.channel.bounds (set_to least most 0 acts.1.channel)) where
-  pub widened_measures : (soon : ℕ) → soon < w.time → AreMeasuringBy p soon w
-      → AreMeasuringBy p (w.time + interval_of p.params.pdelay) w'
-  widened_measures soon past measures =
+  pub widened_measures : start + 2 * by ≤ next → start ≤ w.time → (Asks Others : ℕ → Type 0)
+      → ((time : ℕ) → Asks time → Others time)
+      → (acts.1.channel.bounds.min < least → Others (w.time + interval_of p.params.pdelay))
+      → AreMeasuredOr p start Asks w → AreMeasuredOr p next Others w'
+  widened_measures later past Asks Others others anew measures =
       let k = acts.1 in
       let b : Bounds = set_to least most 0 k.channel in
       let same : w' ≡ record w { last_change = w.time; net = with_bounds b k.place k.channel w.net } = k.so.1 in
-      subst (AreMeasuringBy p (w.time + interval_of p.params.pdelay)) (sym same)
-      (measures_widened p 0 0 by k.place w is k.channel b k.is.here used wider quiet pace soon past
-      (subst (IsWorld p) same is') measures)
+      subst (AreMeasuredOr p next Others) (sym same)
+      (measures_widened p start next by k.place w is k.channel b k.is.here used wider quiet pace
+      (subst (IsWorld p) same is') later past Asks Others others anew measures)

@@ -17,7 +17,8 @@ use Rattle.gptp_settling_time.specs.Measuring.{AreMeasuredBefore}
 
 -- Each act of a run leaves offsets that are exact, once a Sync has had the time to come down a way since the choice
 -- stands by the events up to the act, one after another: from later than the last of them, and no sooner than what was
--- in flight as a link was last set has arrived, nor than each link is measured by the least delay in force.
+-- in flight as a link was last set has arrived. Where wider delays raise the least of a link it is no sooner, either,
+-- than that link is measured by it.
 abbrev pub ActsAreExactInTurn : {F : Type 0} → (Bounds → ℕ → F → Option ℕ → F → Type 0) → Type 0
 ActsAreExactInTurn {F} answers = (d : DocumentState) (until settled most : ℕ) (fate : F) (first w : WorldState)
     (ts : List ActTrace) (t : ActTrace)

@@ -1,49 +1,58 @@
--- By when ports measure their links by the least delays in force, after events of a document.
-use Rattle.std.specs.Prelude.{◌<◌, ◌≤◌, ◌⊎◌, ◌+◌, ◌*◌, ℕ, ⊤, List, [], ◌∷◌, ◌++◌}
+-- From when ports measure their links by the least delays in force: in a world, and where a document raises one.
+--
+-- Exchanges of a link whose least delay has risen may have begun before, and then took less. So its ports measure by
+-- the least delay in force from the next request on, within a peer delay interval. Where the least delay of no link
+-- rises they do so as soon as they are capable.
+use Rattle.std.specs.Prelude.{◌≡◌, ◌<◌, ◌≤◌, ◌⊎◌, ◌+◌, ◌*◌, ℕ, ⊥, List, [], ◌∷◌, ◌++◌, Some, slice_get}
 use Rattle.gptp_setup.specs.Intervals.{interval_of}
-use Rattle.gptp_setup.specs.SettlingParams.{largest_interval}
-use Rattle.gptp_scenario.specs.Calm.{IsCalm, IsLive}
-use Rattle.gptp_scenario.specs.Network.{NetworkState, pace_of}
+use Rattle.gptp_setup.specs.SettlingParams.{SettlingParams}
+use Rattle.gptp_scenario.specs.Change.{link_after}
+use Rattle.gptp_scenario.specs.Network.{IsEnd, NetworkState, pace_of}
 use Rattle.gptp_scenario.specs.SyncWait.{sync_paths}
-use Rattle.gptp_scenario.specs.declared.change.Act.{Act}
-use Rattle.gptp_scenario.specs.declared.change.Act.TheVariants.{Change as Changing}
-use Rattle.gptp_scenario.specs.declared.change.Change.TheVariants.{Fail, LinkDown, LinkSet, LinkUp, Priority1, Recover}
 use Rattle.gptp_scenario.specs.declared.change.Timed.{Timed}
+use Rattle.gptp_scenario.specs.declared.network.LinkSpec.{LinkSpec}
+use Rattle.gptp_model.specs.World.{WorldState, port_id}
+use Rattle.gptp_invariants.specs.DelayFirstAt.{IsMeasuringBefore}
+use Rattle.gptp_invariants.specs.DelayLinkView.{LinkPlace}
+use Rattle.gptp_invariants.specs.DelayMeasured.{LinkStandsAt}
+use Rattle.gptp_invariants.specs.DelayWatched.{IsWatched}
 use Rattle.gptp_settling_time.specs.EventKinds.{WidensLink}
-use Rattle.gptp_settling_time.specs.Gains.{AreSparedBy}
+use Rattle.gptp_settling_time.specs.Gains.{exchanged_from}
 
--- Where ports measure so by a time, they do by the next after one of these changes. The ports of a link that comes up
--- ask then. Those of a system that recovers do, and those beside it within a peer delay interval: what it sent before
--- it failed is gone by then. The ports of a link whose delays are set, and that all asked before, ask within one.
-abbrev pub LeavesMeasuring : NetworkState → List Timed → ℕ → Timed → ℕ → Act → Type 0
-LeavesMeasuring n before by event next (Changing (LinkUp number port)) = event.at ≤ next
-LeavesMeasuring n before by event next (Changing (LinkDown number port)) = ⊤
-LeavesMeasuring n before by event next (Changing (LinkSet number port min max loss)) =
-    ((wider : ℕ) × WidensLink n before event wider) × IsCalm n before × (by < event.at)
-    × (event.at + interval_of (pace_of n).params.pdelay ≤ next)
-LeavesMeasuring n before by event next (Changing (Fail number)) = ⊤
-LeavesMeasuring n before by event next (Changing (Recover number)) =
-    (IsLive n.systems before number → ⊥) × AreSparedBy n [] before event.at
-    × (event.at + interval_of (pace_of n).params.pdelay ≤ next)
-LeavesMeasuring n before by event next (Changing (Priority1 number value)) = ⊤
-LeavesMeasuring n before by event next act = ⊥
+-- ---- a world
 
--- After any event they do anew, by two announce intervals and one of peer delay later.
-abbrev pub MeasureNext : NetworkState → List Timed → ℕ → Timed → ℕ → Type 0
-MeasureNext n before by event next =
-    (event.at + 2 * largest_interval (pace_of n) + interval_of (pace_of n).params.pdelay ≤ next)
-    ⊎ ((by ≤ next) × LeavesMeasuring n before by event next event.act)
+-- The port that asks measures the link so: from a request on, after which one interval between requests and one
+-- exchange are over before this start; or since it has been watched for long enough then.
+abbrev pub IsMeasuredFrom : SettlingParams → ℕ → LinkPlace → WorldState → Type 0
+IsMeasuredFrom p start at w =
+    ((first : ℕ) × (by : ℕ) × IsMeasuringBefore first by start at w)
+    ⊎ ((gone : ℕ) × (calm : ℕ) × IsWatched gone calm at w × (calm + 3 * interval_of p.params.pdelay ≤ start))
 
--- by this time they do after these events, one after another
-abbrev pub MeasureBy : NetworkState → List Timed → ℕ → List Timed → ℕ → Type 0
-MeasureBy n before by [] time = by ≤ time
-MeasureBy n before by (event ∷ events) time =
-    (next : ℕ) × MeasureNext n before by event next × MeasureBy n (before ++ event ∷ []) next events time
+-- so it is at each link that is up between two live systems, loses nothing and is good
+abbrev pub AreMeasuredFrom : SettlingParams → ℕ → WorldState → Type 0
+AreMeasuredFrom p start w = (at : LinkPlace) → LinkStandsAt at w → IsMeasuredFrom p start at w
 
--- Each link is measured by this time, where a rate is that of one interval between requests: these are over then, and
--- an exchange over the slowest link.
+-- ---- events
+
+-- after these events this one widens the delays of a link in use, and its least delay rises
+pub record RaisesLeast (n : NetworkState) (before : List Timed) (event : Timed) : Type 0 where
+  pub by : ℕ
+  pub widens : WidensLink n before event by
+  pub place : ℕ
+  pub link : LinkSpec
+  pub there : slice_get n.links place ≡ Some link
+  pub joined : IsEnd (port_id widens.clock widens.port) (link_after before link)
+  pub rises : (link_after before link).bounds.min < widens.min
+
+-- by this time, a peer delay interval later, its ports have asked anew
+abbrev pub AsksAnew : NetworkState → List Timed → List Timed → ℕ → Type 0
+AsksAnew n before [] time = ⊥
+AsksAnew n before (event ∷ events) time =
+    (RaisesLeast n before event × (time ≡ event.at + interval_of (pace_of n).params.pdelay))
+    ⊎ AsksAnew n (before ++ event ∷ []) events time
+
+-- After these events each such link is measured from this time on: one more interval and one exchange over the slowest
+-- link are over. Nothing is asked where no least delay rises.
 abbrev pub AreMeasuredBefore : NetworkState → List Timed → ℕ → Type 0
-AreMeasuredBefore n events time =
-    (by : ℕ) × MeasureBy n [] 0 events by
-    × (by + interval_of (pace_of n).params.pdelay
-    + ((sync_paths n events).delay + (pace_of n).params.turnaround + (sync_paths n events).delay) < time)
+AreMeasuredBefore n events settled = (time : ℕ) → AsksAnew n [] events time
+    → exchanged_from (pace_of n) (sync_paths n events) time ≤ settled
