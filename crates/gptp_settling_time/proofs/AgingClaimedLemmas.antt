@@ -1,7 +1,7 @@
 -- A world since a system failed that others hear, where no system is moved but such as are cut off: what is held of it
 -- ages. It goes on as one since news does; its choice stands once that is gone, and it settles once ports without a
 -- link aren't capable either.
-use Rattle.std.proofs.Common.{◌≡◌, ◌⊎◌, ◌≤◌, ◌+◌, ◌*◌, ℕ, ℤ, pred, List, Some, None, refl, sym, ap, subst, ◌∙◌, inl, inr, arith}
+use Rattle.std.proofs.Common.{◌≡◌, ◌⊎◌, ◌≤◌, ◌*◌, ℕ, ℤ, pred, List, Some, None, refl, sym, ap, subst, ◌∙◌, inl, inr, arith}
 use Rattle.gptp_graph.specs.PathBound.{path_bound}
 use Rattle.gptp_graph.specs.Snapshot.{IsWellFormed, Snapshot}
 use Rattle.gptp_links.specs.Fate.{Draw}
@@ -44,7 +44,7 @@ use Rattle.gptp_settling_time.proofs.AgingLemmas.{StaysAsNamed, aged_gone, ages_
 use Rattle.gptp_settling_time.proofs.AgingStillLemmas.{IsAgingSeen, aging_kept, aging_over}
 use Rattle.gptp_settling_time.proofs.AlwaysClaimedLemmas.{IsStanding, start_calm, start_network}
 use Rattle.gptp_settling_time.proofs.FitsLemmas.{IsLeftUnmoved, UnlinkedHoldNothing}
-use Rattle.gptp_settling_time.proofs.LeftClaimedLemmas.{HaveAskedBy, HaveAskedLong, asked_acts, asked_heard, asked_later, asked_ready, bare_calm, left_calm, left_net, left_network, same_left, standing_acts, standing_later, way_later}
+use Rattle.gptp_settling_time.proofs.LeftClaimedLemmas.{HaveAskedBy, HaveAskedLong, asked_acts, asked_heard, asked_later, bare_calm, left_calm, left_net, left_network, same_left, standing_acts, standing_later, way_later}
 use Rattle.gptp_settling_time.proofs.NearEndLemmas.{NearEndsStay, near_ends_hold_none, near_now}
 use Rattle.gptp_settling_time.proofs.SeenSettledLemmas.{seen_chooses, seen_settles}
 use Rattle.gptp_settling_time.proofs.UnlinkedLemmas.{IsLeftSeen}

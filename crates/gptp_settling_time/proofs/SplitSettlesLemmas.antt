@@ -29,7 +29,7 @@ use Rattle.gptp_settling_time.proofs.AlwaysClaimedLemmas.{IsStanding}
 use Rattle.gptp_settling_time.proofs.AtRestLemmas.{LinksAreAtRest}
 use Rattle.gptp_settling_time.proofs.EmptiedLemmas.{older_calm}
 use Rattle.gptp_settling_time.proofs.FallAlwaysLemmas.{fallen_by, settles_by}
-use Rattle.gptp_settling_time.proofs.LeftClaimedLemmas.{asked_ready, left_calm, left_network}
+use Rattle.gptp_settling_time.proofs.LeftClaimedLemmas.{left_calm, left_network}
 use Rattle.gptp_settling_time.proofs.SeenSettledLemmas.{near_choose, near_settle}
 use Rattle.gptp_settling_time.proofs.SplitAlwaysLemmas.{IsSplitAlways, none_now, split_after, split_network}
 use Rattle.gptp_settling_time.proofs.SplitLemmas.{IsCut, IsTurned, IsTwice, SplitSettles, SplitsBack, cut_times, tops_times, turned_times}

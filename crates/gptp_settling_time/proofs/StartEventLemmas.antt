@@ -1,39 +1,29 @@
 -- Events at time 0, as a network starts, leave it so that nothing is told; and what happens by itself then does.
-use Rattle.std.proofs.Common.{◌≡◌, ◌<◌, inl, inr, ◌≤◌, ℕ, Bool, true, false, List, [], ◌∷◌, ◌++◌, Option, Some, slice_get, refl, sym, ap, subst, ◌∙◌, arith}
-use Rattle.std.specs.Prelude.{◌==◌}
-use Rattle.std.proofs.lemmas.Bool.{eq-eqb}
+use Rattle.std.proofs.Common.{◌≡◌, ◌<◌, inl, inr, ◌≤◌, ℕ, Bool, true, false, List, [], ◌∷◌, ◌++◌, Option, slice_get, refl, sym, ap, subst, ◌∙◌, arith}
 use Rattle.gptp_lists.specs.Members.{In}
-use Rattle.gptp_lists.proofs.MappedLemmas.{alike, same_there}
+use Rattle.gptp_lists.proofs.MappedLemmas.{alike}
 use Rattle.gptp_lists.proofs.PlaceLemmas.{get-set_other, same_place}
 use Rattle.gptp_links.specs.declared.bounds.Bounds.{Bounds}
-use Rattle.gptp_links.specs.declared.link.Direction.{Direction}
-use Rattle.gptp_links.specs.declared.link.Direction.TheVariants.{FromA, FromB}
 use Rattle.gptp_links.specs.Fate.{Draw}
 use Rattle.gptp_links.specs.Queue.{frame}
-use Rattle.gptp_roles.specs.Selection.{clock_of}
-use Rattle.gptp_setup.specs.declared.setup.Params.{Params}
 use Rattle.gptp_setup.specs.SettlingParams.{SettlingParams}
 use Rattle.gptp_scenario.specs.Calm.{IsUsed}
-use Rattle.gptp_scenario.specs.Change.{link_acted, link_after, link_changed, standing, system_acted, system_after, system_changed}
-use Rattle.gptp_scenario.specs.Network.{IsEnd, NetworkState, pace_of}
+use Rattle.gptp_scenario.specs.Change.{link_after}
+use Rattle.gptp_scenario.specs.Network.{NetworkState, pace_of}
 use Rattle.gptp_scenario.specs.SyncWait.{sync_paths}
 use Rattle.gptp_scenario.specs.declared.change.Act.{Act}
 use Rattle.gptp_scenario.specs.declared.change.Act.TheVariants.{Deliver, Expire, Change as Changing}
 use Rattle.gptp_scenario.specs.declared.change.Change.{Change}
 use Rattle.gptp_scenario.specs.declared.change.Change.TheVariants.{LinkDown, LinkUp, LinkSet, Fail, Recover, Priority1, Inject}
 use Rattle.gptp_scenario.specs.declared.change.Timed.{Timed}
-use Rattle.gptp_scenario.specs.declared.network.LinkSpec.{LinkSpec}
-use Rattle.gptp_scenario.specs.declared.network.SystemSpec.{SystemSpec}
 use Rattle.gptp_scenario.specs.declared.sync_wait.SyncPaths.{SyncPaths}
 use Rattle.gptp_model.specs.Acts.{Acts, at as at_time}
-use Rattle.gptp_model.specs.Changing.{ComesUpIf, IsStation, brought_up}
+use Rattle.gptp_model.specs.Changing.{ComesUpIf, brought_up}
 use Rattle.gptp_model.specs.Course.{Begun, WasDone}
 use Rattle.gptp_model.specs.declared.done.Done.{Done}
-use Rattle.gptp_model.specs.declared.station.Station.{Station}
 use Rattle.gptp_model.specs.Pending.{NothingBefore}
 use Rattle.gptp_model.specs.Views.{IsNextAct}
-use Rattle.gptp_model.specs.World.{Channel, WorldState, port_id, receiver, sender}
-use Rattle.gptp_model.proofs.StayLemmas.{acts_stay}
+use Rattle.gptp_model.specs.World.{WorldState}
 use Rattle.gptp_world.specs.Transitions.{ActTrace}
 use Rattle.gptp_world.proofs.InitialLemmas.{initial_sound}
 use Rattle.gptp_network.specs.Document.{DocumentState}
@@ -41,9 +31,8 @@ use Rattle.gptp_invariants.specs.ChoiceCalm.{delay_in}
 use Rattle.gptp_invariants.specs.ChoiceSeenLaws.{IsNoChange}
 use Rattle.gptp_invariants.specs.ChoiceSettlesAsMachine.{IsWorld}
 use Rattle.gptp_invariants.specs.DelayFirstAt.{IsMeasuringAt}
-use Rattle.gptp_invariants.specs.DelayElsewhere.{IsOtherLink}
-use Rattle.gptp_invariants.specs.DelayLinkView.{IsGoodBetween, LinkPlace}
-use Rattle.gptp_invariants.specs.DelayMeasured.{LinkIsMeasured, LinkStandsAt, StationIsLiveAt}
+use Rattle.gptp_invariants.specs.DelayLinkView.{LinkPlace}
+use Rattle.gptp_invariants.specs.DelayMeasured.{LinkIsMeasured, LinkStandsAt}
 use Rattle.gptp_invariants.specs.WorldEncodableLaws.{SetsAnOctet}
 use Rattle.gptp_invariants.specs.WorldNews.{AreSilentBy, IsNews}
 use Rattle.gptp_invariants.proofs.ChoiceCalmKeptLemmas.{acts_keep}
@@ -55,7 +44,6 @@ use Rattle.gptp_invariants.proofs.WorldNewsLemmas.{link_used, none_silent}
 use Rattle.gptp_invariants.proofs.WorldSoundCallLemmas.{tells_keep}
 use Rattle.gptp_theorem.specs.PlayedLaws.{IsMade, IsPlayable}
 use Rattle.gptp_theorem.specs.Reached.{channel_wire}
-use Rattle.gptp_theorem.proofs.EventLemmas.{link_behind, system_behind}
 use Rattle.gptp_theorem.proofs.SettlingInvariantLemmas.{IsFitEvent, least_of}
 use Rattle.gptp_theorem.proofs.SyncPathLemmas.{paths_stand}
 use Rattle.gptp_theorem.proofs.CalmKeptLemmas.{no_change}
@@ -63,8 +51,7 @@ use Rattle.gptp_settling_time.specs.EventKinds.{AreCapableSoon, StartsWith, Tell
 use Rattle.gptp_settling_time.proofs.AlwaysClaimedLemmas.{IsClaimedAlways}
 use Rattle.gptp_settling_time.proofs.BegunLemmas.{begun_keeps}
 use Rattle.gptp_settling_time.proofs.ClaimedToLemmas.{varies_little}
-use Rattle.gptp_settling_time.proofs.EventStillLemmas.{at_end, down_still, fail_still, set_still}
-use Rattle.gptp_settling_time.proofs.GainLemmas.{lives_as, member_at, named_as, used_as}
+use Rattle.gptp_settling_time.proofs.GainLemmas.{used_as}
 use Rattle.gptp_settling_time.proofs.KeptToLemmas.{KeepsTo, keeps_act, keeps_later}
 use Rattle.gptp_settling_time.proofs.LinkStoodLemmas.{stood_in, stood_untold, up_first}
 use Rattle.gptp_settling_time.proofs.MadeLemmas.{made_keeps, made_time}
