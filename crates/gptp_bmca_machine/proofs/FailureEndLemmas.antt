@@ -21,7 +21,8 @@ use Rattle.gptp_bmca_machine.specs.Station.{HoldsAt, MachineState, Reception, St
 use Rattle.gptp_bmca_machine.specs.TwoTops.{TopsTree}
 use Rattle.gptp_bmca_machine.proofs.CutTreeLemmas.{IsCutOff, LeadsNowhere, moves_off}
 use Rattle.gptp_bmca_machine.proofs.FailureTreesLemmas.{FallBack, turns_back}
-use Rattle.gptp_bmca_machine.proofs.FallLemmas.{UnlinkedDrop, falls_by, is_moved}
+use Rattle.gptp_bmca_machine.proofs.UnlinkedLemmas.{UnlinkedDrop}
+use Rattle.gptp_bmca_machine.proofs.FallLemmas.{falls_by, is_moved}
 use Rattle.gptp_bmca_machine.proofs.MovedEndLemmas.{tree_follows}
 use Rattle.gptp_bmca_machine.proofs.MovedLevelLemmas.{LevelSettles, Times as MovedTimes, ToldIn, levels_on}
 use Rattle.gptp_bmca_machine.proofs.RestLemmas.{IsClear}

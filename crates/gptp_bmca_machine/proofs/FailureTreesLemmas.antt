@@ -17,7 +17,8 @@ use Rattle.gptp_bmca_machine.specs.TwoTops.{TopsTree}
 use Rattle.gptp_bmca_machine.specs.Station.{Disabled, HoldsAt, MachineState, Port, Reception, Station}
 use Rattle.gptp_bmca_machine.proofs.CutTreeLemmas.{IsCutOff, LeadsNowhere, moves_off}
 use Rattle.gptp_bmca_machine.proofs.FallKeptLemmas.{falling_kept}
-use Rattle.gptp_bmca_machine.proofs.FallLemmas.{IsAftermath, IsFalling, IsMoved, IsOldTold, UnlinkedDrop, UnlinkedHoldNone, UnlinkedHoldOld}
+use Rattle.gptp_bmca_machine.proofs.UnlinkedLemmas.{IsMoved, IsOldTold, UnlinkedDrop, UnlinkedHoldNone, UnlinkedHoldOld}
+use Rattle.gptp_bmca_machine.proofs.FallLemmas.{IsAftermath, IsFalling}
 use Rattle.gptp_bmca_machine.proofs.LinkStepLemmas.{LaneStands}
 use Rattle.gptp_bmca_machine.proofs.LossLemmas.{fits_kept}
 use Rattle.gptp_bmca_machine.proofs.LostPortLemmas.{StaysAsNamed}

@@ -27,7 +27,8 @@ use Rattle.gptp_bmca_machine.proofs.MovedTreeLemmas.{MovesTree}
 use Rattle.gptp_bmca_machine.proofs.FallStepLemmas.{SaysSo}
 use Rattle.gptp_bmca_machine.proofs.FallKeptLemmas.{falling_kept}
 use Rattle.gptp_bmca_machine.proofs.FallHeldLemmas.{holds_in_tree, old_in_time}
-use Rattle.gptp_bmca_machine.proofs.FallLemmas.{HasChoice, HasLeft, IsAftermath, IsFalling, UnlinkedDrop, UnlinkedHoldNone, falls_by, free_fits, off_drop, off_hold_old, off_none}
+use Rattle.gptp_bmca_machine.proofs.UnlinkedLemmas.{UnlinkedDrop, UnlinkedHoldNone, off_drop, off_hold_old, off_none}
+use Rattle.gptp_bmca_machine.proofs.FallLemmas.{HasChoice, HasLeft, IsAftermath, IsFalling, falls_by, free_fits}
 use Rattle.gptp_bmca_machine.proofs.FallLevelLemmas.{TreeSettles}
 use Rattle.gptp_bmca_machine.proofs.LossLemmas.{fits_kept}
 use Rattle.gptp_bmca_machine.proofs.PlaceLemmas.{same_there}

@@ -15,7 +15,8 @@ use Rattle.gptp_bmca_machine.proofs.LinkEndsLemmas.{source_at}
 use Rattle.gptp_bmca_machine.proofs.PlaceLemmas.{received_injective}
 use Rattle.gptp_bmca_machine.proofs.StillLemmas.{port_there, station_of, still}
 use Rattle.gptp_bmca_machine.proofs.ToldLemmas.{told_due}
-use Rattle.gptp_bmca_machine.proofs.FallLemmas.{FollowsOld, HasTold, HeldInTree, HeldOverLink, HoldsInTree, IsFalling, IsToldByNearer, DownStage, HoldsLeft, IsAftermath, IsMoved, IsNewTold, IsOld, falls_by, follows_old, is_moved, is_x, not_free_old, told_nearer, was_best}
+use Rattle.gptp_bmca_machine.proofs.UnlinkedLemmas.{IsMoved}
+use Rattle.gptp_bmca_machine.proofs.FallLemmas.{FollowsOld, HasTold, HeldInTree, HeldOverLink, HoldsInTree, IsFalling, IsToldByNearer, DownStage, HoldsLeft, IsAftermath, IsNewTold, IsOld, falls_by, follows_old, is_moved, is_x, not_free_old, told_nearer, was_best}
 
 module _ (says : Spelling) (g : Snapshot) (n : Network) (Tree : ℕ → Type 0) (Out : ℕ → ℕ → Type 0) (top : ℕ)
     (best next : System) (base : ℕ) (depth : ℕ → ℕ) (t : MovesTree g n Tree Out top best next base depth) (start : ℕ)

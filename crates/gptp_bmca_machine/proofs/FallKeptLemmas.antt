@@ -18,7 +18,8 @@ use Rattle.gptp_bmca_machine.specs.Touch.{Hear, IsUsable, Replaces}
 use Rattle.gptp_bmca_machine.proofs.MovedTreeLemmas.{Around, IsBeyond, LeadsDown, MovesTree, best_beside, child_leads, was_best_beside}
 use Rattle.gptp_bmca_machine.proofs.FallLeaveLemmas.{TreeAnswers, answers_or_stands, leaves_old, tells_new}
 use Rattle.gptp_bmca_machine.proofs.FallHeldLemmas.{holds_by, holds_in_tree, old_in_time}
-use Rattle.gptp_bmca_machine.proofs.FallLemmas.{DownStage, FollowsOld, HasChoice, choice_dec, HasLeft, HoldsInTree, HoldsLeft, IsAftermath, IsFalling, IsFreeAt, IsLed, IsLeft, IsNewTold, IsOld, IsToldAtTop, IsToldByNearer, UnlinkedDrop, UnlinkedHoldNone, falls_by, follows_old, is_moved, not_free_old, old_by_held, old_by_steps, told_nearer, own_new, says_whole, was_clear}
+use Rattle.gptp_bmca_machine.proofs.UnlinkedLemmas.{UnlinkedDrop, UnlinkedHoldNone}
+use Rattle.gptp_bmca_machine.proofs.FallLemmas.{DownStage, FollowsOld, HasChoice, choice_dec, HasLeft, HoldsInTree, HoldsLeft, IsAftermath, IsFalling, IsFreeAt, IsLed, IsLeft, IsNewTold, IsOld, IsToldAtTop, IsToldByNearer, falls_by, follows_old, is_moved, not_free_old, old_by_held, old_by_steps, told_nearer, own_new, says_whole, was_clear}
 use Rattle.gptp_bmca_machine.proofs.FallStepLemmas.{SaysSo, free_held, free_kept, old_or_free}
 use Rattle.gptp_bmca_machine.proofs.ClearLemmas.{tells_clear, weaker_clear}
 use Rattle.gptp_bmca_machine.proofs.LinkEndsLemmas.{ShowEnds, ends_by, hearer_known, telling_kept, teller_on}

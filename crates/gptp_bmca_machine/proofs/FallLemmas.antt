@@ -18,14 +18,14 @@ use Rattle.gptp_bmca_machine.specs.AtRest.{StationIsAtRest}
 use Rattle.gptp_bmca_machine.specs.Clean.{CameFits, CameOverLink, Whole}
 use Rattle.gptp_bmca_machine.specs.Facts.{FollowsItself, FollowsPort, station_system}
 use Rattle.gptp_bmca_machine.specs.Frame.{Announce, AnnounceFrame, Spelling}
-use Rattle.gptp_bmca_machine.specs.LossLaws.{EverythingFits, IsAfterLoss, Unmoved}
+use Rattle.gptp_bmca_machine.specs.LossLaws.{EverythingFits, IsAfterLoss}
 use Rattle.gptp_bmca_machine.specs.Network.{Network}
 use Rattle.gptp_bmca_machine.specs.Reacts.{IsOwn}
 use Rattle.gptp_bmca_machine.specs.RestLaws.{LinkStays}
-use Rattle.gptp_bmca_machine.specs.SoundLaws.{UnlinkedAreOff}
-use Rattle.gptp_bmca_machine.specs.Station.{Disabled, Held, HoldsAt, MachineState, Mine, Port, Received, Reception, Station}
+use Rattle.gptp_bmca_machine.specs.Station.{Held, HoldsAt, MachineState, Mine, Port, Received, Reception, Station}
 use Rattle.gptp_bmca_machine.specs.Touch.{IsUsable}
 use Rattle.gptp_bmca_machine.specs.Vectors.{path_vector}
+use Rattle.gptp_bmca_machine.proofs.UnlinkedLemmas.{IsMoved, UnlinkedHoldOld}
 use Rattle.gptp_bmca_machine.proofs.MovedTreeLemmas.{Around, IsBeyond, LeadsDown, MovesTree, best_beside, named, names_beyond, one_port, to_ways, ways_lives}
 use Rattle.gptp_bmca_machine.proofs.LinkStepLemmas.{AtLink, lives_at}
 use Rattle.gptp_bmca_machine.proofs.NearestLemmas.{came_fits, path_length, root_not_better, steps_not_fewer}
@@ -92,58 +92,6 @@ abbrev pub DownStage : Spelling → Snapshot → Network → System → ℕ → 
 DownStage says ways n best far last v p u q w =
     IsLed says n best far v p u q w
     ⊎ (IsLeft says ways n best far last v p u q w ⊎ (HasLeft n w v best far × IsFreeAt says ways n v p u q w))
-
--- the system is moved
-abbrev pub IsMoved : Snapshot → Network → ℕ → Type 0
-IsMoved g n v = Unmoved g n v → ⊥
-
--- Who told it isn't beside the system any more; by that the system had its root and steps.
-pub record IsOldTold (g : Snapshot) (n : Network) (v : ℕ) (a : Announce) : Type 0 where
-  pub from : ℕ
-  pub beside : Adjacent g v from
-  pub gone : Adjacent n.graph v from → ⊥
-  pub old : (b : System) (d : ℕ) → IsBest g v b → IsDistance g v d → (a.root ≡ b.identity) × (suc a.steps ≡ d)
-
--- so it is of what such systems hold at ports without a link
-abbrev pub UnlinkedHoldOld : Snapshot → Network → MachineState → Type 0
-UnlinkedHoldOld g n w = (i : ℕ) (s : Station) (place : ℕ) (r : Reception) → slice_get w.stations i ≡ Some s
-    → s.live ≡ true → IsMoved g n s.clock → HoldsAt s place r
-    → (IsLinked n.graph (port_of s.clock (suc place)) → ⊥)
-    → IsOldTold g n s.clock r.said
-
--- once a time is over they hold nothing there
-abbrev pub UnlinkedHoldNone : Snapshot → Network → ℕ → MachineState → Type 0
-UnlinkedHoldNone g n start w = start < w.time → (v : ℕ) (s : Station) (place : ℕ) (r : Reception) → IsMoved g n v
-    → slice_get w.stations (n.place v) ≡ Some s → s.live ≡ true → s.clock ≡ v
-    → (IsLinked n.graph (port_of v (suc place)) → ⊥) → HoldsAt s place r
-    → ⊥
-
--- In a step such a port doesn't come to hold something where it held nothing.
-abbrev pub UnlinkedDrop : Snapshot → Network → MachineState → MachineState → Type 0
-UnlinkedDrop g n w w' = (v : ℕ) (s s' : Station) (place : ℕ) (r' : Reception) → IsMoved g n v
-    → slice_get w.stations (n.place v) ≡ Some s
-    → slice_get w'.stations (n.place v) ≡ Some s' → s'.live ≡ true → s'.clock ≡ v
-    → (IsLinked n.graph (port_of v (suc place)) → ⊥) → HoldsAt s' place r'
-    → (r : Reception) × HoldsAt s place r
-
--- all that is so where ports without a link are off
-pub off_none : (g : Snapshot) (n : Network) (start : ℕ) (w : MachineState) → UnlinkedAreOff n.graph w
-    → UnlinkedHoldNone g n start w
-off_none g n start w dark over v s place r moved at live clock none (q, there, holds) =
-    let off = dark (n.place v) s place q at live there
-    (λ linked. none (subst (λ c. IsLinked n.graph (port_of c (suc place))) clock linked)) in
-    absurd (let both : Received r ≡ Disabled = sym holds ∙ off in cc)
-
-pub off_hold_old : (g : Snapshot) (n : Network) (w : MachineState) → UnlinkedAreOff n.graph w → UnlinkedHoldOld g n w
-off_hold_old g n w dark i s place r at live moved (q, there, holds) none =
-    let off = dark i s place q at live there none in
-    absurd (let both : Received r ≡ Disabled = sym holds ∙ off in cc)
-
-pub off_drop : (g : Snapshot) (n : Network) (w w' : MachineState) → UnlinkedAreOff n.graph w' → UnlinkedDrop g n w w'
-off_drop g n w w' dark v s s' place r' moved at at' live clock none (q, there, holds) =
-    let off = dark (n.place v) s' place q at' live there
-    (λ linked. none (subst (λ c. IsLinked n.graph (port_of c (suc place))) clock linked)) in
-    absurd (let both : Received r' ≡ Disabled = sym holds ∙ off in cc)
 
 -- What is known of each state since: it is calm, and all fits the snapshot of before. What moved systems hold at ports
 -- without a link was told before.

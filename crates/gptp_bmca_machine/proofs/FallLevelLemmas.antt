@@ -16,7 +16,8 @@ use Rattle.gptp_bmca_machine.specs.Station.{MachineState, Mine, Port, Received, 
 use Rattle.gptp_bmca_machine.proofs.MovedTreeLemmas.{MovesTree, child_leads}
 use Rattle.gptp_bmca_machine.proofs.FallKeptLemmas.{hearer_old, led_next, led_old, left_old}
 use Rattle.gptp_bmca_machine.proofs.FallHeldLemmas.{holds_in_tree}
-use Rattle.gptp_bmca_machine.proofs.FallLemmas.{DownStage, HasChoice, HasLeft, IsAftermath, IsFalling, IsOld, UnlinkedDrop, choice_dec, falls_by, follows_old, free_clear, free_fits, told_nearer}
+use Rattle.gptp_bmca_machine.proofs.UnlinkedLemmas.{UnlinkedDrop}
+use Rattle.gptp_bmca_machine.proofs.FallLemmas.{DownStage, HasChoice, HasLeft, IsAftermath, IsFalling, IsOld, choice_dec, falls_by, follows_old, free_clear, free_fits, told_nearer}
 use Rattle.gptp_bmca_machine.proofs.ClearLemmas.{tells_clear, weaker_clear}
 use Rattle.gptp_bmca_machine.proofs.LinkEndsLemmas.{ShowEnds, telling, telling_kept}
 use Rattle.gptp_bmca_machine.proofs.LinkStepLemmas.{lives_at}

@@ -35,6 +35,7 @@ pub mod TellsLemmas
 pub mod CutTreeLemmas
 pub mod TurnTreeLemmas
 pub mod MovedTreeLemmas
+pub mod UnlinkedLemmas
 pub mod FallLemmas
 pub mod FallHeldLemmas
 pub mod FallStepLemmas

@@ -19,7 +19,7 @@ use Rattle.gptp_bmca_machine.specs.LossLaws.{EverythingFits, IsAfterLoss}
 use Rattle.gptp_bmca_machine.specs.Network.{Network}
 use Rattle.gptp_bmca_machine.specs.Station.{Disabled, HoldsAt, MachineState, Port, Received, Reception, Station}
 use Rattle.gptp_bmca_machine.specs.TwoTops.{Side, CutsOffTwice}
-use Rattle.gptp_bmca_machine.proofs.FallLemmas.{IsOldTold}
+use Rattle.gptp_bmca_machine.proofs.UnlinkedLemmas.{IsOldTold}
 use Rattle.gptp_bmca_machine.proofs.FallLeaveLemmas.{TreeAnswers, answers_or_stands}
 use Rattle.gptp_bmca_machine.proofs.LevelLemmas.{places_of}
 use Rattle.gptp_bmca_machine.proofs.LinkStepLemmas.{AtLink, LaneStands, lives_at}

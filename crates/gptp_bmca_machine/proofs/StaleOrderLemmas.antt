@@ -314,20 +314,22 @@ module _ (says : Spelling) (n : Network) (next : System) (top : Side → ℕ) (d
                     omega (arith, also, lower, source)
 
             weaker : IsStronger depth u v → ⊥
-            weaker strong = elim (stage_holds u q v p in_u back strong (strongs u q v p in_u back strong) s pv at there) [
-              | inl h ↦ absurd (let both : Mine s.root s.steps ≡ Received h.r =
-                  sym (tells s pv at there).1 ∙ h.holds in cc)
-              | inr (not, free) ↦ elim ((free s pv l at there lane).flight f a among said) [
-                | inl whole ↦
-                    let more = whole_worse says n next top depth t old base worse u a in_u whole in
-                    let is = stale.root in
-                    omega (arith, more, is)
-                | inr names ↦
-                    let few = stale.names v in_v names in
-                    let deep = stale.deeper in
-                    omega (arith, few, deep)
-              ]
-            ]
+            weaker strong =
+                let stage = strongs u q v p in_u back strong in
+                elim (stage_holds u q v p in_u back strong stage s pv at there) [
+                  | inl h ↦ absurd (let both : Mine s.root s.steps ≡ Received h.r =
+                      sym (tells s pv at there).1 ∙ h.holds in cc)
+                  | inr (not, free) ↦ elim ((free s pv l at there lane).flight f a among said) [
+                    | inl whole ↦
+                        let more = whole_worse says n next top depth t old base worse u a in_u whole in
+                        let is = stale.root in
+                        omega (arith, more, is)
+                    | inr names ↦
+                        let few = stale.names v in_v names in
+                        let deep = stale.deeper in
+                        omega (arith, few, deep)
+                  ]
+                ]
 
     -- ---- whoever may tell what is stale isn't hindered
 

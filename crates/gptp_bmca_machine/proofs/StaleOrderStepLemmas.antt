@@ -369,13 +369,14 @@ module _ (says : Spelling) (n : Network) (next : System) (top : Side → ℕ) (d
                       (λ since pv pu l stand is_ready. inr (inr (stays pv pu l stand)))
 
               left_now : (HasChoice s' root_then d → ⊥) → IsLeft says n.graph n root_then d last v p u q w'
-              left_now not_old = (
-                left',
-                elim (answers_or_stands says n (λ c. ⊤) v w w' m.kept.calm kept'.calm in_v.reached.1.begins step s' at') [
-                  | inl still_there ↦ absurd (not_old (is_old s' still_there))
-                  | inr z ↦ leaves_now left' is_old stays z
-                ],
-              )
+              left_now not_old =
+                  let begins = in_v.reached.1.begins in (
+                    left',
+                    elim (answers_or_stands says n (λ c. ⊤) v w w' m.kept.calm kept'.calm begins step s' at') [
+                      | inl still_there ↦ absurd (not_old (is_old s' still_there))
+                      | inr z ↦ leaves_now left' is_old stays z
+                    ],
+                  )
                 where
                   left' : HasLeft n w' v root_then d
                   left' s at choice = not_old (subst (λ (x : Station). HasChoice x root_then d)

@@ -345,8 +345,10 @@ module _ (says : Spelling) (n : Network) (next : System) (top : Side → ℕ) (d
 
       -- the system that hears tells what is stale then: that is on its way, or held
       tells_then : IsTelling says n next top depth t old base worse u q w' → SettlesOrHears f v p u q w'
-      tells_then tells' = elim (at_either n t.well w' m'.kept says u q v p back Comes
-          (λ held fs. StaleIsHeld says n next top depth t old base worse near held) (m'.heard u q v p in_u back tells')) [
+      tells_then tells' =
+          let heard = m'.heard u q v p in_u back tells' in
+          elim (at_either n t.well w' m'.kept says u q v p back Comes
+          (λ held fs. StaleIsHeld says n next top depth t old base worse near held) heard) [
             | inl comes ↦ inr comes
             | inr held ↦ inl (vacuous w' (old_there w' m' (λ s pv l at there lane. inl (held s pv l at there lane))))
           ]

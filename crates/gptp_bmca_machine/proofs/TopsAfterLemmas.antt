@@ -11,7 +11,8 @@ use Rattle.gptp_bmca_machine.specs.LossLaws.{IsAfterLoss}
 use Rattle.gptp_bmca_machine.specs.Network.{Network}
 use Rattle.gptp_bmca_machine.specs.Station.{HoldsAt, MachineState, Reception, Station}
 use Rattle.gptp_bmca_machine.specs.TwoTops.{Side, CutsOffTwice}
-use Rattle.gptp_bmca_machine.proofs.FallLemmas.{IsAftermath, IsMoved, IsOldTold, UnlinkedDrop, UnlinkedHoldNone}
+use Rattle.gptp_bmca_machine.proofs.UnlinkedLemmas.{IsMoved, IsOldTold, UnlinkedDrop, UnlinkedHoldNone}
+use Rattle.gptp_bmca_machine.proofs.FallLemmas.{IsAftermath}
 use Rattle.gptp_bmca_machine.proofs.LinkStepLemmas.{lives_at}
 use Rattle.gptp_bmca_machine.proofs.StaleEndLemmas.{BareHoldNone}
 use Rattle.gptp_bmca_machine.proofs.StaleLemmas.{BareDrop, BareHoldStale}

@@ -15,7 +15,8 @@ use Rattle.gptp_bmca_machine.specs.SoundLaws.{IsSoundOnLinks, UnlinkedAreOff}
 use Rattle.gptp_bmca_machine.specs.Station.{MachineState, Station}
 use Rattle.gptp_bmca_machine.specs.TurnTree.{TurnsTree}
 use Rattle.gptp_bmca_machine.proofs.FallEndLemmas.{FallsBack, after_step, falls_then}
-use Rattle.gptp_bmca_machine.proofs.FallLemmas.{IsAftermath, UnlinkedDrop, UnlinkedHoldNone, off_drop, off_none}
+use Rattle.gptp_bmca_machine.proofs.UnlinkedLemmas.{UnlinkedDrop, UnlinkedHoldNone, off_drop, off_none}
+use Rattle.gptp_bmca_machine.proofs.FallLemmas.{IsAftermath}
 use Rattle.gptp_bmca_machine.proofs.LinkStepLemmas.{lives_at}
 use Rattle.gptp_bmca_machine.proofs.MovedTreeLemmas.{MovesTree}
 use Rattle.gptp_bmca_machine.proofs.RestLemmas.{Chooses}

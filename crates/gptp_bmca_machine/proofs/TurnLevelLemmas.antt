@@ -12,7 +12,8 @@ use Rattle.gptp_bmca_machine.specs.Frame.{Spelling}
 use Rattle.gptp_bmca_machine.specs.Network.{Network}
 use Rattle.gptp_bmca_machine.specs.Station.{HoldsAt, MachineState, Reception, Station}
 use Rattle.gptp_bmca_machine.specs.TurnTree.{TurnsTree}
-use Rattle.gptp_bmca_machine.proofs.FallLemmas.{UnlinkedDrop, falls_by}
+use Rattle.gptp_bmca_machine.proofs.UnlinkedLemmas.{UnlinkedDrop}
+use Rattle.gptp_bmca_machine.proofs.FallLemmas.{falls_by}
 use Rattle.gptp_bmca_machine.proofs.LinkEndsLemmas.{ends_by, teller_on, telling}
 use Rattle.gptp_bmca_machine.proofs.LinkLemmas.{link_settled}
 use Rattle.gptp_bmca_machine.proofs.MovedLevelLemmas.{LevelSettles, Times as MovedTimes, ToldIn, levels_on}

@@ -8,4 +8,4 @@ AsksVersion words = drop 1 words ≡ codes "--version" ∷ []
 
 -- its one line
 abbrev pub version_text : List ℕ
-version_text = text_of (codes "gptp_sim 4.10.0" ∷ [])
+version_text = text_of (codes "gptp_sim 4.11.0" ∷ [])

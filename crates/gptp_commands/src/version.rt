@@ -11,7 +11,7 @@ use gptp_report::write_whole;
 
 /// The line that says it. The first of its numbers changes where a text that a command writes, or a promise, is another
 /// or gone; the second where one comes that wasn't there; the third where neither does.
-const LINE: &str = "gptp_sim 4.10.0\n";
+const LINE: &str = "gptp_sim 4.11.0\n";
 
 /// Whether a word is that which asks for it.
 fn is_flag(word: &str) -> bool

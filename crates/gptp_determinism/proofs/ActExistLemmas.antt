@@ -142,7 +142,7 @@ module _ {F : Type 0} (answers : Bounds → ℕ → F → Option ℕ → F → T
       tells : (answer : Option Answer) (draws : List Draw) (v : WorldState)
           → Hears end.place port octets emptied draws answer v → IsDelivered link direction w draws v
       tells answer draws v hears = (
-        Heard (receiver direction channel).clock port answer (record { items = octets }),
+        Heard (receiver direction channel).clock port answer (record { items = octets; is_written = false }),
         record {
           channel = channel;
           octets = octets;

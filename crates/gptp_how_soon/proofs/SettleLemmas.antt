@@ -1,5 +1,5 @@
 -- What is told of a time is what its view says.
-use Rattle.std.proofs.Common.{◌≡◌, ◌+◌, ◌&&◌, ◌||◌, ℕ, Bool, true, false, not, if◌then◌else◌, List, refl, ap, ◌∙◌}
+use Rattle.std.proofs.Common.{◌≡◌, ◌+◌, ◌&&◌, ◌||◌, ℕ, Bool, true, false, not, if◌then◌else◌, List, Option, refl, ap, ◌∙◌}
 use Rattle.std.specs.List.{list_all, list_any}
 use Rattle.std.specs.Option.{is_some}
 use Rattle.gptp_scenario.specs.Network.{NetworkState}
@@ -8,11 +8,13 @@ use Rattle.gptp_scenario.specs.declared.sync_wait.SyncPaths.{SyncPaths}
 use Rattle.gptp_topology.specs.Tables.{are_calm, marked_paths}
 use Rattle.gptp_topology.specs.declared.course.Cable.{Cable}
 use Rattle.gptp_topology.specs.declared.course.Standing.{Standing}
-use Rattle.gptp_how_soon.specs.Far.{none_up_longer, up_is_used}
-use Rattle.gptp_how_soon.specs.Bounds.{arrived_by, heard_by, ready, times_by}
+use Rattle.gptp_how_soon.specs.Far.{up_is_used}
+use Rattle.gptp_how_soon.specs.Flight.{flight_over, longest_up}
+use Rattle.gptp_how_soon.specs.Bounds.{arrived_by, times_by}
+use Rattle.gptp_how_soon.specs.Gains.{heard_by, ready}
 use Rattle.gptp_how_soon.specs.Kinds.{begins_wider, brings_nothing, is_loss, makes_nothing, sets_link}
 use Rattle.gptp_how_soon.specs.Links.{new_among}
-use Rattle.gptp_how_soon.specs.Rest.{are_losses_followed, asks_who_is_moved, comes_soon, failed_row, is_end_followed, is_failing_followed, is_from_rest, is_lowering_followed, is_taking_followed, is_worsening_followed, no_moves, row_of}
+use Rattle.gptp_how_soon.specs.Rest.{are_losses_followed, asks_who_is_moved, failed_row, is_end_followed, is_failing_followed, is_from_rest, is_lowering_followed, is_taking_followed, is_worsening_followed, no_moves, row_of}
 use Rattle.gptp_how_soon.specs.Silent.{any_silent}
 use Rattle.gptp_how_soon.specs.Times.{settling_time}
 use Rattle.gptp_how_soon.specs.Walk.{moves_seen, view_seen}
@@ -111,17 +113,16 @@ held_asked from_rest first before paths told moves =
     by true false false false false false false false false false losses none = refl
 
 module _ (n : NetworkState) (at arrived : ℕ) (paths_before paths : SyncPaths)
-    (used_before used soon soon_before silent calm sets : Bool) (gained : ℕ) where
+    (used silent calm sets : Bool) (flight flight_before : Option ℕ) (gained : ℕ) where
   -- What is told where others hold something for so long, all that is moved is cut off or isn't, and each is left alone
   -- or isn't.
   abbrev time_by : ℕ → Bool → Bool → Row → SettlingTime
   time_by held cuts_all alone row =
       times_by n at arrived (record {
         paths_before = paths_before;
-        used_before = used_before;
         used = used;
-        soon = soon;
-        soon_before = soon_before;
+        flight = flight;
+        flight_before = flight_before;
         cuts_all = cuts_all;
         alone = alone;
         silent = silent;
@@ -164,24 +165,23 @@ module _ (n : NetworkState) (at arrived : ℕ) (paths_before paths : SyncPaths)
           (ap counts_held is ∙ held_asked from_rest first paths_before paths told moves asks)
 
 pub settled_so : (n : NetworkState) (w : Walk) (at : ℕ)
-    (first from_rest calm sets used_now longer comes came silent : Bool)
+    (first from_rest calm sets used_now silent : Bool) (longest : ℕ) (flight flight_before : Option ℕ)
     (moves : Moves) (paths : SyncPaths) (told : List Told) (standings : List Standing) (used : List Bool)
     (new : List Cable) (soon heard way arrived was : ℕ) (row : Row) (time : SettlingTime)
     → time
     ≡ times_by n at arrived (record {
       paths_before = w.paths_before;
-      used_before = w.all_used_before;
       used = used_now;
-      soon = comes;
-      soon_before = came;
+      flight = flight;
+      flight_before = flight_before;
       cuts_all = moves.cuts_all;
       alone = moves.alone;
       silent = silent;
       held = moves.held;
     }) paths calm sets row (soon + heard + way)
-    → comes ≡ comes_soon used_now longer paths.delay arrived at
-    → came ≡ comes_soon w.all_used_before w.none_longer_before w.paths_before.delay was at
-    → longer ≡ none_up_longer paths.delay standings
+    → flight ≡ flight_over used_now paths.delay longest arrived at
+    → flight_before ≡ flight_over w.all_used_before w.paths_before.delay w.longest_up_before was at
+    → longest ≡ longest_up standings
     → was ≡ arrived_by w.longest_before w.set_before
     → used_now ≡ up_is_used standings
     → silent ≡ any_silent used standings
@@ -201,16 +201,16 @@ pub settled_so : (n : NetworkState) (w : Walk) (at : ℕ)
     → first ≡ not (is_some w.before)
     → arrived ≡ arrived_by w.longest w.last_set
     → time ≡ settling_time n (view_seen n w at)
-settled_so n w at first from_rest calm sets used_now longer comes came silent moves paths told standings used
-    new soon heard way arrived was row time e0 ec eb el ew eu es e1 e2 e3 e4 e5 e6 e7 e8 e9 e10 e11 e12 e13 e14
+settled_so n w at first from_rest calm sets used_now silent longest flight flight_before moves paths told standings
+    used new soon heard way arrived was row time e0 ec eb el ew eu es e1 e2 e3 e4 e5 e6 e7 e8 e9 e10 e11 e12 e13 e14
     ea =
     let row_is : row ≡ row_of from_rest first w.paths_before paths told (moves_seen n w at) =
     e1 ∙ ap (λ m. row_of from_rest first w.paths_before paths told m) e2
     ∙ same_row from_rest first w.paths_before paths told (moves_seen n w at) in
     let time_is =
     e0
-    ∙ ap (λ (m : Moves). time_by n at arrived w.paths_before paths w.all_used_before used_now comes came silent calm
-    sets (soon + heard + way) m.held m.cuts_all m.alone row) e2
-    ∙ same_held n at arrived w.paths_before paths w.all_used_before used_now comes came silent calm sets
+    ∙ ap (λ (m : Moves). time_by n at arrived w.paths_before paths used_now silent calm sets flight flight_before
+    (soon + heard + way) m.held m.cuts_all m.alone row) e2
+    ∙ same_held n at arrived w.paths_before paths used_now silent calm sets flight flight_before
     (soon + heard + way) from_rest first told (moves_seen n w at) row row_is in
     rw (time_is, ec, eb, el, ew, ea, eu, es, row_is, e3, e4, e5, e6, e7, e8, e9, e10, e11, e12, e13, e14) refl

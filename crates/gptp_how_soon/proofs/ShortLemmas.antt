@@ -33,7 +33,9 @@ use Rattle.gptp_setup.proofs.IntervalLemmas.{interval_most}
 use Rattle.gptp_topology.specs.After.{standings_after}
 use Rattle.gptp_topology.specs.Times.{times_from, times_of}
 use Rattle.gptp_topology.specs.declared.course.Cable.{Cable}
-use Rattle.gptp_how_soon.specs.Bounds.{aged_by, aged_echo_span, any_loss_span, apart_by, arrived_by, asked_again, choice_of_row, echo_if_kept, echo_of_row, exact_span, gone_by, is_again, needed_watch, quiet_by, ready, retold_by, roles_by, roles_of_row, set_span, settling_by, sound_by, sound_of_row, two_exchanges, watch}
+use Rattle.gptp_how_soon.specs.Bounds.{aged_by, aged_echo_span, any_loss_span, apart_by, arrived_by, asked_again, choice_of_row, echo_if_kept, echo_of_row, exact_span, needed_watch, quiet_by, retold_by, roles_by, roles_of_row, set_span, settling_by, sound_by, sound_of_row, two_exchanges, watch}
+use Rattle.gptp_how_soon.specs.Gains.{is_again, ready}
+use Rattle.gptp_how_soon.specs.Flight.{gone_by}
 use Rattle.gptp_how_soon.specs.Kinds.{sets_bounds, sets_link}
 use Rattle.gptp_how_soon.specs.Links.{longest_delay}
 use Rattle.gptp_how_soon.specs.Silent.{is_heard_link, own_intervals}
@@ -170,8 +172,9 @@ module _ (n : NetworkState) (network : IsNetwork n) (paths : SyncPaths) (few : p
     sound_most : (row : Row) → sound_by n loss paths row gained ≤ 195000000000000
     sound_most row = either_most (not (n.params.sync_timeout == 0)) _ _ 195000000000000 span (by row)
       where
-        gone : (x : SyncPaths) (soon : Bool) → x.delay ≤ 16000000000 → gone_by n x soon ≤ 16000000000
-        gone x soon most = either_most soon x.delay (largest_interval (pace_of n)) 16000000000 most largest
+        gone : (flight : Option ℕ) → gone_by n flight ≤ 16000000000
+        gone None = largest
+        gone (Some flight) = let l = largest in omega (arith, l)
 
         aged : aged_echo_span n loss paths ≤ 195000000000000
         aged =
@@ -181,19 +184,18 @@ module _ (n : NetworkState) (network : IsNetwork n) (paths : SyncPaths) (few : p
 
         apart : apart_by n loss paths ≤ 110000000000000
         apart =
-            let w = way in let a = aged_most in let g = gone paths loss.soon short in
+            let w = way in let a = aged_most in let g = gone loss.flight in
             either_most loss.alone (max (aged_by loss + 2 * way_span paths) loss.paths_before.delay)
-            (aged_by loss + 2 * way_span paths + gone_by n paths loss.soon) 110000000000000 (omega (arith, w, a, soon))
+            (aged_by loss + 2 * way_span paths + gone_by n loss.flight) 110000000000000 (omega (arith, w, a, soon))
             (omega (arith, w, a, g))
 
         by : (r : Row) → sound_of_row n loss paths r gained ≤ 195000000000000
         by AnyPast = at_once
         by Unchanged = omega arith
-        by Lowered = let e = echo in let g = gone paths loss.used_before short in omega (arith, e, g)
-        by CutOff = let w = way in let g = gone paths loss.soon short in omega (arith, w, g)
+        by Lowered = let e = echo in let l = largest in omega (arith, e, l)
+        by CutOff = let w = way in let g = gone loss.flight in omega (arith, w, g)
         by FailedEnd =
-            let g = gone loss.paths_before loss.soon_before soon in
-            quiet (gone_by n loss.paths_before loss.soon_before) (omega (arith, g))
+            let g = gone loss.flight_before in quiet (gone_by n loss.flight_before) (omega (arith, g))
         by FailedHeard = aged
         by FailureCutsOff =
             let w = way in let a = aged in let b = aged_most in let p = apart in
@@ -201,7 +203,7 @@ module _ (n : NetworkState) (network : IsNetwork n) (paths : SyncPaths) (few : p
             (max (aged_by loss + 2 * way_span paths) (aged_echo_span n loss paths)) 195000000000000
             (quiet (apart_by n loss paths) (omega (arith, p))) (omega (arith, w, a, b))
         by SystemTurned = let w = way in let e = echo in omega (arith, w, e)
-        by TreeFalls = let w = way in let g = gone paths loss.used_before short in omega (arith, w, g)
+        by TreeFalls = let w = way in let g = gone loss.flight in omega (arith, w, g)
         by TreeTurned = let w = way in let e = echo in omega (arith, w, e)
         by FailureMovesTrees =
             let w = way in let e = echo in let l = largest in let a = aged_most in let p = apart in
@@ -214,8 +216,7 @@ module _ (n : NetworkState) (network : IsNetwork n) (paths : SyncPaths) (few : p
             either_most loss.used (max (echo_span (pace_of n) paths) paths.delay) (any_loss_span n loss paths)
             195000000000000 (omega (arith, e, short)) (omega (arith, l))
         by TakenApart =
-            let w = way in let g = gone paths loss.used short in
-            quiet (max (way_span paths) (gone_by n paths loss.used)) (omega (arith, w, g))
+            let g = gone loss.flight_before in quiet (gone_by n loss.flight_before) (omega (arith, g))
         by AnyLosses = roles_lost
         by Gained = early
 

@@ -9,7 +9,6 @@ use Rattle.gptp_scenario.specs.Network.{IsNetwork, NetworkState}
 use Rattle.gptp_scenario.specs.SyncWait.{sync_paths}
 use Rattle.gptp_scenario.specs.declared.change.Timed.{Timed}
 use Rattle.gptp_scenario.specs.declared.network.LinkSpec.{LinkSpec}
-use Rattle.gptp_scenario.specs.declared.sync_wait.SyncPaths.{SyncPaths}
 use Rattle.gptp_topology.specs.After.{Stand, standing_then, standings_after, systems_after}
 use Rattle.gptp_topology.specs.Course.{cable_is_used, cable_of, named}
 use Rattle.gptp_topology.specs.Tables.{cables_of, has_clock}
@@ -18,7 +17,8 @@ use Rattle.gptp_topology.proofs.BoundLemmas.{calm_is, crossed_is}
 use Rattle.gptp_topology.proofs.StandingLemmas.{maps_twice, stand_more, systems_are}
 use Rattle.gptp_how_soon.specs.Bounds.{arrived_by}
 use Rattle.gptp_how_soon.specs.Chosen.{ends_among, ends_in_use, ends_of, lost_ends, used_ends}
-use Rattle.gptp_how_soon.specs.Far.{none_up_longer, up_is_used}
+use Rattle.gptp_how_soon.specs.Far.{up_is_used}
+use Rattle.gptp_how_soon.specs.Flight.{longest_up}
 use Rattle.gptp_how_soon.specs.Kinds.{sets_bounds, told_by}
 use Rattle.gptp_how_soon.specs.Links.{delay_set, longest_delay, longest_set, lost_among, new_among}
 use Rattle.gptp_how_soon.specs.Times.{last_of, last_set, moves_at, told_at, told_of, view_at}
@@ -43,7 +43,7 @@ pub record WalkStands (n : NetworkState) (made now : List Timed) (w : Walk) : Ty
   pub used : w.used_before.items ≡ map cable_is_used (standings_after n made)
   pub paths : w.paths_before ≡ sync_paths n made
   pub all_used : w.all_used_before ≡ up_is_used (standings_after n made)
-  pub none_longer : w.none_longer_before ≡ none_up_longer (sync_paths n made).delay (standings_after n made)
+  pub up : w.longest_up_before ≡ longest_up (standings_after n made)
 
 -- ---- when a link was last set
 
@@ -173,14 +173,13 @@ module _ (n : NetworkState) (network : IsNetwork n) where
         before = w.before;
         paths_before = so.paths i;
         used_before = so.all_used i;
-        none_longer_before = so.none_longer i;
+        longest_up_before = so.up i;
         arrived_before = arrived_by (so.longest_before i) (so.set_before i);
         new = new i;
         told = so.told i;
         moves = moves_are made now w at so i;
         used = up_is_used (so.tables.standings i);
-        none_longer = none_up_longer (crossed_is n network (made ++ now) w.tables so.tables i).delay
-            (so.tables.standings i);
+        longest_up = longest_up (so.tables.standings i);
         silent = any_silent (so.used i) (so.tables.standings i);
         paths = crossed_is n network (made ++ now) w.tables so.tables i;
         calm = calm_is n network (made ++ now) w.tables so.tables i;
@@ -203,9 +202,7 @@ module _ (n : NetworkState) (network : IsNetwork n) where
         used = is.used ∙ ap (map cable_is_used) is.tables.standings;
         paths = is.paths ∙ crossed_is n network [] w.tables is.tables;
         all_used = is.all_used ∙ ap up_is_used is.tables.standings;
-        none_longer = is.none_longer
-            ∙ ap₂ (λ (ps : SyncPaths) ss. none_up_longer ps.delay ss)
-            (is.paths ∙ crossed_is n network [] w.tables is.tables) is.tables.standings;
+        up = is.up ∙ ap longest_up is.tables.standings;
       }
 
   -- ---- one event more
@@ -233,7 +230,7 @@ module _ (n : NetworkState) (network : IsNetwork n) where
         used = ap (λ (v : _). v.items) passes.used ∙ so.used;
         paths = passes.paths ∙ so.paths;
         all_used = passes.all_used ∙ so.all_used;
-        none_longer = passes.none_longer ∙ so.none_longer;
+        up = passes.up ∙ so.up;
       }
 
   -- ---- another time
@@ -255,7 +252,5 @@ module _ (n : NetworkState) (network : IsNetwork n) where
         used = on.used ∙ ap (map cable_is_used) so.tables.standings;
         paths = on.paths ∙ crossed_is n network (made ++ now) old.tables so.tables;
         all_used = on.all_used ∙ ap up_is_used so.tables.standings;
-        none_longer = on.none_longer
-            ∙ ap₂ (λ (ps : SyncPaths) ss. none_up_longer ps.delay ss)
-            (on.paths ∙ crossed_is n network (made ++ now) old.tables so.tables) so.tables.standings;
+        up = on.up ∙ ap longest_up so.tables.standings;
       }

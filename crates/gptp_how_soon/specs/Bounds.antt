@@ -1,6 +1,5 @@
 -- How soon the choice and the roles stand at a time, by whether it is from rest and what its events are (profile).
-use Rattle.std.specs.Prelude.{ℕ, ◌+◌, ◌-◌, ◌*◌, ◌==◌, ◌||◌, max, not, Bool, if◌then◌else◌, List, length, Option, Some, None}
-use Rattle.std.specs.List.{list_any}
+use Rattle.std.specs.Prelude.{ℕ, ◌+◌, ◌-◌, ◌*◌, ◌==◌, max, not, Bool, if◌then◌else◌, Option, Some, None}
 use Rattle.gptp_setup.specs.Intervals.{interval_of}
 use Rattle.gptp_setup.specs.SettlingParams.{largest_interval}
 use Rattle.gptp_setup.specs.declared.setup.Params.{Params}
@@ -8,15 +7,12 @@ use Rattle.gptp_scenario.specs.Network.{NetworkState, pace_of}
 use Rattle.gptp_scenario.specs.SettlingAtOnce.{settling_span_at_once}
 use Rattle.gptp_scenario.specs.SettlingTime.{echo_span, loss_span, settling_span_with, silence_span, way_span}
 use Rattle.gptp_scenario.specs.declared.sync_wait.SyncPaths.{SyncPaths}
-use Rattle.gptp_topology.specs.declared.course.Cable.{Cable}
-use Rattle.gptp_how_soon.specs.Kinds.{recovers}
-use Rattle.gptp_how_soon.specs.Links.{varies}
+use Rattle.gptp_how_soon.specs.Flight.{gone_by}
 use Rattle.gptp_how_soon.specs.declared.bounds.Loss.{Loss}
 use Rattle.gptp_how_soon.specs.declared.bounds.Row.{Row}
 use Rattle.gptp_how_soon.specs.declared.bounds.Row.TheVariants.{AnyLosses, AnyPast, CutOff, FailedEnd, FailedHeard, FailureCutsOff, FailureMovesTrees, Gained, Lowered, SystemTurned, TakenApart, TakenAway, TreeFalls, TreeTurned, Unchanged}
 use Rattle.gptp_how_soon.specs.declared.bounds.Settling.{Settling}
 use Rattle.gptp_how_soon.specs.declared.bounds.SettlingTime.{SettlingTime}
-use Rattle.gptp_how_soon.specs.declared.kinds.Told.{Told}
 
 -- ---- spans
 
@@ -41,26 +37,6 @@ aged_by loss = if loss.silent then loss.held else 0
 -- any more.
 abbrev pub quiet_by : NetworkState → Loss → ℕ → ℕ
 quiet_by n loss choice = if loss.silent then max choice (silence_span (pace_of n)) else choice
-
--- ---- after gains
-
--- an end of the link recovers by these events
-abbrev pub is_again : List Told → Cable → Bool
-is_again told c = recovers told c.a.clock || recovers told c.b.clock
-
--- From when on ports at new links are capable: after two exchanges. Where a system recovers, a port that stayed on asks
--- for the first of them within an interval.
-abbrev pub ready : Params → SyncPaths → List Told → List Cable → ℕ
-ready p paths told new =
-    if length new == 0 then 0 else if list_any (is_again told) new then asked_again p paths else two_exchanges p paths
-
--- What is told over a new link may not be heard at once: its delay varies, or an end recovers.
-abbrev pub is_hard_to_hear : List Told → Cable → Bool
-is_hard_to_hear told c = is_again told c || varies c
-
--- An announce interval passes where something may not be heard at once.
-abbrev pub heard_by : NetworkState → List Told → List Cable → ℕ
-heard_by n told new = if list_any (is_hard_to_hear told) new then largest_interval (pace_of n) else 0
 
 -- ---- bounds at a time
 
@@ -114,11 +90,6 @@ roles_by n loss paths row gained =
     if not (n.params.sync_timeout == 0) then settling_span_with (pace_of n) paths paths.systems
     else roles_of_row n loss paths row gained
 
--- What was in flight is gone so much later than a time: by the greatest delay where it comes within that; else by an
--- announce interval.
-abbrev pub gone_by : NetworkState → SyncPaths → Bool → ℕ
-gone_by n paths soon = if soon then paths.delay else largest_interval (pace_of n)
-
 -- How much later than a system fails that others heard each tells a right trace, and what was in flight is gone. They
 -- do at once where each link that is up is in use. Else they do once nobody holds what names it, 1 ns later than the
 -- choice stands; and ports at other links that are up have to be off.
@@ -140,34 +111,35 @@ taken_echo_span n loss paths =
 abbrev pub apart_by : NetworkState → Loss → SyncPaths → ℕ
 apart_by n loss paths =
     if loss.alone then max (aged_by loss + 2 * way_span paths) loss.paths_before.delay
-    else aged_by loss + 2 * way_span paths + gone_by n paths loss.soon
+    else aged_by loss + 2 * way_span paths + gone_by n loss.flight
 
 -- By when all that is held and in flight is sound: as soon as the choice stands, but after a loss it may name what is
--- gone. After a far end is cut off, a tree falls back, or a far end fails, only what was in flight does; of one that
--- fails by links of before too. So it is once the choice stands where a failure cuts off all that it moves. After a
--- link goes down by which no system is moved traces have to be told anew first, and so they have where several are
--- taken away. So they do once the choice stands where one system or a tree turns, or one fails that others heard; where
--- that cuts trees off what was in flight as they settled has to be gone too. After losses without a row of their own
--- all is sound once roles stand. After others it is as soon as the choice stands from any past.
+-- gone. After a far end is cut off, a tree falls back, or a far end fails, only what was in flight does; where one
+-- fails, or several links were lost by far ends alone, by links of before. So it is once the choice stands where a
+-- failure cuts off all that it moves. After a link goes down by which no system is moved traces have to be told anew
+-- first, and so they have where several are taken away that others heard. So they do once the choice stands where one
+-- system or a tree turns, or one fails that others heard; where that cuts trees off what was in flight as they settled
+-- has to be gone too. After losses without a row of their own all is sound once roles stand. After others it is as soon
+-- as the choice stands from any past.
 abbrev pub sound_of_row : NetworkState → Loss → SyncPaths → Row → ℕ → ℕ
 sound_of_row n loss paths AnyPast gained = settling_span_at_once (pace_of n) paths
 sound_of_row n loss paths Unchanged gained = 0
-sound_of_row n loss paths Lowered gained = max (echo_span (pace_of n) paths) (gone_by n paths loss.used_before)
-sound_of_row n loss paths CutOff gained = max (2 * way_span paths) (gone_by n paths loss.soon)
-sound_of_row n loss paths FailedEnd gained = quiet_by n loss (gone_by n loss.paths_before loss.soon_before)
+sound_of_row n loss paths Lowered gained = max (echo_span (pace_of n) paths) (largest_interval (pace_of n))
+sound_of_row n loss paths CutOff gained = max (2 * way_span paths) (gone_by n loss.flight)
+sound_of_row n loss paths FailedEnd gained = quiet_by n loss (gone_by n loss.flight_before)
 sound_of_row n loss paths FailedHeard gained = aged_echo_span n loss paths
 sound_of_row n loss paths FailureCutsOff gained =
     if loss.cuts_all then quiet_by n loss (apart_by n loss paths)
     else max (aged_by loss + 2 * way_span paths) (aged_echo_span n loss paths)
 sound_of_row n loss paths SystemTurned gained = 2 * way_span paths + echo_span (pace_of n) paths
-sound_of_row n loss paths TreeFalls gained = max (2 * way_span paths) (gone_by n paths loss.used_before)
+sound_of_row n loss paths TreeFalls gained = max (2 * way_span paths) (gone_by n loss.flight)
 sound_of_row n loss paths TreeTurned gained = 2 * way_span paths + echo_span (pace_of n) paths
 sound_of_row n loss paths FailureMovesTrees gained =
     quiet_by n loss
     (if loss.cuts_all then apart_by n loss paths
     else aged_by loss + 2 * way_span paths + max (echo_span (pace_of n) paths) (largest_interval (pace_of n)))
 sound_of_row n loss paths TakenAway gained = taken_echo_span n loss paths
-sound_of_row n loss paths TakenApart gained = quiet_by n loss (max (way_span paths) (gone_by n paths loss.used))
+sound_of_row n loss paths TakenApart gained = quiet_by n loss (gone_by n loss.flight_before)
 sound_of_row n loss paths AnyLosses gained = quiet_by n loss (any_loss_span n loss paths)
 sound_of_row n loss paths Gained gained = gained
 

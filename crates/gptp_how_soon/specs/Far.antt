@@ -2,7 +2,7 @@
 -- is cut off that was; and whether each link that is up is in use.
 --
 -- The far end of a link has chosen more steps, or as many and has the higher clock.
-use Rattle.std.specs.Prelude.{ℕ, ◌==◌, ◌&&◌, ◌||◌, nat_le, nat_lt, not, Bool, false, List, Option, Some, None, slice_get}
+use Rattle.std.specs.Prelude.{ℕ, ◌==◌, ◌&&◌, ◌||◌, nat_lt, not, Bool, false, List, Option, Some, None, slice_get}
 use Rattle.std.specs.List.{list_all}
 use Rattle.gptp_scenario.specs.Network.{NetworkState}
 use Rattle.gptp_scenario.specs.declared.change.Timed.{Timed}
@@ -83,10 +83,3 @@ is_down_or_used s = not s.cable.up || cable_is_used s
 
 abbrev pub up_is_used : List Standing → Bool
 up_is_used standings = list_all is_down_or_used standings
-
--- none that is up takes longer than this
-abbrev pub is_down_or_short : ℕ → Standing → Bool
-is_down_or_short delay s = not s.cable.up || nat_le s.cable.bounds.max delay
-
-abbrev pub none_up_longer : ℕ → List Standing → Bool
-none_up_longer delay standings = list_all (is_down_or_short delay) standings

@@ -3,6 +3,7 @@ pub mod Losses
 pub mod Links
 pub mod Chosen
 pub mod Far
+pub mod Flight
 pub mod Turned
 pub mod Tree
 pub mod TurnedTree
@@ -11,6 +12,7 @@ pub mod MovedTrees
 pub mod Silent
 pub mod Alone
 pub mod Bounds
+pub mod Gains
 pub mod Rest
 pub mod Times
 pub mod Walk

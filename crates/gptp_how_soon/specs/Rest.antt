@@ -37,11 +37,6 @@ abbrev pub has_come : ℕ → ℕ → ℕ → Option SettlingTime → ℕ → Bo
 has_come interval delay arrived None at = false
 has_come interval delay arrived (Some b) at = has_come_by interval delay arrived b at b.settling
 
--- What was in flight at a time has come within the greatest delay of a link in use: each link that is up is in use, or
--- none takes longer, and what was in flight as a link was last set has arrived as soon.
-abbrev pub comes_soon : Bool → Bool → ℕ → ℕ → ℕ → Bool
-comes_soon used none_longer delay arrived at = used || (none_longer && nat_le arrived (at + delay))
-
 -- Events are followed where what each does is, and no system both fails and recovers.
 abbrev pub are_events_followed : List Told → Bool
 are_events_followed told = not (list_any is_other told) && not (fails_and_recovers told)

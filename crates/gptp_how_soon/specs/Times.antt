@@ -22,15 +22,17 @@ use Rattle.gptp_topology.specs.Tables.{has_clock}
 use Rattle.gptp_topology.specs.Times.{times_of}
 use Rattle.gptp_topology.specs.declared.course.Cable.{Cable}
 use Rattle.gptp_topology.specs.declared.course.Standing.{Standing}
-use Rattle.gptp_how_soon.specs.Bounds.{arrived_by, heard_by, ready, times_by}
+use Rattle.gptp_how_soon.specs.Bounds.{arrived_by, times_by}
+use Rattle.gptp_how_soon.specs.Gains.{heard_by, ready}
 use Rattle.gptp_how_soon.specs.Alone.{leaves_alone_after}
 use Rattle.gptp_how_soon.specs.Chosen.{moves_counted, moves_some}
-use Rattle.gptp_how_soon.specs.Far.{are_far_after, cut_far_ends_after, none_up_longer, up_is_used}
+use Rattle.gptp_how_soon.specs.Far.{are_far_after, cut_far_ends_after, up_is_used}
+use Rattle.gptp_how_soon.specs.Flight.{flight_over, longest_up}
 use Rattle.gptp_how_soon.specs.Kinds.{sets_bounds, sets_link, told_by}
 use Rattle.gptp_how_soon.specs.Losses.{takes_one}
 use Rattle.gptp_how_soon.specs.Links.{longest_delay, new_links}
 use Rattle.gptp_how_soon.specs.MovedTrees.{cuts_all_after, far_ends_move_after, moves_trees_after}
-use Rattle.gptp_how_soon.specs.Rest.{comes_soon, has_come, is_from_rest, row_of}
+use Rattle.gptp_how_soon.specs.Rest.{has_come, is_from_rest, row_of}
 use Rattle.gptp_how_soon.specs.Silent.{held_after, own_intervals, silent_after}
 use Rattle.gptp_how_soon.specs.Tree.{cuts_tree_after, worsens_best_after}
 use Rattle.gptp_how_soon.specs.Turned.{turns_one_after}
@@ -47,12 +49,12 @@ pub record View : Type 0 where
   -- when a link was last set, if one was, and the greatest delay that one has had
   pub last_set : Option ℕ
   pub longest : ℕ
-  -- the time before, what Sync had to cross then, whether each link that was up was in use, whether none that was up
-  -- took longer than those, and by when what was in flight as a link was last set had arrived
+  -- the time before, what Sync had to cross then, whether each link that was up was in use, the greatest delay of one
+  -- that was up, and by when what was in flight as a link was last set had arrived
   pub before : Option SettlingTime
   pub paths_before : SyncPaths
   pub used_before : Bool
-  pub none_longer_before : Bool
+  pub longest_up_before : ℕ
   pub arrived_before : ℕ
   -- the links that are new at this time, and its events
   pub new : List Cable
@@ -60,10 +62,10 @@ pub record View : Type 0 where
   -- whom they move, of whom such as are cut off don't count where one link or one system is taken away, and for how
   -- long it counts what others hold
   pub moves : Moves
-  -- whether each link that is up is in use, whether none that is up takes longer than those, whether one is left
-  -- silent, what Sync has to cross, and whether the network is calm
+  -- whether each link that is up is in use, the greatest delay of one that is up, whether one is left silent, what Sync
+  -- has to cross, and whether the network is calm
   pub used : Bool
-  pub none_longer : Bool
+  pub longest_up : ℕ
   pub silent : Bool
   pub paths : SyncPaths
   pub calm : Bool
@@ -93,10 +95,9 @@ row_at v =
 abbrev pub loss_at : View → Loss
 loss_at v = record {
   paths_before = v.paths_before;
-  used_before = v.used_before;
   used = v.used;
-  soon = comes_soon v.used v.none_longer v.paths.delay (arrived_by v.longest v.last_set) v.at;
-  soon_before = comes_soon v.used_before v.none_longer_before v.paths_before.delay v.arrived_before v.at;
+  flight = flight_over v.used v.paths.delay v.longest_up (arrived_by v.longest v.last_set) v.at;
+  flight_before = flight_over v.used_before v.paths_before.delay v.longest_up_before v.arrived_before v.at;
   cuts_all = v.moves.cuts_all;
   alone = v.moves.alone;
   silent = v.silent;
@@ -168,13 +169,13 @@ view_at n made now before at = record {
   before = before;
   paths_before = sync_paths n made;
   used_before = up_is_used (standings_after n made);
-  none_longer_before = none_up_longer (sync_paths n made).delay (standings_after n made);
+  longest_up_before = longest_up (standings_after n made);
   arrived_before = arrived_after n made;
   new = new_links n made (made ++ now) (not (is_some before));
   told = told_of n made now;
   moves = moves_at n made now before at;
   used = up_is_used (standings_after n (made ++ now));
-  none_longer = none_up_longer (sync_paths n (made ++ now)).delay (standings_after n (made ++ now));
+  longest_up = longest_up (standings_after n (made ++ now));
   silent = silent_after n made (made ++ now);
   paths = sync_paths n (made ++ now);
   calm = is_calm n (made ++ now);

@@ -12,7 +12,8 @@ use Rattle.gptp_topology.specs.declared.nodes.System.{System}
 use Rattle.gptp_how_soon.specs.Bounds.{arrived_by}
 use Rattle.gptp_how_soon.specs.Alone.{leaves_alone}
 use Rattle.gptp_how_soon.specs.Chosen.{any_counted, any_moved, chosen_over, ends_among, ends_in_use}
-use Rattle.gptp_how_soon.specs.Far.{all_cut_far_ends, are_far, none_up_longer, up_is_used}
+use Rattle.gptp_how_soon.specs.Far.{all_cut_far_ends, are_far, up_is_used}
+use Rattle.gptp_how_soon.specs.Flight.{longest_up}
 use Rattle.gptp_how_soon.specs.Kinds.{sets_bounds, told_by}
 use Rattle.gptp_how_soon.specs.Losses.{takes_one}
 use Rattle.gptp_how_soon.specs.Links.{delay_set, longest_among, lost_among, new_among}
@@ -43,7 +44,7 @@ pub record IsFirstWalk (n : NetworkState) (w : Walk) : Type 0 where
   pub used : w.used_before.items ≡ map cable_is_used w.tables.standings.items
   pub paths : w.paths_before ≡ marked_paths w.tables.marks.items w.tables.nodes.items
   pub all_used : w.all_used_before ≡ up_is_used w.tables.standings.items
-  pub none_longer : w.none_longer_before ≡ none_up_longer w.paths_before.delay w.tables.standings.items
+  pub up : w.longest_up_before ≡ longest_up w.tables.standings.items
 
 -- an event of this time is passed
 pub record WalkPasses (at : ℕ) (act : Act) (old new : Walk) : Type 0 where
@@ -64,7 +65,7 @@ pub record WalkPasses (at : ℕ) (act : Act) (old new : Walk) : Type 0 where
   pub used : new.used_before ≡ old.used_before
   pub paths : new.paths_before ≡ old.paths_before
   pub all_used : new.all_used_before ≡ old.all_used_before
-  pub none_longer : new.none_longer_before ≡ old.none_longer_before
+  pub up : new.longest_up_before ≡ old.longest_up_before
 
 -- it goes on to another time, where this is what is told of the one so far
 pub record WalkGoesOn (time : SettlingTime) (old new : Walk) : Type 0 where
@@ -80,7 +81,7 @@ pub record WalkGoesOn (time : SettlingTime) (old new : Walk) : Type 0 where
   pub used : new.used_before.items ≡ map cable_is_used old.tables.standings.items
   pub paths : new.paths_before ≡ marked_paths old.tables.marks.items old.tables.nodes.items
   pub all_used : new.all_used_before ≡ up_is_used old.tables.standings.items
-  pub none_longer : new.none_longer_before ≡ none_up_longer new.paths_before.delay old.tables.standings.items
+  pub up : new.longest_up_before ≡ longest_up old.tables.standings.items
 
 -- what systems that stand so choose over the links in use, before this time and now, and the links that are lost
 abbrev pub chosen_in : Walk → List System → List Bool → List Chosen
@@ -154,13 +155,13 @@ view_seen n w at = record {
   before = w.before;
   paths_before = w.paths_before;
   used_before = w.all_used_before;
-  none_longer_before = w.none_longer_before;
+  longest_up_before = w.longest_up_before;
   arrived_before = arrived_by w.longest_before w.set_before;
   new = new_among (not (is_some w.before)) w.tables.standings.items w.used_before.items;
   told = w.told.items;
   moves = moves_seen n w at;
   used = up_is_used w.tables.standings.items;
-  none_longer = none_up_longer (marked_paths w.tables.marks.items w.tables.nodes.items).delay w.tables.standings.items;
+  longest_up = longest_up w.tables.standings.items;
   silent = any_silent w.used_before.items w.tables.standings.items;
   paths = marked_paths w.tables.marks.items w.tables.nodes.items;
   calm = are_calm n.params (marked_paths w.tables.marks.items w.tables.nodes.items) w.tables.marks.items;

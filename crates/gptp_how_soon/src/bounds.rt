@@ -1,19 +1,16 @@
 //! How soon the choice and the roles stand at a time, by whether it is from rest and what its events are.
 
 ghost use Rattle.std.specs.Prelude.{◌≡◌, ◌≤◌, ◌+◌, IfSome};
-ghost use Rattle.std.specs.List.{list_any};
 ghost use Rattle.gptp_network.specs.declared.keys.TheConstants.{LATEST_EVENT};
 ghost use Rattle.gptp_setup.specs.SettlingParams.{largest_interval};
 ghost use Rattle.gptp_scenario.specs.Network.{pace_of};
 ghost use Rattle.gptp_scenario.specs.SettlingAtOnce.{settling_span_at_once};
 ghost use Rattle.gptp_scenario.specs.SettlingTime.{capability_span, echo_span, silence_span, way_span};
-ghost use Rattle.gptp_how_soon.specs.Bounds.{aged_by, aged_echo_span, any_loss_span, apart_by, arrived_by, asked_again, choice_by, exact_from, exact_span, gone_by, heard_by, is_again, is_hard_to_hear, quiet_by, ready, retold_by, roles_by, set_span, settled, sound_by, taken_echo_span, times_by, two_exchanges, watch};
+ghost use Rattle.gptp_how_soon.specs.Bounds.{aged_by, aged_echo_span, any_loss_span, apart_by, arrived_by, asked_again, choice_by, exact_from, exact_span, quiet_by, retold_by, roles_by, set_span, settled, sound_by, taken_echo_span, times_by, two_exchanges, watch};
 
-use crate::kinds::{Told, recovers};
-use crate::links::varies;
+use crate::flight::gone_by;
 use gptp_scenario::{Network, SyncPaths};
 use gptp_setup::interval_of;
-use gptp_topology::Cable;
 
 /// Bounds at a time, in ns. The choice, the roles and rest count from that time on.
 #[derive(Clone, Copy, Debug, PartialEq, Eq)]
@@ -46,13 +43,11 @@ pub struct SettlingTime {
 pub struct Loss {
     /// What Sync had to cross just before.
     pub paths_before: SyncPaths,
-    /// Whether each link that was up just before was in use, and whether each that is up then is.
-    pub used_before: bool,
+    /// Whether each link that is up then is in use.
     pub used: bool,
-    /// Whether what was in flight then comes within the greatest delay of a link in use; and so what was just before,
-    /// of one in use then.
-    pub soon: bool,
-    pub soon_before: bool,
+    /// For how long what is in flight then is so at most, in ns, where links say it; and so of what was just before.
+    pub flight: Option<u64>,
+    pub flight_before: Option<u64>,
     /// Whether each system that is moved gets a worse root, and so does each live far end of a link that is lost.
     pub cuts_all: bool,
     /// Whether each live system is left alone, which was at one link in use at most, and each link that was up before
@@ -104,7 +99,7 @@ pub enum Row {
 }
 
 /// Two exchanges over the slowest link, an interval between requests apart, in ns.
-fn two_exchanges(network: &Network, paths: SyncPaths) -> u64
+pub(crate) fn two_exchanges(network: &Network, paths: SyncPaths) -> u64
     requires { paths.delay ≤ 16000000000 }
     ensures is { result ≡ two_exchanges network.now.params paths }
     ensures bound { result ≤ 49000000000 }
@@ -134,49 +129,6 @@ pub(crate) fn way_span(paths: SyncPaths) -> u64
     (paths.systems as u64).saturating_sub(1) * paths.delay
 }
 
-/// Whether a system at an end of a link recovers by these events.
-fn is_again(told: &[Told], cable: &Cable) -> bool
-    ensures { result ≡ is_again told.now cable.now }
-{
-    recovers(told, cable.a.clock) || recovers(told, cable.b.clock)
-}
-
-/// Whether it does at one of these links.
-fn any_again(told: &[Told], new: &[Cable]) -> bool
-    ensures { result ≡ list_any (is_again told.now) new.now }
-{
-    new.iter().any(|cable| is_again(told, cable))
-}
-
-/// From when on ports at new links are capable, in ns after their time.
-pub(crate) fn ready(network: &Network, paths: SyncPaths, told: &[Told], new: &[Cable]) -> u64
-    requires { paths.delay ≤ 16000000000 }
-    ensures is { result ≡ ready network.now.params paths told.now new.now }
-    ensures bound { result ≤ 65000000000 }
-{
-    if new.is_empty() {
-        0
-    } else if any_again(told, new) {
-        asked_again(network, paths)
-    } else {
-        two_exchanges(network, paths)
-    }
-}
-
-/// Whether what is told over a link that is new may not be heard at once.
-fn is_hard_to_hear(told: &[Told], cable: &Cable) -> bool
-    ensures { result ≡ is_hard_to_hear told.now cable.now }
-{
-    is_again(told, cable) || varies(cable)
-}
-
-/// Whether it may not be over one of these links.
-fn any_hard_to_hear(told: &[Told], new: &[Cable]) -> bool
-    ensures { result ≡ list_any (is_hard_to_hear told.now) new.now }
-{
-    new.iter().any(|cable| is_hard_to_hear(told, cable))
-}
-
 /// The largest announce interval, in ns.
 pub(crate) fn announce_interval(network: &Network) -> u64
     ensures is { result ≡ largest_interval (pace_of network.now) }
@@ -184,18 +136,6 @@ pub(crate) fn announce_interval(network: &Network) -> u64
 {
     network.well_formed();
     interval_of(network.largest())
-}
-
-/// How much longer it takes where something may not be heard at once, in ns: an announce interval.
-pub(crate) fn heard(network: &Network, told: &[Told], new: &[Cable]) -> u64
-    ensures is { result ≡ heard_by network.now told.now new.now }
-    ensures bound { result ≤ 16000000000 }
-{
-    if any_hard_to_hear(told, new) {
-        announce_interval(network)
-    } else {
-        0
-    }
 }
 
 /// By how much later than a change ports are capable, or aren't, whatever came before, in ns.
@@ -335,20 +275,6 @@ fn echo_span(network: &Network, paths: SyncPaths) -> u64
     (paths.systems as u64).saturating_sub(1) * (interval_of(network.largest()) + paths.delay)
 }
 
-/// By how much later than a time what was in flight is gone, in ns.
-fn gone_by(network: &Network, paths: SyncPaths, soon: bool) -> u64
-    requires { paths.delay ≤ 16000000000 }
-    ensures is { result ≡ gone_by network.now paths soon }
-    ensures bound { result ≤ 16000000000 }
-{
-    network.well_formed();
-    if soon {
-        paths.delay
-    } else {
-        interval_of(network.largest())
-    }
-}
-
 /// By how much later than a system fails that others heard each tells a trace without it, in ns, and what was in flight
 /// is gone.
 fn aged_echo_span(network: &Network, loss: Loss, paths: SyncPaths) -> u64
@@ -380,7 +306,7 @@ fn apart_by(network: &Network, loss: Loss, paths: SyncPaths) -> u64
     if loss.alone {
         settled.max(loss.paths_before.delay)
     } else {
-        settled + gone_by(network, paths, loss.soon)
+        settled + gone_by(network, loss.flight)
     }
 }
 
@@ -412,20 +338,15 @@ fn sound_by(network: &Network, loss: Loss, paths: SyncPaths, row: Row, gained: u
     if network.params().sync_timeout != 0 {
         return network.settling_span_with(paths);
     }
-    let gone = gone_by(network, paths, loss.soon);
-    let gone_before = gone_by(network, loss.paths_before, loss.soon_before);
+    let gone = gone_by(network, loss.flight);
+    let gone_before = gone_by(network, loss.flight_before);
     match row {
         Row::AnyPast => settling_span_at_once(network, paths),
         Row::Unchanged => 0,
-        Row::Lowered => echo_span(network, paths).max(gone_by(network, paths, loss.used_before)),
+        Row::Lowered => echo_span(network, paths).max(announce_interval(network)),
         Row::TakenAway => taken_echo_span(network, loss, paths),
-        Row::TakenApart => {
-            let gone = gone_by(network, paths, loss.used);
-            quiet_by(network, loss, way_span(paths).max(gone))
-        }
-        Row::CutOff => (2 * way_span(paths)).max(gone),
-        Row::TreeFalls => (2 * way_span(paths)).max(gone_by(network, paths, loss.used_before)),
-        Row::FailedEnd => quiet_by(network, loss, gone_before),
+        Row::CutOff | Row::TreeFalls => (2 * way_span(paths)).max(gone),
+        Row::FailedEnd | Row::TakenApart => quiet_by(network, loss, gone_before),
         Row::FailedHeard => aged_echo_span(network, loss, paths),
         Row::FailureCutsOff => {
             if loss.cuts_all {

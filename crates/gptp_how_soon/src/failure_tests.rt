@@ -224,8 +224,8 @@ fn what_a_failure_cuts_off_or_turns_costs_two_ways(rt: HostRuntime) -> Result<()
                 ("b", "3", "e", "1"),
                 ("b", "4", "d", "2"),
             ] as &[(&str, &str, &str, &str)],
-            (7_000_001_230, 11_000_000_000),
-            (7_000_001_230, 7_000_001_230),
+            (3_000_001_230, 11_000_000_000),
+            (820, 820),
         ),
     ] {
         let clocks = &["a", "b", "c", "d", "e", "f"];
@@ -276,10 +276,7 @@ fn a_far_end_that_loses_its_power_costs_nothing(rt: HostRuntime) -> Result<(), F
         rt.alloc(),
         "[[event]]\nat = 30000000000\nkind = \"link_down\"\nclock = \"000000000000000c\"\nport = 1\n[[event]]\nat = 30000000000\nkind = \"fail\"\nclock = \"000000000000000c\"\n",
     )?;
-    assert_eq!(rt;
-        soon(&before, 30_000_000_000),
-        Some((10_000_002_050, 40_000_007_450))
-    );
+    assert_eq!(rt; soon(&before, 30_000_000_000), Some((0, 30_000_005_400)));
     Ok(())
 }
 

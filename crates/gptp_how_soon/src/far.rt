@@ -1,8 +1,8 @@
 //! Whether a system is the far end of each of its links, whether one is cut off that was, and whether each link that is
-//! up is in use, or takes no longer than some time.
+//! up is in use.
 
 ghost use Rattle.std.specs.Prelude.{◌≡◌, slice_get};
-ghost use Rattle.gptp_how_soon.specs.Far.{all_cut_far_ends, are_far, cuts_far_end, has_lower_clock, is_cut_at, is_far_end, is_far_named, is_down_or_short, is_down_or_used, is_far_over, is_nearer_at, none_up_longer, up_is_used};
+ghost use Rattle.gptp_how_soon.specs.Far.{all_cut_far_ends, are_far, cuts_far_end, has_lower_clock, is_cut_at, is_far_end, is_far_named, is_down_or_used, is_far_over, is_nearer_at, up_is_used};
 
 use crate::chosen::{Chosen, Ends, is_joined, place_of};
 use crate::kinds::{Told, makes_nothing};
@@ -125,20 +125,4 @@ pub(crate) fn up_is_used(standings: &[Standing]) -> bool
     ensures { result ≡ up_is_used standings.now }
 {
     standings.iter().all(|standing| is_down_or_used(standing))
-}
-
-/// Whether a link is down, or takes no longer than this.
-fn is_down_or_short(delay: u64, standing: &Standing) -> bool
-    ensures { result ≡ is_down_or_short delay standing.now }
-{
-    !standing.cable.up || standing.cable.bounds.max <= delay
-}
-
-/// Whether no link that is up takes longer than this.
-pub(crate) fn none_up_longer(delay: u64, standings: &[Standing]) -> bool
-    ensures { result ≡ none_up_longer delay standings.now }
-{
-    standings
-        .iter()
-        .all(|standing| is_down_or_short(delay, standing))
 }

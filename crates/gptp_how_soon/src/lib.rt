@@ -12,8 +12,10 @@ mod documents;
 #[cfg(test)]
 mod failure_tests;
 mod far;
+mod flight;
 #[cfg(test)]
 mod gain_tests;
+mod gains;
 mod kinds;
 #[cfg(test)]
 mod link_tests;

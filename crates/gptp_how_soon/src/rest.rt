@@ -2,13 +2,13 @@
 
 ghost use Rattle.std.specs.Prelude.{◌≡◌, ◌≤◌, ◌+◌, ◌*◌, ◌&&◌, ◌||◌, nat_le, nat_lt};
 ghost use Rattle.gptp_scenario.specs.SettlingTime.{way_span};
-ghost use Rattle.gptp_how_soon.specs.Rest.{are_events_followed, are_losses_followed, are_recoveries_followed, are_turns_followed, asks_who_is_moved, comes_soon, is_end_followed, is_failing_followed, failed_row, has_come, is_from_rest, is_lowering_followed, is_taking_followed, is_wider_followed, is_worsening_followed, keeps_paths, other_row, rested, row_of, settles_wider_by};
+ghost use Rattle.gptp_how_soon.specs.Rest.{are_events_followed, are_losses_followed, are_recoveries_followed, are_turns_followed, asks_who_is_moved, is_end_followed, is_failing_followed, failed_row, has_come, is_from_rest, is_lowering_followed, is_taking_followed, is_wider_followed, is_worsening_followed, keeps_paths, other_row, rested, row_of, settles_wider_by};
 
 use crate::bounds::{Row, SettlingTime, way_span};
 use crate::kinds::{
-    Told, all_bring_nothing, all_leave_links, all_make_nothing, all_tell_nothing,
-    any_gain, any_loss, any_lowers_unused, any_other, any_recovery, any_wider,
-    begins_wider, fails_and_recovers, first_wider_by,
+    Told, all_bring_nothing, all_leave_links, all_make_nothing, all_tell_nothing, any_gain,
+    any_loss, any_lowers_unused, any_other, any_recovery, any_wider, begins_wider,
+    fails_and_recovers, first_wider_by,
 };
 use crate::losses::{fails_beside_idle, fails_first, lowers_one, takes_several, worsens_first};
 use gptp_scenario::SyncPaths;
@@ -95,14 +95,6 @@ pub(crate) fn has_come(
         },
         None => false,
     }
-}
-
-/// Whether what was in flight at a time has come within this greatest delay of a link in use: each link that is up is
-/// in use, or none takes longer, and what was in flight as a link was last set has arrived as soon.
-pub(crate) fn comes_soon(used: bool, none_longer: bool, delay: u64, arrived: u128, at: u64) -> bool
-    ensures { result ≡ comes_soon used none_longer delay arrived at }
-{
-    used || (none_longer && arrived <= u128::from(at) + u128::from(delay))
 }
 
 /// Whether each of these events is followed.

@@ -82,6 +82,13 @@ fn events_come_from_rest_soon_after_a_loss(rt: HostRuntime) -> Result<(), Fail> 
             1_250_003_050,
         ),
         (
+            "d hangs beside a slower link, and cuts c off",
+            "[[event]]\nat = 40000000000\nkind = \"link_set\"\nclock = \"000000000000000c\"\nport = 2\nmin = 380\nmax = 700\nloss = 0\n[[event]]\nat = 100000000000\nkind = \"fail\"\nclock = \"000000000000000d\"\n[[event]]\nat = 100375001521\nkind = \"recover\"\nclock = \"000000000000000d\"\n[network]\npdelay = -3\nlost = 1\n",
+            375_001_520,
+            100_375_001_521,
+            1_250_004_500,
+        ),
+        (
             "b hangs",
             "[[event]]\nat = 100000000000\nkind = \"fail\"\nclock = \"000000000000000b\"\n[[event]]\nat = 111500000000\nkind = \"recover\"\nclock = \"000000000000000b\"\n",
             11_000_000_000,
@@ -166,8 +173,8 @@ fn events_come_from_rest_soon_beside_links_that_a_failure_left_up(
 ) -> Result<(), Fail> {
     // c hangs, and its links stay up: as slow as the one that is in use once b is cut off, or one is slower.
     const SLOWER: &str =
-        "[[event]]\nat = 10000000000\nkind = \"link_set\"\nclock = \"000000000000000b\"\nport = 2\nmin = 380\nmax = 500\nloss = 0\n";
-    for (case, before, rest) in [("as slow", "", 1_230), ("slower", SLOWER, 1_000_000_000)] {
+        "[[event]]\nat = 10000000000\nkind = \"link_set\"\nclock = \"000000000000000b\"\nport = 2\nmin = 380\nmax = 5000\nloss = 0\n";
+    for (case, before, rest) in [("as slow", "", 1_230), ("slower", SLOWER, 5_000)] {
         let mut text = String::new(rt.alloc());
         text.push_str(before)?;
         text.push_str(

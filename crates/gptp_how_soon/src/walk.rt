@@ -9,20 +9,19 @@ ghost use Rattle.gptp_how_soon.specs.Walk.{IsFirstWalk, WalkGoesOn, WalkPasses, 
 
 use crate::alone::leaves_alone;
 use crate::bounds::{
-    Loss, SettlingTime, announce_interval, arrived_before, arrived_by, heard, ready, times_by,
-    way_span,
+    Loss, SettlingTime, announce_interval, arrived_before, arrived_by, times_by, way_span,
 };
 use crate::chosen::{
     Chosen, Ends, any_counted, any_moved, choose, copy_systems, ends_in_use, ends_of,
 };
-use crate::far::{all_cut_far_ends, are_far, none_up_longer, up_is_used};
+use crate::far::{all_cut_far_ends, are_far, up_is_used};
+use crate::flight::{flight_over, longest_up};
+use crate::gains::{heard, ready};
 use crate::kinds::{Told, sets_bounds, sets_link, tell};
 use crate::links::{delay_set, longest_among, lost_among, mark_used, new_links};
 use crate::losses::takes_one;
 use crate::moved_trees::{all_far_ends_move, cuts_all, moves_trees};
-use crate::rest::{
-    Moves, asks_who_is_moved, comes_soon, has_come, is_from_rest, row_of,
-};
+use crate::rest::{Moves, asks_who_is_moved, has_come, is_from_rest, row_of};
 use crate::silent::{any_silent, heard_links, held_among, own_intervals};
 use crate::tree::{cuts_tree, worsens_best};
 use crate::turned::{both, turns_one};
@@ -48,14 +47,13 @@ pub(crate) struct Walk {
     /// When a link was last set by then, if one was, and the greatest delay that one had had, in ns.
     pub set_before: Option<u64>,
     pub longest_before: u64,
-    /// The systems as they stood then, which links were in use, what Sync had to cross, and whether each link that was
-    /// up was in use.
+    /// The systems as they stood then, which links were in use, what Sync had to cross, whether each link that was up
+    /// was in use, and the greatest delay of one that was up, in ns.
     pub systems_before: Vec<System>,
     pub used_before: Vec<bool>,
     pub paths_before: SyncPaths,
     pub all_used_before: bool,
-    /// Whether none that was up took longer than those in use.
-    pub none_longer_before: bool,
+    pub longest_up_before: u64,
 }
 
 impl Walk {
@@ -73,7 +71,7 @@ impl Walk {
         mark_used(&mut used_before, &tables.standings)?;
         let paths_before = tables.sync_paths();
         let all_used_before = up_is_used(&tables.standings);
-        let none_longer_before = none_up_longer(paths_before.delay, &tables.standings);
+        let longest_up_before = longest_up(&tables.standings);
         let longest = longest_among(&cables);
         Ok(Walk {
             tables,
@@ -88,7 +86,7 @@ impl Walk {
             used_before,
             paths_before,
             all_used_before,
-            none_longer_before,
+            longest_up_before,
         })
     }
 
@@ -119,7 +117,7 @@ impl Walk {
         self.longest_before = self.longest;
         self.paths_before = paths;
         self.all_used_before = up_is_used(&self.tables.standings);
-        self.none_longer_before = none_up_longer(paths.delay, &self.tables.standings);
+        self.longest_up_before = longest_up(&self.tables.standings);
         self.told.clear();
         self.before = Some(time);
         Ok(())
@@ -243,17 +241,17 @@ impl Walk {
         let arrived = arrived_by(at, self.longest, self.last_set);
         let arrived_before = arrived_before(self.longest_before, self.set_before);
         let all_used = up_is_used(standings);
-        let none_longer = none_up_longer(paths.delay, standings);
-        let soon = comes_soon(all_used, none_longer, paths.delay, u128::from(arrived), at);
+        let longest = longest_up(standings);
+        let flight = flight_over(all_used, paths.delay, longest, u128::from(arrived), at);
         let used_before = self.all_used_before;
-        let longer = self.none_longer_before;
-        let soon_before = comes_soon(used_before, longer, paths_before.delay, arrived_before, at);
+        let longest = self.longest_up_before;
+        let delay_before = paths_before.delay;
+        let flight_before = flight_over(used_before, delay_before, longest, arrived_before, at);
         let loss = Loss {
             paths_before,
-            used_before,
             used: all_used,
-            soon,
-            soon_before,
+            flight,
+            flight_before,
             cuts_all: moves.cuts_all,
             alone: moves.alone,
             silent: any_silent(used, standings),

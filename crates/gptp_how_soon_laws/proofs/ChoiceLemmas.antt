@@ -15,7 +15,8 @@ use Rattle.gptp_network.specs.Document.{DocumentState}
 use Rattle.gptp_network.specs.Snapshot.{events_by}
 use Rattle.gptp_network.proofs.SnapshotLemmas.{from_filter}
 use Rattle.gptp_theorem.specs.PlayedLaws.{IsPlayable}
-use Rattle.gptp_how_soon.specs.Bounds.{aged_by, aged_echo_span, any_loss_span, arrived_by, choice_by, choice_of_row, gone_by, quiet_by, roles_of_row, sound_by}
+use Rattle.gptp_how_soon.specs.Bounds.{aged_by, aged_echo_span, any_loss_span, arrived_by, choice_by, choice_of_row, quiet_by, roles_of_row, sound_by}
+use Rattle.gptp_how_soon.specs.Flight.{gone_by}
 use Rattle.gptp_how_soon.specs.Kinds.{is_lowering}
 use Rattle.gptp_how_soon.specs.Links.{longest_delay}
 use Rattle.gptp_how_soon.specs.Times.{View, events_at, gained_at, last_set, loss_at, ready_at, row_at, settling_time, settling_times, settling_times_from, time_at, view_at}
@@ -37,7 +38,7 @@ use Rattle.gptp_how_soon_laws.proofs.FailedLemmas.{used_up}
 use Rattle.gptp_how_soon_laws.proofs.RowBoundLemmas.{HasOwnBounds, IsSoundSooner, IsTelling, bounds_choice, choice_or_own, past_row, sound_or_sooner, tells}
 use Rattle.gptp_how_soon_laws.proofs.RowLemmas.{gained, unchanged}
 use Rattle.gptp_how_soon_laws.proofs.RowApartLemmas.{apart_bounds, apart_rests, taken_apart}
-use Rattle.gptp_how_soon_laws.proofs.RowLossLemmas.{ComesLate, CutsAll, FailsLate, FallsLate, GoesFirst, TakesSome, all_cut, cut_off, failed, failure_cuts, flight_now, heard, left_alone, losses, lowered, none_left, same_paths, taken, tree_falls, tree_turned, turned}
+use Rattle.gptp_how_soon_laws.proofs.RowLossLemmas.{ComesLate, CutsAll, FailsLate, FallsLate, GoesFirst, TakesSome, all_cut, cut_off, failed, failure_cuts, flight_since, heard, left_alone, losses, lowered, none_left, same_paths, taken, tree_falls, tree_turned, turned}
 use Rattle.gptp_how_soon_laws.proofs.AgedLemmas.{aged, aging, alone_rests, quiet_later, split_rests}
 use Rattle.gptp_how_soon_laws.proofs.LossBoundLemmas.{beside, greater, no_later, some_before, some_heard, some_lost, some_rested, some_trees}
 use Rattle.gptp_how_soon_laws.proofs.RepeatLemmas.{before_repeats}
@@ -152,7 +153,7 @@ module _ (d : DocumentState) (playable : IsPlayable d) where
     Rests sound =
         (HasComeToRest b at × BeforeRepeats n (Resting sound) made now)
         ⊎ (((rest : HasComeToRest b at) × FallsLate n playable.network all b at late rest
-        × (sound ≡ max (2 * way_span v.paths) (gone_by n v.paths v.used_before)))
+        × (sound ≡ max (2 * way_span v.paths) (gone_by n loss.flight)))
         ⊎ (((rest : HasComeToRest b at) × ComesLate n playable.network all b at late (TurnsTreeLink n) rest
         × (sound ≡ turned_echo_span n (made ++ now)))
         ⊎ (FailsLate n playable.network all b at late × RestsSplit n sound made now)))
@@ -177,7 +178,7 @@ module _ (d : DocumentState) (playable : IsPlayable d) where
         ))
     rests sound calm off (inr (inl (rest, tree, is))) =
         inr (inr (inl (tree_next (FallsTree n) (RestsTree n sound) calm off rest tree.comes
-        (gone_by n v.paths v.used_before, tree.flight, is))))
+        (gone_by n loss.flight, tree.flight, is))))
     rests sound calm off (inr (inr (inr (x, splits)))) =
         inr (inr (inr (inr (
           late,
@@ -200,7 +201,7 @@ module _ (d : DocumentState) (playable : IsPlayable d) where
         inl (rest, alone (Resting sound) (inl (inr (inl (fails, by v.silent refl flight (told ∙ is))))))
       where
         gone : ℕ
-        gone = gone_by n v.paths_before loss.soon_before
+        gone = gone_by n loss.flight_before
 
         by : (silent : Bool) → v.silent ≡ silent → FlightIsGoneFrom n made (last_change (made ++ now)) gone
             → sound ≡ (if silent then max gone (silence_span (pace_of n)) else gone)
@@ -214,15 +215,15 @@ module _ (d : DocumentState) (playable : IsPlayable d) where
               subst (FlightIsGoneFrom n made (last_change (made ++ now))) (sym same) flight,
             )
     rests_by sound told (inr (inl (row, is))) =
-        let (rest, (l, flight)) = lowered n playable.network all b at late well row in
+        let (rest, l) = lowered n playable.network all b at late well row in
         let same = same_paths n playable.network all b at late is_lowering l.first in
-        let gone : ℕ = gone_by n v.paths v.used_before in
+        let gone : ℕ = largest_interval (pace_of n) in
         let is_first = told ∙ is ∙ ap (λ (p : SyncPaths). max (echo_span (pace_of n) p) gone) same in
-        inl (rest, behind l.first (Resting sound) (inl (inr (inr (inl (l.lowers, (gone, flight, is_first)))))))
+        inl (rest, behind l.first (Resting sound) (inl (inr (inr (inl (l.lowers, (gone, inr refl, is_first)))))))
     rests_by sound told (inr (inr (inl (row, is)))) =
         let x = cut_off n playable.network all b at late well row in
         let same = same_paths n playable.network all b at late is_lowering x.none.first in
-        let gone : ℕ = gone_by n v.paths loss.soon in
+        let gone : ℕ = gone_by n loss.flight in
         let is_first = told ∙ is ∙ ap (λ (p : SyncPaths). max (2 * way_span p) gone) same in
         inl (x.rested, behind x.none.first (Resting sound) (inl (inl (x.cuts, (gone, x.flight, is_first)))))
     rests_by sound told (inr (inr (inr (inl (inr row, is))))) =
@@ -280,7 +281,7 @@ module _ (d : DocumentState) (playable : IsPlayable d) where
         inr (inr (inr (x.trees, by x loss.alone refl (told ∙ is))))
       where
         gone : ℕ
-        gone = gone_by n v.paths loss.soon
+        gone = gone_by n loss.flight
 
         fallen : ℕ
         fallen = aged_by loss + 2 * way_span v.paths
@@ -289,7 +290,7 @@ module _ (d : DocumentState) (playable : IsPlayable d) where
             → sound ≡ quiet_by n loss (if apart then max fallen v.paths_before.delay else fallen + gone)
             → RestsSplit n sound made now
         by x false some same =
-            let flight = flight_now n playable.network all b at late x.trees.fails in
+            let flight = flight_since n playable.network all b at late x.trees.fails in
             split_rests n playable.network all b at late well sound gone (some_trees n made now x.trees.fails) same
             (λ later. inr (inl (x.beyond, gone, flight, later)))
         by x true apart same =

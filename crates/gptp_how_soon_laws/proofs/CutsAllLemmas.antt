@@ -14,13 +14,13 @@ use Rattle.gptp_graph.specs.Distance.{IsDistance}
 use Rattle.gptp_graph.specs.Snapshot.{IsLinked, IsWellFormed, Joins, PortIdentity, Snapshot, System, clocks}
 use Rattle.gptp_graph.proofs.BestLemmas.{IsBest-unique}
 use Rattle.gptp_graph.proofs.DistanceLemmas.{IsDistance-unique}
-use Rattle.gptp_graph.proofs.LinkLemmas.{Joins-clock}
+use Rattle.gptp_graph.proofs.LinkLemmas.{Joins-clock, Joins-sym}
 use Rattle.gptp_network.specs.Snapshot.{StandsAfter}
 use Rattle.gptp_scenario.specs.Network.{IsNetwork, NetworkState}
 use Rattle.gptp_scenario.specs.declared.change.Timed.{Timed}
 use Rattle.gptp_topology.specs.After.{system_then, systems_after}
 use Rattle.gptp_topology.specs.declared.nodes.System as ours
-use Rattle.gptp_how_soon.specs.Chosen.{chosen_after, differs, ends_of, is_moved, is_moved_at, lost_ends, moves_some}
+use Rattle.gptp_how_soon.specs.Chosen.{chosen_after, differs, is_moved, is_moved_at, lost_ends, moves_some}
 use Rattle.gptp_how_soon.specs.Far.{is_nearer_at}
 use Rattle.gptp_how_soon.specs.MovedTrees.{cuts_all_after, far_end_moves, far_ends_move_after, is_moved_if_far, moves_trees_after, stays_or_gets_worse}
 use Rattle.gptp_how_soon.specs.Silent.{hears, is_live}
@@ -36,7 +36,7 @@ use Rattle.gptp_settling_time.specs.TreeLosses.{CutsAllBeyond, CutsAllBeyondFrom
 use Rattle.gptp_how_soon_laws.proofs.FailedLemmas.{each_is}
 use Rattle.gptp_how_soon_laws.proofs.LiveEndsLemmas.{nearer_at}
 use Rattle.gptp_how_soon_laws.proofs.LivesOnLemmas.{LivesOn, clock_lived, on_of}
-use Rattle.gptp_how_soon_laws.proofs.LostLinkLemmas.{ends_are, stands_or_lost}
+use Rattle.gptp_how_soon_laws.proofs.LostLinkLemmas.{joins_or_lost}
 use Rattle.gptp_how_soon_laws.proofs.MovedTreesLemmas.{cut_there}
 use Rattle.gptp_how_soon_laws.proofs.TakenAwayLemmas.{all_lived}
 use Rattle.gptp_how_soon_laws.proofs.TreeTestLemmas.{better_so}
@@ -126,25 +126,11 @@ module _ (n : NetworkState) (network : IsNetwork n) (made events : List Timed) w
         let (j, at_from) = at_clock n network made g stands well from.clock near_known in
         let hears_is = hears_so i to.clock j from.clock s at_from near_known order in
         let none = stays_at i to.clock s stays in
-        let moves : moves_there i ≡ true = elim joins [
-          | inl member ↦
-              elim (stands_or_lost n network made g stands well events h stands' well'
-              (record { a = from; b = to }) member) [
-                | inl still ↦ absurd (apart (from, inr still))
-                | inr (w, same, listed) ↦
-                    far_moves i j (ends_of n w) listed
-                    (inr (ends_are n network made g stands well w from.clock to.clock j i
-                    (record { a = from; b = to }) same refl refl at_from s.at)) hears_is
-              ]
-          | inr member ↦
-              elim (stands_or_lost n network made g stands well events h stands' well'
-              (record { a = to; b = from }) member) [
-                | inl still ↦ absurd (apart (from, inl still))
-                | inr (w, same, listed) ↦
-                    far_moves i j (ends_of n w) listed
-                    (inl (ends_are n network made g stands well w to.clock from.clock i j
-                    (record { a = to; b = from }) same refl refl s.at at_from)) hears_is
-              ]
+        let moves : moves_there i ≡ true =
+        elim (joins_or_lost n network made g stands well events h stands' well' i j to from s.at at_from
+        (Joins-sym g from to joins)) [
+          | inl still ↦ absurd (apart (from, still))
+          | inr x ↦ far_moves i j x.ends x.listed x.between hears_is
         ] in
         let no : true ≡ false = sym moves ∙ none in
         cc

@@ -28,7 +28,7 @@ use Rattle.gptp_network.proofs.PassLemmas.{kept, passes_at}
 use Rattle.gptp_topology.specs.After.{standing_then}
 use Rattle.gptp_topology.specs.Course.{cable_is_used, cable_of, named}
 use Rattle.gptp_topology.specs.declared.course.Cable.{Cable}
-use Rattle.gptp_how_soon.specs.Bounds.{is_again, is_hard_to_hear, ready}
+use Rattle.gptp_how_soon.specs.Gains.{is_again, is_hard_to_hear, ready}
 use Rattle.gptp_how_soon.specs.Kinds.{is_gain, is_idle, is_loss, is_other, is_recovery, is_recovery_of, is_unused, lowers_unused, makes_nothing, recovers, what_of, is_wider}
 use Rattle.gptp_how_soon.specs.Links.{is_new, new_links, varies}
 use Rattle.gptp_how_soon.specs.Times.{told_at, told_of}

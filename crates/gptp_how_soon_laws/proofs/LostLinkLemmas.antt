@@ -15,6 +15,7 @@ use Rattle.gptp_network.proofs.PassLemmas.{kept}
 use Rattle.gptp_topology.specs.After.{systems_after}
 use Rattle.gptp_how_soon.specs.Chosen.{ends_of, is_used_then, lost_ends, place_of}
 use Rattle.gptp_how_soon.specs.Links.{is_lost}
+use Rattle.gptp_how_soon.specs.declared.chosen.Ends.{Ends}
 use Rattle.gptp_how_soon.proofs.ChosenLemmas.{IsAt, link_stands, place_is, used_then}
 
 -- the links that are in use after these events
@@ -71,6 +72,43 @@ module _ (n : NetworkState) (network : IsNetwork n) (made : List Timed) (g : Sna
                   (kept (is_lost n made events) w n.links known
                   (and_from (is_used_then n made w) (not (is_used_then n events w)) used (ap not gone))),
             )
+
+    -- a link that is lost has its ends at two places
+    pub record IsLostBetween (i j : ℕ) : Type 0 where
+      pub ends : Ends
+      pub listed : In ends (lost_ends n made events)
+      pub between : (ends ≡ record { a = i; b = j }) ⊎ (ends ≡ record { a = j; b = i })
+
+    -- at the one of them it has one
+    pub lost_at : (i j : ℕ) (x : IsLostBetween i j) → (x.ends.a ≡ i) ⊎ (x.ends.b ≡ i)
+    lost_at i j x = elim x.between [
+      | inl same ↦ inl (ap (λ (e : Ends). e.a) same)
+      | inr same ↦ inr (ap (λ (e : Ends). e.b) same)
+    ]
+
+    -- two ports that were joined still are, or the link between them is lost
+    pub joins_or_lost : (i j : ℕ) (p q : PortIdentity) → IsAt n i p.clock → IsAt n j q.clock → Joins g p q
+        → Joins h p q ⊎ IsLostBetween i j
+    joins_or_lost i j p q at at' (inl member) =
+        let l : Link = record { a = p; b = q } in
+        elim (stands_or_lost l member) [
+          | inl still ↦ inl (inl still)
+          | inr (w, same, listed) ↦ inr (record {
+            ends = ends_of n w;
+            listed = listed;
+            between = inl (ends_are w p.clock q.clock i j l same refl refl at at');
+          })
+        ]
+    joins_or_lost i j p q at at' (inr member) =
+        let l : Link = record { a = q; b = p } in
+        elim (stands_or_lost l member) [
+          | inl still ↦ inl (inr still)
+          | inr (w, same, listed) ↦ inr (record {
+            ends = ends_of n w;
+            listed = listed;
+            between = inr (ends_are w q.clock p.clock j i l same refl refl at' at);
+          })
+        ]
 
     -- a link in use joins the systems at two places
     pub record IsJoinedBy (i j : ℕ) (p q : PortIdentity) : Type 0 where

@@ -10,8 +10,7 @@ use Rattle.gptp_graph.specs.Snapshot.{IsWellFormed, Snapshot, clocks}
 use Rattle.gptp_network.proofs.PassLemmas.{kept, passes_at}
 use Rattle.gptp_network.specs.Snapshot.{StandsAfter}
 use Rattle.gptp_roles.specs.Selection.{clock_of}
-use Rattle.gptp_scenario.specs.Calm.{IsLive, IsUsed}
-use Rattle.gptp_scenario.specs.Change.{is_at, link_acted, link_after, standing, system_acted, system_after, with_up}
+use Rattle.gptp_scenario.specs.Change.{link_acted, link_after, standing, system_acted, system_after, with_up}
 use Rattle.gptp_scenario.specs.InUse.{lives}
 use Rattle.gptp_scenario.specs.Network.{IsEnd, IsNetwork, NetworkState}
 use Rattle.gptp_scenario.specs.SyncWait.{sync_paths}
@@ -29,7 +28,7 @@ use Rattle.gptp_how_soon.proofs.RoundsLemmas.{Touches}
 use Rattle.gptp_how_soon.specs.Kinds.{is_link_down, is_loss, is_lowering}
 use Rattle.gptp_how_soon.specs.Links.{is_lost}
 use Rattle.gptp_how_soon.specs.Times.{told_at}
-use Rattle.gptp_settling_time.specs.Losses.{IsCutOff, IsUnmoved, IsUnmovedOrCutOff, LowersLink, MovesNoneJoined, UpIsUsed}
+use Rattle.gptp_settling_time.specs.Losses.{IsCutOff, IsUnmoved, IsUnmovedOrCutOff, LowersLink, MovesNoneJoined}
 use Rattle.gptp_settling_time.proofs.EventStillLemmas.{at_end}
 use Rattle.gptp_how_soon_laws.proofs.ToldLemmas.{link_down_is, loss_lowers}
 use Rattle.gptp_how_soon_laws.proofs.UnmovedLemmas.{AreWell, none_joined_there, unmoved_at}
@@ -152,45 +151,3 @@ module _ (n : NetworkState) (network : IsNetwork n) (made : List Timed) (event :
           paths = paths;
           few = few;
         }
-
--- where each link that is up was in use, each is after such an event
-module _ (n : NetworkState) (network : IsNetwork n) (made : List Timed) (event : Timed)
-    (is : is_lowering (told_at n made event.act) ≡ true) where
-  x : TakesDown n network made event
-  x = takes_down n network made event is
-
-  pub used_on : UpIsUsed n made → UpIsUsed n (made ++ event ∷ [])
-  used_on used place v there up = by (is_at x.clock x.port (link_after made v)) refl
-    where
-      now_is : link_after (made ++ event ∷ []) v
-          ≡ (if is_at x.clock x.port (link_after made v) then with_up false (link_after made v) else link_after made v)
-      now_is = link_behind made event v ∙ ap (λ a. link_acted a (link_after made v)) x.act
-
-      lives_on : (name : ℕ) → IsLive n.systems made name → IsLive n.systems (made ++ event ∷ []) name
-      lives_on name live = record {
-        place = live.place;
-        system = live.system;
-        there = live.there;
-        clock = live.clock;
-        live = ap (λ s. s.live) (system_behind made event (clock_of live.system.identity) (standing live.system))
-            ∙ ap (λ a. (system_acted a (clock_of live.system.identity) (system_after made live.system)).live) x.act
-            ∙ live.live;
-      }
-
-      by : (at : Bool) → is_at x.clock x.port (link_after made v) ≡ at
-          → IsUsed n.systems (made ++ event ∷ []) (link_after (made ++ event ∷ []) v)
-      by true at =
-          let down : (link_after (made ++ event ∷ []) v).up ≡ false =
-          ap (λ (w : LinkSpec). w.up)
-          (now_is ∙ ap (λ b. if b then with_up false (link_after made v) else link_after made v) at) in
-          absurd (let both : true ≡ false = sym up ∙ down in cc)
-      by false at =
-          let same : link_after (made ++ event ∷ []) v ≡ link_after made v =
-          now_is ∙ ap (λ b. if b then with_up false (link_after made v) else link_after made v) at in
-          let was = used place v there (ap (λ (w : LinkSpec). w.up) (sym same) ∙ up) in
-          subst (IsUsed n.systems (made ++ event ∷ [])) (sym same)
-          (record {
-            up = was.up;
-            a = lives_on (link_after made v).a.clock was.a;
-            b = lives_on (link_after made v).b.clock was.b;
-          })

@@ -34,7 +34,7 @@ use Rattle.gptp_how_soon_laws.proofs.ToldLemmas.{loss_fails}
 use Rattle.gptp_how_soon_laws.proofs.TreeBelowLemmas.{IsTop, best_so, cut_off, tree}
 use Rattle.gptp_how_soon_laws.proofs.LivesOnLemmas.{LivesOn, on_at, on_of}
 use Rattle.gptp_how_soon_laws.proofs.LostEndLemmas as lost_ends
-use Rattle.gptp_how_soon_laws.proofs.LostLinkLemmas.{ends_are, joined_by, stands_or_lost, used_links}
+use Rattle.gptp_how_soon_laws.proofs.LostLinkLemmas.{joined_by, joins_or_lost, lost_at, used_links}
 use Rattle.gptp_how_soon_laws.proofs.MovedTreesTestLemmas as tests
 use Rattle.gptp_how_soon_laws.proofs.TreeTestLemmas.{better_so, same_so}
 use Rattle.gptp_how_soon_laws.proofs.TurnedTreeTestLemmas.{TurnsAt, part_turns, turned_moves, turns_at}
@@ -334,29 +334,14 @@ module _ (n : NetworkState) (network : IsNetwork n) (made events : List Timed) w
             let (i, s) = on v (has.lives v in_v) in
             let (j, at_u) =
             at_clock n network made g stands well u (Adjacent-clock g v u well (p, q, joins)) in
-            elim joins [
-              | inl member ↦
-                  elim (stands_or_lost n network made g stands well events h stands' well'
-                  (record { a = port_of v p; b = port_of u q }) member) [
-                    | inl still ↦ inl (p, q, inl still)
-                    | inr (w, same, listed) ↦
-                        let ends =
-                        ends_are n network made g stands well w v u i j (record { a = port_of v p; b = port_of u q })
-                        same refl refl s.at at_u in
-                        inr (only_top i v s in_v
-                        (record { ends = ends_of n w; listed = listed; end = inl (ap (λ (e : Ends). e.a) ends) }))
-                  ]
-              | inr member ↦
-                  elim (stands_or_lost n network made g stands well events h stands' well'
-                  (record { a = port_of u q; b = port_of v p }) member) [
-                    | inl still ↦ inl (p, q, inr still)
-                    | inr (w, same, listed) ↦
-                        let ends =
-                        ends_are n network made g stands well w u v j i (record { a = port_of u q; b = port_of v p })
-                        same refl refl at_u s.at in
-                        inr (only_top i v s in_v
-                        (record { ends = ends_of n w; listed = listed; end = inr (ap (λ (e : Ends). e.b) ends) }))
-                  ]
+            elim (joins_or_lost n network made g stands well events h stands' well' i j (port_of v p) (port_of u q) s.at
+            at_u joins) [
+              | inl still ↦ inl (p, q, still)
+              | inr lost ↦ inr (only_top i v s in_v (record {
+                ends = lost.ends;
+                listed = lost.listed;
+                end = lost_at n network made g stands well events h stands' well' i j lost;
+              }))
             ]
 
         -- no system with the best of it falls: all tops had that, and what falls has a worse one

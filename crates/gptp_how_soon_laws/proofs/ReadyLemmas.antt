@@ -10,7 +10,8 @@ use Rattle.gptp_scenario.specs.declared.change.Timed.{Timed}
 use Rattle.gptp_scenario.specs.declared.sync_wait.SyncPaths.{SyncPaths}
 use Rattle.gptp_network.proofs.PassLemmas.{passes_at}
 use Rattle.gptp_topology.specs.declared.course.Cable.{Cable}
-use Rattle.gptp_how_soon.specs.Bounds.{asked_again, is_again, is_hard_to_hear, ready, two_exchanges}
+use Rattle.gptp_how_soon.specs.Bounds.{asked_again, two_exchanges}
+use Rattle.gptp_how_soon.specs.Gains.{is_again, is_hard_to_hear, ready}
 use Rattle.gptp_how_soon.specs.Links.{varies}
 use Rattle.gptp_how_soon.specs.declared.kinds.Told.{Told}
 use Rattle.gptp_settling_time.specs.Gains.{AreSparedBy, HasDelaysWithin, IsSparedBy}

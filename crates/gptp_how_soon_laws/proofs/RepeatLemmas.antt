@@ -4,15 +4,12 @@ use Rattle.std.proofs.Common.{◌≡◌, Bool, true, false, not, List, [], ◌�
 use Rattle.std.specs.List.{list_all}
 use Rattle.std.proofs.lemmas.Bool.{and_parts, not-true}
 use Rattle.gptp_lists.specs.Members.{In}
-use Rattle.gptp_lists.proofs.SystemSpecLemmas.{In-slice_get}
 use Rattle.gptp_graph.specs.Snapshot.{Snapshot}
 use Rattle.gptp_roles.specs.Selection.{clock_of}
-use Rattle.gptp_scenario.specs.Calm.{IsUsed}
-use Rattle.gptp_scenario.specs.Change.{link_after, system_after}
+use Rattle.gptp_scenario.specs.Change.{system_after}
 use Rattle.gptp_scenario.specs.Network.{IsNetwork, NetworkState}
 use Rattle.gptp_scenario.specs.SyncWait.{sync_paths}
 use Rattle.gptp_scenario.specs.declared.change.Timed.{Timed}
-use Rattle.gptp_scenario.specs.declared.network.LinkSpec.{LinkSpec}
 use Rattle.gptp_scenario.specs.declared.network.SystemSpec.{SystemSpec}
 use Rattle.gptp_network.specs.Snapshot.{StandsAfter}
 use Rattle.gptp_topology.specs.After.{standing_then, standings_after, system_then, systems_after}
@@ -30,8 +27,7 @@ use Rattle.gptp_how_soon.specs.declared.kinds.Told.{Told}
 use Rattle.gptp_how_soon.proofs.WalkLemmas.{lost_are, used_are}
 use Rattle.gptp_settling_time.specs.Gains.{Repeats}
 use Rattle.gptp_settling_time.specs.HowSoon.{BeforeRepeats, EachEvent}
-use Rattle.gptp_settling_time.specs.Losses.{UpIsUsed}
-use Rattle.gptp_settling_time.proofs.SamePathsLemmas.{StandSame, idle_same, lives_same, paths_same, same_alike, same_back, same_itself, same_lives, same_on, stands_before}
+use Rattle.gptp_settling_time.proofs.SamePathsLemmas.{StandSame, idle_same, lives_same, paths_same, same_alike, same_back, same_itself, same_on, stands_before}
 use Rattle.gptp_how_soon_laws.proofs.ToldLemmas.{idle_changes}
 use Rattle.gptp_how_soon_laws.proofs.UnmovedLemmas.{AreWell}
 
@@ -99,18 +95,6 @@ module _ (n : NetworkState) (events more : List Timed) (same : StandSame n event
   -- it has the same snapshot
   pub stands_seen : (h : Snapshot) → StandsAfter n events h → StandsAfter n more h
   stands_seen h stands = stands_before n more events (same_back n events more same) h stands
-
-  -- and each link that is up is in use where it was so
-  pub used_still : UpIsUsed n events → UpIsUsed n more
-  used_still used place v there up =
-      let one = same.links v (In-slice_get v n.links place there) in
-      let was = used place v there (ap (λ (w : LinkSpec). w.up) (sym one) ∙ up) in
-      subst (IsUsed n.systems more) (sym one)
-      (record {
-        up = was.up;
-        a = same_lives n events more same (link_after events v).a.clock was.a;
-        b = same_lives n events more same (link_after events v).b.clock was.b;
-      })
 
 -- ---- what is computed from that
 

@@ -1,29 +1,30 @@
 -- Several systems and links are taken away at a time, by its row: no system is moved, and no live system lost its link
 -- to a nearer one.
-use Rattle.std.proofs.Common.{◌≡◌, ◌⊎◌, ◌≤◌, ◌<◌, ℕ, Bool, true, false, List, ◌++◌, Some, inl, inr, refl, max, arith}
+use Rattle.std.proofs.Common.{◌≡◌, ◌⊎◌, ◌≤◌, ◌<◌, ℕ, Bool, true, false, List, ◌++◌, Some, inl, inr, refl, subst, max, arith}
 use Rattle.std.specs.Prelude.{if◌then◌else◌, not}
 use Rattle.std.proofs.lemmas.Bool.{and_parts, not-true}
+use Rattle.gptp_scenario.specs.Calm.{last_change}
 use Rattle.gptp_scenario.specs.Network.{IsNetwork, NetworkState, pace_of}
-use Rattle.gptp_scenario.specs.SettlingTime.{silence_span, way_span}
+use Rattle.gptp_scenario.specs.SettlingTime.{silence_span}
 use Rattle.gptp_scenario.specs.SyncWait.{sync_paths}
 use Rattle.gptp_scenario.specs.declared.change.Timed.{Timed}
 use Rattle.gptp_network.specs.Snapshot.{events_by}
-use Rattle.gptp_how_soon.specs.Bounds.{gone_by, quiet_by}
+use Rattle.gptp_how_soon.specs.Bounds.{quiet_by}
 use Rattle.gptp_how_soon.specs.Chosen.{moves_some}
+use Rattle.gptp_how_soon.specs.Flight.{gone_by}
 use Rattle.gptp_how_soon.specs.Losses.{takes_several}
 use Rattle.gptp_how_soon.specs.MovedTrees.{far_ends_move_after}
 use Rattle.gptp_how_soon.specs.Rest.{is_taking_followed, keeps_paths}
 use Rattle.gptp_how_soon.specs.Times.{View, events_at, loss_at, row_at, view_at}
 use Rattle.gptp_how_soon.specs.declared.bounds.Row.TheVariants.{TakenApart}
 use Rattle.gptp_how_soon.specs.declared.bounds.SettlingTime.{SettlingTime}
-use Rattle.gptp_settling_time.specs.EventKinds.{FlightIsGone}
+use Rattle.gptp_settling_time.specs.EventKinds.{FlightIsGoneFrom}
 use Rattle.gptp_settling_time.specs.HowSoon.{BoundsTaken, RestsTaken, TakesSeveral}
 use Rattle.gptp_settling_time.specs.Losses.{MovesNoneInAll, NoneSilent}
 use Rattle.gptp_settling_time.specs.TreeLosses.{LosesFartherFrom}
 use Rattle.gptp_how_soon_laws.proofs.CutsAllLemmas.{all_farther}
-use Rattle.gptp_how_soon_laws.proofs.FailedLemmas.{used_up}
 use Rattle.gptp_how_soon_laws.proofs.RowLemmas as rows
-use Rattle.gptp_how_soon_laws.proofs.RowLossLemmas.{keeps_so, none_left, rest_so}
+use Rattle.gptp_how_soon_laws.proofs.RowLossLemmas.{flight_before, keeps_so, none_left, rest_so}
 use Rattle.gptp_how_soon_laws.proofs.RowTestLemmas.{HasComeToRest}
 use Rattle.gptp_how_soon_laws.proofs.TakenAwayLemmas.{several_taken, several_unmoved}
 use Rattle.gptp_how_soon_laws.proofs.UnmovedLemmas.{AreWell}
@@ -39,13 +40,9 @@ module _ (n : NetworkState) (network : IsNetwork n) (events : List Timed) (b : S
   abbrev v : View
   v = view_at n made now (Some b) at
 
-  -- what is in flight is gone so much later
-  pub flight_apart : FlightIsGone n (made ++ now) (gone_by n v.paths v.used)
-  flight_apart = by v.used refl
-    where
-      by : (used : Bool) → v.used ≡ used → FlightIsGone n (made ++ now) (gone_by n v.paths used)
-      by true is = inl (used_up n network (made ++ now) is, refl)
-      by false is = inr refl
+  -- what was in flight before is gone so much later
+  abbrev gone : ℕ
+  gone = gone_by n (loss_at v).flight_before
 
   pub record TakesApart : Type 0 where
     pub rested : HasComeToRest b at
@@ -73,29 +70,23 @@ module _ (n : NetworkState) (network : IsNetwork n) (events : List Timed) (b : S
       }
 
   -- so it rests
-  pub apart_rests : TakesApart → (sound : ℕ)
-      → sound ≡ quiet_by n (loss_at v) (max (way_span v.paths) (gone_by n v.paths v.used))
-      → RestsTaken n made now sound
+  pub apart_rests : TakesApart → (sound : ℕ) → sound ≡ quiet_by n (loss_at v) gone → RestsTaken n made now sound
   apart_rests x sound is = by v.silent refl is
     where
-      span : ℕ
-      span = max (way_span v.paths) (gone_by n v.paths v.used)
+      flight : FlightIsGoneFrom n made (last_change (made ++ now)) gone
+      flight = flight_before n network events b at late (λ none. subst (TakesSeveral n made) none x.takes)
 
       by : (silent : Bool) → v.silent ≡ silent
-          → sound ≡ (if silent then max span (silence_span (pace_of n)) else span) → RestsTaken n made now sound
+          → sound ≡ (if silent then max gone (silence_span (pace_of n)) else gone) → RestsTaken n made now sound
       by true silent same = (
         x.takes,
         x.moves,
         x.few,
-        inr (x.farther, (gone_by n v.paths v.used, flight_apart, inr (omega (arith, same)), omega (arith, same))),
+        inr (x.farther, (gone, flight, inr (omega (arith, same)), omega (arith, same))),
       )
       by false silent same =
-          let none = none_left n network events b at late silent in (
-            x.takes,
-            x.moves,
-            x.few,
-            inr (x.farther, (gone_by n v.paths v.used, flight_apart, inl none, omega (arith, same))),
-          )
+          let none = none_left n network events b at late silent in
+          (x.takes, x.moves, x.few, inr (x.farther, (gone, flight, inl none, omega (arith, same))))
 
   -- and so the choice and the roles are bounded
   pub apart_bounds : TakesApart → BoundsTaken n made now 0 (quiet_by n (loss_at v) 0)

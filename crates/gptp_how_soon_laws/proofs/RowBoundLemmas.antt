@@ -13,7 +13,8 @@ use Rattle.gptp_scenario.specs.SyncWait.{sync_paths}
 use Rattle.gptp_scenario.specs.declared.change.Timed.{Timed}
 use Rattle.gptp_scenario.specs.declared.sync_wait.SyncPaths.{SyncPaths}
 use Rattle.gptp_topology.specs.After.{is_calm}
-use Rattle.gptp_how_soon.specs.Bounds.{aged_by, aged_echo_span, any_loss_span, apart_by, arrived_by, choice_by, choice_of_row, gone_by, quiet_by, roles_by, roles_of_row, settled, sound_by, sound_of_row, taken_echo_span}
+use Rattle.gptp_how_soon.specs.Bounds.{aged_by, aged_echo_span, any_loss_span, apart_by, arrived_by, choice_by, choice_of_row, quiet_by, roles_by, roles_of_row, settled, sound_by, sound_of_row, taken_echo_span}
+use Rattle.gptp_how_soon.specs.Flight.{gone_by}
 use Rattle.gptp_how_soon.specs.Kinds.{sets_link}
 use Rattle.gptp_how_soon.specs.Times.{View, gained_at, loss_at, row_at, settling_time}
 use Rattle.gptp_how_soon.specs.declared.bounds.Loss.{Loss}
@@ -131,18 +132,18 @@ choice_or_own n loss paths row gained = by (n.params.sync_timeout == 0) refl row
 -- All is sound by that bound. Or nothing lapses, and it is sooner after a loss.
 abbrev pub IsSoundSooner : NetworkState → Loss → SyncPaths → Row → ℕ → Type 0
 IsSoundSooner n loss paths row sound =
-    ((row ≡ FailedEnd) × (sound ≡ quiet_by n loss (gone_by n loss.paths_before loss.soon_before)))
-    ⊎ (((row ≡ Lowered) × (sound ≡ max (echo_span (pace_of n) paths) (gone_by n paths loss.used_before)))
-    ⊎ (((row ≡ CutOff) × (sound ≡ max (2 * way_span paths) (gone_by n paths loss.soon)))
+    ((row ≡ FailedEnd) × (sound ≡ quiet_by n loss (gone_by n loss.flight_before)))
+    ⊎ (((row ≡ Lowered) × (sound ≡ max (echo_span (pace_of n) paths) (largest_interval (pace_of n))))
+    ⊎ (((row ≡ CutOff) × (sound ≡ max (2 * way_span paths) (gone_by n loss.flight)))
     ⊎ ((((row ≡ SystemTurned) ⊎ (row ≡ TreeTurned)) × (sound ≡ 2 * way_span paths + echo_span (pace_of n) paths))
     ⊎ ((((row ≡ FailedHeard) ⊎ (row ≡ FailureCutsOff)) × (aged_echo_span n loss paths ≤ sound))
     ⊎ (((row ≡ AnyLosses) × (sound ≡ quiet_by n loss (any_loss_span n loss paths)))
-    ⊎ (((row ≡ TreeFalls) × (sound ≡ max (2 * way_span paths) (gone_by n paths loss.used_before)))
+    ⊎ (((row ≡ TreeFalls) × (sound ≡ max (2 * way_span paths) (gone_by n loss.flight)))
     ⊎ (((row ≡ FailureMovesTrees)
     × (sound ≡ quiet_by n loss
     (aged_by loss + 2 * way_span paths + max (echo_span (pace_of n) paths) (largest_interval (pace_of n)))))
     ⊎ (((row ≡ TakenAway) × (sound ≡ taken_echo_span n loss paths))
-    ⊎ (((row ≡ TakenApart) × (sound ≡ quiet_by n loss (max (way_span paths) (gone_by n paths loss.used))))
+    ⊎ (((row ≡ TakenApart) × (sound ≡ quiet_by n loss (gone_by n loss.flight_before)))
     ⊎ (((row ≡ FailureCutsOff) ⊎ (row ≡ FailureMovesTrees)) × (loss.cuts_all ≡ true)
     × (sound ≡ quiet_by n loss (apart_by n loss paths))))))))))))
 

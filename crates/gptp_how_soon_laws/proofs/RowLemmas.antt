@@ -11,7 +11,7 @@ use Rattle.gptp_scenario.specs.Network.{IsNetwork, NetworkState, pace_of}
 use Rattle.gptp_scenario.specs.SettlingTime.{way_span}
 use Rattle.gptp_scenario.specs.declared.change.Timed.{Timed}
 use Rattle.gptp_network.specs.Snapshot.{events_by}
-use Rattle.gptp_how_soon.specs.Bounds.{is_hard_to_hear}
+use Rattle.gptp_how_soon.specs.Gains.{is_hard_to_hear}
 use Rattle.gptp_how_soon.specs.Kinds.{brings_nothing, fails_and_recovers, is_gain, is_idle, is_loss, is_other, is_recovery, leaves_links, lowers_unused, makes_nothing, recovers, begins_wider, first_wider_by, is_wider}
 use Rattle.gptp_how_soon.specs.Losses.{takes_one}
 use Rattle.gptp_how_soon.specs.Rest.{are_events_followed, are_losses_followed, are_recoveries_followed, are_turns_followed, is_end_followed, is_failing_followed, is_from_rest, is_lowering_followed, is_taking_followed, is_wider_followed, rested, settles_wider_by, is_worsening_followed}

@@ -12,8 +12,9 @@ use Rattle.gptp_scenario.specs.declared.sync_wait.SyncPaths.{SyncPaths}
 use Rattle.gptp_scenario.specs.Calm.{last_change}
 use Rattle.gptp_network.specs.Snapshot.{events_by}
 use Rattle.gptp_invariants.specs.WorldEncodableLaws.{SetsAnOctet}
-use Rattle.gptp_how_soon.specs.Bounds.{gone_by, quiet_by}
+use Rattle.gptp_how_soon.specs.Bounds.{quiet_by}
 use Rattle.gptp_how_soon.specs.Chosen.{moves_joined, moves_some}
+use Rattle.gptp_how_soon.specs.Flight.{gone_by}
 use Rattle.gptp_how_soon.specs.Kinds.{brings_nothing, is_loss, is_lowering, is_worsening}
 use Rattle.gptp_how_soon.specs.Losses.{begins_with, fails_beside_idle, fails_first, lowers_one, takes_one, takes_several, worsens_first}
 use Rattle.gptp_how_soon.specs.Alone.{leaves_alone_after}
@@ -29,7 +30,7 @@ use Rattle.gptp_how_soon.specs.declared.kinds.Told.{Told}
 use Rattle.gptp_how_soon.specs.Links.{longest_delay}
 use Rattle.gptp_settling_time.specs.Arrivals.{HasArrivedBy, last_set}
 use Rattle.gptp_settling_time.specs.HowSoon.{BeforeRepeats, FailsEndFirst, FailsHeardFirst, FailsTreesFirst, LosesEvents, OneEvent, RolesAfterLoss, TakesSeveral}
-use Rattle.gptp_settling_time.specs.EventKinds.{FlightIsGone, FlightIsGoneFrom}
+use Rattle.gptp_settling_time.specs.EventKinds.{FlightIsGoneFrom}
 use Rattle.gptp_settling_time.specs.Rests.{FlightIsGoneSince}
 use Rattle.gptp_settling_time.specs.Losses.{CutsFarEnd, LowersLink, MovesNoneInAll, NoneSilent, TurnsLink, UpIsUsed}
 use Rattle.gptp_settling_time.specs.TreeLosses.{CutsAllBeyondFrom, FallsTree, LeavesAloneFrom, TurnsTreeLink}
@@ -41,19 +42,18 @@ use Rattle.gptp_how_soon_laws.proofs.ArrivedLemmas.{all_within, has_come_so, lon
 use Rattle.gptp_how_soon_laws.proofs.FailedLemmas.{fails_beside_first, fails_end_first, fails_heard_first, used_up}
 use Rattle.gptp_how_soon_laws.proofs.CutOffLemmas.{cuts_far}
 use Rattle.gptp_how_soon_laws.proofs.MovedTreesLemmas.{fails_trees_first}
-use Rattle.gptp_how_soon_laws.proofs.LoweredLemmas.{lowers_link, used_on}
-use Rattle.gptp_how_soon_laws.proofs.RepeatLemmas.{Begins, before_repeats, begins, cut_seen, falls_seen, first_same, first_well, joined_seen, paths_seen, turned_seen, turns_seen, used_still, whole, worsens_seen}
+use Rattle.gptp_how_soon_laws.proofs.LoweredLemmas.{lowers_link}
+use Rattle.gptp_how_soon_laws.proofs.RepeatLemmas.{Begins, before_repeats, begins, cut_seen, falls_seen, first_same, first_well, joined_seen, paths_seen, turned_seen, turns_seen, whole, worsens_seen}
 use Rattle.gptp_how_soon_laws.proofs.TreeEventLemmas.{lowers_one_tree, turns_tree_link}
-use Rattle.gptp_how_soon_laws.proofs.TreeWorsenedLemmas.{used_behind, worsens_tree}
+use Rattle.gptp_how_soon_laws.proofs.TreeWorsenedLemmas.{worsens_tree}
 use Rattle.gptp_how_soon_laws.proofs.TurnedLemmas.{turns_link}
 use Rattle.gptp_how_soon_laws.proofs.UnmovedLemmas.{AreWell}
-use Rattle.gptp_how_soon_laws.proofs.WorseningLemmas.{worsening_so}
 use Rattle.gptp_how_soon_laws.proofs.RowReasonLemmas.{ReasonOf, Tests}
 use Rattle.gptp_how_soon_laws.proofs.SilentLemmas.{last_now, none_silent}
 use Rattle.gptp_how_soon_laws.proofs.RowTestLemmas.{HasComeToRest, at_most, counts_joined, failing_takes, lowering_takes}
 use Rattle.gptp_how_soon_laws.proofs.RowLemmas as rows
 use Rattle.gptp_how_soon_laws.proofs.TakenAwayLemmas.{several_taken, several_unmoved}
-use Rattle.gptp_how_soon_laws.proofs.FlightLemmas.{fails_set_none, gone_since, gone_soon, repeats_set_none, set_before}
+use Rattle.gptp_how_soon_laws.proofs.FlightLemmas.{fails_set_none, gone_over, gone_since, repeats_set_none, set_before}
 use Rattle.gptp_how_soon_laws.proofs.AloneLemmas.{all_alone}
 use Rattle.gptp_how_soon_laws.proofs.CutsAllLemmas.{all_beyond}
 
@@ -203,33 +203,38 @@ module _ (n : NetworkState) (network : IsNetwork n) (events : List Timed) (b : S
       )
 
   -- what was in flight before is gone by then
-  flight_before : (now ≡ [] → ⊥)
-      → FlightIsGoneFrom n made (last_change (made ++ now)) (gone_by n v.paths_before (loss_at v).soon_before)
+  pub flight_before : (now ≡ [] → ⊥)
+      → FlightIsGoneFrom n made (last_change (made ++ now)) (gone_by n (loss_at v).flight_before)
   flight_before some = by now refl
     where
       by : (es : List Timed) → now ≡ es
-          → FlightIsGoneFrom n made (last_change (made ++ now)) (gone_by n v.paths_before (loss_at v).soon_before)
+          → FlightIsGoneFrom n made (last_change (made ++ now)) (gone_by n (loss_at v).flight_before)
       by [] none = absurd (some none)
       by (event ∷ others) split =
-          subst (λ t. FlightIsGoneFrom n made t (gone_by n v.paths_before (loss_at v).soon_before))
+          subst (λ t. FlightIsGoneFrom n made t (gone_by n (loss_at v).flight_before))
           (sym (moment event others split).1)
-          (gone_soon n network made made (same_itself n made) (all_within n made) refl at (loss_at v).soon_before refl)
+          (gone_over n network made made (same_itself n made) (all_within n made) refl at)
 
-  -- what is in flight behind a link that goes down is
+  -- and so is what is in flight behind all
+  flight_now : (event : Timed) (others : List Timed) → now ≡ event ∷ others
+      → FlightIsGoneFrom n (made ++ now) (last_change (made ++ now)) (gone_by n (loss_at v).flight)
+  flight_now event others split =
+      subst (λ t. FlightIsGoneFrom n (made ++ now) t (gone_by n (loss_at v).flight)) (sym (moment event others split).1)
+      (gone_over n network (made ++ now) (made ++ now) (same_itself n (made ++ now))
+      (all_within n (made ++ now)) refl at)
+
+  -- or behind a link that goes down
   flight_behind : (g : GoesFirst is_lowering)
       → FlightIsGoneFrom n (made ++ g.x.event ∷ []) (last_change (made ++ g.x.event ∷ []))
-      (gone_by n v.paths (loss_at v).soon)
+      (gone_by n (loss_at v).flight)
   flight_behind g =
-      subst (λ t. FlightIsGoneFrom n first t (gone_by n v.paths soon)) (sym (moment g.x.event g.x.others g.x.split).0)
-      (subst (λ (p : SyncPaths). FlightIsGoneFrom n first at (gone_by n p soon)) (sym (same_paths is_lowering g))
-      (gone_soon n network first (made ++ now) (first_stays is_lowering g) within
-      (set_before first g.x.others (repeats_set_none n first g.x.others g.x.each) ∙ ap last_set all_is) at soon refl))
+      subst (λ t. FlightIsGoneFrom n first t (gone_by n (loss_at v).flight))
+      (sym (moment g.x.event g.x.others g.x.split).0)
+      (gone_over n network first (made ++ now) (first_stays is_lowering g) within
+      (set_before first g.x.others (repeats_set_none n first g.x.others g.x.each) ∙ ap last_set all_is) at)
     where
       first : List Timed
       first = made ++ g.x.event ∷ []
-
-      soon : Bool
-      soon = (loss_at v).soon
 
       all_is : first ++ g.x.others ≡ made ++ now
       all_is = whole n network is_lowering made now g.x
@@ -238,41 +243,9 @@ module _ (n : NetworkState) (network : IsNetwork n) (events : List Timed) (b : S
       within =
           subst (λ es. HasDelaysWithin n first (longest_delay n es)) all_is (longest_within n first g.x.others)
 
-  -- so it is behind a link that goes down
-  flight_first : (g : GoesFirst is_lowering) → FlightIsGone n (made ++ g.x.event ∷ []) (gone_by n v.paths v.used_before)
-  flight_first g =
-      subst (λ (p : SyncPaths). FlightIsGone n (made ++ g.x.event ∷ []) (gone_by n p v.used_before))
-      (sym (same_paths is_lowering g)) (by v.used_before refl)
-    where
-      by : (used : Bool) → v.used_before ≡ used
-          → FlightIsGone n (made ++ g.x.event ∷ [])
-          (gone_by n (sync_paths n (made ++ g.x.event ∷ [])) used)
-      by true is = inl (used_on n network made g.x.event g.x.so (used_up n network made is), refl)
-      by false is = inr refl
-
-  -- and behind all, where behind the first each link that is up is in use if it was so
-  flight_all : (is_kind : Told → Bool) (g : GoesFirst is_kind)
-      → (UpIsUsed n made → UpIsUsed n (made ++ g.x.event ∷ []))
-      → FlightIsGone n (made ++ now) (gone_by n v.paths v.used_before)
-  flight_all is_kind g behind = by v.used_before refl
-    where
-      by : (used : Bool) → v.used_before ≡ used → FlightIsGone n (made ++ now) (gone_by n v.paths used)
-      by true is =
-          inl (
-            used_still n (made ++ g.x.event ∷ []) (made ++ now) (first_stays is_kind g)
-                (behind (used_up n network made is)),
-            refl,
-          )
-      by false is = inr refl
-
   -- what stands goes on, as a link goes down and no system is moved
-  pub lowered : AreWell n (made ++ now) → row_at v ≡ Lowered
-      → HasComeToRest b at × ((l : LowersNone)
-      × FlightIsGone n (made ++ l.first.x.event ∷ []) (gone_by n v.paths v.used_before))
-  lowered well row =
-      let (from, lowers) = why Lowered row in
-      let l = lowers_so well lowers in
-      (rest_so from, (l, flight_first l.first))
+  pub lowered : AreWell n (made ++ now) → row_at v ≡ Lowered → HasComeToRest b at × LowersNone
+  lowered well row = let (from, lowers) = why Lowered row in (rest_so from, lowers_so well lowers)
 
   -- or it cuts off its far end
   pub record CutsEnd : Type 0 where
@@ -280,7 +253,7 @@ module _ (n : NetworkState) (network : IsNetwork n) (events : List Timed) (b : S
     pub none : LowersNone
     pub cuts : CutsFarEnd n made none.first.x.event
     pub flight : FlightIsGoneFrom n (made ++ none.first.x.event ∷ []) (last_change (made ++ none.first.x.event ∷ []))
-        (gone_by n v.paths (loss_at v).soon)
+        (gone_by n (loss_at v).flight)
 
   pub cut_off : AreWell n (made ++ now) → row_at v ≡ CutOff → CutsEnd
   cut_off well row =
@@ -323,7 +296,7 @@ module _ (n : NetworkState) (network : IsNetwork n) (events : List Timed) (b : S
   -- by which a tree falls back
   pub record FallsLate (rest : HasComeToRest b at) : Type 0 where
     pub comes : ComesLate (FallsTree n) rest
-    pub flight : FlightIsGone n (made ++ now) (gone_by n v.paths v.used_before)
+    pub flight : FlightIsGoneFrom n (made ++ now) (last_change (made ++ now)) (gone_by n (loss_at v).flight)
 
   -- events of this kind come then, and paths get no longer
   late_by : (kind : List Told → Bool) (test : Bool) → (keeps_paths v.paths_before v.paths && kind v.told
@@ -352,7 +325,7 @@ module _ (n : NetworkState) (network : IsNetwork n) (events : List Timed) (b : S
           lowers = before_repeats n network is_lowering made now g.x (OneEvent (FallsTree n)) (inl one);
           come = come rest;
         };
-        flight = flight_all is_lowering g (used_on n network made g.x.event g.x.so);
+        flight = flight_now g.x.event g.x.others g.x.split;
       }
 
   -- or its best gets worse
@@ -375,8 +348,7 @@ module _ (n : NetworkState) (network : IsNetwork n) (events : List Timed) (b : S
           lowers = before_repeats n network is_worsening made now g.x (OneEvent (FallsTree n)) (inr best);
           come = come rest;
         };
-        flight = flight_all is_worsening g
-            (used_behind n network made event (worsening_so n network made event event.act refl g.x.so));
+        flight = flight_now g.x.event g.x.others g.x.split;
       }
 
   pub tree_falls : AreWell n (made ++ now) → ((t : Timed) → In t now → SetsAnOctet t.act) → row_at v ≡ TreeFalls
@@ -470,25 +442,20 @@ module _ (n : NetworkState) (network : IsNetwork n) (events : List Timed) (b : S
       let (used, leaves) = and_parts v.used_before (leaves_alone_after n made (made ++ now)) alone in
       (all_alone n network made now well leaves, used_up n network made used)
 
-  -- what is in flight behind all is gone by then
-  pub flight_now : FailsTreesFirst n made now
-      → FlightIsGoneSince n made (made ++ now) (gone_by n v.paths (loss_at v).soon)
-  flight_now fails =
-      gone_since n made now (gone_by n v.paths (loss_at v).soon) (fails_set_none n made now fails) (by now refl fails)
+  -- what is in flight behind all is gone by then, if none of them sets a link
+  pub flight_since : FailsTreesFirst n made now → FlightIsGoneSince n made (made ++ now) (gone_by n (loss_at v).flight)
+  flight_since fails =
+      gone_since n made now (gone_by n (loss_at v).flight) (fails_set_none n made now fails) (by now refl fails)
     where
       by : (es : List Timed) → now ≡ es → FailsTreesFirst n made es
-          → FlightIsGoneFrom n (made ++ now) (last_change (made ++ now)) (gone_by n v.paths (loss_at v).soon)
+          → FlightIsGoneFrom n (made ++ now) (last_change (made ++ now)) (gone_by n (loss_at v).flight)
       by [] split none = absurd none
-      by (event ∷ others) split first =
-          subst (λ t. FlightIsGoneFrom n (made ++ now) t (gone_by n v.paths (loss_at v).soon))
-          (sym (moment event others split).1)
-          (gone_soon n network (made ++ now) (made ++ now) (same_itself n (made ++ now)) (all_within n (made ++ now))
-          refl at (loss_at v).soon refl)
+      by (event ∷ others) split first = flight_now event others split
 
   -- or a far end fails
   pub failed : AreWell n (made ++ now) → row_at v ≡ FailedEnd
       → HasComeToRest b at × FailsEndFirst n made now
-      × FlightIsGoneFrom n made (last_change (made ++ now)) (gone_by n v.paths_before (loss_at v).soon_before)
+      × FlightIsGoneFrom n made (last_change (made ++ now)) (gone_by n (loss_at v).flight_before)
   failed well row =
       let (from, which) = why FailedEnd row in
       let first = by which in

@@ -21,7 +21,8 @@ use Rattle.gptp_scenario.specs.declared.sync_wait.SyncPaths.{SyncPaths}
 use Rattle.gptp_network.proofs.PassLemmas.{kept}
 use Rattle.gptp_topology.specs.Course.{cable_of}
 use Rattle.gptp_topology.specs.declared.course.Cable.{Cable}
-use Rattle.gptp_how_soon.specs.Bounds.{asked_again, choice_by, is_again, is_hard_to_hear, ready, roles_by, sound_by, two_exchanges}
+use Rattle.gptp_how_soon.specs.Bounds.{asked_again, choice_by, roles_by, sound_by, two_exchanges}
+use Rattle.gptp_how_soon.specs.Gains.{is_again, is_hard_to_hear, ready}
 use Rattle.gptp_how_soon.specs.Kinds.{is_idle, is_recover, is_recovery, is_recovery_of, recovers, tells_nothing}
 use Rattle.gptp_how_soon.specs.Links.{is_new, new_links, varies}
 use Rattle.gptp_how_soon.specs.Rest.{is_from_rest}

@@ -1,36 +1,32 @@
 -- Systems that get one root together, below one of them at the top by what all had chosen, are a tree that is cut off
 -- from one snapshot to the other.
 use Rattle.std.proofs.Common.{◌≡◌, ◌<◌, ◌≤◌, ◌⊎◌, inl, inr, ◌-◌, ◌+◌, ℕ, suc, Bool, true, false, List, [], slice_get, refl, sym, ap, subst, ◌∙◌, arith}
-use Rattle.std.specs.Prelude.{◌&&◌, nat_le, if◌then◌else◌}
-use Rattle.std.specs.List.{count_by, list_all}
+use Rattle.std.specs.Prelude.{◌&&◌, if◌then◌else◌}
+use Rattle.std.specs.List.{list_all}
 use Rattle.std.proofs.lemmas.Bool.{and_parts}
-use Rattle.std.proofs.lemmas.Bool.Decides.{nat_tests}
 use Rattle.gptp_lists.specs.Members.{In}
-use Rattle.gptp_lists.proofs.SystemSpecLemmas.{In-map}
 use Rattle.gptp_bmca_machine.specs.CutTree.{Tree}
 use Rattle.gptp_graph.specs.Best.{IsBest}
 use Rattle.gptp_graph.specs.Distance.{IsDistance}
 use Rattle.gptp_graph.specs.Snapshot.{Adjacent, IsWellFormed, Joins, PortIdentity, Snapshot, System, clocks, port_of}
 use Rattle.gptp_graph.proofs.BestLemmas.{IsBest-neighbour, IsBest-unique}
-use Rattle.gptp_graph.proofs.LinkLemmas.{Adjacent-clock, Joins-clock, Joins-sym}
-use Rattle.gptp_network.specs.Snapshot.{StandsAfter, link_of}
+use Rattle.gptp_graph.proofs.LinkLemmas.{Adjacent-clock, Joins-clock}
+use Rattle.gptp_network.specs.Snapshot.{StandsAfter}
 use Rattle.gptp_scenario.specs.Network.{IsNetwork, NetworkState}
 use Rattle.gptp_scenario.specs.declared.change.Timed.{Timed}
-use Rattle.gptp_scenario.specs.declared.network.LinkSpec.{LinkSpec}
 use Rattle.gptp_topology.specs.After.{systems_after}
-use Rattle.gptp_how_soon.specs.Chosen.{chosen_after, ends_of, lost_ends, place_of, used_ends}
-use Rattle.gptp_how_soon.specs.Tree.{has_better_root, has_no_more_steps, has_one_nearer, has_same_root, is_below, is_one_apart, leads_one_on}
-use Rattle.gptp_how_soon.specs.Turned.{has_fewer_steps, leads_nearer}
+use Rattle.gptp_how_soon.specs.Chosen.{chosen_after, lost_ends, place_of, used_ends}
+use Rattle.gptp_how_soon.specs.Tree.{has_better_root, has_no_more_steps, has_one_nearer, has_same_root, is_below, leads_one_on}
 use Rattle.gptp_how_soon.specs.declared.chosen.Chosen.{Chosen}
 use Rattle.gptp_how_soon.specs.declared.chosen.Ends.{Ends}
 use Rattle.gptp_how_soon.proofs.ChosenLemmas.{IsAt, at_clock, one_clock, place_is}
 use Rattle.gptp_settling_time.specs.TreeLosses.{IsTreeCutOff}
-use Rattle.gptp_how_soon_laws.proofs.FailedLemmas.{each_is}
-use Rattle.gptp_how_soon_laws.proofs.TreeTestLemmas.{apart_so, better_so, fewer_back, nearer_at_first, nearer_at_second, no_more_so, one_on_first, one_on_second, one_same, same_back, same_so}
+use Rattle.gptp_how_soon_laws.proofs.TreeTestLemmas.{better_so, no_more_so, same_back, same_so}
 use Rattle.gptp_how_soon_laws.proofs.WorseningLemmas.{same_system}
 use Rattle.gptp_how_soon_laws.proofs.LivesOnLemmas.{LivesOn, on_at, on_of}
 use Rattle.gptp_how_soon_laws.proofs.TreeByLemmas.{steps_of}
-use Rattle.gptp_how_soon_laws.proofs.LostLinkLemmas.{IsJoinedBy, ends_are, joined_by, same_port, stands_or_lost, used_links}
+use Rattle.gptp_how_soon_laws.proofs.TreeByLemmas as tree_by
+use Rattle.gptp_how_soon_laws.proofs.LostLinkLemmas.{joins_or_lost, lost_at}
 
 module _ (n : NetworkState) (network : IsNetwork n) (made events : List Timed) where
   abbrev pub before : List Chosen
@@ -172,108 +168,40 @@ module _ (n : NetworkState) (network : IsNetwork n) (made events : List Timed) w
           let (i, s) = on v in_v.reached.1.begins in
           let known_u = Adjacent-clock g v u well (p, q, joins) in
           let (j, at_u) = at_clock n network made g stands well u known_u in
-          elim joins [
-            | inl member ↦
-                elim (stands_or_lost n network made g stands well events h stands' well'
-                (record { a = port_of v p; b = port_of u q }) member) [
-                  | inl still ↦ inl (p, q, inl still)
-                  | inr (w, same, listed) ↦
-                      let ends =
-                      ends_are n network made g stands well w v u i j (record { a = port_of v p; b = port_of u q })
-                      same refl refl s.at at_u in
-                      inr (only_top i v s in_v (ends_of n w) listed (inl (ap (λ (e : Ends). e.a) ends)))
-                ]
-            | inr member ↦
-                elim (stands_or_lost n network made g stands well events h stands' well'
-                (record { a = port_of u q; b = port_of v p }) member) [
-                  | inl still ↦ inl (p, q, inr still)
-                  | inr (w, same, listed) ↦
-                      let ends =
-                      ends_are n network made g stands well w u v j i (record { a = port_of u q; b = port_of v p })
-                      same refl refl at_u s.at in
-                      inr (only_top i v s in_v (ends_of n w) listed (inr (ap (λ (e : Ends). e.b) ends)))
-                ]
+          elim (joins_or_lost n network made g stands well events h stands' well' i j (port_of v p) (port_of u q) s.at
+          at_u joins) [
+            | inl still ↦ inl (p, q, still)
+            | inr x ↦ inr (only_top i v s in_v x.ends x.listed
+                (lost_at n network made g stands well events h stands' well' i j x))
           ]
 
-      -- a link in use joins the systems at two places
-      abbrev Joined : ℕ → ℕ → PortIdentity → PortIdentity → Type 0
-      Joined = IsJoinedBy n network made g stands well events h stands' well'
+      -- ---- by their steps before they are a tree
 
-      joined : (i j : ℕ) (p q : PortIdentity) → IsAt n i p.clock → IsAt n j q.clock → Joins h p q → Joined i j p q
-      joined = joined_by n network made g stands well events h stands' well'
+      of_tree : (i v : ℕ) → IsAt n i v → IsBest h v next
+          → tree_by.IsOfTree n network events h stands' well' next before i
+      of_tree i v at in_v =
+          let s = on_at n network made events g h stands stands' well well' lived i v at in_v.reached.1.begins in
+          let b = in_below i v s in_v in
+          record { own = s.was; there = s.was_there; single = b.single; on = b.on }
 
-      one_on : (i j : ℕ) (p q : PortIdentity) → Joined i j p q → Below i
-          → is_one_apart (slice_get before i) (slice_get before j) ≡ true
-      one_on i j p q x b =
-          let on : leads_one_on before i (ends_of n x.wire) ≡ true =
-          each_is (leads_one_on before i) links (ends_of n x.wire) b.on
-          (In-map (ends_of n) x.wire (used_links n events) x.among) in
-          elim x.by [
-            | inl (ends, is) ↦ one_on_first before i j (subst (λ e. leads_one_on before i e ≡ true) ends on)
-            | inr (ends, is) ↦ one_on_second before i j (subst (λ e. leads_one_on before i e ≡ true) ends on)
-          ]
+      abbrev steps_before : ℕ → ℕ
+      steps_before = tree_by.depth n network events h stands' well' next before
 
-      nearer_on : (i j : ℕ) (p q : PortIdentity) (x : Joined i j p q)
-          → has_fewer_steps (slice_get before j) (slice_get before i) ≡ true
-          → leads_nearer before i (ends_of n x.wire) ≡ true
-      nearer_on i j p q x fewer = elim x.by [
-        | inl (ends, is) ↦ ap (leads_nearer before i) ends ∙ nearer_at_first before i j fewer
-        | inr (ends, is) ↦ ap (leads_nearer before i) ends ∙ nearer_at_second before i j fewer
-      ]
+      steps_are : (v : ℕ) → IsBest h v next → steps_before v ≡ base + depth v
+      steps_are v in_v =
+          let (i, s) = on v in_v.reached.1.begins in
+          tree_by.depth_there n network events h stands' well' next before i v s.at
+          ∙ ap steps_of s.was_there
+          ∙ sym (depth_is i v s in_v)
 
       steps_so : (v u : ℕ) → IsBest h v next → Adjacent h v u → (depth u ≡ suc (depth v)) ⊎ (depth v ≡ suc (depth u))
-      steps_so v u in_v (p, q, joins) =
-          let in_u = IsBest-neighbour h v u next well' (p, q, joins) in_v in
-          let (i, s) = on v in_v.reached.1.begins in
-          let (j, r) = on u in_u.reached.1.begins in
-          let x = joined i j (port_of v p) (port_of u q) s.at r.at joins in
-          let apart =
-          apart_so before i j s.was r.was s.was_there r.was_there
-          (one_on i j (port_of v p) (port_of u q) x (in_below i v s in_v)) in
-          let v_is = depth_is i v s in_v in
-          let u_is = depth_is j u r in_u in
-          elim apart [
-            | inl more ↦ inr (omega (arith, v_is, u_is, more))
-            | inr more ↦ inl (omega (arith, v_is, u_is, more))
+      steps_so v u in_v joined =
+          let v_is = steps_are v in_v in
+          let u_is = steps_are u (IsBest-neighbour h v u next well' joined in_v) in
+          elim (tree_by.steps_so n network events h stands' well' next before of_tree v u in_v joined) [
+            | inl more ↦ inl (omega (arith, v_is, u_is, more))
+            | inr more ↦ inr (omega (arith, v_is, u_is, more))
           ]
-
-      -- ---- two links of a system that lead less deep
-
-      -- one of them
-      record Leads (i v port : ℕ) (c : PortIdentity) : Type 0 where
-        wire : LinkSpec
-        among : In wire (used_links n events)
-        nearer : leads_nearer before i (ends_of n wire) ≡ true
-        link : (link_of (wire.a, wire.b) ≡ record { a = port_of v port; b = c })
-            ⊎ (link_of (wire.a, wire.b) ≡ record { a = c; b = port_of v port })
-
-      leads : (i v port : ℕ) (c : PortIdentity) (s : On i v) → IsBest h v next → Joins h (port_of v port) c
-          → depth v ≡ suc (depth c.clock) → Leads i v port c
-      leads i v port c s in_v joins less =
-          let known_c = Joins-clock h c (port_of v port) well' (Joins-sym h (port_of v port) c joins) in
-          let (j, r) = on c.clock known_c in
-          let in_c = IsBest-neighbour h v c.clock next well' (port, c.port, joins) in_v in
-          let x = joined i j (port_of v port) c s.at r.at joins in
-          let v_is = depth_is i v s in_v in
-          let c_is = depth_is j c.clock r in_c in
-          let fewer =
-          fewer_back before j i r.was s.was r.was_there s.was_there (omega (arith, v_is, c_is, less)) in
-          record {
-            wire = x.wire;
-            among = x.among;
-            nearer = nearer_on i j (port_of v port) c x fewer;
-            link = elim x.by [ inl (ends, is) ↦ inl is | inr (ends, is) ↦ inr is ];
-          }
-
-      most_one : (i : ℕ) → has_one_nearer before links i ≡ true → count_by (leads_nearer before i) links ≤ 1
-      most_one i is = least (count_by (leads_nearer before i) links) is
-        where
-          least : (k : ℕ) → nat_le k 1 ≡ true → k ≤ 1
-          least k test = grind (arith, nat_tests)
-
-      -- none leads from a system to itself
-      no_loop : (v : ℕ) (c : PortIdentity) → depth v ≡ suc (depth c.clock) → c.clock ≡ v → ⊥
-      no_loop v c less same = let k : depth c.clock ≡ depth v = ap depth same in absurd (omega (arith, less, k))
 
       single_so : (v p q : ℕ) (a b : PortIdentity) → Joins h (port_of v p) a → Joins h (port_of v q) b
           → depth v ≡ suc (depth a.clock) → depth v ≡ suc (depth b.clock) → p ≡ q
@@ -283,14 +211,11 @@ module _ (n : NetworkState) (network : IsNetwork n) (made events : List Timed) w
           by : (i : ℕ) (s : On i v) (inside : Bool) → in_tree i ≡ inside → p ≡ q
           by i s true inside =
               let in_v = best_so i v s inside in
-              let one_way = leads i v p a s in_v first near in
-              let other_way = leads i v q b s in_v second near' in
-              let one : one_way.wire ≡ other_way.wire =
-              one_same (leads_nearer before i) (ends_of n) (used_links n events) one_way.wire other_way.wire
-              (most_one i (in_below i v s in_v).single) one_way.among other_way.among one_way.nearer
-              other_way.nearer in
-              same_port v p q a b (no_loop v a near) (no_loop v b near') one_way.link other_way.link
-              (ap (λ (w : LinkSpec). link_of (w.a, w.b)) one)
+              let v_is = steps_are v in_v in
+              let a_is = steps_are a.clock (IsBest-neighbour h v a.clock next well' (p, a.port, first) in_v) in
+              let b_is = steps_are b.clock (IsBest-neighbour h v b.clock next well' (q, b.port, second) in_v) in
+              tree_by.single_so n network events h stands' well' next before of_tree v p q a b in_v first second
+              (omega (arith, v_is, a_is, near)) (omega (arith, v_is, b_is, near'))
           by i s false none =
               let zero : depth v ≡ 0 =
               depth_there i v s.at ∙ ap (λ b. if b then steps_of (slice_get before i) - base else 0) none in

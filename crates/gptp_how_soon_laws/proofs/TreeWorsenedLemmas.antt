@@ -11,7 +11,7 @@ use Rattle.gptp_network.specs.Document.{DocumentState}
 use Rattle.gptp_network.specs.Snapshot.{StandsAfter}
 use Rattle.gptp_network.proofs.InUseLemmas.{live_there}
 use Rattle.gptp_network.proofs.SnapshotLemmas.{from_filter, with_clock}
-use Rattle.gptp_scenario.specs.Calm.{IsLive, IsUsed}
+use Rattle.gptp_scenario.specs.Calm.{IsLive}
 use Rattle.gptp_scenario.specs.Change.{link_acted, link_after}
 use Rattle.gptp_scenario.specs.Network.{IsNetwork, NetworkState}
 use Rattle.gptp_scenario.specs.SyncWait.{sync_paths}
@@ -31,7 +31,6 @@ use Rattle.gptp_how_soon.specs.Tree.{chose_itself, falls_below, worsens_best_aft
 use Rattle.gptp_how_soon.specs.declared.chosen.Chosen.{Chosen}
 use Rattle.gptp_how_soon.specs.declared.chosen.Ends.{Ends}
 use Rattle.gptp_how_soon.proofs.ChosenLemmas.{IsAt, place_is}
-use Rattle.gptp_settling_time.specs.Losses.{UpIsUsed}
 use Rattle.gptp_settling_time.specs.TreeLosses.{IsWorsenedTree, WorsensTree}
 use Rattle.gptp_settling_time.proofs.SamePathsLemmas.{StandAlike, lives_same, priority_alike}
 use Rattle.gptp_how_soon_laws.proofs.FallsBelowLemmas.{FallsBelow, below_so, in_tree, is_top, others}
@@ -61,17 +60,6 @@ module _ (n : NetworkState) (network : IsNetwork n) (made : List Timed) (event :
     clock = live.clock;
     live = alike.systems live.system (In-slice_get live.system n.systems live.place live.there) ∙ live.live;
   }
-
-  -- where each link that is up was in use, each is
-  pub used_behind : UpIsUsed n made → UpIsUsed n later
-  used_behind used place v there up =
-      let was = used place v there (ap (λ (w : LinkSpec). w.up) (sym (stays v)) ∙ up) in
-      subst (IsUsed n.systems later) (sym (stays v))
-      (record {
-        up = was.up;
-        a = live_on (link_after made v).a.clock was.a;
-        b = live_on (link_after made v).b.clock was.b;
-      })
 
   same_used : (w : LinkSpec) → is_used_then n later w ≡ is_used_then n made w
   same_used w = λ i. cable_is_used (record {

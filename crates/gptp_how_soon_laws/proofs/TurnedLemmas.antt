@@ -17,7 +17,7 @@ use Rattle.gptp_graph.proofs.LinkLemmas.{Adjacent-clock}
 use Rattle.gptp_graph.proofs.SystemLemmas.{In-clocks}
 use Rattle.gptp_network.specs.Snapshot.{StandsAfter, link_of}
 use Rattle.gptp_network.proofs.ExistenceLemmas.{stands_after}
-use Rattle.gptp_network.proofs.InUseLemmas.{live_there, runs}
+use Rattle.gptp_network.proofs.InUseLemmas.{live_there}
 use Rattle.gptp_network.proofs.PassLemmas.{kept, passes_at}
 use Rattle.gptp_network.proofs.SnapshotLemmas.{from_filter, with_clock}
 use Rattle.gptp_roles.specs.Selection.{clock_of}
@@ -39,13 +39,13 @@ use Rattle.gptp_how_soon.specs.Times.{told_at}
 use Rattle.gptp_how_soon.specs.Turned.{are_different, are_far_ends, goes_farther, goes_one_farther, has_fewer_steps, is_of_one, is_once, leads_nearer, moved_places, neighbour_places, other_end, turns_at, turns_one_after}
 use Rattle.gptp_how_soon.specs.declared.chosen.Chosen.{Chosen}
 use Rattle.gptp_how_soon.specs.declared.chosen.Ends.{Ends}
-use Rattle.gptp_how_soon.proofs.ChosenLemmas.{IsAt, IsSettledChoice, at_clock, at_port, chosen_there, one_clock, settled_choice, used_then}
+use Rattle.gptp_how_soon.proofs.ChosenLemmas.{IsAt, IsSettledChoice, at_clock, at_port, chosen_there, one_clock, settled_choice}
 use Rattle.gptp_how_soon.proofs.RoundsLemmas.{Has}
 use Rattle.gptp_settling_time.specs.Losses.{IsFarEnd, IsTurned, IsUnmoved, TurnsLink, TurnsSystem}
 use Rattle.gptp_how_soon_laws.proofs.FailedLemmas.{each_is, far_at}
 use Rattle.gptp_how_soon_laws.proofs.ToldLemmas.{loss_lowers}
 use Rattle.gptp_how_soon_laws.proofs.LoweredLemmas.{TakesDown, is_lost_there, lives_still, takes_down}
-use Rattle.gptp_how_soon_laws.proofs.LostLinkLemmas.{ends_are, stands_or_lost}
+use Rattle.gptp_how_soon_laws.proofs.LostLinkLemmas as lost_links
 use Rattle.gptp_how_soon_laws.proofs.UnmovedLemmas.{AreWell, asked_of, unmoved_at}
 use Rattle.gptp_how_soon_laws.proofs.WorseningLemmas.{clock_over, same_system}
 
@@ -332,26 +332,6 @@ module _ (n : NetworkState) (network : IsNetwork n) (made events : List Timed) w
 
     -- ---- links
 
-    -- the ends of one that leads from the system to another, or to it
-    from_first : (w : LinkSpec) (v i : ℕ) (l : Link) → link_of (w.a, w.b) ≡ l → l.a.clock ≡ x → l.b.clock ≡ v
-        → IsAt n i v → ends_of n w ≡ record { a = t.place; b = i }
-    from_first w v i l same a b at = ends_are n network made g stands well w x v t.place i l same a b at_x at
-
-    from_second : (w : LinkSpec) (v i : ℕ) (l : Link) → link_of (w.a, w.b) ≡ l → l.a.clock ≡ v → l.b.clock ≡ x
-        → IsAt n i v → ends_of n w ≡ record { a = i; b = t.place }
-    from_second w v i l same a b at = ends_are n network made g stands well w v x i t.place l same a b at at_x
-
-    -- one of before stands still, or it leads to a nearer system
-    abbrev IsLost : Link → Type 0
-    IsLost l = (w : LinkSpec) × (link_of (w.a, w.b) ≡ l) × (leads_nearer before t.place (ends_of n w) ≡ true)
-
-    kept_or_lost : (l : Link) → In l g.links → In l h.links ⊎ IsLost l
-    kept_or_lost l member = elim (stands_or_lost n network made g stands well events h stands' well' l member) [
-      | inl still ↦ inl still
-      | inr (w, same, listed) ↦
-          inr (w, same, each_is (leads_nearer before t.place) (lost_ends n made events) (ends_of n w) t.lost listed)
-    ]
-
     lost_so : (u far : ℕ) → Adjacent g x u → IsDistance g u far → Adjacent h x u ⊎ (far < was.0.steps)
     lost_so u far (p, q, joins) u_far =
         let known_u = Adjacent-clock g x u well (p, q, joins) in
@@ -359,23 +339,18 @@ module _ (n : NetworkState) (network : IsNetwork n) (made events : List Timed) w
         let (e, e_there) = chosen_there n network made g stands well i u at in
         let chose_u = settled_choice n network made g stands well i u at known_u e e_there in
         let steps : far ≡ e.steps = IsDistance-unique g u far e.steps well u_far chose_u.far in
-        elim joins [
-          | inl member ↦ elim (kept_or_lost (record { a = port_of x p; b = port_of u q }) member) [
-            | inl still ↦ inl (p, q, inl still)
-            | inr (w, same, leads) ↦
-                let ends = from_first w u i (record { a = port_of x p; b = port_of u q }) same refl refl at in
-                let less = nearer_first before t.place was.0 was.1 i e e_there
-                (subst (λ d. leads_nearer before t.place d ≡ true) ends leads) in
-                inr (omega (arith, less, steps))
-          ]
-          | inr member ↦ elim (kept_or_lost (record { a = port_of u q; b = port_of x p }) member) [
-            | inl still ↦ inl (p, q, inr still)
-            | inr (w, same, leads) ↦
-                let ends = from_second w u i (record { a = port_of u q; b = port_of x p }) same refl refl at in
-                let less = nearer_second before t.place was.0 was.1 i e e_there
-                (subst (λ d. leads_nearer before t.place d ≡ true) ends leads) in
-                inr (omega (arith, less, steps))
-          ]
+        elim (lost_links.joins_or_lost n network made g stands well events h stands' well' t.place i (port_of x p)
+        (port_of u q) at_x at joins) [
+          | inl still ↦ inl (p, q, still)
+          | inr lost ↦
+              let leads = each_is (leads_nearer before t.place) (lost_ends n made events) lost.ends t.lost lost.listed in
+              let less : e.steps < was.0.steps = elim lost.between [
+                | inl same ↦ nearer_first before t.place was.0 was.1 i e e_there
+                    (subst (λ d. leads_nearer before t.place d ≡ true) same leads)
+                | inr same ↦ nearer_second before t.place was.0 was.1 i e e_there
+                    (subst (λ d. leads_nearer before t.place d ≡ true) same leads)
+              ] in
+              inr (omega (arith, less, steps))
         ]
 
     -- ---- neighbours
@@ -396,30 +371,25 @@ module _ (n : NetworkState) (network : IsNetwork n) (made events : List Timed) w
           ⊎ (link_of (wire.a, wire.b) ≡ record { a = port_of y q; b = port_of x p })
 
     joined_by : (p q y i : ℕ) → IsAt n i y → Joins h (port_of x p) (port_of y q) → IsJoinedBy p q y i
-    joined_by p q y i at (inl member) =
-        let l : Link = record { a = port_of x p; b = port_of y q } in
-        let r = runs n network events h stands' l member in
-        let is_ends = from_first r.wire y i l r.is refl refl at in
-        record {
-          wire = r.wire;
-          among = kept (is_used_then n events) r.wire n.links r.member
-              (used_then n network events h stands' well' r.wire r.used);
-          ends = ap (ends_at t.place) is_ends ∙ at_first t.place i;
-          other = ap (other_end t.place) is_ends ∙ other_first t.place i;
-          link = inl r.is;
-        }
-    joined_by p q y i at (inr member) =
-        let l : Link = record { a = port_of y q; b = port_of x p } in
-        let r = runs n network events h stands' l member in
-        let is_ends = from_second r.wire y i l r.is refl refl at in
-        record {
-          wire = r.wire;
-          among = kept (is_used_then n events) r.wire n.links r.member
-              (used_then n network events h stands' well' r.wire r.used);
-          ends = ap (ends_at t.place) is_ends ∙ at_second t.place i;
-          other = ap (other_end t.place) is_ends ∙ other_second t.place i;
-          link = inr r.is;
-        }
+    joined_by p q y i at joins =
+        let r = lost_links.joined_by n network made g stands well events h stands' well' t.place i (port_of x p)
+        (port_of y q) at_x at joins in
+        elim r.by [
+          | inl (ends, is) ↦ record {
+            wire = r.wire;
+            among = r.among;
+            ends = ap (ends_at t.place) ends ∙ at_first t.place i;
+            other = ap (other_end t.place) ends ∙ other_first t.place i;
+            link = inl is;
+          }
+          | inr (ends, is) ↦ record {
+            wire = r.wire;
+            among = r.among;
+            ends = ap (ends_at t.place) ends ∙ at_second t.place i;
+            other = ap (other_end t.place) ends ∙ other_second t.place i;
+            link = inr is;
+          }
+        ]
 
     neighbour : (p q y i : ℕ) → IsJoinedBy p q y i → In i others_of
     neighbour p q y i j =

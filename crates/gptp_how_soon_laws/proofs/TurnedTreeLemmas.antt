@@ -14,7 +14,7 @@ use Rattle.gptp_scenario.specs.Network.{IsNetwork, NetworkState}
 use Rattle.gptp_scenario.specs.declared.change.Timed.{Timed}
 use Rattle.gptp_topology.specs.After.{systems_after}
 use Rattle.gptp_topology.specs.declared.nodes.System as ours
-use Rattle.gptp_how_soon.specs.Chosen.{chosen_after, ends_of, is_moved_at}
+use Rattle.gptp_how_soon.specs.Chosen.{chosen_after, is_moved_at}
 use Rattle.gptp_how_soon.specs.Turned.{has_fewer_steps}
 use Rattle.gptp_how_soon.specs.TurnedTree.{is_in_part, stays_or_is_in_part}
 use Rattle.gptp_how_soon.specs.declared.chosen.Chosen.{Chosen}
@@ -25,7 +25,7 @@ use Rattle.gptp_settling_time.specs.TreeLosses.{IsTurnedTree}
 use Rattle.gptp_how_soon_laws.proofs.FailedLemmas.{each_is}
 use Rattle.gptp_how_soon_laws.proofs.UnmovedLemmas.{asked_of, unmoved_at}
 use Rattle.gptp_how_soon_laws.proofs.LivesOnLemmas.{LivesOn, on_at, on_of}
-use Rattle.gptp_how_soon_laws.proofs.LostLinkLemmas.{ends_are, stands_or_lost}
+use Rattle.gptp_how_soon_laws.proofs.LostLinkLemmas.{IsLostBetween, joins_or_lost}
 use Rattle.gptp_how_soon_laws.proofs.OneLostLemmas.{at_other, at_top, known_ends, lost_between}
 use Rattle.gptp_how_soon_laws.proofs.TurnedTreeTestLemmas.{Turns, less_so, part_turns, turned_moves}
 use Rattle.gptp_how_soon_laws.proofs.TurnsBelowLemmas as below
@@ -136,36 +136,30 @@ module _ (n : NetworkState) (network : IsNetwork n) (made events : List Timed) w
     abbrev IsLostPair : ℕ → ℕ → Type 0
     IsLostPair i j = ((i ≡ top) × (j ≡ other)) ⊎ ((i ≡ other) × (j ≡ top))
 
+    lost_pair : (i j : ℕ) → IsLostBetween n network made g stands well events h stands' well' i j → IsLostPair i j
+    lost_pair i j lost = elim lost.between [
+      | inl same ↦
+          let a = ap (λ (e : Ends). e.a) same in
+          let b = ap (λ (e : Ends). e.b) same in
+          elim (lost_between n network made events t.one lost.ends lost.listed) [
+            | inl (x, y) ↦ inl (sym a ∙ x, sym b ∙ y)
+            | inr (y, x) ↦ inr (sym a ∙ x, sym b ∙ y)
+          ]
+      | inr same ↦
+          let a = ap (λ (e : Ends). e.a) same in
+          let b = ap (λ (e : Ends). e.b) same in
+          elim (lost_between n network made events t.one lost.ends lost.listed) [
+            | inl (x, y) ↦ inr (sym b ∙ y, sym a ∙ x)
+            | inr (y, x) ↦ inl (sym b ∙ y, sym a ∙ x)
+          ]
+    ]
+
     adjacent_still : (v u i j : ℕ) → IsAt n i v → IsAt n j u → Adjacent g v u → Adjacent h v u ⊎ IsLostPair i j
-    adjacent_still v u i j at at' (p, q, inl known) =
-        elim (stands_or_lost n network made g stands well events h stands' well'
-        (record { a = port_of v p; b = port_of u q }) known) [
-          | inl still ↦ inl (p, q, inl still)
-          | inr (w, same, listed) ↦
-              let ends =
-              ends_are n network made g stands well w v u i j (record { a = port_of v p; b = port_of u q }) same refl
-              refl at at' in
-              let a = ap (λ (e : Ends). e.a) ends in
-              let b = ap (λ (e : Ends). e.b) ends in
-              inr (elim (lost_between n network made events t.one (ends_of n w) listed) [
-                | inl (x, y) ↦ inl (sym a ∙ x, sym b ∙ y)
-                | inr (y, x) ↦ inr (sym a ∙ x, sym b ∙ y)
-              ])
-        ]
-    adjacent_still v u i j at at' (p, q, inr known) =
-        elim (stands_or_lost n network made g stands well events h stands' well'
-        (record { a = port_of u q; b = port_of v p }) known) [
-          | inl still ↦ inl (p, q, inr still)
-          | inr (w, same, listed) ↦
-              let ends =
-              ends_are n network made g stands well w u v j i (record { a = port_of u q; b = port_of v p }) same refl
-              refl at' at in
-              let a = ap (λ (e : Ends). e.a) ends in
-              let b = ap (λ (e : Ends). e.b) ends in
-              inr (elim (lost_between n network made events t.one (ends_of n w) listed) [
-                | inl (x, y) ↦ inr (sym b ∙ y, sym a ∙ x)
-                | inr (y, x) ↦ inl (sym b ∙ y, sym a ∙ x)
-              ])
+    adjacent_still v u i j at at' (p, q, joins) =
+        elim (joins_or_lost n network made g stands well events h stands' well' i j (port_of v p) (port_of u q) at at'
+        joins) [
+          | inl still ↦ inl (p, q, still)
+          | inr lost ↦ inr (lost_pair i j lost)
         ]
 
     at_its_top : (i v : ℕ) → IsAt n i v → i ≡ top → v ≡ top_clock

@@ -17,7 +17,7 @@ use Rattle.gptp_scenario.specs.Network.{IsNetwork, NetworkState}
 use Rattle.gptp_scenario.specs.declared.change.Timed.{Timed}
 use Rattle.gptp_topology.specs.After.{systems_after}
 use Rattle.gptp_topology.specs.declared.nodes.System as ours
-use Rattle.gptp_how_soon.specs.Chosen.{chosen_after, ends_of, lost_ends, used_ends}
+use Rattle.gptp_how_soon.specs.Chosen.{chosen_after, lost_ends, used_ends}
 use Rattle.gptp_how_soon.specs.Tree.{chose_itself, has_better_root, has_no_more_steps, has_one_nearer, has_same_root, is_below, leads_one_on}
 use Rattle.gptp_how_soon.specs.TurnedTree.{falls_at}
 use Rattle.gptp_how_soon.specs.TwoTops.{chosen_from, is_below_both, is_both_or_apart, is_by_nearer}
@@ -28,7 +28,7 @@ use Rattle.gptp_settling_time.specs.TreeLosses.{IsTreeCutTwice}
 use Rattle.gptp_how_soon_laws.proofs.FailedLemmas.{each_is}
 use Rattle.gptp_how_soon_laws.proofs.LivesOnLemmas.{LivesOn, on_at, on_of}
 use Rattle.gptp_how_soon_laws.proofs.LostEndLemmas.{at_end, moved_lives}
-use Rattle.gptp_how_soon_laws.proofs.LostLinkLemmas.{ends_are, stands_or_lost}
+use Rattle.gptp_how_soon_laws.proofs.LostLinkLemmas.{joins_or_lost, lost_at}
 use Rattle.gptp_how_soon_laws.proofs.MovedTreesTestLemmas.{TwoTops, falls_moves, in_tops, is_top_there, of_tops, same_on, same_turned, top_parts, tops_there}
 use Rattle.gptp_how_soon_laws.proofs.TreeByLemmas.{IsOfTree, depth, depth_there, single_so, steps_of, steps_so}
 use Rattle.gptp_how_soon_laws.proofs.TreeTestLemmas.{better_so, same_back, same_so}
@@ -286,27 +286,11 @@ module _ (n : NetworkState) (network : IsNetwork n) (made events : List Timed) w
           let (i, s) = on v in_v.reached.1.begins in
           let known_u = Adjacent-clock g v u well (p, q, joins) in
           let (j, at_u) = at_clock n network made g stands well u known_u in
-          elim joins [
-            | inl member ↦
-                elim (stands_or_lost n network made g stands well events h stands' well'
-                (record { a = port_of v p; b = port_of u q }) member) [
-                  | inl still ↦ inl (p, q, inl still)
-                  | inr (w, same, listed) ↦
-                      let ends =
-                      ends_are n network made g stands well w v u i j (record { a = port_of v p; b = port_of u q })
-                      same refl refl s.at at_u in
-                      inr (only i s (ends_of n w) listed (inl (ap (λ (e : Ends). e.a) ends)))
-                ]
-            | inr member ↦
-                elim (stands_or_lost n network made g stands well events h stands' well'
-                (record { a = port_of u q; b = port_of v p }) member) [
-                  | inl still ↦ inl (p, q, inr still)
-                  | inr (w, same, listed) ↦
-                      let ends =
-                      ends_are n network made g stands well w u v j i (record { a = port_of u q; b = port_of v p })
-                      same refl refl at_u s.at in
-                      inr (only i s (ends_of n w) listed (inr (ap (λ (e : Ends). e.b) ends)))
-                ]
+          elim (joins_or_lost n network made g stands well events h stands' well' i j (port_of v p) (port_of u q) s.at
+          at_u joins) [
+            | inl still ↦ inl (p, q, still)
+            | inr x ↦ inr (only i s x.ends x.listed
+                (lost_at n network made g stands well events h stands' well' i j x))
           ]
         where
           only : (i : ℕ) (s : On i v) (e : Ends) → In e lost → (e.a ≡ i) ⊎ (e.b ≡ i)

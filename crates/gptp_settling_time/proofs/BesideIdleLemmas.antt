@@ -17,12 +17,13 @@ use Rattle.gptp_settling_time.specs.Exactly.{SettlesBy}
 use Rattle.gptp_settling_time.specs.Gains.{Repeats, RepeatsNow}
 use Rattle.gptp_settling_time.specs.HowSoon.{AfterIdleEvents, BeforeRepeats, BesideIdle, EachEvent, IsDownToo}
 use Rattle.gptp_settling_time.specs.Pasts.{Aging, AnyPast, Cleared, Fallen, Gained, Heard, Left, Fewer, Lost, Past, Split, Starting, Turned, TurnedTree}
-use Rattle.gptp_settling_time.specs.EventKinds.{FlightIsGone}
+use Rattle.gptp_settling_time.specs.EventKinds.{FlightIsGone, FlightIsGoneFrom}
 use Rattle.gptp_settling_time.specs.Leads.{EventLeads}
-use Rattle.gptp_settling_time.specs.Arrivals.{arrived_by}
+use Rattle.gptp_settling_time.specs.Arrivals.{HasArrivedSinceSet}
 use Rattle.gptp_settling_time.specs.Rests.{FlightIsGoneSince, HasToldAnew, RestsFrom}
 use Rattle.gptp_settling_time.specs.InTurn.{ChoosesAfter, LeadOn, SettlesAfter}
-use Rattle.gptp_settling_time.specs.Losses.{LowersUnused, MovesNoneInAll, NoneSilent, UpIsUsed}
+use Rattle.gptp_settling_time.specs.Losses.{LowersUnused, MovesNoneInAll, NoneSilent, UpIsUsed, UpIsWithin}
+use Rattle.gptp_settling_time.proofs.ArrivalsLemmas.{ArriveAlike, repeats_arrive}
 use Rattle.gptp_settling_time.proofs.CalmStillLemmas.{alike_calm, idle_calm}
 use Rattle.gptp_settling_time.proofs.LeadOnLemmas.{idle_leads, idle_settled, since, widens_leads}
 use Rattle.gptp_settling_time.proofs.SettledPastLemmas.{HasRested, HasSettled, leads_on, settled_later}
@@ -153,19 +154,18 @@ module _ (n : NetworkState) (off : NothingLapses n.params) (events more : List T
       → start + pred (sync_paths n more).systems * (sync_paths n more).delay ≤ time
   still_over start time = subst (λ (x : SyncPaths). start + pred x.systems * x.delay ≤ time) (sym paths)
 
+  still_within : (most : ℕ) → UpIsWithin n events most → UpIsWithin n more most
+  still_within most within place v there up =
+      let one = same.links v (In-slice_get v n.links place there) in
+      let short = within place v there (subst (λ (u : LinkSpec). u.up ≡ true) one up) in
+      let longest = ap (λ (u : LinkSpec). u.bounds.max) one in
+      omega (arith, short, longest)
+
   still_since : (ago : List Timed) (flight : ℕ) → FlightIsGoneSince n ago events flight
       → FlightIsGoneSince n ago more flight
   still_since ago flight (inl is_gone) = inl (still_gone flight is_gone)
-  still_since ago flight (inr (slower, (most, within, limit), is)) = inr (
-    λ place v there up.
-        let one = same.links v (In-slice_get v n.links place there) in
-        let short = slower place v there (subst (λ (u : LinkSpec). u.up ≡ true) one up) in
-        let longest = ap (λ (u : LinkSpec). u.bounds.max) one in
-        let delay = ap (λ (x : SyncPaths). x.delay) paths in
-        omega (arith, short, longest, delay),
-    (most, within, subst (λ t. arrived_by most ago ≤ t + flight) (sym last) limit),
-    is ∙ ap (λ (x : SyncPaths). x.delay) (sym paths),
-  )
+  still_since ago flight (inr (within, arrived)) =
+      inr (still_within flight within, subst (λ t. HasArrivedSinceSet n ago (t + flight)) (sym last) arrived)
 
   -- so much later traces are told anew
   still_anew : (turned start time : ℕ) → HasToldAnew n events turned start time → HasToldAnew n more turned start time
@@ -177,80 +177,6 @@ module _ (n : NetworkState) (off : NothingLapses n.params) (events more : List T
     later = is.later;
     over = still_over start time is.over;
   }
-
-  rests_same : (past : Past) (time start : ℕ) → RestsFrom n events past time start → RestsFrom n more past time start
-  rests_same AnyPast time start none = absurd none
-  rests_same Starting time start none = absurd none
-  rests_same (Gained first) time start none = absurd none
-  rests_same (Heard first) time start none = absurd none
-  rests_same (Left ago silent) time start none = absurd none
-  rests_same (Turned silent turned) time start is = still_anew turned start time is
-  rests_same (Fallen silent fallen) time start is = record {
-    calm = still_calm is.calm;
-    off = is.off;
-    later = subst (λ x. fallen + way_span x < start) (sym paths) is.later;
-    flight = is.flight;
-    is_gone = still_gone is.flight is.is_gone;
-    gone = is.gone;
-    over = still_over start time is.over;
-  }
-  rests_same (TurnedTree silent turned) time start (is, later) =
-      (still_anew turned start time is, subst (λ x. turned + way_span x < start) (sym paths) later)
-  rests_same (Cleared ago first silent right old) time start is = record {
-    calm = still_calm is.calm;
-    off = is.off;
-    gone = is.gone;
-    later = is.later;
-    unlinked = still_dark ago silent time is.unlinked;
-    over = still_over start time is.over;
-  }
-  rests_same (Aging ago aged silent) time start is = record {
-    calm = still_calm is.calm;
-    off = is.off;
-    by = is.by;
-    since = subst (λ t. t ≤ is.by) (sym last) is.since;
-    gone = is.gone;
-    flight = is.flight;
-    is_gone = still_gone is.flight is.is_gone;
-    told = subst (λ (x : SyncPaths). is.by + pred (pred x.systems) * (largest_interval (pace_of n) + x.delay)
-        + is.flight < time) (sym paths) is.told;
-    later = is.later;
-    unlinked = is.unlinked;
-    over = still_over start time is.over;
-  }
-  rests_same (Split ago gone silent) time start is = record {
-    calm = still_calm is.calm;
-    off = is.off;
-    since = is.since ∙ ap (λ t. suc (t + silence_span (pace_of n))) (sym last);
-    told = elim is.told [
-      | inl told ↦
-          inl (subst (λ (x : SyncPaths). gone + 2 * way_span x + pred (pred x.systems) * (largest_interval (pace_of n)
-          + x.delay) + largest_interval (pace_of n) ≤ time) (sym paths) told)
-      | inr (inl (cuts, flight, is_gone, stand, arrived)) ↦ inr (inl (
-        λ g g' stands stands'. cuts g g' stands (stands_before n events more same g' stands'),
-        flight,
-        still_since ago flight is_gone,
-        subst (λ x. gone + 2 * way_span x ≤ time) (sym paths) stand,
-        subst (λ x. gone + way_span x + flight ≤ time) (sym paths) arrived,
-      ))
-      | inr (inr (leaves, used, stand, arrived)) ↦ inr (inr (
-        λ g g' stands stands'. leaves g g' stands (stands_before n events more same g' stands'),
-        used,
-        subst (λ x. gone + 2 * way_span x ≤ time) (sym paths) stand,
-        subst (λ t. t + (sync_paths n ago).delay < time) (sym last) arrived,
-      ))
-    ];
-    later = subst (λ x. gone + way_span x ≤ start) (sym paths) is.later;
-    unlinked = still_dark ago silent time is.unlinked;
-    over = still_over start time is.over;
-  }
-  rests_same (Lost ago lost_at most silent) time start is = record {
-    off = is.off;
-    later = subst (λ x. lost_at + loss_span (pace_of n) x most < start + way_span x) (sym paths) is.later;
-    unlinked = still_dark ago silent time is.unlinked;
-    over = still_over start time is.over;
-  }
-  rests_same (Fewer ago lost_at most silent) time start none = absurd none
 
   settled_same : (past : Past) (time : ℕ) → HasSettled n events past time → HasSettled n more past time
   settled_same AnyPast time is = record {
@@ -272,10 +198,90 @@ module _ (n : NetworkState) (off : NothingLapses n.params) (events more : List T
   settled_same (Lost ago lost_at most silent) time none = absurd none
   settled_same (Fewer ago lost_at most silent) time none = absurd none
 
-  pub rested_same : (past : Past) (time : ℕ) → HasRested n events past time → HasRested n more past time
-  rested_same past time (seen, inl one, is) = (seen, inl one, settled_same seen time is)
-  rested_same past time (seen, inr (start, one, rests), is) =
-      (seen, inr (start, one, rests_same past time start rests), settled_same seen time is)
+  -- where what arrived as a link was last set did as soon
+  module _ (arrive : ArriveAlike n events more) where
+    still_from : (time gone : ℕ) → FlightIsGoneFrom n events time gone → FlightIsGoneFrom n more time gone
+    still_from time gone (inl is_gone) = inl (still_gone gone is_gone)
+    still_from time gone (inr (within, arrived)) = inr (still_within gone within, arrive (time + gone) arrived)
+
+    rests_same : (past : Past) (time start : ℕ) → RestsFrom n events past time start → RestsFrom n more past time start
+    rests_same AnyPast time start none = absurd none
+    rests_same Starting time start none = absurd none
+    rests_same (Gained first) time start none = absurd none
+    rests_same (Heard first) time start none = absurd none
+    rests_same (Left ago silent) time start none = absurd none
+    rests_same (Turned silent turned) time start is = still_anew turned start time is
+    rests_same (Fallen silent fallen) time start is = record {
+      calm = still_calm is.calm;
+      off = is.off;
+      later = subst (λ x. fallen + way_span x < start) (sym paths) is.later;
+      flight = is.flight;
+      is_gone = still_from fallen is.flight is.is_gone;
+      gone = is.gone;
+      over = still_over start time is.over;
+    }
+    rests_same (TurnedTree silent turned) time start (is, later) =
+        (still_anew turned start time is, subst (λ x. turned + way_span x < start) (sym paths) later)
+    rests_same (Cleared ago first silent right old) time start is = record {
+      calm = still_calm is.calm;
+      off = is.off;
+      gone = is.gone;
+      later = is.later;
+      unlinked = still_dark ago silent time is.unlinked;
+      over = still_over start time is.over;
+    }
+    rests_same (Aging ago aged silent) time start is = record {
+      calm = still_calm is.calm;
+      off = is.off;
+      by = is.by;
+      since = subst (λ t. t ≤ is.by) (sym last) is.since;
+      gone = is.gone;
+      flight = is.flight;
+      is_gone = still_gone is.flight is.is_gone;
+      told = subst (λ (x : SyncPaths). is.by + pred (pred x.systems) * (largest_interval (pace_of n) + x.delay)
+          + is.flight < time) (sym paths) is.told;
+      later = is.later;
+      unlinked = is.unlinked;
+      over = still_over start time is.over;
+    }
+    rests_same (Split ago gone silent) time start is = record {
+      calm = still_calm is.calm;
+      off = is.off;
+      since = is.since ∙ ap (λ t. suc (t + silence_span (pace_of n))) (sym last);
+      told = elim is.told [
+        | inl told ↦
+            inl (subst (λ (x : SyncPaths). gone + 2 * way_span x + pred (pred x.systems) * (largest_interval (pace_of n)
+            + x.delay) + largest_interval (pace_of n) ≤ time) (sym paths) told)
+        | inr (inl (cuts, flight, is_gone, stand, arrived)) ↦ inr (inl (
+          λ g g' stands stands'. cuts g g' stands (stands_before n events more same g' stands'),
+          flight,
+          still_since ago flight is_gone,
+          subst (λ x. gone + 2 * way_span x ≤ time) (sym paths) stand,
+          subst (λ x. gone + way_span x + flight ≤ time) (sym paths) arrived,
+        ))
+        | inr (inr (leaves, used, stand, arrived)) ↦ inr (inr (
+          λ g g' stands stands'. leaves g g' stands (stands_before n events more same g' stands'),
+          used,
+          subst (λ x. gone + 2 * way_span x ≤ time) (sym paths) stand,
+          subst (λ t. t + (sync_paths n ago).delay < time) (sym last) arrived,
+        ))
+      ];
+      later = subst (λ x. gone + way_span x ≤ start) (sym paths) is.later;
+      unlinked = still_dark ago silent time is.unlinked;
+      over = still_over start time is.over;
+    }
+    rests_same (Lost ago lost_at most silent) time start is = record {
+      off = is.off;
+      later = subst (λ x. lost_at + loss_span (pace_of n) x most < start + way_span x) (sym paths) is.later;
+      unlinked = still_dark ago silent time is.unlinked;
+      over = still_over start time is.over;
+    }
+    rests_same (Fewer ago lost_at most silent) time start none = absurd none
+
+    pub rested_same : (past : Past) (time : ℕ) → HasRested n events past time → HasRested n more past time
+    rested_same past time (seen, inl one, is) = (seen, inl one, settled_same seen time is)
+    rested_same past time (seen, inr (start, one, rests), is) =
+        (seen, inr (start, one, rests_same past time start rests), settled_same seen time is)
 
 -- ---- events that repeat what stands
 
@@ -344,7 +350,7 @@ module _ (n : NetworkState) (network : IsNetwork n) (off : NothingLapses n.param
     (So : List Timed → Past → Type 0) (begun : (events : List Timed) (past : Past) → So events past → past ≡ Starting →
     ⊥)
     (same : (events more : List Timed) (past : Past) → StandSame n events more
-    → last_change more ≡ last_change events → So events past → So more past) where
+    → last_change more ≡ last_change events → ArriveAlike n events more → So events past → So more past) where
   -- others come at this time that repeat what stands
   pub repeats_to : (made first others : List Timed) (past : Past) → last_change (made ++ first) ≡ time
       → AllByRecursion (λ (t : Timed). t.at ≡ time) others → EachEvent (Repeats n) (made ++ first) others
@@ -356,7 +362,8 @@ module _ (n : NetworkState) (network : IsNetwork n) (off : NothingLapses n.param
         each);
     so = subst (λ es. So es x.last) (append_assoc made first others)
         (same (made ++ first) ((made ++ first) ++ others) x.last (repeats_same n network off time (made ++ first) others
-        each) (last_on n network off time (made ++ first) others last at ∙ sym last) x.so);
+        each) (last_on n network off time (made ++ first) others last at ∙ sym last)
+        (repeats_arrive n (made ++ first) others each) x.so);
   }
 
   module _ (Are : List Timed → List Timed → Type 0) (some : (made : List Timed) → Are made [] → ⊥)

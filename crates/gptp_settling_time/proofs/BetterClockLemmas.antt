@@ -39,7 +39,8 @@ use Rattle.gptp_invariants.proofs.WorldSystemLemmas.{clock_from, clock_lives, cl
 use Rattle.gptp_invariants.proofs.WorldWayLemmas.{way_of}
 use Rattle.gptp_invariants.proofs.ChoiceCalmKeptLemmas.{delay_bare, lane_bare, of_kept}
 use Rattle.gptp_settling_time.specs.Idle.{Lives}
-use Rattle.gptp_settling_time.proofs.AlwaysClaimedLemmas.{AreHeard, IsClaimedAlways, asks_back, capable_is_on, on_is_capable, place_of_way, standing, start_calm, start_net, start_network, way_back, way_stands}
+use Rattle.gptp_settling_time.proofs.WayLinkLemmas.{asks_back, capable_is_on, on_is_capable, place_of_way, way_back, way_stands}
+use Rattle.gptp_settling_time.proofs.AlwaysClaimedLemmas.{AreHeard, IsClaimedAlways, standing, start_calm, start_net, start_network}
 use Rattle.gptp_settling_time.proofs.AlwaysReactsLemmas.{stage_reacted}
 use Rattle.gptp_settling_time.proofs.GainStageLemmas.{ClaimsAlways}
 use Rattle.gptp_settling_time.proofs.HeardLemmas.{IsHeardAt, IsOn, StaysCapableAt, heard_from, heard_link, stays_elsewhere, stays_link, stays_on, told_acted}

@@ -24,7 +24,18 @@ pub within_before : (n : NetworkState) (events others : List Timed) (most : ℕ)
 within_before n events others most within =
     record { links = within.links; sets = (fit_parts most events others within.sets).0 }
 
--- and the last lets none take longer
+fit_behind : (most : ℕ) (events others : List Timed) → AllFit most events → AllFit most others
+    → AllFit most (events ++ others)
+fit_behind most [] others front back = back
+fit_behind most (event ∷ events) others front back = (front.0, fit_behind most events others front.1 back)
+
+-- and behind one more that lets none take longer
+pub within_behind : (n : NetworkState) (events : List Timed) (event : Timed) (most : ℕ) → HasDelaysWithin n events most
+    → DelayFitsInterval most event.act → HasDelaysWithin n (events ++ event ∷ []) most
+within_behind n events event most within fits =
+    record { links = within.links; sets = fit_behind most events (event ∷ []) within.sets (fits, tt) }
+
+-- the last of them lets none take longer
 pub within_last : (n : NetworkState) (events : List Timed) (event : Timed) (most : ℕ)
     → HasDelaysWithin n (events ++ event ∷ []) most → DelayFitsInterval most event.act
 within_last n events event most within = (fit_parts most events (event ∷ []) within.sets).1.0

@@ -1,19 +1,16 @@
 -- A system fails that is the far end of each of its links, and no system is moved: what is left stands as it did, and
 -- all that is held and in flight fits the snapshot of before.
-use Rattle.std.proofs.Common.{◌≡◌, ◌≢◌, ◌⊎◌, ◌≤◌, ◌<◌, ◌+◌, ◌*◌, ℕ, zero, suc, pred, pos, true, false, List, Some, slice_get, slice_set, refl, sym, ap, subst, ◌∙◌, inl, inr, arith}
+use Rattle.std.proofs.Common.{◌≡◌, ◌≢◌, ◌⊎◌, ◌≤◌, ◌<◌, ◌+◌, ◌*◌, ℕ, suc, pred, pos, true, false, List, Some, slice_get, slice_set, refl, sym, ap, subst, ◌∙◌, inl, inr, arith}
 use Rattle.std.specs.Option.{option_map_or}
 use Rattle.std.proofs.lemmas.Option.{same_Some}
 use Rattle.gptp_lists.specs.Members.{In}
 use Rattle.gptp_lists.proofs.MappedLemmas.{same_there}
 use Rattle.gptp_lists.proofs.PlaceLemmas.{get-set_other, get-set_same, map-set_same, same_place}
-use Rattle.gptp_graph.specs.Best.{IsBest}
 use Rattle.gptp_graph.specs.Distance.{IsDistance}
 use Rattle.gptp_graph.specs.PathBound.{path_bound}
-use Rattle.gptp_graph.specs.Snapshot.{Adjacent, IsWellFormed, Joins, PortIdentity, Snapshot, System, clocks, port_of}
-use Rattle.gptp_graph.proofs.LinkLemmas.{Adjacent-sym, Joins-clock, Joins-sym}
+use Rattle.gptp_graph.specs.Snapshot.{IsWellFormed, Joins, PortIdentity, Snapshot, System, clocks, port_of}
+use Rattle.gptp_graph.proofs.LinkLemmas.{Joins-clock, Joins-sym}
 use Rattle.gptp_graph.proofs.SystemLemmas.{In-clocks, same_clock, system_of}
-use Rattle.gptp_graph.proofs.DistanceLemmas.{IsDistance-clock, best_at_zero, nearer_neighbour}
-use Rattle.gptp_graph.proofs.ExistenceLemmas.{distance_exists}
 use Rattle.gptp_links.specs.Fate.{Draw}
 use Rattle.gptp_scenario.specs.Params.{KeepPace}
 use Rattle.gptp_scenario.specs.SettlingTime.{silence_span}
@@ -55,11 +52,11 @@ use Rattle.gptp_invariants.proofs.WorldSystemLemmas.{clock_there, live_from, liv
 use Rattle.gptp_invariants.proofs.WorldWayLemmas.{used_joins, way_of}
 use Rattle.gptp_invariants.proofs.ChoiceCalmKeptLemmas.{places_kept}
 use Rattle.gptp_invariants.proofs.ChoiceCalmFactLemmas.{used_is}
-use Rattle.gptp_settling_time.specs.Losses.{IsCutOff, IsFarEnd, IsUnmoved, IsUnmovedOrCutOff}
+use Rattle.gptp_settling_time.specs.Losses.{IsFarEnd, IsUnmoved, IsUnmovedOrCutOff}
 use Rattle.gptp_settling_time.proofs.BegunLeftLemmas.{begins_left}
 use Rattle.gptp_settling_time.proofs.AlwaysClaimedLemmas.{IsStanding, start_network}
-use Rattle.gptp_settling_time.proofs.FitsLemmas.{IsLeftUnmoved, UnlinkedHoldNothing, at_zero, lived}
-use Rattle.gptp_settling_time.proofs.FarEndLemmas.{HasAllBut}
+use Rattle.gptp_settling_time.proofs.FitsLemmas.{IsLeftUnmoved, UnlinkedHoldNothing, lived}
+use Rattle.gptp_settling_time.proofs.FarEndLemmas.{HasAllBut, cut_unmoved}
 use Rattle.gptp_settling_time.proofs.LeftClaimedLemmas.{HaveAskedLong, IsLeftAlways, left_network}
 use Rattle.gptp_settling_time.proofs.ReducedLemmas.{IsReduced, reduced_itself}
 use Rattle.gptp_settling_time.proofs.ReplyDueLemmas.{last_begins, last_begins_seen}
@@ -505,55 +502,15 @@ module _ (p : SettlingParams) (number : ℕ) (w : WorldState) (draws : List Draw
 
     -- ---- it was the far end of each of its links
 
-    -- so no system is cut off by it but one that is its own best, which is unmoved
-    module _ (far : IsFarEnd g number) (v : ℕ) (known : In v (clocks g')) (cut : IsCutOff g' v) where
-      lived_before : In v (clocks g)
-      lived_before =
-          let (s, member, named) = system_of g' v known in
-          subst (λ c. In c (clocks g)) named (In-clocks g s (systems_before s member))
-
-      -- it had no system nearer
-      none_nearer : (e : ℕ) → IsDistance g v (suc e) → ⊥
-      none_nearer e here =
-          let (y, joined, there) = nearer_neighbour g v e well here in
-          elim (lives_still y (IsDistance-clock g y e well there)) [
-            | inl same ↦
-                elim (far v e (suc e)
-                (subst (λ x. Adjacent g x v) same (Adjacent-sym g v y joined))
-                (subst (λ x. IsDistance g x e) same there) here) [
-                  | inl less ↦ omega (arith, less)
-                  | inr (equal, lower) ↦ omega (arith, equal)
-                ]
-            | inr still ↦
-                let (m, k, joins) = joined in
-                cut y (m, k, links_still (port_of v m) (port_of y k) joins known still)
-          ]
-
-      its_best : (d : ℕ) → IsDistance g v d → d ≡ 0
-      its_best zero here = refl
-      its_best (suc e) here = absurd (none_nearer e here)
-
-      cut_unmoved : IsUnmoved g g' v
-      cut_unmoved =
-          let (e, here') = distance_exists g' v well' known in
-          let none' = at_zero g' v e well' cut here' in
-          let zero' : IsDistance g' v 0 = subst (IsDistance g' v) none' here' in
-          record {
-            best = λ b is_best.
-                let (d, here) = distance_exists g v well lived_before in
-                let zero_before : IsDistance g v 0 = subst (IsDistance g v) (its_best d here) here in
-                let clock = best_at_zero g v b well is_best zero_before in
-                let clock' = best_at_zero g' v zero'.best well' zero'.is_best zero' in
-                let one = same_clock g zero'.best b well (systems_before zero'.best zero'.is_best.live) is_best.live
-                (clock' ∙ sym clock) in
-                subst (IsBest g' v) one zero'.is_best;
-            far = λ d here. subst (IsDistance g' v) (sym (its_best d here)) zero';
-          }
-
     module _ (seen : IsSettledSeen p w) (near : AllAreNear g) (far : IsFarEnd g number)
         (stay : (v : ℕ) → In v (clocks g') → IsUnmovedOrCutOff g g' v) (sound : IsSoundWorld w) where
       unmoved : (v : ℕ) → In v (clocks g') → IsUnmoved g g' v
-      unmoved v known = elim (stay v known) [ inl is_so ↦ is_so | inr cut ↦ cut_unmoved far v known cut ]
+      unmoved v known = elim (stay v known) [
+        | inl is_so ↦ is_so
+        | inr cut ↦
+            cut_unmoved g g' well well' number far all_but systems_before v
+            (λ same. not_left (subst (λ c. In c (clocks g')) same known)) known cut
+      ]
 
       left : IsLeftUnmoved g g'
       left = record { systems = systems_before; links = links_before; unmoved = λ v known. inl (unmoved v known) }

@@ -49,7 +49,8 @@ use Rattle.gptp_invariants.proofs.DelayClaimedCapableLemmas.{clock_has, used_if}
 use Rattle.gptp_invariants.proofs.WorldWayLemmas.{way_of}
 use Rattle.gptp_invariants.proofs.WorldNewsLemmas.{silent_off}
 use Rattle.gptp_invariants.proofs.PortInputLemmas.{of_down}
-use Rattle.gptp_settling_time.proofs.AlwaysClaimedLemmas.{IsClaimedAlways, lane_at, same_start}
+use Rattle.gptp_settling_time.proofs.WayLinkLemmas.{lane_at}
+use Rattle.gptp_settling_time.proofs.AlwaysClaimedLemmas.{IsClaimedAlways, same_start}
 use Rattle.gptp_settling_time.proofs.FailedUpLemmas.{delay_set, used_set}
 use Rattle.gptp_settling_time.proofs.LinkStoodLemmas.{second_still, used_elsewhere}
 use Rattle.gptp_settling_time.proofs.LinkUpLemmas.{lane_set}

@@ -50,7 +50,8 @@ use Rattle.gptp_invariants.proofs.WorldSoundCallLemmas.{tells_keep}
 use Rattle.gptp_invariants.proofs.WorldSoundLemmas.{sound_gains}
 use Rattle.gptp_invariants.proofs.WorldWayLemmas.{one_way, way_of}
 use Rattle.gptp_invariants.proofs.UnmeasuredLemmas.{unmeasured_off}
-use Rattle.gptp_settling_time.proofs.AlwaysClaimedLemmas.{IsClaimedAlways, lane_at, same_start}
+use Rattle.gptp_settling_time.proofs.WayLinkLemmas.{lane_at}
+use Rattle.gptp_settling_time.proofs.AlwaysClaimedLemmas.{IsClaimedAlways, same_start}
 use Rattle.gptp_settling_time.proofs.BesideUpLemmas.{beside_same}
 use Rattle.gptp_settling_time.proofs.LinkStoodLemmas.{raised_ends, second_still, stood_in, stood_untold, used_elsewhere}
 use Rattle.gptp_settling_time.proofs.LinkUpLemmas.{lane_set}

@@ -46,6 +46,7 @@ use Rattle.gptp_settling_time.proofs.LeftClaimedLemmas.{left_network}
 use Rattle.gptp_settling_time.proofs.LoweredLemmas.{ends, less_then, ready_on, still_joins, wires}
 use Rattle.gptp_settling_time.proofs.ReducedLemmas.{NearerStay}
 use Rattle.gptp_settling_time.proofs.SettledSeenLemmas.{IsSettledSeen}
+use Rattle.gptp_settling_time.proofs.SinceSetLemmas.{AreLimitedBy}
 use Rattle.gptp_settling_time.proofs.TreeEndLemmas.{TopAnswers, top_answers}
 use Rattle.gptp_settling_time.proofs.TakenDownLemmas.{silent_down, told_keeps}
 use Rattle.gptp_settling_time.proofs.TreeTracesLemmas.{HasAllButLink, sound_outside}
@@ -78,7 +79,8 @@ module _ (p : SettlingParams) (silent owner port : ℕ) (w : WorldState) (draws 
       (ends_are : ((channel.a.clock ≡ top_at) × (channel.b.clock ≡ other))
       ⊎ ((channel.b.clock ≡ top_at) × (channel.a.clock ≡ other))) (late : delay_in w' ≤ w'.time)
       (sound : IsSoundWorld w)
-      (named : FlightNames says_announce (snapshot_of w) (view w)) where
+      (named : FlightNames says_announce (snapshot_of w) (view w)) (Limits : ℕ → Type 0)
+      (limited : (limit : ℕ) → Limits limit → AreLimitedBy limit w') where
     well : IsWellFormed (snapshot_of w)
     well = stands_well w is.sound is.between is.encodable
 
@@ -178,11 +180,12 @@ module _ (p : SettlingParams) (silent owner port : ℕ) (w : WorldState) (draws 
         not_tree m (subst (λ i. slice_get (view w').stations i ≡ Some m) same at) lives
         (subst (λ v. IsBest (snapshot_of w') v next) (sym named_c) in_c)
 
-    pub act_fallen : IsFallenAlways p (snapshot_of w) silent w.time w'
+    pub act_fallen : IsFallenAlways p (snapshot_of w) Limits silent w.time w'
     act_fallen =
         fallen_begins p w w' is' seen silent top_at best next base depth tree so.in_top
         (wires p w is acts.1.place channel here draws w' is' told seen near n refl)
         (told_keeps channel (record w { net = taken_down acts.1.place channel w.net; last_change = w.time }) draws w'
         told).change top.touch top.at top.answers outside_at pace measured' past late sound named still_ready
         (silent_down p w is acts.1.place channel here draws w' is' told silent quiet_by)
-        (sound_outside (snapshot_of w) n top_at best next base depth tree other left_but so.in_top so.outside)
+        (sound_outside (snapshot_of w) n top_at best next base depth tree other left_but
+        so.in_top so.outside) Limits limited

@@ -9,7 +9,7 @@ use Rattle.gptp_graph.specs.Snapshot.{PortIdentity, Snapshot, System}
 use Rattle.gptp_links.specs.Fate.{Draw}
 use Rattle.gptp_scenario.specs.Calm.{NothingLapses}
 use Rattle.gptp_scenario.specs.declared.change.Act.{Act}
-use Rattle.gptp_setup.specs.SettlingParams.{SettlingParams, largest_interval}
+use Rattle.gptp_setup.specs.SettlingParams.{SettlingParams}
 use Rattle.gptp_model.specs.Acts.{Acts, at as at_time}
 use Rattle.gptp_model.specs.Pending.{NothingBefore}
 use Rattle.gptp_model.specs.World.{WorldState}
@@ -24,7 +24,8 @@ use Rattle.gptp_bmca_machine.specs.Network.{IsSettlingNetwork, Network, settled_
 use Rattle.gptp_bmca_machine.specs.SoundLaws.{UnlinkedAreOff}
 use Rattle.gptp_bmca_machine.proofs.CutTreeLemmas.{IsCutOff, LeadsNowhere, moves_tree}
 use Rattle.gptp_bmca_machine.proofs.FallEndLemmas.{FallsOff, fallen_back, falls_on, received_then}
-use Rattle.gptp_bmca_machine.proofs.FallLemmas.{falls_by, off_drop}
+use Rattle.gptp_bmca_machine.proofs.UnlinkedLemmas.{off_drop}
+use Rattle.gptp_bmca_machine.proofs.FallLemmas.{falls_by}
 use Rattle.gptp_bmca_machine.proofs.FallLevelLemmas.{tree_settles_on}
 use Rattle.gptp_bmca_machine.proofs.LevelLemmas.{invariant_kept, no_early_ports}
 use Rattle.gptp_bmca_machine.proofs.SettledLemmas.{systems_bounded}
@@ -47,7 +48,7 @@ use Rattle.gptp_invariants.proofs.WorldNewsCourseLemmas.{later_keeps}
 use Rattle.gptp_invariants.proofs.WorldOutlineLemmas.{acts_time}
 use Rattle.gptp_invariants.proofs.WorldStandsLemmas.{stands_well}
 use Rattle.gptp_settling_time.proofs.AlwaysClaimedLemmas.{IsStanding, calm_timed}
-use Rattle.gptp_settling_time.proofs.DueLemmas.{UpIsInUse, use_kept}
+use Rattle.gptp_settling_time.proofs.DueLemmas.{IsGoneBy, gone_kept}
 use Rattle.gptp_settling_time.proofs.FallDownLemmas.{OffSettles}
 use Rattle.gptp_settling_time.proofs.LeftClaimedLemmas.{HaveAskedBy, HaveAskedLong, asked_acts, asked_later, left_network, same_left, standing_acts, standing_later}
 use Rattle.gptp_settling_time.proofs.MovedAlwaysLemmas.{after_loss, calm_now, dark_now}
@@ -75,14 +76,10 @@ within deep (suc reach) most less = mul-le-mul_right most (omega (arith, less))
 pub falls_within : (n : Network) (start deep : ℕ) → deep < n.reach → falls_by n start deep ≤ fallen_by n start
 falls_within n start deep short = let less = within deep n.reach n.most short in omega (arith, less)
 
--- What was in flight at the start is gone by then: an announce interval later, or a greatest delay later where each
--- link that is up is in use.
-abbrev pub IsGoneBy : SettlingParams → ℕ → ℕ → WorldState → Type 0
-IsGoneBy p start old w = (start + largest_interval p ≤ old) ⊎ (UpIsInUse w × (start + delay_in w ≤ old))
-
 -- What is claimed of a world since a link went down at a time that cut a tree off. What others hold is sound. What is
 -- in flight is too, but for what was so at the start, and for what the tree told before it fell back.
-pub record IsFallenAlways (p : SettlingParams) (g : Snapshot) (silent start : ℕ) (w : WorldState) : Type 0 where
+pub record IsFallenAlways (p : SettlingParams) (g : Snapshot) (Limits : ℕ → Type 0) (silent start : ℕ)
+    (w : WorldState) : Type 0 where
   pub standing : IsStanding p silent w
   pub asked : HaveAskedLong w
   pub last : w.last_change ≡ start
@@ -102,7 +99,7 @@ pub record IsFallenAlways (p : SettlingParams) (g : Snapshot) (silent start : �
       × OffSettles says_announce g n top best next base depth tree start (settles_by n start) (view w))
       ⊎ ((fallen_by n start < w.time)
       × Invariant says_announce (record n { slack = suc (fallen_by n start) }) (view w)))
-  pub sound : (old : ℕ) → IsGoneBy p start old w → fallen_by n start + n.most ≤ old → HaveQuietLinks p.params w
+  pub sound : (old : ℕ) → IsGoneBy p Limits start old w → fallen_by n start + n.most ≤ old → HaveQuietLinks p.params w
       → NothingLapses p.params
       → IsSoundOutside says_announce n.graph next old (view w)
 
@@ -130,8 +127,8 @@ module _ (p : SettlingParams) (silent start : ℕ) (w : WorldState) (standing : 
       let c : Calm n (view w) = calm_now p silent w standing asked quiet past in
       calm_timed n n.start n.sound (suc (fallen_by n start)) n.claimed n.until (view w) c.facts c
 
-module _ (p : SettlingParams) (g : Snapshot) (silent start : ℕ) (w w' : WorldState)
-    (is : IsFallenAlways p g silent start w) (standing' : IsStanding p silent w') (asked' : HaveAskedLong w')
+module _ (p : SettlingParams) (g : Snapshot) (Limits : ℕ → Type 0) (silent start : ℕ) (w w' : WorldState)
+    (is : IsFallenAlways p g Limits silent start w) (standing' : IsStanding p silent w') (asked' : HaveAskedLong w')
     (keeps : KeepsNetwork w w') (step : MachineSteps says_announce (view w) (view w')) (on : w.time ≤ w'.time) where
   same' : left_network p silent w' ≡ is.n
   same' = same_left p silent w w' keeps ∙ is.same
@@ -204,22 +201,13 @@ module _ (p : SettlingParams) (g : Snapshot) (silent start : ℕ) (w w' : WorldS
         (view x))
         ⊎ ((fallen_by is.n start < x.time) × Invariant says_announce timed_n (view x))
 
-    -- what is old is so later
-    gone_before : (old : ℕ) → IsGoneBy p start old w' → IsGoneBy p start old w
-    gone_before old (inl interval) = inl interval
-    gone_before old (inr (used, delay)) =
-        inr (
-          use_kept w' w (kept_back w w' keeps) used,
-          subst (λ most. start + most ≤ old) (delay_kept w w' keeps) delay,
-        )
-
-    sound' : (old : ℕ) → IsGoneBy p start old w' → fallen_by is.n start + is.n.most ≤ old
+    sound' : (old : ℕ) → IsGoneBy p Limits start old w' → fallen_by is.n start + is.n.most ≤ old
         → IsSoundOutside says_announce is.n.graph is.next old (view w')
     sound' old gone fits =
         outside_kept says_announce g is.n is.top is.best is.next is.base is.depth is.tree start old
         (λ v in_v. let by = reached v in_v in omega (arith, by, fits)) (view w) (view w') back back'
         (world_apart w' standing'.world.sound standing'.world.encodable) dark'
-        (is.sound old (gone_before old gone) fits quiet off) step
+        (is.sound old (gone_kept p Limits start old w' w (kept_back w w' keeps) gone) fits quiet off) step
 
     settled_on : Settling w → Settling w'
     settled_on (inr (over, invariant)) =
@@ -254,7 +242,7 @@ module _ (p : SettlingParams) (g : Snapshot) (silent start : ℕ) (w w' : WorldS
                   (λ f. let by = in_time f in omega (arith, by)),
             )
 
-  fallen_step : IsFallenAlways p g silent start w'
+  fallen_step : IsFallenAlways p g Limits silent start w'
   fallen_step = record {
     standing = standing';
     asked = asked';
@@ -273,31 +261,33 @@ module _ (p : SettlingParams) (g : Snapshot) (silent start : ℕ) (w w' : WorldS
     sound = λ old gone fits quiet' off. sound' quiet' off old gone fits;
   }
 
-pub fallen_later : (p : SettlingParams) (g : Snapshot) (silent start time : ℕ) (w : WorldState) → w.time ≤ time
-    → NothingBefore time w.net.pending → IsFallenAlways p g silent start w
-    → IsFallenAlways p g silent start (at_time time w)
-fallen_later p g silent start time w later first is =
-    fallen_step p g silent start w (at_time time w) is (standing_later p silent time w later first is.standing)
+pub fallen_later : (p : SettlingParams) (g : Snapshot) (Limits : ℕ → Type 0)
+    (silent start time : ℕ) (w : WorldState) → w.time ≤ time
+    → NothingBefore time w.net.pending → IsFallenAlways p g Limits silent start w
+    → IsFallenAlways p g Limits silent start (at_time time w)
+fallen_later p g Limits silent start time w later first is =
+    fallen_step p g Limits silent start w (at_time time w) is (standing_later p silent time w later first is.standing)
     (asked_later p w.last_change time w is.standing.world later first is.asked) (later_keeps time w)
     (inl (record { time = time; later = later; is = refl })) later
 
-pub fallen_acts : (p : SettlingParams) (g : Snapshot) (silent start : ℕ) (act : Act) (w : WorldState)
+pub fallen_acts : (p : SettlingParams) (g : Snapshot) (Limits : ℕ → Type 0) (silent start : ℕ)
+    (act : Act) (w : WorldState)
     (draws : List Draw) (done : Done) (w' : WorldState) → IsNoChange act → SetsAnOctet act → Acts act w draws done w'
-    → IsFallenAlways p g silent start w → IsFallenAlways p g silent start w'
-fallen_acts p g silent start act w draws done w' none octet acts is =
+    → IsFallenAlways p g Limits silent start w → IsFallenAlways p g Limits silent start w'
+fallen_acts p g Limits silent start act w draws done w' none octet acts is =
     let world = is.standing.world in
     let standing' = standing_acts p silent act w draws done w' none octet acts is.standing in
     let keeps = acts_keep act w draws done w' none acts in
     let time = acts_time act w draws done w' acts in
-    fallen_step p g silent start w w' is standing'
+    fallen_step p g Limits silent start w w' is standing'
     (subst (λ t. HaveAskedBy t w') (sym keeps.change)
     (asked_acts p w.last_change silent act w draws done w' none acts is.standing standing'.world is.asked)) keeps
     (inr (acts_seen act w draws done w' none world.sound world.encodable acts)) (omega (arith, time))
 
 -- ---- it settles
 
-module _ (p : SettlingParams) (g : Snapshot) (silent start : ℕ) (w : WorldState)
-    (is : IsFallenAlways p g silent start w) (quiet : HaveQuietLinks p.params w) (off : NothingLapses p.params)
+module _ (p : SettlingParams) (g : Snapshot) (Limits : ℕ → Type 0) (silent start : ℕ) (w : WorldState)
+    (is : IsFallenAlways p g Limits silent start w) (quiet : HaveQuietLinks p.params w) (off : NothingLapses p.params)
     (late : start + 1 + 2 * (pred (path_bound (snapshot_of w)) * delay_in w) ≤ w.time) where
   world : IsWorld p w
   world = is.standing.world

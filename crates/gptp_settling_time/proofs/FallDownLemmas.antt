@@ -22,7 +22,8 @@ use Rattle.gptp_bmca_machine.proofs.FallBeginLemmas.{falling_begins, settles_beg
 use Rattle.gptp_bmca_machine.proofs.CutTreeLemmas.{IsCutOff, LeadsNowhere, cut_whole, moves_tree}
 use Rattle.gptp_bmca_machine.proofs.FallEndLemmas.{FallsOff}
 use Rattle.gptp_bmca_machine.proofs.FallLeaveLemmas.{TreeAnswers}
-use Rattle.gptp_bmca_machine.proofs.FallLemmas.{IsAftermath, off_hold_old}
+use Rattle.gptp_bmca_machine.proofs.UnlinkedLemmas.{off_hold_old}
+use Rattle.gptp_bmca_machine.proofs.FallLemmas.{IsAftermath}
 use Rattle.gptp_bmca_machine.proofs.FallLevelLemmas.{TreeSettles}
 use Rattle.gptp_bmca_machine.proofs.MovedTreeLemmas.{Around}
 use Rattle.gptp_bmca_machine.proofs.LinkStepLemmas.{lives_at}

@@ -29,10 +29,11 @@ use Rattle.gptp_theorem.proofs.AlikeLemmas.{best as alike_best, clock_among, dis
 use Rattle.gptp_settling_time.specs.Arrivals.{HasArrivedBy}
 use Rattle.gptp_settling_time.specs.EventKinds.{FallsCalm}
 use Rattle.gptp_settling_time.specs.TreeLosses.{FallsTree, IsCutTree, LowersTree}
+use Rattle.gptp_settling_time.proofs.ArrivalsLemmas.{SetLimits}
 use Rattle.gptp_settling_time.proofs.FallActLemmas.{act_fallen}
 use Rattle.gptp_settling_time.proofs.FallAlwaysLemmas.{IsFallenAlways}
 use Rattle.gptp_settling_time.proofs.FallDownLemmas.{FlightNames}
-use Rattle.gptp_settling_time.proofs.FallenToLemmas.{IsFallenTo}
+use Rattle.gptp_settling_time.proofs.FallenToLemmas.{IsFallenTo, limits_to}
 use Rattle.gptp_settling_time.proofs.GainLemmas.{up_so}
 use Rattle.gptp_settling_time.proofs.KeptToLemmas.{KeepsTo}
 use Rattle.gptp_settling_time.proofs.LossMadeLemmas.{HasRestedSo}
@@ -125,7 +126,9 @@ module _ (d : DocumentState) (playable : IsPlayable d) (made : List Timed) (even
         record {
           keeps = after;
           before = snapshot_of then;
-          since = subst (λ t. IsFallenAlways p (snapshot_of then) start t w') at_time
+          ago = more;
+          set = λ limit is. is;
+          since = subst (λ t. IsFallenAlways p (snapshot_of then) (SetLimits n more) start t w') at_time
               (act_fallen p start x.clock x.port then draws done w' keeps.claim.pace keeps.claim.world after.claim.world
               keeps.claim.measured after.claim.measured came
               (up_so n made then keeps.stands (port_id x.clock x.port)
@@ -136,7 +139,8 @@ module _ (d : DocumentState) (playable : IsPlayable d) (made : List Timed) (even
               (link x.clock x.port came (IsUsed n.systems made) x.used))
               x.top x.other best next base depth is (few x.paths x.few)
               (link x.clock x.port came (λ (u : LinkSpec). ((u.a.clock ≡ x.top) × (u.b.clock ≡ x.other))
-              ⊎ ((u.b.clock ≡ x.top) × (u.a.clock ≡ x.other))) x.ends) late rest.sound names);
+              ⊎ ((u.b.clock ≡ x.top) × (u.a.clock ≡ x.other))) x.ends) late rest.sound names (SetLimits n more)
+              (limits_to d more w' after));
         }
       where
         seen : IsSettledSeen p then

@@ -1,6 +1,6 @@
 -- A world since a link went down that cut a tree off. Once the tree has settled and what was in flight is gone all is
 -- sound, so that claims are made of it as of one since news.
-use Rattle.std.proofs.Common.{◌≡◌, ◌<◌, ◌≤◌, ◌+◌, ◌*◌, ℕ, zero, suc, pred, sym, subst, inl, inr, arith}
+use Rattle.std.proofs.Common.{◌<◌, ◌≤◌, ◌+◌, ◌*◌, ℕ, zero, suc, pred, sym, subst, inl, arith}
 use Rattle.gptp_lists.specs.Members.{In}
 use Rattle.gptp_graph.specs.PathBound.{path_bound}
 use Rattle.gptp_graph.specs.Snapshot.{Snapshot, clocks}
@@ -19,12 +19,12 @@ use Rattle.gptp_invariants.specs.ChoiceSettlesAsMachine.{IsWorld}
 use Rattle.gptp_invariants.specs.ChoiceView.{says_announce, view}
 use Rattle.gptp_invariants.specs.WorldSound.{IsSoundWorld}
 use Rattle.gptp_invariants.specs.WorldStanding.{snapshot_of}
-use Rattle.gptp_invariants.proofs.WorldGreatestDelayLemmas.{delay_short}
 use Rattle.gptp_invariants.proofs.WorldNewsLemmas.{silent_from_now}
 use Rattle.gptp_settling_time.proofs.AlwaysClaimedLemmas.{IsClaimedAlways}
-use Rattle.gptp_settling_time.proofs.BecomesSoundLemmas.{GoesBy, becomes_claimed}
+use Rattle.gptp_settling_time.proofs.BecomesSoundLemmas.{becomes_claimed}
 use Rattle.gptp_settling_time.proofs.ClearedLemmas.{left_is_now}
-use Rattle.gptp_settling_time.proofs.FallAlwaysLemmas.{IsFallenAlways, IsGoneBy, fallen_by, fallen_seen, falls_within}
+use Rattle.gptp_settling_time.proofs.DueLemmas.{IsGoneBy}
+use Rattle.gptp_settling_time.proofs.FallAlwaysLemmas.{IsFallenAlways, fallen_by, fallen_seen, falls_within}
 use Rattle.gptp_settling_time.proofs.LeftClaimedLemmas.{IsLeftAlways, left_itself, left_network}
 use Rattle.gptp_settling_time.proofs.MovedAlwaysLemmas.{nothing_held}
 use Rattle.gptp_settling_time.proofs.SettledSeenLemmas.{IsSettledSeen, sound_fits, stage_settled}
@@ -38,115 +38,95 @@ way_fits zero most flight start time short gone late = omega (arith, short, gone
 way_fits (suc zero) most flight start time short gone late = omega (arith, short, gone)
 way_fits (suc (suc reach)) most flight start time short gone late = omega (arith, late)
 
--- what was in flight at a time is gone by now
-pub goes_gone : (p : SettlingParams) (start flight : ℕ) (w : WorldState) → GoesBy p flight w → start + flight < w.time
-    → IsGoneBy p start (pred w.time) w
-goes_gone p start flight w goes gone = elim goes [
-  | inl (used, delay) ↦ inr (used, before w.time delay gone)
-  | inr interval ↦ inl (before w.time interval gone)
-]
+module _ (p : SettlingParams) (g : Snapshot) (Limits : ℕ → Type 0) (silent start flight : ℕ) (w : WorldState)
+    (is : IsFallenAlways p g Limits silent start w) (quiet : HaveQuietLinks p.params w) (off : NothingLapses p.params)
+    (late : start + 1 + 2 * (pred (path_bound (snapshot_of w)) * delay_in w) ≤ w.time)
+    (short : delay_in w ≤ flight) (gone_by : IsGoneBy p Limits start (pred w.time) w) (gone : start + flight < w.time)
   where
-    before : (now : ℕ) {span : ℕ} → flight ≡ span → start + flight < now → start + span ≤ pred now
-    before zero is less = absurd (omega (arith, less))
-    before (suc now) is less = omega (arith, is, less)
+    world : IsWorld p w
+    world = is.standing.world
 
-module _ (p : SettlingParams) (g : Snapshot) (silent start flight : ℕ) (w : WorldState)
-    (is : IsFallenAlways p g silent start w) (quiet : HaveQuietLinks p.params w) (off : NothingLapses p.params)
-    (late : start + 1 + 2 * (pred (path_bound (snapshot_of w)) * delay_in w) ≤ w.time) (goes : GoesBy p flight w)
-    (gone : start + flight < w.time) where
-  world : IsWorld p w
-  world = is.standing.world
+    abbrev n : Network
+    n = left_network p silent w
 
-  abbrev n : Network
-  n = left_network p silent w
+    seen : IsSettledSeen p w
+    seen = fallen_seen p g Limits silent start w is quiet off late
 
-  seen : IsSettledSeen p w
-  seen = fallen_seen p g silent start w is quiet off late
+    -- ---- all is sound
 
-  -- ---- all is sound
+    -- the tree has fallen back, and what it told before is gone
+    fits : fallen_by is.n start + is.n.most < w.time
+    fits =
+        subst (λ z. fallen_by z start + z.most < w.time) is.same
+        (way_fits (path_bound (snapshot_of w)) (delay_in w) flight start w.time short gone late)
 
-  short : delay_in w ≤ flight
-  short = elim goes [
-    | inl (used, delay) ↦ omega (arith, delay)
-    | inr interval ↦ let most = delay_short p w world.known in omega (arith, most, interval)
-  ]
+    sound : IsSoundWorld w
+    sound =
+        subst (λ z. IsSoundEverywhere says_announce z.graph (view w)) (sym is.same)
+        (outside_gone says_announce g is.n is.top is.best is.next is.base is.depth is.tree start (pred w.time) (view w)
+        (is.seen quiet off).0 (is.sound (pred w.time) gone_by (less w.time fits) quiet off) (now w.time fits)
+        (λ v in_v. let by = falls_within is.n start (is.depth v) (is.tree.deep v in_v) in
+        let over = fits in
+        omega (arith, by, over)))
+      where
+        less : (time : ℕ) {span : ℕ} → span < time → span ≤ pred time
+        less zero over = absurd (omega (arith, over))
+        less (suc time) over = omega (arith, over)
 
-  -- the tree has fallen back, and what it told before is gone
-  fits : fallen_by is.n start + is.n.most < w.time
-  fits =
-      subst (λ z. fallen_by z start + z.most < w.time) is.same
-      (way_fits (path_bound (snapshot_of w)) (delay_in w) flight start w.time short gone late)
+        now : (time : ℕ) {span : ℕ} → span < time → pred time < time
+        now zero over = absurd (omega (arith, over))
+        now (suc time) over = omega arith
 
-  gone_by : IsGoneBy p start (pred w.time) w
-  gone_by = goes_gone p start flight w goes gone
+    -- ---- it is left as after a loss that moved no system
 
-  sound : IsSoundWorld w
-  sound =
-      subst (λ z. IsSoundEverywhere says_announce z.graph (view w)) (sym is.same)
-      (outside_gone says_announce g is.n is.top is.best is.next is.base is.depth is.tree start (pred w.time) (view w)
-      (is.seen quiet off).0 (is.sound (pred w.time) gone_by (less w.time fits) quiet off) (now w.time fits)
-      (λ v in_v. let by = falls_within is.n start (is.depth v) (is.tree.deep v in_v) in
-      let over = fits in
-      omega (arith, by, over)))
-    where
-      less : (time : ℕ) {span : ℕ} → span < time → span ≤ pred time
-      less zero over = absurd (omega (arith, over))
-      less (suc time) over = omega (arith, over)
+    near : AllAreNear (snapshot_of w)
+    near =
+        subst (λ (z : Network). AllAreNear z.graph) (sym is.same)
+        (λ v known.
+        let (d, there) = distance_exists is.n.graph v is.tree.well known in
+        let within = IsDistance-within is.n.graph is.n.reach v d is.tree.paths there in
+        let few = is.tree.few in
+        (d, there, omega (arith, within, few)))
 
-      now : (time : ℕ) {span : ℕ} → span < time → pred time < time
-      now zero over = absurd (omega (arith, over))
-      now (suc time) over = omega arith
+    wired : SameWiring seen.n n
+    wired = record {
+      place = seen.same.place;
+      lane = seen.same.lane;
+      log = seen.same.log;
+      interval = seen.same.interval;
+    }
 
-  -- ---- it is left as after a loss that moved no system
+    left_so : IsLeftSeen says_announce (snapshot_of w) n (view w)
+    left_so = record {
+      unlinked = nothing_held p silent w is.standing is.asked quiet is.past;
+      fits = fit;
+      invariant = record {
+        sound = λ now. fit.stations;
+        levels = λ d best v pp u q near leads. stage_settled p w seen n seen.graph wired d best v pp u q near leads;
+      };
+    }
+      where
+        fit : EverythingFits says_announce (snapshot_of w) n (view w)
+        fit = let f = sound_fits p w seen sound in record {
+          lanes = λ j l a b at among said known.
+              f.lanes j l a b at among said (subst (λ h. In l.to.clock (clocks h)) (sym seen.graph) known);
+          stations = f.stations;
+        }
 
-  near : AllAreNear (snapshot_of w)
-  near =
-      subst (λ (z : Network). AllAreNear z.graph) (sym is.same)
-      (λ v known.
-      let (d, there) = distance_exists is.n.graph v is.tree.well known in
-      let within = IsDistance-within is.n.graph is.n.reach v d is.tree.paths there in
-      let few = is.tree.few in
-      (d, there, omega (arith, within, few)))
+    left : IsLeftAlways p (snapshot_of w) silent w
+    left = left_itself p silent w is.standing is.asked near (omega (arith, late)) left_so'
+      where
+        left_so' : HaveQuietLinks p.params w → NothingLapses p.params
+            → IsLeftSeen says_announce (snapshot_of w) n (view w)
+        left_so' links none = left_so
 
-  wired : SameWiring seen.n n
-  wired = record {
-    place = seen.same.place;
-    lane = seen.same.lane;
-    log = seen.same.log;
-    interval = seen.same.interval;
-  }
-
-  left_so : IsLeftSeen says_announce (snapshot_of w) n (view w)
-  left_so = record {
-    unlinked = nothing_held p silent w is.standing is.asked quiet is.past;
-    fits = fit;
-    invariant = record {
-      sound = λ now. fit.stations;
-      levels = λ d best v pp u q near leads. stage_settled p w seen n seen.graph wired d best v pp u q near leads;
-    };
-  }
-    where
-      fit : EverythingFits says_announce (snapshot_of w) n (view w)
-      fit = let f = sound_fits p w seen sound in record {
-        lanes = λ j l a b at among said known.
-            f.lanes j l a b at among said (subst (λ h. In l.to.clock (clocks h)) (sym seen.graph) known);
-        stations = f.stations;
-      }
-
-  left : IsLeftAlways p (snapshot_of w) silent w
-  left = left_itself p silent w is.standing is.asked near (omega (arith, late)) left_so'
-    where
-      left_so' : HaveQuietLinks p.params w → NothingLapses p.params
-          → IsLeftSeen says_announce (snapshot_of w) n (view w)
-      left_so' links none = left_so
-
-  -- claims are made of all links always, from each time on by which ports at links are capable
-  pub fallen_claimed : (begin : ℕ) → start ≤ begin → IsClaimedAlways p begin w
-  fallen_claimed begin later =
-      becomes_claimed p (snapshot_of w) w.last_change silent 0 0 w (left_is_now p (snapshot_of w) silent w left)
-      is.asked
-      (λ links none. inl (record {
-        lanes = λ j l f a at among said. inl (sound.lanes j l at f a among said);
-        stations = sound.stations;
-      })) quiet off (omega (arith, gone)) begin (let last = is.last in omega (arith, later, last))
-      (silent_from_now p begin silent w world is.standing.silent is.past)
+    -- claims are made of all links always, from each time on by which ports at links are capable
+    pub fallen_claimed : (begin : ℕ) → start ≤ begin → IsClaimedAlways p begin w
+    fallen_claimed begin later =
+        becomes_claimed p (snapshot_of w) w.last_change silent 0 0 w (left_is_now p (snapshot_of w) silent w left)
+        is.asked
+        (λ links none. inl (record {
+          lanes = λ j l f a at among said. inl (sound.lanes j l at f a among said);
+          stations = sound.stations;
+        })) quiet off (omega (arith, gone)) begin (let last = is.last in omega (arith, later, last))
+        (silent_from_now p begin silent w world is.standing.silent is.past)

@@ -1,23 +1,23 @@
 -- No shortest path leads through a system that is the far end of each of its links. So what is told over such paths is
 -- sound without it.
-use Rattle.std.proofs.Common.{◌≡◌, ◌≢◌, ◌⊎◌, ◌≤◌, ℕ, List, [], ◌∷◌, length, sym, subst, ◌∙◌, inl, inr, arith}
-use native.Mathlib.Decide.{dec_le}
+use Rattle.std.proofs.Common.{◌≡◌, ◌≢◌, ◌⊎◌, ◌≤◌, ℕ, zero, suc, List, [], ◌∷◌, length, refl, sym, subst, ◌∙◌, inl, inr, arith}
+use native.Mathlib.Decide.{dec_le, ℕ_discrete}
 use Rattle.gptp_lists.specs.Members.{In}
 use Rattle.gptp_graph.specs.Best.{IsBest}
 use Rattle.gptp_graph.specs.Distance.{IsDistance}
 use Rattle.gptp_graph.specs.Path.{Route}
-use Rattle.gptp_graph.specs.Snapshot.{Adjacent, IsWellFormed, Joins, PortIdentity, Snapshot, System, clocks}
+use Rattle.gptp_graph.specs.Snapshot.{Adjacent, IsWellFormed, Joins, PortIdentity, Snapshot, System, clocks, port_of}
 use Rattle.gptp_graph.proofs.BestLemmas.{IsBest-neighbour}
-use Rattle.gptp_graph.proofs.DistanceLemmas.{IsDistance-neighbour, distance_from, least_route}
+use Rattle.gptp_graph.proofs.DistanceLemmas.{IsDistance-neighbour, best_at_zero, distance_from, least_route, nearer_neighbour}
 use Rattle.gptp_graph.proofs.ExistenceLemmas.{best_exists, distance_exists}
 use Rattle.gptp_graph.proofs.LinkLemmas.{Adjacent-clock, Adjacent-sym}
 use Rattle.gptp_graph.proofs.PathLemmas.{Route-reverse}
-use Rattle.gptp_graph.proofs.SystemLemmas.{In-clocks, same_identity, system_of}
+use Rattle.gptp_graph.proofs.SystemLemmas.{In-clocks, same_clock, same_identity, system_of}
 use Rattle.gptp_bmca_machine.specs.Clean.{IsWorse, Whole}
 use Rattle.gptp_bmca_machine.specs.Frame.{Announce}
 use Rattle.gptp_bmca_machine.proofs.NearestLemmas.{root_not_better}
-use Rattle.gptp_settling_time.specs.Losses.{IsFarEnd, IsUnmoved}
-use Rattle.gptp_settling_time.proofs.FitsLemmas.{IsLeftUnmoved, best_before}
+use Rattle.gptp_settling_time.specs.Losses.{IsCutOff, IsFarEnd, IsUnmoved}
+use Rattle.gptp_settling_time.proofs.FitsLemmas.{IsLeftUnmoved, at_zero, best_before}
 
 -- no route to the best is shorter than the distance
 route_long : (g : Snapshot) (v e : ℕ) (best : System) (ys : List ℕ) → IsWellFormed g → IsBest g v best
@@ -144,3 +144,51 @@ module _ (g g' : Snapshot) (well : IsWellFormed g) (well' : IsWellFormed g') (le
                   far_off g well x far best u d whole.others is_best here
                   (subst (λ (s : System). Route g u s.clock whole.others) first whole.way.route)
                   (omega (arith, steps, less)) among
+
+-- ---- who is cut off without it
+
+-- It had no system nearer, so it was its own best, and is unmoved.
+module _ (g g' : Snapshot) (well : IsWellFormed g) (well' : IsWellFormed g') (x : ℕ) (far : IsFarEnd g x)
+    (has : HasAllBut g g' x) (systems : (s : System) → In s g'.systems → In s g.systems) (v : ℕ) (apart : v ≢ x)
+    (known : In v (clocks g')) (cut : IsCutOff g' v) where
+  lived_before : In v (clocks g)
+  lived_before =
+      let (s, member, named) = system_of g' v known in
+      subst (λ c. In c (clocks g)) named (In-clocks g s (systems s member))
+
+  none_nearer : (e : ℕ) → IsDistance g v (suc e) → ⊥
+  none_nearer e here =
+      let (y, joined, there) = nearer_neighbour g v e well here in
+      elim (ℕ_discrete y x) [
+        | yes same ↦
+            elim (far v e (suc e)
+            (subst (λ c. Adjacent g c v) same (Adjacent-sym g v y joined))
+            (subst (λ c. IsDistance g c e) same there) here) [
+              | inl less ↦ omega (arith, less)
+              | inr (equal, lower) ↦ omega (arith, equal)
+            ]
+        | no other ↦
+            let (m, k, joins) = joined in
+            cut y (m, k, has.links (port_of v m) (port_of y k) joins apart other)
+      ]
+
+  its_best : (d : ℕ) → IsDistance g v d → d ≡ 0
+  its_best zero here = refl
+  its_best (suc e) here = absurd (none_nearer e here)
+
+  pub cut_unmoved : IsUnmoved g g' v
+  cut_unmoved =
+      let (e, here') = distance_exists g' v well' known in
+      let none' = at_zero g' v e well' cut here' in
+      let zero' : IsDistance g' v 0 = subst (IsDistance g' v) none' here' in
+      record {
+        best = λ b is_best.
+            let (d, here) = distance_exists g v well lived_before in
+            let zero_before : IsDistance g v 0 = subst (IsDistance g v) (its_best d here) here in
+            let clock = best_at_zero g v b well is_best zero_before in
+            let clock' = best_at_zero g' v zero'.best well' zero'.is_best zero' in
+            let one = same_clock g zero'.best b well (systems zero'.best zero'.is_best.live) is_best.live
+            (clock' ∙ sym clock) in
+            subst (IsBest g' v) one zero'.is_best;
+        far = λ d here. subst (IsDistance g' v) (sym (its_best d here)) zero';
+      }

@@ -14,12 +14,13 @@ use Rattle.gptp_network.specs.Snapshot.{events_by}
 use Rattle.gptp_settling_time.specs.Gains.{Repeats}
 use Rattle.gptp_settling_time.specs.HowSoon.{AreGainEvents, AreHeardEvents, AreReadyAtStart, AreStartEvents, BeforeRepeats, BesideIdle, BoundsEvents, BoundsStart, EachEvent, events_at, FailsTreesFirst, HasArrivedNext, IsRestBoundAfter, NoneBetween, OneEvent, RestsAfterLoss, RestsSplit}
 use Rattle.gptp_settling_time.specs.Pasts.{AnyPast, Fallen, Gained, Heard, Past, Starting, TurnedTree}
-use Rattle.gptp_settling_time.specs.EventKinds.{AreCapableSoon, FallsCalm, FlightIsGone, StartsWith, TellsNothing, TurnsTreeCalm, UsedVaryLittle}
+use Rattle.gptp_settling_time.specs.EventKinds.{AreCapableSoon, FallsCalm, FlightIsGoneFrom, StartsWith, TellsNothing, TurnsTreeCalm, UsedVaryLittle}
 use Rattle.gptp_settling_time.specs.Leads.{EventLeads, LeadsByTree}
 use Rattle.gptp_settling_time.specs.Rests.{RestsFrom, turned_echo_span}
 use Rattle.gptp_settling_time.specs.InTurn.{BeginsBy, LeadOn}
 use Rattle.gptp_settling_time.specs.TreeLosses.{FallsTree, TurnsTreeLink}
 use Rattle.gptp_theorem.proofs.EventLemmas.{last_behind}
+use Rattle.gptp_settling_time.proofs.ArrivalsLemmas.{ArriveAlike}
 use Rattle.gptp_settling_time.proofs.BesideIdleLemmas.{LeadsTo, beside_idle, repeats_lead, repeats_same, repeats_to, rested_same, split_now}
 use Rattle.gptp_settling_time.proofs.CalmStillLemmas.{alike_calm}
 use Rattle.gptp_settling_time.proofs.SamePathsLemmas.{StandSame, same_alike, same_back}
@@ -208,7 +209,7 @@ module _ (n : NetworkState) (network : IsNetwork n) (off : NothingLapses n.param
     pub besided : (So : List Timed → Past → Type 0)
         → ((events : List Timed) (past : Past) → So events past → past ≡ Starting → ⊥)
         → ((events more : List Timed) (past : Past) → StandSame n events more
-        → last_change more ≡ last_change events → So events past → So more past)
+        → last_change more ≡ last_change events → ArriveAlike n events more → So events past → So more past)
         → (Are : List Timed → List Timed → Type 0) → ((made : List Timed) → Are made [] → ⊥)
         → ((made now : List Timed) (past : Past) → AllByRecursion (λ (t : Timed). t.at ≡ time) now
         → HasSettled n made past time → IsCalm n made → IsCalm n (made ++ now) → Are made now
@@ -279,7 +280,8 @@ module _ (n : NetworkState) (network : IsNetwork n) (off : NothingLapses n.param
       loss_followed calm_now loses =
           let (x, lead, rested) = besided (λ events past. HasRested n events past (suc (time + choice)))
           (λ events past. rest_begun n events past (suc (time + choice)))
-          (λ events more past same last_same. rested_same n off events more same last_same past (suc (time + choice)))
+          (λ events more past same last_same arrive.
+          rested_same n off events more same last_same arrive past (suc (time + choice)))
           (λ made now. RestsAfterLoss n made now choice) (λ made. none_rests n made choice)
           (λ made now past. rest_leads n network off time choice made now past) then calm calm_now before soon loses in
           record { first = before.first; begins = before.begins; last = x; lead = lead; settles = rested }
@@ -340,10 +342,19 @@ module _ (n : NetworkState) (network : IsNetwork n) (off : NothingLapses n.param
         (λ event moves. record { turns = moves; calm = calm; off = off }) TurnedTree
         (λ past event silent now leads. inl leads) (λ silent now same. cc) first others parts each turns
 
+    -- the last change is at the time
+    last_now : BeforeRepeats n (OneEvent (FallsTree n)) before_now at_now → last_change (events_by time all) ≡ time
+    last_now ([], others, parts, each, none) = absurd none
+    last_now (event ∷ first, others, parts, each, one) =
+        ap last_change (parted all last time order less between ∙ ap (λ es. before_now ++ es) parts)
+        ∙ last_at before_now event (first ++ others) time
+        (subst (AllByRecursion (λ (t : Timed). t.at ≡ time)) parts (all_at time all))
+
     -- it has come to rest once the tree has settled and what was in flight is gone
     fall_followed : (then rest gone : ℕ) → IsCalm n before_now → IsCalm n (events_by time all)
         → IsFollowedTo n before_now last then → HasArrivedNext n all last then time
-        → BeforeRepeats n (OneEvent (FallsTree n)) before_now at_now → FlightIsGone n (events_by time all) gone
+        → BeforeRepeats n (OneEvent (FallsTree n)) before_now at_now
+        → FlightIsGoneFrom n (events_by time all) (last_change (events_by time all)) gone
         → rest ≡ max (2 * way_span (sync_paths n (events_by time all))) gone
         → IsFollowedTo n (events_by time all) time rest
     fall_followed then rest gone calm_then calm before arrives lowers flight is =
@@ -368,7 +379,7 @@ module _ (n : NetworkState) (network : IsNetwork n) (off : NothingLapses n.param
                 off = off;
                 later = omega arith;
                 flight = gone;
-                is_gone = flight;
+                is_gone = subst (λ t. FlightIsGoneFrom n (events_by time all) t gone) (last_now lowers) flight;
                 gone = omega (arith, is, flown);
                 over = over;
               },
@@ -436,7 +447,8 @@ module _ (n : NetworkState) (network : IsNetwork n) (off : NothingLapses n.param
         (subst (IsCalm n) (whole ∙ sym (append_assoc before_now (event ∷ now) others)) calm) in
         let x = repeats_to n network off time (λ events past. HasRested n events past (suc (time + rest)))
         (λ events past. rest_begun n events past (suc (time + rest)))
-        (λ events more past same last_same. rested_same n off events more same last_same past (suc (time + rest)))
+        (λ events more past same last_same arrive.
+        rested_same n off events more same last_same arrive past (suc (time + rest)))
         before_now (event ∷ now) others seen (last_at before_now event now time at) at_others each
         (split_rests n network off time rest before_now (event ∷ now) seen (suc (last + then)) arrived at has
         (omega (arith, over)) arrives soon calm_then calm_now fails bounds) in

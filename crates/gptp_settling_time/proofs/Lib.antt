@@ -22,7 +22,9 @@ pub mod BetweenFailedLemmas
 pub mod AskedElsewhereLemmas
 pub mod RestartLemmas
 pub mod AsksSoonLemmas
+pub mod FreshWorldLemmas
 pub mod RecoverLemmas
+pub mod RaisesOwnLemmas
 pub mod RecoverAloneLemmas
 pub mod UpSoonLemmas
 pub mod TimedNewsLemmas
@@ -34,6 +36,7 @@ pub mod PassLemmas
 pub mod LaterLemmas
 pub mod SinceSetLemmas
 pub mod DelayWithinLemmas
+pub mod ArrivalsLemmas
 pub mod KeptToLemmas
 pub mod PrioritySparedLemmas
 pub mod MadeLemmas
@@ -45,6 +48,7 @@ pub mod ToldLemmas
 pub mod MasterLemmas
 pub mod OrderedLemmas
 pub mod UntoldLemmas
+pub mod WayLinkLemmas
 pub mod AlwaysClaimedLemmas
 pub mod SeenSettledLemmas
 pub mod StartLemmas
@@ -241,6 +245,7 @@ pub mod SplitMadeLemmas
 pub mod MovedRestLemmas
 pub mod TurnedRestLemmas
 pub mod TurnedTreeRestLemmas
+pub mod GoneBeforeLemmas
 pub mod TakenFartherLemmas
 pub mod WereSoundLemmas
 pub mod PriorityLinkLemmas

@@ -39,7 +39,7 @@ use Rattle.gptp_invariants.specs.FailedUnanswered.{StandsUnanswered}
 -- ---- a greatest delay
 
 -- it is at most what no link in use exceeds
-delay_most : (systems : List System) (channels : List Channel) (most : ℕ)
+pub delay_most : (systems : List System) (channels : List Channel) (most : ℕ)
     → ((link : ℕ) (channel : Channel) → slice_get channels link ≡ Some channel
     → channel_is_used systems channel ≡ true → channel.bounds.max ≤ most)
     → greatest_channel_delay systems channels ≤ most
@@ -98,10 +98,16 @@ takes_shorter p since silent w w' by =
 
 -- ---- between the events
 
--- What is so of a world at that time, between two of the events.
-pub record IsLosing (p : SettlingParams) (since most silent : ℕ) (w : WorldState) : Type 0 where
+-- ports that asked before a time asked before each later one
+pub asked_by : (start since : ℕ) (w : WorldState) → start ≤ since → HaveAskedBy start w → HaveAskedBy since w
+asked_by start since w past asked at stands =
+    let (first, by, before, x) = asked at stands in (first, by, omega (arith, before, past), x)
+
+-- What is so of a world at that time, between two of the events. Ports at links asked before a start.
+pub record IsLosing (p : SettlingParams) (start since most silent : ℕ) (w : WorldState) : Type 0 where
   pub standing : IsStanding p silent w
-  pub asked : HaveAskedBy since w
+  pub asked : HaveAskedBy start w
+  pub past : start ≤ since
   pub quiet : HaveQuietLinks p.params w
   pub off : NothingLapses p.params
   pub now : w.time ≡ since
@@ -112,7 +118,7 @@ pub record IsLosing (p : SettlingParams) (since most silent : ℕ) (w : WorldSta
 pub sound_losing : (p : SettlingParams) (start since most silent : ℕ) (w : WorldState) → KeepPace p → IsWorld p w
     → LinkIsMeasured w → IsSoundWorld w → AreReadyBy p start w → AreSilentBy p start w → HaveQuietLinks p.params w
     → NothingLapses p.params → w.time ≡ since → start ≤ since → since ≤ silent → delay_in w ≤ most
-    → IsLosing p since most silent w
+    → IsLosing p start since most silent w
 sound_losing p start since most silent w pace world measured sound ready silent_by quiet off now past later short =
     record {
       standing = record {
@@ -121,7 +127,8 @@ sound_losing p start since most silent w pace world measured sound ready silent_
         measured = measured;
         silent = (ready_later p start silent w (omega (arith, past, later)) ready silent_by).1;
       };
-      asked = ready_asked p since w world (omega (arith, now)) (ready_later p start since w past ready silent_by).0;
+      asked = ready_asked p start w world (omega (arith, past, now)) ready;
+      past = past;
       quiet = quiet;
       off = off;
       now = now;
@@ -130,11 +137,13 @@ sound_losing p start since most silent w pace world measured sound ready silent_
     }
 
 -- and where something was taken away at that time
-pub lost_losing : (p : SettlingParams) (since most silent : ℕ) (w : WorldState) → IsLostAlways p since most silent w
-    → w.time ≡ since → IsLosing p since most silent w
-lost_losing p since most silent w is now = record {
+pub lost_losing : (p : SettlingParams) (start since most silent : ℕ) (w : WorldState)
+    → IsLostAlways p since most silent w → HaveAskedBy start w → start ≤ since → w.time ≡ since
+    → IsLosing p start since most silent w
+lost_losing p start since most silent w is asked past now = record {
   standing = is.standing;
-  asked = is.asked;
+  asked = asked;
+  past = past;
   quiet = is.quiet;
   off = is.off;
   now = now;
@@ -144,8 +153,8 @@ lost_losing p since most silent w is now = record {
 
 -- ---- an event
 
-module _ (p : SettlingParams) (since most silent : ℕ) (w w' : WorldState) (is : IsLosing p since most silent w)
-    (by : TakesAway p since silent w w') where
+module _ (p : SettlingParams) (start since most silent : ℕ) (w w' : WorldState)
+    (is : IsLosing p start since most silent w) (by : TakesAway p start silent w w') where
   quiet' : HaveQuietLinks p.params w'
   quiet' link channel here used =
       let was = by.used link channel here used in
@@ -154,7 +163,7 @@ module _ (p : SettlingParams) (since most silent : ℕ) (w w' : WorldState) (is 
       record { lossless = rw⁻¹ bounds x.lossless; good = rw⁻¹ bounds x.good }
 
   short' : delay_in w' ≤ most
-  short' = let short = is.short in let less = takes_shorter p since silent w w' by in omega (arith, short, less)
+  short' = let short = is.short in let less = takes_shorter p start silent w w' by in omega (arith, short, less)
 
   now' : w'.time ≡ since
   now' = by.time ∙ is.now
@@ -163,7 +172,7 @@ module _ (p : SettlingParams) (since most silent : ℕ) (w w' : WorldState) (is 
   k = loss_setting p since most (snapshot_of w)
 
   facts : StationFacts k (view w)
-  facts = loss_facts p since most silent w is.standing is.asked is.quiet is.short
+  facts = loss_facts p since most silent w is.standing (asked_by start since w is.past is.asked) is.quiet is.short
 
   -- what is in flight from a system that doesn't live any more comes in time
   module _ (j : ℕ) (l' : Lane) (f : AnnounceFrame) (a : Announce) (there : slice_get (view w').lanes j ≡ Some l')
@@ -221,10 +230,11 @@ module _ (p : SettlingParams) (since most silent : ℕ) (w w' : WorldState) (is 
           cc))
 
   -- so it goes on
-  pub takes_losing : IsLosing p since most silent w'
+  pub takes_losing : IsLosing p start since most silent w'
   takes_losing = record {
     standing = record { pace = is.standing.pace; world = by.world; measured = by.measured; silent = by.quiet };
-    asked = let now = now' in ready_asked p since w' by.world (omega (arith, now)) by.ready;
+    asked = let now = now' in let past = is.past in ready_asked p start w' by.world (omega (arith, now, past)) by.ready;
+    past = is.past;
     quiet = quiet';
     off = is.off;
     now = now';
@@ -233,7 +243,8 @@ module _ (p : SettlingParams) (since most silent : ℕ) (w w' : WorldState) (is 
   }
 
 -- The claim begins there.
-pub losing_lost : (p : SettlingParams) (since most silent : ℕ) (w : WorldState) → IsLosing p since most silent w
-    → w.last_change ≡ since → IsLostAlways p since most silent w
-losing_lost p since most silent w is change =
-    lost_begins p since most silent w is.standing is.asked is.quiet is.off change is.now is.short is.tellers
+pub losing_lost : (p : SettlingParams) (start since most silent : ℕ) (w : WorldState)
+    → IsLosing p start since most silent w → w.last_change ≡ since → IsLostAlways p since most silent w
+losing_lost p start since most silent w is change =
+    lost_begins p since most silent w is.standing (asked_by start since w is.past is.asked) is.quiet is.off change
+    is.now is.short is.tellers

@@ -18,6 +18,7 @@ use Rattle.gptp_settling_time.specs.Pasts.{Aging, Cleared, Fallen, Fewer, Left, 
 use Rattle.gptp_settling_time.specs.InTurn.{BeginsBy, ChoosesAfter, LeadOn, SettlesAfter}
 use Rattle.gptp_settling_time.specs.Losses.{AgesWithin, FailsHeard, LowersLink, NoneSilent, TurnsLink}
 use Rattle.gptp_settling_time.specs.TreeLosses.{FallsTree, TurnsTreeLink}
+use Rattle.gptp_settling_time.proofs.ArrivalsLemmas.{ArriveAlike}
 use Rattle.gptp_settling_time.proofs.BesideIdleLemmas.{LeadsTo, chooses_same, repeats_to, settles_same, split_now}
 use Rattle.gptp_theorem.proofs.EventLemmas.{last_behind}
 use Rattle.gptp_settling_time.proofs.CalmLessLemmas.{fails_calm}
@@ -30,7 +31,7 @@ use Rattle.gptp_settling_time.proofs.LossLeadLemmas.{IsLeftBy, dead_lead, heard_
 use Rattle.gptp_settling_time.proofs.LossRestLemmas.{last_at}
 use Rattle.gptp_settling_time.proofs.MomentLemmas.{all_at, last_by, parted}
 use Rattle.gptp_settling_time.proofs.SamePathsLemmas.{StandSame}
-use Rattle.gptp_settling_time.proofs.TakenLeadLemmas.{silent_from, taken_clears, taken_lead}
+use Rattle.gptp_settling_time.proofs.TakenLeadLemmas.{silent_from, taken_clears, taken_lead, way_before}
 use Rattle.gptp_settling_time.proofs.SilentSpanLemmas.{none_silent}
 
 -- ---- what a loss leads to
@@ -46,8 +47,9 @@ module _ (n : NetworkState) (time choice roles : ℕ) where
       subst (λ x. SettlesAfter n events x (suc (time + roles))) begun (settles (suc (time + roles)) (omega arith))
 
   pub stands_same : NothingLapses n.params → (events more : List Timed) (past : Past) → StandSame n events more
-      → last_change more ≡ last_change events → StandsBeyond events past → StandsBeyond more past
-  stands_same off events more past same last (settles, chooses) = (
+      → last_change more ≡ last_change events → ArriveAlike n events more → StandsBeyond events past
+      → StandsBeyond more past
+  stands_same off events more past same last arrive (settles, chooses) = (
     λ settled late. settles_same n off events more same last past settled (settles settled late),
     λ settled late. chooses_same n off events more same last past settled (chooses settled late),
   )
@@ -202,10 +204,11 @@ module _ (n : NetworkState) (network : IsNetwork n) (off : NothingLapses n.param
       }
       by (inr (inr (inr (inr (inr (takes, leaves, is_choice, inr (loses, few, is_roles))))))) =
           let old : ℕ = time + largest_interval (pace_of n) in
+          let (since, before) = way_before n time earlier seen has in
           record {
-            last = Cleared earlier time (silent_from n time) 0 old;
-            lead = taken_clears n time earlier (event ∷ now) seen 0 old at has calm_then off takes leaves few
-                (inr (loses, refl, refl, (largest_interval (pace_of n), inr refl, refl)));
+            last = Cleared earlier since (silent_from n time) 0 old;
+            lead = taken_clears n time earlier (event ∷ now) seen since 0 old at has calm_then off takes leaves few
+                (inr (loses, before, refl, (largest_interval (pace_of n), inl (inr refl), refl)));
             so = (
               λ settled late. (off, inl (omega (arith, is_roles, late))),
               λ settled late. off,

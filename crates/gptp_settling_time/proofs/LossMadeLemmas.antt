@@ -193,8 +193,8 @@ module _ (d : DocumentState) (playable : IsPlayable d) (made : List Timed) (even
                   (goes_due p gone w' after.claim.world
                   (left_seen p (snapshot_of then) start w' lowered_since quiet off)
                   (goes_to d playable more w' after gone flight))
-              | inr (slower, arrived, delay) ↦ subst (λ t. AreDueBy t w') (sym is)
-                  (due_to d playable more w' after (event.at + gone) slower arrived (omega (arith, delay, time)))
+              | inr (within, arrived) ↦ subst (λ t. AreDueBy t w') (sym is)
+                  (due_to d playable more w' after gone (event.at + gone) within arrived (omega (arith, time)))
             ])
 
     abbrev lowers_by : CutsCalm n made event → LowersCalm n made event
@@ -290,8 +290,8 @@ module _ (d : DocumentState) (playable : IsPlayable d) (made : List Timed) (even
     -- what is in flight is gone by then
     gone_by : (gone : ℕ) → IsCalm n made → NothingLapses n.params → FlightIsGoneFrom n made event.at gone
         → AreDueBy (event.at + gone) then
-    gone_by gone calm off (inr (slower, arrived, is)) =
-        due_to d playable made then keeps (event.at + gone) slower arrived (omega (arith, is, at_time))
+    gone_by gone calm off (inr (within, arrived)) =
+        due_to d playable made then keeps gone (event.at + gone) within arrived (omega (arith, at_time))
     gone_by gone calm off (inl (inl (used, is))) =
         let delay = ap (λ (u : SyncPaths). u.delay) paths_then in
         subst (λ t. AreDueBy t then) (omega (arith, is, delay, at_time))

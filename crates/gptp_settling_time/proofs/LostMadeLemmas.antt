@@ -82,31 +82,31 @@ module _ (d : DocumentState) (playable : IsPlayable d) (made : List Timed) (even
       (idle_so n made then keeps.stands world_then.sound is.change (subst (ChangesNothing n made) is.act nothing))
       (came_so is.change refl).1
 
-  module _ (since most silent : ℕ) (losing : IsLosing p since most silent then) where
-    ready : AreReadyBy p since then
-    ready = asked_are_ready p since then losing.asked
+  module _ (start since most silent : ℕ) (losing : IsLosing p start since most silent then) where
+    ready : AreReadyBy p start then
+    ready = asked_are_ready p start then losing.asked
 
     -- a link goes down
     lowered : (number port : ℕ) → (k : Acts (Changing (LinkDown number port)) then draws done w')
-        → (up : Bool) → k.1.channel.up ≡ up → TakesAway p since silent then w'
+        → (up : Bool) → k.1.channel.up ≡ up → TakesAway p start silent then w'
     lowered number port k true up =
-        lowers_takes p number port then draws done w' world_then after.claim.world k up since silent keeps.claim.pace
+        lowers_takes p number port then draws done w' world_then after.claim.world k up start silent keeps.claim.pace
         keeps.claim.measured after.claim.measured ready losing.standing.silent
     lowered number port k false down =
         still_takes p then w'
         (changed_still then w'
         (subst (λ up. GoesDownIf up k.1.place k.1.channel (record then { last_change = then.time }) draws w') down
-        k.1.so).1) since silent world_then after.claim.world after.claim.measured ready losing.standing.silent
+        k.1.so).1) start silent world_then after.claim.world after.claim.measured ready losing.standing.silent
 
     -- it takes something away
     pub takes : LosesAny n made event.act → AreSilentAfter p event.at silent event.act
-        → TakesAway p since silent then w'
+        → TakesAway p start silent then w'
     takes loses unanswered =
         by is.change refl (subst (LosesAny n made) is.act loses)
         (subst (AreSilentAfter p event.at silent) is.act unanswered)
       where
         by : (change : Change) → is.change ≡ change → LosesAny n made (Changing change)
-            → AreSilentAfter p event.at silent (Changing change) → TakesAway p since silent then w'
+            → AreSilentAfter p event.at silent (Changing change) → TakesAway p start silent then w'
         by (LinkDown number port) same used later =
             let came = came_so (LinkDown number port) same in
             lowered number port came true
@@ -115,14 +115,15 @@ module _ (d : DocumentState) (playable : IsPlayable d) (made : List Timed) (even
         by (Fail number) same lives long =
             let came = came_so (Fail number) same in
             let now = losing.now in
+            let past = losing.past in
             fails_takes p number then draws done w' world_then after.claim.world came
             (lives_so n made then keeps.stands world_then.sound number lives came.1.place came.1.station
-            (record { here = came.1.is.here; named = came.1.is.named })) since silent (omega (arith, now)) ready
+            (record { here = came.1.is.here; named = came.1.is.named })) start silent (omega (arith, now, past)) ready
             losing.quiet losing.standing.silent (omega (arith, at_time, long)) keeps.claim.measured after.claim.measured
         by (Priority1 number value) same lives later =
             priority_takes p number value then draws done w' world_then after.claim.world
             (lives_so n made then keeps.stands world_then.sound number lives)
-            (subst SetsAnOctet (is.act ∙ ap Changing same) octet) (came_so (Priority1 number value) same) since silent
+            (subst SetsAnOctet (is.act ∙ ap Changing same) octet) (came_so (Priority1 number value) same) start silent
             keeps.claim.measured after.claim.measured ready losing.standing.silent
         by (LinkUp number port) same none later = absurd none
         by (LinkSet number port min max loss) same none later = absurd none
@@ -132,28 +133,28 @@ module _ (d : DocumentState) (playable : IsPlayable d) (made : List Timed) (even
     -- a link comes up
     raised : (number port : ℕ) → EndHasFailed n made (port_id number port)
         → (k : Acts (Changing (LinkUp number port)) then draws done w') → (up : Bool) → k.1.channel.up ≡ up
-        → TakesAway p since silent then w'
+        → TakesAway p start silent then w'
     raised number port failed k true up =
         still_takes p then w'
         (changed_still then w'
         (subst (λ up. ComesUpIf up k.1.place k.1.channel (record then { last_change = then.time }) draws w') up
-        k.1.so).1) since silent world_then after.claim.world after.claim.measured ready losing.standing.silent
+        k.1.so).1) start silent world_then after.claim.world after.claim.measured ready losing.standing.silent
     raised number port failed k false down =
         raises_takes p then world_then k.1.place k.1.channel k.1.is.here down
         (unused_so n made then keeps.stands world_then.sound (port_id number port) failed k.1.place k.1.channel
         (record { here = k.1.is.here; joined = k.1.is.joined })) draws w' after.claim.world
         (subst (λ up. ComesUpIf up k.1.place k.1.channel (record then { last_change = then.time }) draws w') down
-        k.1.so) since silent after.claim.measured after.claim.silent ready losing.standing.silent
+        k.1.so) start silent after.claim.measured after.claim.silent ready losing.standing.silent
 
     -- it makes nothing of what stands
-    pub spares : MakesNothing n made event since → TakesAway p since silent then w'
+    pub spares : MakesNothing n made event since → TakesAway p start silent then w'
     spares (inl nothing) =
-        still_takes p then w' (made_still nothing) since silent world_then after.claim.world after.claim.measured ready
+        still_takes p then w' (made_still nothing) start silent world_then after.claim.world after.claim.measured ready
         losing.standing.silent
     spares (inr (off, turns)) = by is.change refl (subst (TurnsInVain n made event since) is.act turns)
       where
         by : (change : Change) → is.change ≡ change → TurnsInVain n made event since (Changing change)
-            → TakesAway p since silent then w'
+            → TakesAway p start silent then w'
         by (LinkDown number port) same (failed, late) =
             let came = came_so (LinkDown number port) same in lowered number port came came.1.channel.up refl
         by (LinkUp number port) same failed =
@@ -164,11 +165,11 @@ module _ (d : DocumentState) (playable : IsPlayable d) (made : List Timed) (even
         by (Priority1 number value) same none = absurd none
         by (Inject number port octets) same none = absurd none
 
-    lost_then : (ago : List Timed) → AreUsedSince n ago made → WereSilent n ago then → TakesAway p since silent then w'
+    lost_then : (ago : List Timed) → AreUsedSince n ago made → WereSilent n ago then → TakesAway p start silent then w'
         → IsLostTo d ago (made ++ event ∷ []) since most silent w'
     lost_then ago used were away = record {
       keeps = after;
-      is = losing_lost p since most silent w' (takes_losing p since most silent then w' losing away)
+      is = losing_lost p start since most silent w' (takes_losing p start since most silent then w' losing away)
           (last ∙ time ∙ sym at_time ∙ losing.now);
       were = were_lose n ago made used then w' (let now = away.time in omega (arith, now)) away.goes
           (used_then n made then world_then keeps.stands) were;
@@ -190,7 +191,7 @@ module _ (d : DocumentState) (playable : IsPlayable d) (made : List Timed) (even
 
   -- in a network that has settled
   pub losing_first : (start since most silent : ℕ) → HasRestedSo p start event.at then
-      → LosesNow n made event since most silent → IsLosing p since most silent then
+      → LosesNow n made event since most silent → IsLosing p start since most silent then
   losing_first start since most silent rest now =
       let over = rest.over in
       let here = now.now in
@@ -209,19 +210,19 @@ module _ (d : DocumentState) (playable : IsPlayable d) (made : List Timed) (even
       → IsLostTo d ago (made ++ event ∷ []) since most silent w'
   loses_first ago start since most silent rest used now =
       let over = rest.over in
-      let losing : IsLosing p since most silent then = losing_first start since most silent rest now in
-      lost_then since most silent losing ago used
+      let losing : IsLosing p start since most silent then = losing_first start since most silent rest now in
+      lost_then start since most silent losing ago used
       (were_silent n ago start then (omega (arith, over, at_time)) rest.silent)
-      (takes since most silent losing now.loses now.unanswered)
+      (takes start since most silent losing now.loses now.unanswered)
 
   -- and more at that time
   pub loses_more : (ago : List Timed) (since most silent : ℕ) → IsLostAlways p since most silent then
       → AreUsedSince n ago made → WereSilent n ago then → LosesMore n made event since silent
       → IsLostTo d ago (made ++ event ∷ []) since most silent w'
   loses_more ago since most silent lost used were more =
-      let losing : IsLosing p since most silent then =
-      lost_losing p since most silent then lost (at_time ∙ more.now) in
-      lost_then since most silent losing ago used were (elim more.more [
-        | inl (loses, unanswered) ↦ takes since most silent losing loses unanswered
-        | inr nothing ↦ spares since most silent losing nothing
+      let losing : IsLosing p since since most silent then =
+      lost_losing p since since most silent then lost lost.asked (omega arith) (at_time ∙ more.now) in
+      lost_then since since most silent losing ago used were (elim more.more [
+        | inl (loses, unanswered) ↦ takes since since most silent losing loses unanswered
+        | inr nothing ↦ spares since since most silent losing nothing
       ])

@@ -1,51 +1,45 @@
 -- A failed system recovers, whose links that are up lead to live systems: its ports ask at once, and those at their
 -- other ends an interval between requests later at most.
-use Rattle.std.proofs.Common.{◌≡◌, ◌⊎◌, ◌≢◌, ◌<◌, ◌≤◌, ◌+◌, ◌*◌, ℕ, zero, suc, Bool, true, false, List, Some, None, slice_get, refl, sym, ap, subst, ◌∙◌, inl, inr, arith}
-use Rattle.std.proofs.lemmas.Option.{none-some}
+use Rattle.std.proofs.Common.{◌≡◌, ◌⊎◌, ◌≢◌, ◌<◌, ◌≤◌, ◌+◌, ◌*◌, ℕ, Bool, true, false, List, Some, slice_get, refl, sym, ap, subst, ◌∙◌, inl, inr, arith}
 use Rattle.std.specs.Prelude.{⊤}
 use Rattle.gptp_lists.specs.Members.{In}
 use Rattle.gptp_lists.proofs.MappedLemmas.{same_there, some_same}
-use Rattle.gptp_lists.proofs.PlaceLemmas.{get-set_all, get-set_other, get-set_same, same_place}
+use Rattle.gptp_lists.proofs.PlaceLemmas.{get-set_other, same_place}
 use Rattle.gptp_vector.specs.declared.port.PortId.{PortId}
-use Rattle.gptp_roles.specs.Selection.{clock_of}
 use Rattle.gptp_links.specs.declared.link.Direction.{Direction}
 use Rattle.gptp_links.specs.Fate.{Draw}
 use Rattle.gptp_links.specs.Queue.{Frame}
-use Rattle.gptp_setup.specs.Intervals.{AreParams, interval_of}
+use Rattle.gptp_setup.specs.Intervals.{interval_of}
 use Rattle.gptp_setup.specs.SettlingParams.{SettlingParams}
 use Rattle.gptp_scenario.specs.Params.{KeepPace}
 use Rattle.gptp_scenario.specs.declared.change.Act.TheVariants.{Change as Changing}
 use Rattle.gptp_scenario.specs.declared.change.Change.TheVariants.{Recover}
-use Rattle.gptp_system.specs.declared.port.Port.{Port}
 use Rattle.gptp_system.specs.declared.answer.Answer.{Answer}
 use Rattle.gptp_system.specs.Input.{PortUp}
 use Rattle.gptp_system.specs.Measures.{measure_at}
-use Rattle.gptp_system.specs.Start.{started}
-use Rattle.gptp_system.specs.State.{SystemState, clock, number as port_number}
+use Rattle.gptp_system.specs.State.{clock, number as port_number}
 use Rattle.gptp_system.specs.Steps.{HasPortNumber}
-use Rattle.gptp_system.proofs.StartLemmas.{new_port_at}
 use Rattle.gptp_model.specs.declared.done.Done.{Done}
 use Rattle.gptp_model.specs.declared.station.Station.{Station}
-use Rattle.gptp_model.specs.Act.{Calls, all_timers}
+use Rattle.gptp_model.specs.Act.{Calls}
 use Rattle.gptp_model.specs.Acts.{Acts, AtSystem}
-use Rattle.gptp_model.specs.Changing.{Nothing, RecoversIf, Starts, fresh, up_ports, with_station}
+use Rattle.gptp_model.specs.Changing.{Nothing, RecoversIf, Starts, fresh, up_ports}
 use Rattle.gptp_model.specs.World.{Channel, WorldState, receiver, sender, world_queue}
-use Rattle.gptp_model.proofs.StayLemmas.{Stays, refreshed_stays, stays_apart, stays_clocks, starts_stays, stays_ports, stays_setups}
+use Rattle.gptp_model.proofs.StayLemmas.{starts_stays, stays_ports}
 use Rattle.gptp_model.proofs.UpLemmas.{brings_port}
 use Rattle.gptp_pdelay_machine.specs.Lanes.{LaneFrame}
 use Rattle.gptp_pdelay_machine.specs.Messages.{Request}
 use Rattle.gptp_invariants.specs.ChoiceCalm.{delay_in}
 use Rattle.gptp_invariants.specs.ChoiceSettlesAsMachine.{IsWorld}
-use Rattle.gptp_invariants.specs.DelayLinkView.{IsEndOf, IsLinkOf, LinkPlace, asked_at, asker_view, link_setting, other_direction, pair, reads_as_request, waits_by}
-use Rattle.gptp_invariants.specs.DelayMeasured.{IsStationMeasured, LinkIsMeasured, LinkStandsAt, StationIsLiveAt}
-use Rattle.gptp_invariants.specs.FailedUnanswered.{IsFailedAmong, IsLastAnswered, IsOff, IsUnansweredAt, IsUnmeasured, StandsUnanswered, silent_view}
-use Rattle.gptp_invariants.specs.WorldNews.{AreReadyBy, AreSilentBy, IsNews, IsSilentBy}
+use Rattle.gptp_invariants.specs.DelayLinkView.{IsLinkOf, LinkPlace, asker_view, link_setting, other_direction, pair, reads_as_request, waits_by}
+use Rattle.gptp_invariants.specs.DelayMeasured.{LinkIsMeasured, LinkStandsAt, StationIsLiveAt}
+use Rattle.gptp_invariants.specs.FailedUnanswered.{IsLastAnswered, IsOff, StandsUnanswered, silent_view}
+use Rattle.gptp_invariants.specs.WorldNews.{AreReadyBy, AreSilentBy, IsNews}
 use Rattle.gptp_invariants.specs.WorldSound.{IsSoundWorld}
 use Rattle.gptp_invariants.proofs.ChoiceCalmKeptLemmas.{KeepsNetwork, net_keeps}
-use Rattle.gptp_invariants.proofs.DelayCapableKeptLemmas.{HaveParams, known_params, stood_among}
+use Rattle.gptp_invariants.proofs.DelayCapableKeptLemmas.{known_params, stood_among}
 use Rattle.gptp_invariants.proofs.DelayLinkCallLemmas.{seen_from}
-use Rattle.gptp_invariants.proofs.DelayLinkKeptLemmas.{started_measured}
-use Rattle.gptp_invariants.proofs.DelayLinkLemmas.{IsOrderly, sender_opposite, sound_orderly}
+use Rattle.gptp_invariants.proofs.DelayLinkLemmas.{IsOrderly, sender_opposite}
 use Rattle.gptp_invariants.proofs.DelayLinkStandLemmas.{end_is}
 use Rattle.gptp_invariants.proofs.DelayElsewhereLemmas.{calls_orderly, orderly_too}
 use Rattle.gptp_model.proofs.ActsByLemmas.{PortCallsKeep, start_ports_told, start_told}
@@ -56,11 +50,11 @@ use Rattle.gptp_invariants.proofs.WorldSoundCallLemmas.{up_keeps}
 use Rattle.gptp_invariants.proofs.WorldSoundLemmas.{sound_gains}
 use Rattle.gptp_invariants.proofs.FailedLastAnsweredLemmas.{last_called}
 use Rattle.gptp_invariants.proofs.FailedOffLemmas.{off_called}
-use Rattle.gptp_invariants.proofs.UnmeasuredLemmas.{unmeasured_off}
 use Rattle.gptp_settling_time.proofs.AskedElsewhereLemmas.{asked_up, still_in_time}
 use Rattle.gptp_settling_time.proofs.AskedInTimeLemmas.{AreAskedInTime, IsAskedInTime}
 use Rattle.gptp_settling_time.proofs.AsksSoonLemmas.{alone_asks, asked_before, both_ways, due_now, now_asks, seen_due, soon_after}
-use Rattle.gptp_settling_time.proofs.BetweenFailedLemmas.{AreGoneBetween, IsGoneBetween, StandsFailed, gone_still, gone_up}
+use Rattle.gptp_settling_time.proofs.BetweenFailedLemmas.{AreGoneBetween, IsGoneBetween, gone_still, gone_up}
+use Rattle.gptp_settling_time.proofs.FreshWorldLemmas.{fresh_gone, fresh_measured, fresh_orderly, fresh_params, fresh_port, fresh_stays, fresh_world, had_failed, is_new, lived, others_in_time, others_silent, own_in_time, own_off}
 use Rattle.gptp_settling_time.proofs.MeasuringLemmas.{AreMeasuredOr, IsMeasuredOr, measured_for, measured_goes_through}
 use Rattle.gptp_settling_time.proofs.NewsSoonLemmas.{AreComing, IsComing, IsNewsSoon, coming_goes_through}
 use Rattle.gptp_settling_time.proofs.OrderedLemmas.{opposite, turned}
@@ -81,24 +75,6 @@ off_up at =
     orderly_too ⊤ PortUp (IsOff at)
     (λ place port w draws answer w' k of orderly is.
     off_called at place (PortUp port) w draws answer w' k orderly.clocks is (λ same. tt) (λ same. tt))
-
--- A port of a system as it starts answers nothing, hasn't asked, and has measured nothing.
-record IsFreshPort (q : Port) : Type 0 where
-  respond : q.respond ≡ None
-  pdelay : q.pdelay ≡ None
-  unmeasured : IsUnmeasured q.peer
-
-fresh_port : (place now : ℕ) (port : PortId) (station : Station) (w : WorldState) (e : IsEndOf place port w)
-    → e.station.system ≡ started station.setup now → IsFreshPort e.state
-fresh_port place now port station w e is = by port.port e.there
-  where
-    by : (i : ℕ) → port_number e.station.system.ports i ≡ Some e.state → IsFreshPort e.state
-    by zero there = absurd (none-some e.state there)
-    by (suc i) there =
-        let set = station.setup in
-        let (log, found, port_is) = new_port_at (clock_of set.identity) set.params set.intervals.items i e.state
-        (subst (λ (s : SystemState). slice_get s.ports i ≡ Some e.state) is there) in
-        subst IsFreshPort (sym port_is) (record { respond = refl; pdelay = refl; unmeasured = (refl, refl) })
 
 module _ (p : SettlingParams) (by next number : ℕ) (w : WorldState) (draws : List Draw) (done : Done) (w' : WorldState)
     (pace : KeepPace p) (is : IsWorld p w) (is' : IsWorld p w') (measured : LinkIsMeasured w)
@@ -125,60 +101,15 @@ module _ (p : SettlingParams) (by next number : ℕ) (w : WorldState) (draws : L
     ports = up_ports new w.net
 
     abbrev begun : WorldState
-    begun = record (with_station k.place new now) { net = all_timers k.place new w.net }
+    begun = fresh_world k.place starts.station w
 
-    stays : Stays now begun
-    stays = refreshed_stays k.place starts.station now starts.here is.sound.wired.setups
+    old_failed : starts.station.live ≡ false
+    old_failed =
+        let one = same_there w.stations k.place starts.station k.station starts.here k.is.here in
+        ap (λ (x : Station). x.live) one ∙ dead
 
-    pub orderly : IsOrderly begun
-    orderly =
-        let old = sound_orderly w is.sound in
-        record {
-          setups = stays_setups now begun stays;
-          clocks = stays_clocks now begun stays is.sound.wired.clocks;
-          apart = stays_apart now begun stays is.sound.wired.apart;
-          params = get-set_all (λ (x : Station). AreParams x.system.params) w.stations k.place starts.station new
-              starts.here
-              (subst AreParams (measured.stations k.place starts.station starts.here).set_up.params
-              (old.params k.place starts.station starts.here)) old.params;
-        }
-
-    measured_begun : LinkIsMeasured begun
-    measured_begun = record {
-      stations = get-set_all (IsStationMeasured w.time) w.stations k.place starts.station new starts.here
-          (started_measured starts.station.setup w.time true) measured.stations;
-      frames = measured.frames;
-    }
-
-    here_new : slice_get begun.stations k.place ≡ Some new
-    here_new = get-set_same w.stations k.place starts.station new starts.here
-
-    -- a system of then that stands at its place is it, which had failed, and one at another place is as it was
-    is_new : (place : ℕ) (x : Station) → place ≡ k.place → slice_get begun.stations place ≡ Some x → x ≡ new
-    is_new place x at there =
-        same_there begun.stations k.place x new (ap (slice_get begun.stations) (sym at) ∙ there) here_new
-
-    had_failed : (place clock_is : ℕ) → place ≡ k.place → StationIsLiveAt place clock_is begun
-        → IsFailedAmong place clock_is w.stations
-    had_failed place clock_is at x =
-        let near = stays.stations place x.station x.here in
-        let one : near.old ≡ k.station =
-        same_there w.stations k.place near.old k.station (ap (slice_get w.stations) (sym at) ∙ near.here) k.is.here in
-        record {
-          station = near.old;
-          here = near.here;
-          failed = ap (λ (y : Station). y.live) one ∙ dead;
-          named = sym near.same.named ∙ x.named;
-        }
-
-    abbrev lived : (place clock_is : ℕ) → place ≢ k.place → StationIsLiveAt place clock_is begun
-        → StationIsLiveAt place clock_is w
-    lived place clock_is apart x = record {
-      station = x.station;
-      here = sym (get-set_other w.stations k.place place new apart) ∙ x.here;
-      live = x.live;
-      named = x.named;
-    }
+    orderly : IsOrderly begun
+    orderly = fresh_orderly p w is measured k.place starts.station starts.here
 
     pub keeps : KeepsNetwork begun w'
     keeps =
@@ -204,16 +135,10 @@ module _ (p : SettlingParams) (by next number : ℕ) (w : WorldState) (draws : L
         w'
         starts (orderly, so)).1
 
-    params_begun : HaveParams p begun
-    params_begun =
-        let old = known_params p w is.known.set in
-        get-set_all (λ (x : Station). x.setup.params ≡ p.params) w.stations k.place starts.station new starts.here
-        (old k.place starts.station starts.here) old
-
     before : (at : LinkPlace) → LinkStandsAt at w' → LinkStandsAt at begun
     before =
-        stood_among p begun w' orderly.clocks params_begun is'.sound.wired.clocks (known_params p w' is'.known.set)
-        keeps
+        stood_among p begun w' orderly.clocks (fresh_params p w is measured k.place starts.station starts.here)
+        is'.sound.wired.clocks (known_params p w' is'.known.set) keeps
 
     -- ---- a link of the system that recovers
 
@@ -222,20 +147,21 @@ module _ (p : SettlingParams) (by next number : ℕ) (w : WorldState) (draws : L
       of : (place : ℕ) (direction : Direction) (e : StationIsLiveAt place (sender direction s.channel).clock begun)
           → HasPortNumber e.station.system (sender direction s.channel).port
       of place direction e =
-          stays_ports now begun stays is.sound.wired.ports at.link place direction s.channel e.station s.here e.here
-          e.named
+          stays_ports now begun (fresh_stays p w is measured k.place starts.station starts.here)
+          is.sound.wired.ports at.link place direction s.channel e.station s.here e.here e.named
 
       link : IsLinkOf at begun
       link =
           let begins = sender_opposite at.direction s.channel in
+          let then : LinkIsMeasured begun = fresh_measured p w is measured k.place starts.station starts.here in
           record {
             channel = s.channel;
             here = s.here;
             up = s.up;
             lossless = s.lossless;
-            asking = end_is at.asking (sender at.direction s.channel) begun measured_begun s.asking
+            asking = end_is at.asking (sender at.direction s.channel) begun then s.asking
                 (of at.asking at.direction s.asking);
-            answering = end_is at.answering (receiver at.direction s.channel) begun measured_begun s.answering
+            answering = end_is at.answering (receiver at.direction s.channel) begun then s.answering
                 (subst (λ (q : PortId). HasPortNumber s.answering.station.system q.port) begins
                 (of at.answering (other_direction at.direction)
                 (record {
@@ -246,7 +172,7 @@ module _ (p : SettlingParams) (by next number : ℕ) (w : WorldState) (draws : L
                 })));
             apart = s.apart;
             good = s.good;
-            fit = measured_begun.frames at.link s.channel s.here;
+            fit = then.frames at.link s.channel s.here;
           }
 
       abbrev port : ℕ
@@ -272,7 +198,9 @@ module _ (p : SettlingParams) (by next number : ℕ) (w : WorldState) (draws : L
       -- its own port asks at once
       asks : AreDueSoon → at.asking ≡ k.place → HasAskedNow at w.time port w'
       asks due_soon here =
-          let station : s.asking.station ≡ new = is_new at.asking s.asking.station here s.asking.here in
+          let station : s.asking.station ≡ new =
+          is_new p w is measured k.place starts.station starts.here at.asking s.asking.station here
+          s.asking.here in
           let among : In port ports =
           brings_port new w.net at.link at.direction s.channel s.here s.up
           (ap (λ (x : Station). clock x.system) (sym station) ∙ s.asking.named)
@@ -292,15 +220,19 @@ module _ (p : SettlingParams) (by next number : ℕ) (w : WorldState) (draws : L
         asking_was = sym (get-set_other w.stations k.place at.asking new other) ∙ s.asking.here
 
         answering_is : s.answering.station ≡ new
-        answering_is = is_new at.answering s.answering.station here s.answering.here
+        answering_is =
+            is_new p w is measured k.place starts.station starts.here at.answering s.answering.station here
+            s.answering.here
 
         unanswered : StandsUnanswered at w
         unanswered = record {
           channel = s.channel;
           here = s.here;
           up = s.up;
-          asking = lived at.asking (sender at.direction s.channel).clock other s.asking;
-          answering = had_failed at.answering (receiver at.direction s.channel).clock here s.answering;
+          asking = lived p w is measured k.place starts.station starts.here at.asking
+              (sender at.direction s.channel).clock other s.asking;
+          answering = had_failed p w is measured k.place starts.station starts.here old_failed at.answering
+              (receiver at.direction s.channel).clock here s.answering;
         }
 
         one : IsAskedInTime gone at w
@@ -389,8 +321,10 @@ module _ (p : SettlingParams) (by next number : ℕ) (w : WorldState) (draws : L
       here = s.here;
       up = s.up;
       lossless = s.lossless;
-      asking = lived at.asking (sender at.direction s.channel).clock asking s.asking;
-      answering = lived at.answering (receiver at.direction s.channel).clock answering s.answering;
+      asking = lived p w is measured k.place starts.station starts.here at.asking (sender at.direction s.channel).clock
+          asking s.asking;
+      answering = lived p w is measured k.place starts.station starts.here at.answering
+          (receiver at.direction s.channel).clock answering s.answering;
       apart = s.apart;
       good = s.good;
     }
@@ -482,205 +416,44 @@ module _ (p : SettlingParams) (by next number : ℕ) (w : WorldState) (draws : L
 
     -- ---- ports beside failed systems
 
-    module _ (at : LinkPlace) (s : StandsUnanswered at w') where
-      stood_begun : StandsUnanswered at begun
-      stood_begun =
-          start_told ⊥ (λ v. StandsUnanswered at v → StandsUnanswered at begun) (stood_up at begun) k.place now draws w'
-          starts (λ stands. stands) s
-
-      -- what is failed is another system than the one that recovers
-      answering_apart : at.answering ≢ k.place
-      answering_apart same =
-          let one : stood_begun.answering.station ≡ new =
-          is_new at.answering stood_begun.answering.station same stood_begun.answering.here in
-          let off : false ≡ new.live = sym stood_begun.answering.failed ∙ ap (λ (x : Station). x.live) one in
-          absurd cc
-
-      failed_was : IsFailedAmong at.answering (receiver at.direction stood_begun.channel).clock w.stations
-      failed_was = record {
-        station = stood_begun.answering.station;
-        here = sym (get-set_other w.stations k.place at.answering new answering_apart) ∙ stood_begun.answering.here;
-        failed = stood_begun.answering.failed;
-        named = stood_begun.answering.named;
-      }
-
-      -- ---- a port of another system
-
-      module _ (asking_apart : at.asking ≢ k.place) where
-        was : StandsUnanswered at w
-        was = record {
-          channel = stood_begun.channel;
-          here = stood_begun.here;
-          up = stood_begun.up;
-          asking = lived at.asking (sender at.direction stood_begun.channel).clock asking_apart stood_begun.asking;
-          answering = failed_was;
-        }
-
-        abbrev unanswered_begun : IsUnansweredAt at w → IsUnansweredAt at begun
-        unanswered_begun l = record {
-          channel = l.channel;
-          here = l.here;
-          up = l.up;
-          asking = record {
-            station = l.asking.station;
-            state = l.asking.state;
-            here = get-set_other w.stations k.place at.asking new asking_apart ∙ l.asking.here;
-            live = l.asking.live;
-            set_up = l.asking.set_up;
-            named = l.asking.named;
-            there = l.asking.there;
-            measures = l.asking.measures;
-          };
-          answering = record {
-            station = l.answering.station;
-            here = get-set_other w.stations k.place at.answering new answering_apart ∙ l.answering.here;
-            failed = l.answering.failed;
-            named = l.answering.named;
-          };
-        }
-
-        begun_last : (sent : ℕ) → IsLastAnswered sent at w → IsLastAnswered sent at begun
-        begun_last sent one = record {
-          link = unanswered_begun one.link;
-          replies = one.replies;
-          inv = one.inv;
-        }
-
-        others_silent : AreSilentBy p next w → IsSilentBy p next at w'
-        others_silent silent = elim (silent at was) [
-          | inl off ↦ inl (through (IsOff at) (off_up at) (record {
-            link = unanswered_begun off.link;
-            mute = off.mute;
-            off = off.off;
-          }))
-          | inr (sent, last, from) ↦
-              inr (
-                sent,
-                through_own (IsLastAnswered sent at)
-                    (λ port v ds answer v' c. last_up sent at k.place port v ds answer v' asking_apart c)
-                    (begun_last sent last),
-                from,
-              )
-        ]
-
-        others_in_time : (gone : ℕ) → AreAskedInTime gone w → IsAskedInTime gone at w'
-        others_in_time gone asked =
-            let one = asked at was in
-            let l = one.link in
-            through (IsAskedInTime gone at) (asked_up gone at)
-            (record {
-              link = unanswered_begun l;
-              asked = one.asked;
-              frames = one.frames;
-              requests = one.requests;
-              old = one.old;
-            })
-
-      -- ---- a port of the system that recovers
-
-      module _ (here : at.asking ≡ k.place) (gone : ℕ) (all : AreGoneBetween gone w) where
-        asking_new : stood_begun.asking.station ≡ new
-        asking_new = is_new at.asking stood_begun.asking.station here stood_begun.asking.here
-
-        between : StandsFailed at w
-        between = record {
-          channel = stood_begun.channel;
-          here = stood_begun.here;
-          up = stood_begun.up;
-          asking = had_failed at.asking (sender at.direction stood_begun.channel).clock here stood_begun.asking;
-          answering = failed_was;
-        }
-
-        abbrev end : IsEndOf at.asking (sender at.direction stood_begun.channel) begun
-        end = end_is at.asking (sender at.direction stood_begun.channel) begun measured_begun stood_begun.asking
-            (stays_ports now begun stays is.sound.wired.ports at.link at.asking at.direction stood_begun.channel
-            stood_begun.asking.station stood_begun.here stood_begun.asking.here stood_begun.asking.named)
-
-        fresh_end : IsFreshPort end.state
-        fresh_end =
-            fresh_port at.asking w.time (sender at.direction stood_begun.channel) starts.station begun end
-            (ap (λ (x : Station). x.system) asking_new)
-
-        own_begun : IsUnansweredAt at begun
-        own_begun = record {
-          channel = stood_begun.channel;
-          here = stood_begun.here;
-          up = stood_begun.up;
-          asking = end;
-          answering = stood_begun.answering;
-        }
-
-        due_by : (direction : Direction) (f : Frame) → In f (world_queue direction stood_begun.channel) → f.due ≤ gone
-        unfolding between
-        due_by direction f member = all at between direction f member
-
-        own_in_time : IsAskedInTime gone at w'
-        unfolding own_begun
-        own_in_time =
-            through (IsAskedInTime gone at) (asked_up gone at)
-            (record {
-              link = own_begun;
-              asked =
-                  (let never : asked_at (interval_of end.station.setup.params.pdelay) end.state.pdelay ≡ 0 =
-                  ap (asked_at (interval_of end.station.setup.params.pdelay)) fresh_end.pdelay in
-                  omega (arith, never));
-              frames = λ lossless f member. (let due = due_by at.direction f member in omega (arith, due));
-              requests = λ lossless f r member says. (let due = due_by at.direction f member in omega (arith, due));
-              old = due_by (other_direction at.direction);
-            })
-
-        -- it is off
-        own_off : gone < w.time → IsOff at w'
-        unfolding own_begun
-        own_off past =
-            through (IsOff at) (off_up at)
-            (record {
-              link = own_begun;
-              mute = λ f member r says.
-                  let due = due_by (other_direction at.direction) f member in
-                  let late = due_now w is.sound at.link (other_direction at.direction) stood_begun.channel
-                  stood_begun.here f member in
-                  absurd (omega (arith, due, late, past));
-              off = unmeasured_off end.state.peer fresh_end.unmeasured;
-            })
+    stood_begun : (at : LinkPlace) → StandsUnanswered at w' → StandsUnanswered at begun
+    stood_begun at s =
+        start_told ⊥ (λ v. StandsUnanswered at v → StandsUnanswered at begun) (stood_up at begun) k.place now draws w'
+        starts (λ stands. stands) s
 
     recovers_in_time : (gone : ℕ) → AreAskedInTime gone w → AreGoneBetween gone w → AreAskedInTime gone w'
-    recovers_in_time gone asked all at s = elim (same_place at.asking k.place) [
-      | inl here ↦ own_in_time at s here gone all
-      | inr apart ↦ others_in_time at s apart gone asked
-    ]
+    recovers_in_time gone asked all at s =
+        through (IsAskedInTime gone at) (asked_up gone at) (elim (same_place at.asking k.place) [
+          | inl here ↦
+              own_in_time p w is measured k.place starts.station starts.here old_failed at (stood_begun at s) here
+              gone all
+          | inr apart ↦
+              others_in_time p w is measured k.place starts.station starts.here at (stood_begun at s) apart gone asked
+        ])
 
     recovers_silent : (gone : ℕ) → gone < w.time → AreGoneBetween gone w → AreSilentBy p next w → AreSilentBy p next w'
     recovers_silent gone past all silent at s = elim (same_place at.asking k.place) [
-      | inl here ↦ inl (own_off at s here gone all past)
-      | inr apart ↦ others_silent at s apart silent
+      | inl here ↦ inl (through (IsOff at) (off_up at)
+          (own_off p w is measured k.place starts.station starts.here old_failed at (stood_begun at s) here gone
+          all past))
+      | inr apart ↦
+          let one = stood_begun at s in
+          elim (others_silent p w is measured k.place starts.station starts.here at one apart next silent) [
+            | inl off ↦ inl (through (IsOff at) (off_up at) off)
+            | inr (sent, last, from) ↦
+                inr (
+                  sent,
+                  through_own (IsLastAnswered sent at)
+                      (λ port v ds answer v' c. last_up sent at k.place port v ds answer v' apart c) last,
+                  from,
+                )
+          ]
     ]
 
     recovers_gone : (gone : ℕ) → AreGoneBetween gone w → AreGoneBetween gone w'
     recovers_gone gone all at =
         through (IsGoneBetween gone at) (gone_up gone at)
-        (λ s. all at (record {
-          channel = s.channel;
-          here = s.here;
-          up = s.up;
-          asking = failed_begun at.asking (sender at.direction s.channel).clock s.asking;
-          answering = failed_begun at.answering (receiver at.direction s.channel).clock s.answering;
-        }))
-      where
-        failed_begun : (there named : ℕ) → IsFailedAmong there named begun.stations
-            → IsFailedAmong there named w.stations
-        failed_begun there named e = record {
-          station = e.station;
-          here = sym (get-set_other w.stations k.place there new (λ same.
-              let one : e.station ≡ new =
-              same_there begun.stations k.place e.station new (ap (slice_get begun.stations) (sym same) ∙ e.here)
-              here_new in
-              let off : false ≡ new.live = sym e.failed ∙ ap (λ (x : Station). x.live) one in
-              absurd cc))
-              ∙ e.here;
-          failed = e.failed;
-          named = e.named;
-        }
+        (fresh_gone p w is measured k.place starts.station starts.here gone all at)
 
   -- ---- it is one since news soon
 

@@ -1,6 +1,6 @@
 -- An event repeats what stands, at the time of the event before: the world stays the very same, and with it all that is
 -- claimed of a loss.
-use Rattle.std.proofs.Common.{◌≡◌, ◌≤◌, ◌+◌, ℕ, suc, true, refl, List, [], ◌∷◌, ◌++◌, sym, ap, subst, ◌∙◌, inl}
+use Rattle.std.proofs.Common.{◌≡◌, ◌≤◌, ◌+◌, ℕ, suc, true, refl, List, [], ◌∷◌, ◌++◌, sym, ap, subst, ◌∙◌, inl, inr}
 use Rattle.gptp_lists.proofs.SystemSpecLemmas.{In-slice_get}
 use Rattle.gptp_graph.specs.Snapshot.{PortIdentity, Snapshot}
 use Rattle.gptp_links.specs.Fate.{Draw}
@@ -35,9 +35,13 @@ use Rattle.gptp_settling_time.proofs.LostToLemmas.{IsLostTo}
 use Rattle.gptp_settling_time.proofs.SamePathsLemmas.{StandSame, idle_same, same_back, same_lives}
 use Rattle.gptp_settling_time.proofs.SilentLinksLemmas.{AgesOver}
 use Rattle.gptp_settling_time.proofs.SplitRestLemmas.{IsSplitAnew}
-use Rattle.gptp_settling_time.proofs.SplitToLemmas.{GoesOver, IsSplitTo, SetLimits, WereUsed, anew_by, over_gone}
+use Rattle.gptp_settling_time.proofs.ArrivalsLemmas.{SetLimits, idle_sets, limits_before}
+use Rattle.gptp_settling_time.proofs.SplitToLemmas.{GoesOver, IsSplitTo, WereUsed, anew_by, over_gone}
 use Rattle.gptp_settling_time.proofs.TakenClaimedLemmas.{IsTakenAlways}
-use Rattle.gptp_settling_time.proofs.TakenToLemmas.{IsTakenTo}
+use Rattle.gptp_settling_time.proofs.GoneBeforeLemmas.{up_more}
+use Rattle.gptp_settling_time.proofs.LeftClaimedLemmas.{HaveAskedBy}
+use Rattle.gptp_settling_time.proofs.SinceSetLemmas.{AreLimitedBy}
+use Rattle.gptp_settling_time.proofs.TakenToLemmas.{IsTakenTo, way_ago}
 use Rattle.gptp_settling_time.proofs.TurnedAlwaysLemmas.{IsTurnedAlways}
 use Rattle.gptp_settling_time.proofs.TurnedToLemmas.{IsTurnedTo}
 use Rattle.gptp_settling_time.proofs.TurnedTreeRestLemmas.{IsTurnedTreeAnew}
@@ -136,7 +140,9 @@ module _ (d : DocumentState) (playable : IsPlayable d) (made : List Timed) (even
   fallen_repeated silent time so = record {
     keeps = after;
     before = so.before;
-    since = subst (IsFallenAlways p so.before silent time) (sym same) so.since;
+    ago = so.ago;
+    set = λ limit is. so.set limit (limits_before n made event (idle_sets n made event.act now.0.0) limit is);
+    since = subst (IsFallenAlways p so.before (SetLimits n so.ago) silent time) (sym same) so.since;
   }
 
   pub turned_tree_repeated : (silent time : ℕ) → IsTurnedTreeTo d made silent time then
@@ -164,6 +170,9 @@ module _ (d : DocumentState) (playable : IsPlayable d) (made : List Timed) (even
     before = so.before;
     alike = so.alike;
     way = so.way;
+    asked = subst (HaveAskedBy (way_ago n ago since)) (sym same) so.asked;
+    up = up_more n playable.network made ago event so.up since silent (inr now);
+    limited = λ gone flight. subst (AreLimitedBy (since + gone)) (sym same) (so.limited gone flight);
     later = so.later;
     is = subst (IsTakenAlways p so.before silent) (sym same) so.is;
   }

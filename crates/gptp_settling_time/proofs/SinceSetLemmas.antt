@@ -122,7 +122,7 @@ set_last made event sets =
     ∙ ap (λ b. last_of (filter (λ (t : Timed). sets_link t.act) made ++ cond b (event ∷ []) [])) sets
     ∙ last_of_behind (filter (λ (t : Timed). sets_link t.act) made) event
 
-set_still : (made : List Timed) (event : Timed) → sets_link event.act ≡ false
+pub set_still : (made : List Timed) (event : Timed) → sets_link event.act ≡ false
     → last_set (made ++ event ∷ []) ≡ last_set made
 set_still made event none =
     ap last_of (sets_more made event)

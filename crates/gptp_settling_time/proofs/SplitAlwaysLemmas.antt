@@ -1,6 +1,6 @@
 -- A world since a system failed that others hear, and so moved trees. What they hold of it goes until a time, and then
 -- each tree has left its old choice within a way. They settle once each distance has had its time.
-use Rattle.std.proofs.Common.{◌≡◌, ◌⊎◌, ◌<◌, ◌≤◌, ◌+◌, ℕ, zero, suc, pred, List, Some, slice_get, refl, sym, ap, subst, ◌∙◌, inl, inr, arith}
+use Rattle.std.proofs.Common.{◌≡◌, ◌⊎◌, ◌<◌, ◌≤◌, ℕ, zero, suc, pred, List, Some, slice_get, refl, sym, ap, subst, ◌∙◌, inl, inr, arith}
 use native.Mathlib.Decide.{dec_lt}
 use Rattle.gptp_lists.specs.Members.{In}
 use Rattle.gptp_graph.specs.Snapshot.{IsLinked, Joins, PortIdentity, Snapshot, clocks, port_of}
@@ -23,7 +23,7 @@ use Rattle.gptp_bmca_machine.specs.Facts.{StationFacts, station_system}
 use Rattle.gptp_bmca_machine.specs.LossLaws.{IsAfterLoss, Unmoved}
 use Rattle.gptp_bmca_machine.specs.Network.{Network, network_setting}
 use Rattle.gptp_bmca_machine.specs.Station.{MachineState}
-use Rattle.gptp_bmca_machine.proofs.FallLemmas.{UnlinkedHoldNone}
+use Rattle.gptp_bmca_machine.proofs.UnlinkedLemmas.{UnlinkedHoldNone}
 use Rattle.gptp_bmca_machine.proofs.LinkStepLemmas.{lives_at}
 use Rattle.gptp_invariants.specs.ChoiceCalm.{HaveQuietLinks, delay_in}
 use Rattle.gptp_invariants.specs.ChoiceSeenLaws.{IsNoChange}
@@ -42,9 +42,9 @@ use Rattle.gptp_settling_time.proofs.AgingLemmas.{HeardNearer, HearersHoldNothin
 use Rattle.gptp_settling_time.proofs.AgingClaimedLemmas.{aging_after, aging_facts, aging_network, named_in, off_none, same_aging, stay_of}
 use Rattle.gptp_settling_time.proofs.AlwaysClaimedLemmas.{IsStanding}
 use Rattle.gptp_settling_time.proofs.BecomesSoundLemmas.{same_time}
-use Rattle.gptp_settling_time.proofs.DueLemmas.{AreDueBy, NoneUpIsSlowerIn, due_by_interval, due_limited, in_use_joins, slower_kept, use_kept}
+use Rattle.gptp_settling_time.proofs.DueLemmas.{AreDueBy, IsGoneBy, gone_due, gone_kept}
 use Rattle.gptp_settling_time.proofs.EmptiedLemmas.{older_after}
-use Rattle.gptp_settling_time.proofs.FallAlwaysLemmas.{IsGoneBy, fallen_by}
+use Rattle.gptp_settling_time.proofs.FallAlwaysLemmas.{fallen_by}
 use Rattle.gptp_settling_time.proofs.FitsLemmas.{UnlinkedHoldNothing}
 use Rattle.gptp_settling_time.proofs.LeftAloneLemmas.{alone_tell}
 use Rattle.gptp_settling_time.proofs.LeftClaimedLemmas.{HaveAskedBy, HaveAskedLong, asked_acts, asked_later, standing_acts, standing_later}
@@ -84,12 +84,6 @@ split_network p silent w = record (aging_network p silent w) { gone = 0 }
 abbrev pub left_by : (p : SettlingParams) (g : Snapshot) → IsSplit p g → ℕ → ℕ
 left_by p g s gone = fallen_by s.n (pred gone)
 
--- What was in flight at a time is gone by another: an announce interval or the greatest delay later, or the latter
--- where no link that is up is slower and what was in flight as a link was last set has arrived.
-abbrev pub IsDroppedBy : SettlingParams → (ℕ → Type 0) → ℕ → ℕ → WorldState → Type 0
-IsDroppedBy p Limits start old w = IsGoneBy p start old w
-    ⊎ (NoneUpIsSlowerIn w × (limit : ℕ) × Limits limit × (limit ≤ old) × (start + delay_in w ≤ old))
-
 -- What is claimed of a world since such a failure: what is received at ports without a link that heard a nearer system
 -- goes until a time, since it ages by then, or those ports aren't capable from then on. Where all beyond the failed
 -- system is cut off, what unmoved systems say stays sound. So is what is in flight once each tree has left its old
@@ -117,7 +111,7 @@ pub record IsSplitAlways (p : SettlingParams) (g : Snapshot) (By : PortIdentity 
   pub says : CutsAllBeyond g split.n.graph → HaveQuietLinks p.params w → NothingLapses p.params
       → AllSayStill says_announce g split.n (view w)
   pub flights : CutsAllBeyond g split.n.graph → w.last_change ≡ failed → (old : ℕ)
-      → IsDroppedBy p Limits (left_by p g split gone) old w → HaveQuietLinks p.params w → NothingLapses p.params
+      → IsGoneBy p Limits (left_by p g split gone) old w → HaveQuietLinks p.params w → NothingLapses p.params
       → left_by p g split gone < w.time → FlightsAreSound says_announce split.n.graph old (view w)
   pub alone : LeavesAlone g split.n.graph → (old : ℕ) → Were old → HaveQuietLinks p.params w → NothingLapses p.params
       → FlightsAreSound says_announce split.n.graph old (view w)
@@ -218,7 +212,7 @@ module _ (p : SettlingParams) (g : Snapshot) (By : PortIdentity → ℕ → Type
       → SplitsBack p g s start (view w') × SplitSettles p g s start (view w'))
       → (CutsAllBeyond g n.graph → HaveQuietLinks p.params w' → NothingLapses p.params
       → AllSayStill says_announce g n (view w'))
-      → (CutsAllBeyond g n.graph → w'.last_change ≡ failed → (old : ℕ) → IsDroppedBy p Limits
+      → (CutsAllBeyond g n.graph → w'.last_change ≡ failed → (old : ℕ) → IsGoneBy p Limits
       (left_by p g s gone) old w'
       → HaveQuietLinks p.params w' → NothingLapses p.params → left_by p g s gone < w'.time
       → FlightsAreSound says_announce n.graph old (view w'))
@@ -421,30 +415,14 @@ module _ (p : SettlingParams) (g : Snapshot) (By : PortIdentity → ℕ → Type
       (is.seen quiet off (pred gone) (inl now)) step cuts (is.says cuts quiet off)
 
   -- what is in flight before that is due by then
-  due_before : (old : ℕ) → IsDroppedBy p Limits (left_by p g made gone) old w → HaveQuietLinks
-      p.params w → NothingLapses p.params
-      → w.time ≤ left_by p g made gone → AreDueBy old w
-  due_before old (inl (inl interval)) quiet off early j l f a at among said =
-      let due = due_by_interval p w is.standing.world j l f a at among said in omega (arith, interval, early, due)
-  due_before old (inr (slower, limit, is_limit, before, delay)) quiet off early j l f a at among said =
-      due_limited limit old w is.standing.world.sound slower (is.limited limit is_limit) before
-      (omega (arith, delay, early)) j l f a at among said
-  due_before old (inl (inr (used, delay))) quiet off early j l f a at among said = elim
-      (kept.calm.facts.fresh j l f at among
-      (subst (λ (z : Network). Joins z.graph l.from l.to) is.same
-      (in_use_joins w is.standing.world.sound used j l f at among))) [
-        | inl due ↦
-            let most = ap (λ (z : Network). z.most) is.same in omega (arith, delay, early, due, most)
-        | inr old_one ↦
-            let left = kept.calm.left j l f at among in
-            let begun = kept.begun in
-            absurd (omega (arith, old_one, left, begun))
-      ]
-    where
-      kept : IsAfterLoss made.n (view w)
-      kept = (is.seen quiet off (pred gone) (inl now)).0.back.after.kept
+  due_before : (old : ℕ) → IsGoneBy p Limits (left_by p g made gone) old w → HaveQuietLinks p.params w
+      → NothingLapses p.params → w.time ≤ left_by p g made gone → AreDueBy old w
+  due_before old is_old quiet off early =
+      gone_due p Limits (left_by p g made gone) old w made.n is.standing.world
+      (is.seen quiet off (pred gone) (inl now)).0.back.after.kept (ap (λ (z : Network). z.graph) is.same)
+      (sym (ap (λ (z : Network). z.most) is.same)) is.limited early is_old
 
-  flights' : CutsAllBeyond g made.n.graph → w'.last_change ≡ failed → (old : ℕ) → IsDroppedBy p
+  flights' : CutsAllBeyond g made.n.graph → w'.last_change ≡ failed → (old : ℕ) → IsGoneBy p
       Limits (left_by p g made gone) old
       w'
       → HaveQuietLinks p.params w' → NothingLapses p.params → left_by p g made gone < w'.time
@@ -462,22 +440,8 @@ module _ (p : SettlingParams) (g : Snapshot) (By : PortIdentity → ℕ → Type
       quiet : HaveQuietLinks p.params w
       quiet = quiet_before quiet'
 
-      old_before : IsDroppedBy p Limits (left_by p g made gone) old w' → IsDroppedBy p Limits
-          (left_by p g made gone) old w
-      old_before (inl (inl interval)) = inl (inl interval)
-      old_before (inl (inr (used, delay))) =
-          inl (inr (
-            use_kept w' w (kept_back w w' keeps) used,
-            subst (λ most. left_by p g made gone + most ≤ old) (delay_kept w w' keeps) delay,
-          ))
-      old_before (inr (slower, limit, is_limit, before, delay)) =
-          inr (
-            slower_kept w' w (kept_back w w' keeps) slower,
-            limit,
-            is_limit,
-            before,
-            subst (λ most. left_by p g made gone + most ≤ old) (delay_kept w w' keeps) delay,
-          )
+      old_before : IsGoneBy p Limits (left_by p g made gone) old w' → IsGoneBy p Limits (left_by p g made gone) old w
+      old_before = gone_kept p Limits (left_by p g made gone) old w' w (kept_back w w' keeps)
 
       by : w.time ≤ left_by p g made gone → MachineSteps says_announce (view w) (view w')
           → FlightsAreSound says_announce made.n.graph old (view w')

@@ -43,7 +43,8 @@ use Rattle.gptp_settling_time.proofs.LinkUpLemmas.{lane_set}
 use Rattle.gptp_settling_time.proofs.NamesItselfLemmas.{AllNameAlone, alone_kept}
 use Rattle.gptp_settling_time.proofs.OffForGoodLemmas.{GoOnOff, all_down}
 use Rattle.gptp_settling_time.proofs.SinceSetLemmas.{AreLimitedBy, limited_unset}
-use Rattle.gptp_settling_time.proofs.SplitAlwaysLemmas.{IsDroppedBy, alone_then, IsSplitAlways, MayStart, left_by, may_before, one_before, says_then, seen_then, split_after, split_network, split_then}
+use Rattle.gptp_settling_time.proofs.DueLemmas.{IsGoneBy}
+use Rattle.gptp_settling_time.proofs.SplitAlwaysLemmas.{alone_then, IsSplitAlways, MayStart, left_by, may_before, one_before, says_then, seen_then, split_after, split_network, split_then}
 use Rattle.gptp_settling_time.proofs.SplitLemmas.{IsCut, IsSplit, IsTurned, IsTwice, SplitSettles, SplitState, SplitsBack, cut_times, tops_times, turned_times}
 use Rattle.gptp_settling_time.proofs.SplitRestLemmas.{SplitNamesAlone}
 use Rattle.gptp_settling_time.proofs.StillSoundLemmas.{AllSayStill}
@@ -339,7 +340,7 @@ module _ (p : SettlingParams) (g : Snapshot) (By : PortIdentity → ℕ → Type
         }
 
     -- something has changed, or it is too early
-    flights' : CutsAllBeyond g n.graph → w'.last_change ≡ failed → (old : ℕ) → IsDroppedBy p
+    flights' : CutsAllBeyond g n.graph → w'.last_change ≡ failed → (old : ℕ) → IsGoneBy p
         Limits (left_by p g s gone) old w'
         → HaveQuietLinks p.params w' → NothingLapses p.params → left_by p g s gone < w'.time
         → FlightsAreSound says_announce n.graph old (view w')

@@ -14,7 +14,7 @@ use Rattle.gptp_bmca_machine.specs.Station.{MachineState}
 use Rattle.gptp_bmca_machine.proofs.CutTreeLemmas.{IsCutOff, LeadsNowhere, moves_off}
 use Rattle.gptp_bmca_machine.proofs.FailureEndLemmas.{FailureSettles, TopsTimes, settle_on}
 use Rattle.gptp_bmca_machine.proofs.FailureTreesLemmas.{FailsBack, IsFailedState, LostStayOff, drops, fails_on}
-use Rattle.gptp_bmca_machine.proofs.FallLemmas.{UnlinkedHoldNone}
+use Rattle.gptp_bmca_machine.proofs.UnlinkedLemmas.{UnlinkedHoldNone}
 use Rattle.gptp_bmca_machine.proofs.MovedLevelLemmas.{Times as MovedTimes}
 use Rattle.gptp_bmca_machine.proofs.TurnLevelLemmas.{Times}
 use Rattle.gptp_invariants.specs.ChoiceView.{says_announce}

@@ -56,7 +56,8 @@ use Rattle.gptp_settling_time.proofs.SplitAlwaysLemmas.{IsSplitAlways}
 use Rattle.gptp_settling_time.proofs.SplitDownLemmas.{alone_down, down_splits}
 use Rattle.gptp_settling_time.proofs.SplitFailLemmas.{anew_begins}
 use Rattle.gptp_settling_time.proofs.SplitRestLemmas.{SplitNamesAlone, split_anew_begins}
-use Rattle.gptp_settling_time.proofs.SplitToLemmas.{GoesOver, IsSplitTo, SetLimits, WereUsed, over_gone, split_by}
+use Rattle.gptp_settling_time.proofs.ArrivalsLemmas.{SetLimits}
+use Rattle.gptp_settling_time.proofs.SplitToLemmas.{GoesOver, IsSplitTo, WereUsed, over_gone, split_by}
 use Rattle.gptp_settling_time.proofs.UpPortsLemmas.{IsUpAt, by_up}
 use Rattle.gptp_settling_time.proofs.WereSilentLemmas.{WereSilent, were_down, were_failed}
 use Rattle.gptp_settling_time.proofs.WorldMovesLemmas.{adjacent_alike, alike_so, cut_off_alike, joins_alike, near_so, unmoved_alike, twice_alike}

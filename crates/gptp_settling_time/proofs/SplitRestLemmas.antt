@@ -39,7 +39,8 @@ use Rattle.gptp_settling_time.proofs.LeftAloneLemmas.{alone_hold}
 use Rattle.gptp_settling_time.proofs.LeftClaimedLemmas.{left_net, left_network}
 use Rattle.gptp_settling_time.proofs.NamesItselfLemmas.{AllNameAlone, alone_kept}
 use Rattle.gptp_settling_time.proofs.RightBeginLemmas.{alone_right}
-use Rattle.gptp_settling_time.proofs.SplitAlwaysLemmas.{IsDroppedBy, IsSplitAlways, left_by, linked_now, one_before, split_acts, split_after, split_later, split_network}
+use Rattle.gptp_settling_time.proofs.DueLemmas.{IsGoneBy}
+use Rattle.gptp_settling_time.proofs.SplitAlwaysLemmas.{IsSplitAlways, left_by, linked_now, one_before, split_acts, split_after, split_later, split_network}
 use Rattle.gptp_settling_time.proofs.SplitLemmas.{IsCut, IsSplit, IsTurned, IsTwice, SplitsBack, SplitSettles}
 use Rattle.gptp_settling_time.proofs.SplitSettlesLemmas.{split_state}
 use Rattle.gptp_settling_time.proofs.SplitSoundLemmas.{all_hold}
@@ -190,7 +191,7 @@ module _ (p : SettlingParams) (g : Snapshot) (By : PortIdentity → ℕ → Type
     (w : WorldState) (is : IsSplitAnew p g By Limits Were failed gone silent w) (quiet : HaveQuietLinks p.params w)
     (off : NothingLapses p.params) (since : w.last_change ≡ failed) (cuts : CutsAllBeyond g is.split.split.n.graph)
     (late : settles_at gone w < w.time)
-    (dropped : IsDroppedBy p Limits (pred gone + way_in w) (pred w.time) w) where
+    (dropped : IsGoneBy p Limits (pred gone + way_in w) (pred w.time) w) where
   abbrev n : Network
   n = is.split.split.n
 
@@ -210,9 +211,9 @@ module _ (p : SettlingParams) (g : Snapshot) (By : PortIdentity → ℕ → Type
   left_now =
       subst (λ (z : Network). fallen_by z (pred gone) < w.time) is.split.same (omega (arith, late))
 
-  is_old : IsDroppedBy p Limits (left_by p g is.split.split gone) (pred w.time) w
+  is_old : IsGoneBy p Limits (left_by p g is.split.split gone) (pred w.time) w
   is_old =
-      subst (λ (z : Network). IsDroppedBy p Limits (fallen_by z (pred gone)) (pred w.time) w) is.split.same dropped
+      subst (λ (z : Network). IsGoneBy p Limits (fallen_by z (pred gone)) (pred w.time) w) is.split.same dropped
 
   -- some time has passed
   some_time : pred w.time < w.time

@@ -1,5 +1,5 @@
 -- Worlds of documents since a system failed that others hear, and so moved trees.
-use Rattle.std.proofs.Common.{◌≡◌, ◌⊎◌, ◌<◌, ◌≤◌, ◌+◌, ◌*◌, ℕ, pred, zero, suc, Option, List, refl, ap, subst, inl, inr, arith}
+use Rattle.std.proofs.Common.{◌≡◌, ◌⊎◌, ◌<◌, ◌≤◌, ◌+◌, ◌*◌, ℕ, pred, suc, Option, List, refl, subst, inl, inr, arith}
 use native.Mathlib.Decide.{dec_le}
 use Rattle.gptp_graph.specs.PathBound.{path_bound}
 use Rattle.gptp_graph.specs.Snapshot.{IsLinked, PortIdentity, Snapshot}
@@ -35,7 +35,6 @@ use Rattle.gptp_theorem.proofs.CalmLemmas.{quiet_stands}
 use Rattle.gptp_theorem.proofs.CalmKeptLemmas.{no_change}
 use Rattle.gptp_settling_time.specs.Rests.{FlightIsGoneSince, HasToldApart, IsToldApart}
 use Rattle.gptp_settling_time.specs.Arrivals.{arrived_by}
-use Rattle.gptp_settling_time.specs.Gains.{HasDelaysWithin}
 use Rattle.gptp_settling_time.specs.Losses.{NoneSilent, UpIsUsed}
 use Rattle.gptp_settling_time.specs.TreeLosses.{CutsAllBeyond, LeavesAlone}
 use Rattle.gptp_settling_time.proofs.AgesByWorldLemmas.{WorldAgesBy}
@@ -43,12 +42,13 @@ use Rattle.gptp_settling_time.proofs.AgingLemmas.{HeardNearer}
 use Rattle.gptp_settling_time.proofs.AlwaysClaimedLemmas.{IsClaimedAlways}
 use Rattle.gptp_settling_time.proofs.BecomesSoundLemmas.{nearer_echo}
 use Rattle.gptp_settling_time.proofs.ClaimedToLemmas.{IsClaimedTo}
-use Rattle.gptp_settling_time.proofs.FallenClaimedLemmas.{goes_gone}
-use Rattle.gptp_settling_time.proofs.GoesToLemmas.{goes_to, paths_to, slower_to}
+use Rattle.gptp_settling_time.proofs.ArrivalsLemmas.{SetLimits}
+use Rattle.gptp_settling_time.proofs.DueLemmas.{IsGoneBy}
+use Rattle.gptp_settling_time.proofs.GoesToLemmas.{FlightGoes, gone_to, paths_to}
 use Rattle.gptp_settling_time.proofs.KeptToLemmas.{KeepsTo, keeps_act, keeps_later}
 use Rattle.gptp_settling_time.proofs.WereSilentLemmas.{WereSilent, none_silent_from, were_act, were_later}
 use Rattle.gptp_settling_time.proofs.SilentLinksLemmas.{AgesOver}
-use Rattle.gptp_settling_time.proofs.SplitAlwaysLemmas.{GoesUntil, IsDroppedBy, IsSplitAlways, MayStart, left_by, one_before}
+use Rattle.gptp_settling_time.proofs.SplitAlwaysLemmas.{GoesUntil, IsSplitAlways, MayStart, left_by, one_before}
 use Rattle.gptp_settling_time.proofs.SplitRestLemmas.{IsSplitAnew, anew_acts, anew_later, settles_at, split_alone_claimed, split_anew_claimed, split_apart_claimed}
 use Rattle.gptp_settling_time.proofs.SplitSettlesLemmas.{split_chooses, split_settles}
 use Rattle.gptp_settling_time.proofs.ToldAnewLemmas.{FlightsAreSound, told_by, way_in}
@@ -68,10 +68,6 @@ over_gone n before ago events failed gone silent = elim (dec_le silent gone) [
   | yes soon ↦ inr soon
   | no later ↦ inl (λ port until heard is. elim (is.2 heard) [ inl less ↦ less | inr soon ↦ absurd (later soon) ])
 ]
-
--- what was in flight as the last of these events set a link had arrived by this time
-abbrev pub SetLimits : NetworkState → List Timed → ℕ → Type 0
-SetLimits n ago limit = (most : ℕ) × HasDelaysWithin n ago most × (limit ≡ arrived_by most ago)
 
 -- each link that was up after these events was in use, and what was in flight as the system failed is due by this time
 abbrev pub WereUsed : NetworkState → List Timed → ℕ → ℕ → Type 0
@@ -115,7 +111,7 @@ split_by p g By Limits Were failed gone silent w is By' gone' by' linked' is_gon
     ]
 
     flights' : CutsAllBeyond g is.split.n.graph → w.last_change ≡ failed → (old : ℕ)
-        → IsDroppedBy p Limits (left_by p g is.split gone') old w → HaveQuietLinks p.params w → NothingLapses p.params
+        → IsGoneBy p Limits (left_by p g is.split gone') old w → HaveQuietLinks p.params w → NothingLapses p.params
         → left_by p g is.split gone' < w.time → FlightsAreSound says_announce is.split.n.graph old (view w)
     flights' cuts since old is_old quiet off late = elim which [
       | inr (some, now) ↦
@@ -125,10 +121,10 @@ split_by p g By Limits Were failed gone silent w is By' gone' by' linked' is_gon
           let before = one_before gone failed is.some in
           is.flights cuts since old
           (elim is_old [
-            | inl (inl interval) ↦ inl (inl (omega (arith, interval, later, one, before)))
-            | inl (inr (used, delay)) ↦ inl (inr (used, omega (arith, delay, later, one, before)))
-            | inr (slower, limit, is_limit, soon, delay) ↦
-                inr (slower, limit, is_limit, soon, omega (arith, delay, later, one, before))
+            | inl interval ↦ inl (omega (arith, interval, later, one, before))
+            | inr (inl (used, delay)) ↦ inr (inl (used, omega (arith, delay, later, one, before)))
+            | inr (inr (most, within, limit, is_limit, soon, delay)) ↦
+                inr (inr (most, within, limit, is_limit, soon, omega (arith, delay, later, one, before)))
           ]) quiet off (omega (arith, late, later, one, before))
     ]
 
@@ -311,7 +307,9 @@ module _ (d : DocumentState) (ago events : List Timed) (gone silent : ℕ) where
       by (inr (inl (cuts, flight, is_gone, settled, arrived))) =
           split_apart_claimed q so.before (GoesOver d.network so.before ago events so.failed gone silent)
           (SetLimits d.network ago) (WereUsed d.network ago so.failed) so.failed gone silent w so.since links rest.off
-          changed cuts_so (settled_now settled) (dropped is_gone) start later dark
+          changed cuts_so (settled_now settled)
+          (gone_to d playable events w so.keeps (SetLimits d.network ago) (pred gone + way_in w) flight (goes is_gone)
+          gone_by) start later dark
         where
           gone_by : pred gone + way_in w + flight < w.time
           gone_by =
@@ -320,26 +318,22 @@ module _ (d : DocumentState) (ago events : List Timed) (gone silent : ℕ) where
               subst (λ (u : SyncPaths). gone + way_span u + flight ≤ w.time) paths arrived in
               omega (arith, same, by_then)
 
-          dropped : FlightIsGoneSince d.network ago events flight
-              → IsDroppedBy q (SetLimits d.network ago) (pred gone + way_in w) (pred w.time) w
-          dropped (inl is_gone) =
-              inl (goes_gone q (pred gone + way_in w) flight w (goes_to d playable events w so.keeps flight is_gone)
-              gone_by)
-          dropped (inr (slower, (most, within, limit), is)) =
+          goes : FlightIsGoneSince d.network ago events flight
+              → FlightGoes d playable events w so.keeps (SetLimits d.network ago) (pred gone + way_in w) flight
+          goes (inl is_gone) = inl is_gone
+          goes (inr (within, (most, bounded, limit))) =
               inr (
-                slower_to d playable events w so.keeps slower,
+                within,
                 arrived_by most ago,
-                (most, within, refl),
-                before w.time gone_by (let same = changed in let last = so.keeps.stands.last in
+                (most, bounded, refl),
+                (
+                    let same = changed in
+                    let last = so.keeps.stands.last in
                     let one = one_before gone so.failed so.since.split.some in
-                    let some = so.since.split.some in omega (arith, limit, same, last, one, some)),
-                before w.time gone_by (let delay = ap (λ (u : SyncPaths). u.delay) paths in omega (arith, is, delay)),
+                    let some = so.since.split.some in
+                    omega (arith, limit, same, last, one, some)
+                    ),
               )
-            where
-              before : (now : ℕ) → pred gone + way_in w + flight < now → {span : ℕ}
-                  → span ≤ pred gone + way_in w + flight → span ≤ pred now
-              before zero less most = absurd (omega (arith, less))
-              before (suc now) less most = omega (arith, less, most)
 
           cuts_so : CutsAllBeyond so.before so.since.split.split.n.graph
           cuts_so =

@@ -3,16 +3,20 @@
 -- old.
 use Rattle.std.proofs.Common.{◌≡◌, ◌⊎◌, ◌<◌, ◌≤◌, ◌+◌, ◌*◌, ◌∙◌, ℕ, suc, pred, true, List, Some, slice_get, sym, ap, subst, inl, inr, arith}
 use Rattle.gptp_lists.specs.Members.{In}
+use Rattle.gptp_lists.proofs.MappedLemmas.{alike}
 use Rattle.gptp_graph.specs.Distance.{IsDistance}
 use Rattle.gptp_graph.specs.PathBound.{path_bound}
 use Rattle.gptp_graph.specs.Snapshot.{IsLinked, IsWellFormed, Joins, PortIdentity, Snapshot, clocks, port_of}
 use Rattle.gptp_graph.proofs.LinkDecisions.{IsLinked-dec, Joins-dec}
 use Rattle.gptp_graph.proofs.LinkLemmas.{Joins-clock, Joins-sym}
 use Rattle.gptp_graph.proofs.SystemLemmas.{In-clocks}
+use Rattle.gptp_links.specs.declared.bounds.Bounds.{Bounds}
 use Rattle.gptp_setup.specs.SettlingParams.{SettlingParams}
+use Rattle.gptp_scenario.specs.Change.{link_after}
 use Rattle.gptp_scenario.specs.Network.{pace_of}
 use Rattle.gptp_scenario.specs.SyncWait.{sync_paths}
 use Rattle.gptp_scenario.specs.declared.change.Timed.{Timed}
+use Rattle.gptp_scenario.specs.declared.network.LinkSpec.{LinkSpec}
 use Rattle.gptp_model.specs.World.{WorldState}
 use Rattle.gptp_network.specs.Document.{DocumentState}
 use Rattle.gptp_network.proofs.ExistenceLemmas.{stands_after}
@@ -31,27 +35,27 @@ use Rattle.gptp_invariants.specs.ChoiceView.{says_announce, view}
 use Rattle.gptp_invariants.specs.WorldStanding.{snapshot_of}
 use Rattle.gptp_invariants.proofs.WorldStandsLemmas.{stands_well}
 use Rattle.gptp_theorem.specs.PlayedLaws.{IsPlayable}
-use Rattle.gptp_settling_time.specs.EventKinds.{FlightIsGone}
+use Rattle.gptp_theorem.specs.Reached.{channel_wire}
+use Rattle.gptp_settling_time.specs.EventKinds.{FlightIsGoneBy, FlightIsGoneFrom}
 use Rattle.gptp_settling_time.specs.Leads.{LosesFartherNow}
 use Rattle.gptp_settling_time.specs.Losses.{MovesNoneInAll}
 use Rattle.gptp_settling_time.specs.TreeLosses.{CutsAllBeyond, LosesFarther, LosesFartherFrom}
 use Rattle.gptp_settling_time.proofs.AgingClaimedLemmas.{aging_network}
 use Rattle.gptp_settling_time.proofs.AgingStillLemmas.{aging_over}
 use Rattle.gptp_settling_time.proofs.AtRestLemmas.{LinksAreAtRest, TellsSettled, either, flight_settled, held_settled}
-use Rattle.gptp_settling_time.proofs.BecomesSoundLemmas.{GoesBy, goes_due}
 use Rattle.gptp_settling_time.proofs.ClearedLemmas.{IsCleared}
 use Rattle.gptp_settling_time.proofs.ClearedToLemmas.{IsClearedTo}
-use Rattle.gptp_settling_time.proofs.DueLemmas.{AreDueBy}
+use Rattle.gptp_settling_time.proofs.DueLemmas.{AreDueBy, due_by_interval}
 use Rattle.gptp_settling_time.proofs.FitsLemmas.{IsLeftUnmoved, UnlinkedHoldNothing, distance_before}
-use Rattle.gptp_settling_time.proofs.GoesToLemmas.{goes_to}
-use Rattle.gptp_settling_time.proofs.LeftClaimedLemmas.{HaveAskedBy, HaveAskedLong, IsLeftAlways, left_calm, left_net, left_network, left_seen}
+use Rattle.gptp_settling_time.proofs.GoneBeforeLemmas.{IsGoneByDelay, due_within, none_slower}
+use Rattle.gptp_settling_time.proofs.LeftClaimedLemmas.{HaveAskedBy, HaveAskedLong, IsLeftAlways, left_calm, left_net, left_network}
 use Rattle.gptp_settling_time.proofs.LostClaimedLemmas.{IsLostAlways, asked_are_heard}
 use Rattle.gptp_settling_time.proofs.NearEndLemmas.{near_holds_none}
 use Rattle.gptp_settling_time.proofs.SettledRestLemmas.{settled_rest}
 use Rattle.gptp_settling_time.proofs.SoundButOldLemmas.{IsOldOn, IsSoundButOld}
 use Rattle.gptp_settling_time.proofs.SplitTracesLemmas.{still_sound}
 use Rattle.gptp_settling_time.proofs.TakenClaimedLemmas.{IsTakenAlways, taken_after, taken_left}
-use Rattle.gptp_settling_time.proofs.TakenToLemmas.{IsTakenTo, taken_to_way}
+use Rattle.gptp_settling_time.proofs.TakenToLemmas.{IsTakenTo, taken_to_way, way_ago}
 use Rattle.gptp_settling_time.proofs.UnlinkedLemmas.{IsFarther, IsLeftSeen, LostAreFarther}
 use Rattle.gptp_settling_time.proofs.WorldMovesLemmas.{alike_so, farther_alike, near_so}
 
@@ -126,13 +130,13 @@ module _ (p : SettlingParams) (g : Snapshot) (since most silent : ℕ) (w : Worl
   claims : IsLeftSeen says_announce g n_left (view w)
   claims = aging_over says_announce g n is.well well' left (view w) kept is.seen.fits is.seen.still none
 
-  asked : HaveAskedLong w
-  asked = subst (λ t. HaveAskedBy t w) (sym lost.change) lost.asked
+  asked_long : HaveAskedLong w
+  asked_long = subst (λ t. HaveAskedBy t w) (sym lost.change) lost.asked
 
   pub farther_left : IsLeftAlways p g silent w
   farther_left = record {
     standing = lost.standing;
-    asked = asked;
+    asked = asked_long;
     well = is.well;
     left = left;
     near = near;
@@ -147,7 +151,7 @@ module _ (p : SettlingParams) (g : Snapshot) (since most silent : ℕ) (w : Worl
   net = left_net p silent w world
 
   calm : Calm n_left (view w)
-  calm = left_calm p silent w lost.standing asked lost.quiet none
+  calm = left_calm p silent w lost.standing asked_long lost.quiet none
 
   late : settled_from n_left ≤ w.time
   late = omega (arith, way)
@@ -235,13 +239,11 @@ module _ (p : SettlingParams) (g : Snapshot) (since most silent : ℕ) (w : Worl
       stations = λ i s at live place r holds. held_sound i s place r at live holds;
     }
 
-  pub farther_cleared : (gone : ℕ) → GoesBy p gone w → IsCleared p g w.last_change silent 0 (w.time + gone) w
-  farther_cleared gone goes = record {
+  pub farther_cleared : (begun old : ℕ) → HaveAskedBy begun w → AreDueBy old w → IsCleared p g begun silent 0 old w
+  farther_cleared begun old asked due = record {
     left = farther_left;
     asked = asked;
-    sound = λ quiet off.
-        inl (farther_sound (w.time + gone)
-        (goes_due p gone w world (left_seen p g silent w farther_left quiet off) goes));
+    sound = λ quiet off. inl (farther_sound old due);
   }
 
 -- So nothing names what is gone in a world of a document, as the last is taken away.
@@ -261,22 +263,49 @@ module _ (d : DocumentState) (ago events : List Timed) (since most silent : ℕ)
   near_then : AllAreNear (snapshot_of w)
   near_then = let fewer = leaves.paths in near_so d playable events w so.lost.keeps (omega (arith, few, fewer))
 
-  taken_farther : LosesFartherFrom d.network ago events → w.last_change ≡ w.time → (gone : ℕ)
-      → FlightIsGone d.network events gone → IsClearedTo d ago events w.time silent 0 (w.time + gone) w
-  taken_farther loses now gone is_gone = record {
+  -- what is in flight at that time is due as it was before
+  taken_due : (old : ℕ) → w.time ≡ since → FlightIsGoneBy d.network ago since old → AreDueBy old w
+  taken_due old now (gone, flight, is) = subst (λ t. AreDueBy t w) (sym is) (by flight)
+    where
+      by_delay : IsGoneByDelay d.network ago since gone → AreDueBy (since + gone) w
+      by_delay goes =
+          let slower = none_slower d.network ago since gone goes in
+          let delay = goes.0 in
+          due_within gone (since + gone) w so.lost.keeps.claim.world.sound (λ link channel here up.
+          let (v, there, same) = alike (link_after events) channel_wire d.network.links w.net.channels
+          (sym so.lost.keeps.stands.links) link channel here in
+          let (was, bounds) = so.up link v there (ap (λ (x : LinkSpec). x.up) same ∙ up) in
+          let short = slower link v there was in
+          let one : (link_after events v).bounds.max ≡ (link_after ago v).bounds.max =
+          ap (λ (b : Bounds). b.max) bounds in
+          let longest : (link_after events v).bounds.max ≡ channel.bounds.max =
+          ap (λ (x : LinkSpec). x.bounds.max) same in
+          omega (arith, short, one, longest, delay)) (so.limited gone goes) (omega (arith, now))
+
+      by : FlightIsGoneFrom d.network ago since gone → AreDueBy (since + gone) w
+      by (inl (inl (used, delay))) = by_delay (delay, inl used)
+      by (inl (inr interval)) =
+          subst (λ t. AreDueBy t w) (omega (arith, now, interval))
+          (due_by_interval p_of w so.lost.keeps.claim.world)
+      by (inr (slower, arrived, delay)) = by_delay (delay, inr (slower, arrived))
+
+  taken_farther : LosesFartherFrom d.network ago events → w.time ≡ since → (old : ℕ)
+      → FlightIsGoneBy d.network ago since old
+      → IsClearedTo d ago events (way_ago d.network ago since) silent 0 old w
+  taken_farther loses now old gone = record {
     keeps = so.lost.keeps;
     before = so.before;
-    is = subst (λ t. IsCleared p_of so.before t silent 0 (w.time + gone) w) now
-        (farther_cleared p_of so.before since most silent w so.lost.is so.is (loses_so loses) near_then
-        (taken_to_way d ago events since most silent w so playable leaves) gone
-        (goes_to d playable events w so.lost.keeps gone is_gone));
+    is = farther_cleared p_of so.before since most silent w so.lost.is so.is (loses_so loses) near_then
+        (taken_to_way d ago events since most silent w so playable leaves) (way_ago d.network ago since) old so.asked
+        (taken_due old now gone);
     were = so.lost.were;
   }
 
   pub taken_apart : (time begun right old : ℕ) → w.time ≡ time → w.last_change ≡ w.time
       → LosesFartherNow d.network ago events time begun right old → IsClearedTo d ago events begun silent right old w
-  taken_apart time begun right old here last (loses, begun_is, right_is, (gone, is_gone, old_is)) =
-      subst (λ t. IsClearedTo d ago events t silent right old w) (here ∙ sym begun_is)
-      (subst (λ t. IsClearedTo d ago events w.time silent t old w) (sym right_is)
-      (subst (λ t. IsClearedTo d ago events w.time silent 0 t w)
-      (ap (λ t. t + gone) here ∙ sym old_is) (taken_farther loses last gone is_gone)))
+  taken_apart time begun right old here last (loses, before, right_is, goes) =
+      let now : w.time ≡ since = sym last ∙ so.lost.is.change in
+      let same : time ≡ since = sym here ∙ now in
+      subst (λ t. IsClearedTo d ago events t silent right old w) (omega (arith, before, same))
+      (subst (λ t. IsClearedTo d ago events (way_ago d.network ago since) silent t old w) (sym right_is)
+      (taken_farther loses now old (subst (λ t. FlightIsGoneBy d.network ago t old) same goes)))

@@ -1,8 +1,8 @@
 -- Several events of one time take systems or links away, whoever is moved between: where the network had settled they
 -- lead to one from which they were taken. Where each link that is up then is in use they lead to one that is cleared,
 -- and so they do where no system is moved, and none lost its link to a nearer one.
-use Rattle.std.proofs.Common.{List, [], append_assoc, arith, inl, inr, max, pred, refl, subst, suc, sym, ℕ, ◌++◌, ◌+◌, ◌∙◌, ◌∷◌, ◌≡◌, ◌≤◌, ◌⊎◌}
-use Rattle.std.proofs.Math.Nat.{le-max_left, le-max_right, mul-le-mul_left}
+use Rattle.std.proofs.Common.{List, [], append_assoc, arith, inl, inr, max, pred, refl, subst, suc, sym, ℕ, ◌++◌, ◌+◌, ◌-◌, ◌∙◌, ◌∷◌, ◌≡◌, ◌≤◌, ◌⊎◌}
+use Rattle.std.proofs.Math.Nat.{le-max_left, mul-le-mul_left}
 use Rattle.std.specs.List.{AllByRecursion}
 use Rattle.gptp_setup.specs.SettlingParams.{largest_interval}
 use Rattle.gptp_scenario.specs.Calm.{IsCalm, NothingLapses, last_change}
@@ -13,14 +13,15 @@ use Rattle.gptp_scenario.specs.declared.change.Timed.{Timed}
 use Rattle.gptp_theorem.proofs.EventLemmas.{last_behind}
 use Rattle.gptp_settling_time.specs.HowSoon.{EachEvent, IsTakenToo, RestsTaken, TakesSeveral}
 use Rattle.gptp_settling_time.specs.Pasts.{Aging, AnyPast, Cleared, Fallen, Fewer, Gained, Heard, Left, Lost, Past, Split, Starting, Turned, TurnedTree}
-use Rattle.gptp_settling_time.specs.EventKinds.{TellsAnew, nearer_echo_span}
+use Rattle.gptp_settling_time.specs.EventKinds.{FlightIsGoneFrom, TellsAnew, nearer_echo_span}
 use Rattle.gptp_settling_time.specs.Leads.{EventLeads, LosesFartherNow, TakesAny, TakesMore, TakesNow}
 use Rattle.gptp_settling_time.specs.InTurn.{LeadOn}
 use Rattle.gptp_settling_time.specs.Losses.{AreSilentAfter, MovesNoneInAll, NoneSilent}
 use Rattle.gptp_settling_time.proofs.LeadOnLemmas.{IsLed}
+use Rattle.gptp_settling_time.proofs.LeftToLemmas.{less_way}
 use Rattle.gptp_settling_time.proofs.SettledPastLemmas.{HasSettled}
 use Rattle.gptp_settling_time.proofs.LosesLeadLemmas.{long_silent}
-use Rattle.gptp_settling_time.proofs.LossRestLemmas.{nearer_within}
+use Rattle.gptp_settling_time.proofs.LossRestLemmas.{last_at, nearer_within}
 use Rattle.gptp_settling_time.proofs.SilentSpanLemmas.{up_none_silent}
 
 fewer_leads : (n : NetworkState) (made : List Timed) (event : Timed) (since most silent : ℕ) (past : Past)
@@ -105,76 +106,99 @@ module _ (n : NetworkState) (time : ℕ) where
 
   -- ---- it is cleared as the last of them is taken away
 
-  -- right traces are told anew then, or nothing that is held names what is gone
-  abbrev pub Clears : List Timed → List Timed → ℕ → ℕ → Type 0
-  Clears ago events right old =
-      TellsAnew n events time time right old ⊎ LosesFartherNow n ago events time time right old
+  -- a way is over by then
+  way_over : (made : List Timed) (past : Past) → HasSettled n made past time → way_span (sync_paths n made) ≤ time
+  way_over made AnyPast settled = let passed = settled.passed in omega (arith, passed)
+  way_over made Starting settled = absurd settled
+  way_over made (Gained start) settled = omega (arith, settled)
+  way_over made (Heard start) settled = omega (arith, settled)
+  way_over made (Left ago dark) settled = absurd settled
+  way_over made (Turned dark was) settled = absurd settled
+  way_over made (Fallen dark was) settled = absurd settled
+  way_over made (TurnedTree dark was) settled = absurd settled
+  way_over made (Cleared ago begun dark right old) settled = absurd settled
+  way_over made (Aging ago aged dark) settled = absurd settled
+  way_over made (Split ago gone dark) settled = absurd settled
+  way_over made (Lost ago begun delay dark) settled = absurd settled
+  way_over made (Fewer ago begun delay dark) settled = absurd settled
 
-  clear_taken : (ago made now : List Timed) (other : Timed) (most right old : ℕ) → last_change made ≡ time
+  -- so ports were capable before it
+  pub way_before : (made : List Timed) (past : Past) → HasSettled n made past time
+      → (since : ℕ) × (since + way_span (sync_paths n made) ≡ time)
+  way_before made past settled =
+      let over = way_over made past settled in (time - way_span (sync_paths n made), omega (arith, over))
+
+  -- right traces are told anew then, or nothing that is held names what is gone
+  abbrev pub Clears : List Timed → List Timed → ℕ → ℕ → ℕ → Type 0
+  Clears ago events since right old =
+      TellsAnew n events time since right old ⊎ LosesFartherNow n ago events time since right old
+
+  clear_taken : (ago made now : List Timed) (other : Timed) (most since right old : ℕ) → last_change made ≡ time
       → AllNow (other ∷ now) → EachEvent (IsTakenToo n) made (other ∷ now)
       → MovesNoneInAll n ago (made ++ other ∷ now) → (sync_paths n ago).systems ≤ 255
-      → Clears ago (made ++ other ∷ now) right old
-      → LeadOn n made (Fewer ago time most silent_from) (other ∷ now) (Cleared ago time silent_from right old)
-  clear_taken ago made [] other most right old last (here, at) (which, each) leaves few clears =
+      → Clears ago (made ++ other ∷ now) since right old
+      → LeadOn n made (Fewer ago time most silent_from) (other ∷ now) (Cleared ago since silent_from right old)
+  clear_taken ago made [] other most since right old last (here, at) (which, each) leaves few clears =
       let es = made ++ other ∷ [] in (
         Fewer ago time most silent_from,
         inl refl,
-        Cleared ago time silent_from right old,
+        Cleared ago since silent_from right old,
         (
           takes_more made other last here which,
           refl,
           refl,
           leaves,
           few,
-          subst (λ t. TellsAnew n es t time right old ⊎ LosesFartherNow n ago es t time right old) (sym here) clears,
+          subst (λ t. TellsAnew n es t since right old ⊎ LosesFartherNow n ago es t since right old) (sym here) clears,
         ),
         refl,
       )
-  clear_taken ago made (event ∷ now) other most right old last (here, at) (which, each) leaves few clears =
+  clear_taken ago made (event ∷ now) other most since right old last (here, at) (which, each) leaves few clears =
       let all : (made ++ other ∷ []) ++ event ∷ now ≡ made ++ other ∷ event ∷ now =
       append_assoc made (other ∷ []) (event ∷ now) in (
         Fewer ago time most silent_from,
         inl refl,
         Fewer ago time most silent_from,
         (takes_more made other last here which, refl, refl, refl, refl),
-        clear_taken ago (made ++ other ∷ []) now event most right old (last_behind made other ∙ here) at each
+        clear_taken ago (made ++ other ∷ []) now event most since right old (last_behind made other ∙ here) at each
             (subst (MovesNoneInAll n ago) (sym all) leaves) few
-            (subst (λ es. Clears ago es right old) (sym all) clears),
+            (subst (λ es. Clears ago es since right old) (sym all) clears),
       )
 
-  pub taken_clears : (made now : List Timed) (past : Past) (right old : ℕ) → AllNow now → HasSettled n made past time
-      → IsCalm n made → NothingLapses n.params → TakesSeveral n made now → MovesNoneInAll n made (made ++ now)
-      → (sync_paths n made).systems ≤ 255 → Clears made (made ++ now) right old
-      → LeadOn n made past now (Cleared made time silent_from right old)
-  taken_clears made [] past right old at settled calm off none leaves few clears = absurd none
-  taken_clears made (event ∷ []) past right old at settled calm off none leaves few clears = absurd none
-  taken_clears made (event ∷ other ∷ now) past right old (here, at) settled calm off (any, others) leaves few clears =
+  pub taken_clears : (made now : List Timed) (past : Past) (since right old : ℕ) → AllNow now
+      → HasSettled n made past time → IsCalm n made → NothingLapses n.params → TakesSeveral n made now
+      → MovesNoneInAll n made (made ++ now) → (sync_paths n made).systems ≤ 255
+      → Clears made (made ++ now) since right old → LeadOn n made past now (Cleared made since silent_from right old)
+  taken_clears made [] past since right old at settled calm off none leaves few clears = absurd none
+  taken_clears made (event ∷ []) past since right old at settled calm off none leaves few clears = absurd none
+  taken_clears made (event ∷ other ∷ now) past since right old (here, at) settled calm off (any, others) leaves few
+      clears =
       let all : (made ++ event ∷ []) ++ other ∷ now ≡ made ++ event ∷ other ∷ now =
       append_assoc made (event ∷ []) (other ∷ now) in (
         past,
         inl refl,
         Fewer made time (sync_paths n made).delay silent_from,
         first_taken made event past here (subst (HasSettled n made past) (sym here) settled) calm off any,
-        clear_taken made (made ++ event ∷ []) now other (sync_paths n made).delay right old
+        clear_taken made (made ++ event ∷ []) now other (sync_paths n made).delay since right old
             (last_behind made event ∙ here) at others (subst (MovesNoneInAll n made) (sym all) leaves) few
-            (subst (λ es. Clears made es right old) (sym all) clears),
+            (subst (λ es. Clears made es since right old) (sym all) clears),
       )
 
   -- once what is old is gone, and a way is over, it has come to rest
-  rests_cleared : NothingLapses n.params → (made now : List Timed) (past : Past) (rest right old : ℕ) → AllNow now
+  rests_cleared : NothingLapses n.params → (made now : List Timed) (past : Past) (rest since right old : ℕ) → AllNow now
       → HasSettled n made past time → IsCalm n made → IsCalm n (made ++ now) → TakesSeveral n made now
-      → MovesNoneInAll n made (made ++ now) → (sync_paths n made).systems ≤ 255 → Clears made (made ++ now) right old
-      → old ≤ time + rest → way_span (sync_paths n (made ++ now)) ≤ rest
+      → MovesNoneInAll n made (made ++ now) → (sync_paths n made).systems ≤ 255
+      → Clears made (made ++ now) since right old → old ≤ time + rest
+      → since + way_span (sync_paths n (made ++ now)) ≤ suc (time + rest)
       → NoneSilent n made (made ++ now) ⊎ (silence_span (pace_of n) ≤ rest) → IsLed n made now past (suc (time + rest))
-  rests_cleared off made now past rest right old at settled calm calm_now takes leaves few clears gone way dark =
-      let over : time + way_span (sync_paths n (made ++ now)) ≤ suc (time + rest) = omega (arith, way) in
+  rests_cleared off made now past rest since right old at settled calm calm_now takes leaves few clears gone over dark =
       record {
-        last = Cleared made time silent_from right old;
-        lead = taken_clears made now past right old at settled calm off takes leaves few clears;
+        last = Cleared made since silent_from right old;
+        lead = taken_clears made now past since right old at settled calm off takes leaves few clears;
         settles = (
-          Heard time,
+          Heard since,
           inr (
-            time,
+            since,
             refl,
             record {
               calm = calm_now;
@@ -189,6 +213,11 @@ module _ (n : NetworkState) (time : ℕ) where
         );
       }
 
+  -- the last of them comes then
+  last_taken : (made now : List Timed) → AllNow now → TakesSeveral n made now → last_change (made ++ now) ≡ time
+  last_taken made [] at none = absurd none
+  last_taken made (event ∷ now) at takes = last_at made event now time at
+
   -- so it does once right traces have been told, or what was in flight is gone
   pub taken_rests : NothingLapses n.params → (made now : List Timed) (past : Past) (rest : ℕ) → AllNow now
       → HasSettled n made past time → IsCalm n made → IsCalm n (made ++ now) → RestsTaken n made now rest
@@ -202,12 +231,15 @@ module _ (n : NetworkState) (time : ℕ) where
       let way : way_span (sync_paths n es) ≤ echo_span (pace_of n) (sync_paths n es) =
       mul-le-mul_left (pred (sync_paths n es).systems) (omega arith) in
       let most = le-max_left (echo_span (pace_of n) (sync_paths n es)) delay in
-      rests_cleared off made now past rest (time + 1 + nearer_echo_span n es) (time + nearer_echo_span n es + delay) at
-      settled calm calm_now takes leaves few (inl (used, refl, refl, refl)) (omega (arith, within, long))
-      (omega (arith, way, most, long)) (inl (up_none_silent n made es used))
+      rests_cleared off made now past rest time (time + 1 + nearer_echo_span n es)
+      (time + nearer_echo_span n es + delay) at settled calm calm_now takes leaves few (inl (used, refl, refl, refl))
+      (omega (arith, within, long)) (omega (arith, way, most, long)) (inl (up_none_silent n made es used))
   taken_rests off made now past rest at settled calm calm_now
       (takes, leaves, few, inr (loses, (gone, is_gone, dark, long))) =
-      let way = le-max_left (way_span (sync_paths n (made ++ now))) gone in
-      let flight = le-max_right (way_span (sync_paths n (made ++ now))) gone in
-      rests_cleared off made now past rest 0 (time + gone) at settled calm calm_now takes leaves few
-      (inr (loses, refl, refl, (gone, is_gone, refl))) (omega (arith, flight, long)) (omega (arith, way, long)) dark
+      let (since, before) = way_before made past settled in
+      let less : way_span (sync_paths n (made ++ now)) ≤ way_span (sync_paths n made) =
+      less_way (sync_paths n made).systems (sync_paths n (made ++ now)).systems (sync_paths n made).delay
+      (sync_paths n (made ++ now)).delay leaves.paths leaves.delay in
+      let goes = subst (λ t. FlightIsGoneFrom n made t gone) (last_taken made now at takes) is_gone in
+      rests_cleared off made now past rest since 0 (time + gone) at settled calm calm_now takes leaves few
+      (inr (loses, before, refl, (gone, goes, refl))) (omega (arith, long)) (omega (arith, before, less)) dark

@@ -1,5 +1,5 @@
 -- Links and systems are taken away at one time from a world of a document that has settled, whoever is moved between.
-use Rattle.std.proofs.Common.{◌≡◌, ◌⊎◌, ◌<◌, ◌≤◌, ◌*◌, ℕ, pred, true, List, [], ◌∷◌, ◌++◌, refl, sym, ap, subst, ◌∙◌, inl, inr, arith}
+use Rattle.std.proofs.Common.{◌≡◌, ◌⊎◌, ◌<◌, ◌≤◌, ◌+◌, ◌*◌, ℕ, pred, true, List, [], ◌∷◌, ◌++◌, refl, sym, ap, subst, ◌∙◌, inl, inr, arith}
 use Rattle.gptp_lists.specs.Members.{In}
 use Rattle.gptp_graph.specs.Best.{IsBest}
 use Rattle.gptp_graph.specs.Distance.{IsDistance}
@@ -8,6 +8,7 @@ use Rattle.gptp_graph.specs.Snapshot.{IsWellFormed, Joins, Snapshot, clocks}
 use Rattle.gptp_links.specs.Fate.{Draw}
 use Rattle.gptp_setup.specs.SettlingParams.{SettlingParams}
 use Rattle.gptp_scenario.specs.Network.{NetworkState, pace_of}
+use Rattle.gptp_scenario.specs.SettlingTime.{way_span}
 use Rattle.gptp_scenario.specs.SyncWait.{sync_paths}
 use Rattle.gptp_scenario.specs.declared.change.Act.TheVariants.{Change as Changing}
 use Rattle.gptp_scenario.specs.declared.change.Change.{Change}
@@ -31,33 +32,39 @@ use Rattle.gptp_invariants.specs.WorldStanding.{snapshot_of}
 use Rattle.gptp_invariants.proofs.WorldStandsLemmas.{stands_well}
 use Rattle.gptp_theorem.specs.PlayedLaws.{IsMade, IsPlayable}
 use Rattle.gptp_theorem.proofs.SyncPathLemmas.{paths_stand}
+use Rattle.gptp_settling_time.specs.Arrivals.{arrived_by}
 use Rattle.gptp_settling_time.specs.EventKinds.{MakesNothing, TurnsInVain}
-use Rattle.gptp_settling_time.specs.Leads.{LosesNow, TakesAny}
+use Rattle.gptp_settling_time.specs.Leads.{LosesNow, TakesAny, TakesMore}
 use Rattle.gptp_settling_time.specs.Losses.{AreSilentAfter, LosesAny, LowersUnused}
 use Rattle.gptp_settling_time.proofs.AgingClaimedLemmas.{aging_network}
 use Rattle.gptp_settling_time.proofs.AgingStillLemmas.{IsEmptied, still_emptied, still_settled}
+use Rattle.gptp_settling_time.proofs.ClearsLemmas.{ready_asked}
 use Rattle.gptp_settling_time.proofs.FailedHeardLemmas.{delay_within}
 use Rattle.gptp_settling_time.proofs.GainLemmas.{lives_so, up_so}
+use Rattle.gptp_settling_time.proofs.GoneBeforeLemmas.{IsGoneByDelay, limited_weaker, loses_sets_none, more_sets_none, up_any, up_itself, up_more, used_limited}
 use Rattle.gptp_settling_time.proofs.KeptToLemmas.{KeepsTo}
-use Rattle.gptp_settling_time.proofs.LosingLemmas.{IsLosing, TakesAway, lost_losing, takes_shorter}
+use Rattle.gptp_settling_time.proofs.LeftClaimedLemmas.{HaveAskedBy}
+use Rattle.gptp_settling_time.proofs.LeftToLemmas.{up_in_use}
+use Rattle.gptp_settling_time.proofs.LosingLemmas.{IsLosing, TakesAway, asked_by, lost_losing, takes_shorter}
 use Rattle.gptp_settling_time.proofs.LossMadeLemmas.{HasRestedSo}
 use Rattle.gptp_settling_time.proofs.LostClaimedLemmas.{IsLostAlways, asked_are_heard}
 use Rattle.gptp_settling_time.proofs.LostMadeLemmas.{loses_first, loses_more, losing_first, spares, takes}
 use Rattle.gptp_settling_time.proofs.LostToLemmas.{IsLostTo}
 use Rattle.gptp_settling_time.proofs.NamesItselfLemmas.{itself_begins}
 use Rattle.gptp_settling_time.proofs.SettledSeenLemmas.{IsSettledSeen, sound_fits}
+use Rattle.gptp_settling_time.proofs.SinceSetLemmas.{AreLimitedBy, limited_unset}
 use Rattle.gptp_settling_time.proofs.TakenClaimedLemmas.{IsTakenAlways, taken_after}
 use Rattle.gptp_settling_time.proofs.TakenDownLossLemmas.{down_taken}
 use Rattle.gptp_settling_time.proofs.TakenFailLossLemmas.{fail_taken}
-use Rattle.gptp_settling_time.proofs.TakenToLemmas.{IsTakenTo}
+use Rattle.gptp_settling_time.proofs.TakenToLemmas.{IsTakenTo, way_ago}
 use Rattle.gptp_settling_time.proofs.WereSoundLemmas.{were_sound_begins}
 use Rattle.gptp_settling_time.proofs.WorldMovesLemmas.{alike_so}
 
 -- ---- it begins
 
 -- What is claimed of a world that has settled, by its own snapshot.
-module _ (p : SettlingParams) (since most silent : ℕ) (w : WorldState) (losing : IsLosing p since most silent w)
-    (seen : IsSettledSeen p w) (sound : IsSoundWorld w)
+module _ (p : SettlingParams) (start since most silent : ℕ) (w : WorldState)
+    (losing : IsLosing p start since most silent w) (seen : IsSettledSeen p w) (sound : IsSoundWorld w)
     (over : pred (path_bound (snapshot_of w)) * delay_in w ≤ w.time) where
   abbrev g : Snapshot
   g = snapshot_of w
@@ -118,7 +125,7 @@ module _ (p : SettlingParams) (since most silent : ℕ) (w : WorldState) (losing
           (λ a b joins. subst (λ h. Joins h a b) (sym seen.graph) joins) back
           (left_of g n well (λ s member. member) (λ a b joins. joins)) (view w) (view w) itself
           (let most = seen.most in omega (arith, most, late))
-          (taken_after p silent w losing.standing (λ start. asked_are_heard p since start w losing.asked) losing.quiet
+          (taken_after p silent w losing.standing (λ by. asked_are_heard p start by w losing.asked) losing.quiet
           losing.off late) fits tells;
     };
   }
@@ -146,11 +153,11 @@ module _ (d : DocumentState) (playable : IsPlayable d) (made : List Timed) (even
   came_so : (change : Change) → is.change ≡ change → Acts (Changing change) then draws done w'
   came_so change same = subst (λ act. Acts act then draws done w') (is.act ∙ ap Changing same) acts
 
-  module _ (before : Snapshot) (since most silent : ℕ) (losing : IsLosing p since most silent then)
-      (away : TakesAway p since silent then w') (lost' : IsLostAlways p since most silent w') (later : since < silent)
+  module _ (before : Snapshot) (start since most silent : ℕ) (losing : IsLosing p start since most silent then)
+      (away : TakesAway p start silent then w') (lost' : IsLostAlways p since most silent w') (later : since < silent)
       (taken : IsTakenAlways p before silent then) where
     shorter : delay_in w' ≤ delay_in then
-    shorter = takes_shorter p since silent then w' away
+    shorter = takes_shorter p start silent then w' away
 
     -- a link goes down that is up
     lowered : (number port : ℕ) → (k : Acts (Changing (LinkDown number port)) then draws done w')
@@ -158,9 +165,9 @@ module _ (d : DocumentState) (playable : IsPlayable d) (made : List Timed) (even
     lowered number port k up =
         let now = losing.now in
         down_taken p before silent number port then draws done w' world_then after.claim.world k up losing.standing
-        (λ start. asked_are_heard p since start then losing.asked) losing.quiet lost'.standing
-        (λ start. asked_are_heard p since start w' lost'.asked) lost'.quiet losing.off shorter
-        (omega (arith, now, later)) taken
+        (λ by. asked_are_heard p start by then losing.asked) losing.quiet lost'.standing
+        (λ by. asked_are_heard p since by w' lost'.asked) lost'.quiet losing.off shorter (omega (arith, now, later))
+        taken
 
     -- a system or a link in use is taken away
     taken_by : TakesAny n_of made event → IsTakenAlways p before silent w'
@@ -178,7 +185,7 @@ module _ (d : DocumentState) (playable : IsPlayable d) (made : List Timed) (even
             fail_taken p before silent number then draws done w' world_then after.claim.world came
             (lives_so n_of made then keeps.stands world_then.sound number lives came.1.place came.1.station
             (record { here = came.1.is.here; named = came.1.is.named })) lost'.standing
-            (λ start. asked_are_heard p since start w' lost'.asked) lost'.quiet losing.off shorter taken
+            (λ by. asked_are_heard p since by w' lost'.asked) lost'.quiet losing.off shorter taken
         by (Priority1 number value) same lives = absurd (other number value (is.act ∙ ap Changing same))
         by (LinkUp number port) same none = absurd none
         by (LinkSet number port min max loss) same none = absurd none
@@ -193,6 +200,24 @@ module _ (d : DocumentState) (playable : IsPlayable d) (made : List Timed) (even
         lowered x.clock x.port came
         (up_so n_of made then keeps.stands (port_id x.clock x.port) x.up came.1.place came.1.channel came.1.is)
 
+  paths_then : sync_paths n_of made ≡ sync_paths_of then
+  paths_then = paths_stand n_of made then playable.network keeps.stands world_then.sound
+
+  -- what is in flight then is due as links say
+  flies_limited : (gone since : ℕ) → then.time ≡ since → IsGoneByDelay n_of made since gone → IsSettledSeen p then
+      → AreLimitedBy (since + gone) then
+  flies_limited gone since now (is, inl used) seen =
+      let delay = ap (λ (x : SyncPaths). x.delay) paths_then in
+      limited_weaker (then.time + delay_in then) (since + gone) then (omega (arith, is, now, delay))
+      (used_limited p then world_then seen (up_in_use d made then keeps used))
+  flies_limited gone since now (is, inr (slower, (most, within, arrived))) seen =
+      limited_weaker (arrived_by most made) (since + gone) then arrived (keeps.limited most within)
+
+  -- ports that asked by a time before did so still
+  asks_still : (start silent : ℕ) → start ≤ event.at → TakesAway p start silent then w' → HaveAskedBy start w'
+  asks_still start silent past away =
+      ready_asked p start w' after.claim.world (omega (arith, past, time)) away.ready
+
   -- the first event, in a network that has settled
   pub taken_first : (start since most silent : ℕ) → HasRestedSo p start event.at then
       → LosesNow n_of made event since most silent → TakesAny n_of made event → since < silent
@@ -200,26 +225,33 @@ module _ (d : DocumentState) (playable : IsPlayable d) (made : List Timed) (even
   taken_first start since most silent rest now any later =
       let over = rest.over in
       let here = now.now in
-      let losing : IsLosing p since most silent then =
+      let losing : IsLosing p start since most silent then =
       losing_first d playable made event then draws done w' is acts octet at_time time last keeps after start since most
       silent rest now in
       let lost : IsLostTo d made more since most silent w' =
       loses_first d playable made event then draws done w' is acts octet at_time time last keeps after made start since
       most silent rest (λ place v there used. used) now in
       let seen = rest.settled losing.quiet losing.off in
-      let way_then : pred (path_bound (snapshot_of then)) * delay_in then ≤ since = omega (arith, over, here) in
-      let paths : sync_paths_of then ≡ sync_paths n_of made =
-      sym (paths_stand n_of made then playable.network keeps.stands world_then.sound) in
+      let away : TakesAway p start silent then w' =
+      takes d playable made event then draws done w' is acts octet at_time time last keeps after start since most silent
+      losing now.loses now.unanswered in
+      let long : start + way_span (sync_paths n_of made) ≤ since =
+      subst (λ x. start + way_span x ≤ since) (sym paths_then) (omega (arith, over, here)) in
       record {
         lost = lost;
         before = snapshot_of then;
         alike = alike_so d playable made then keeps;
-        way = subst (λ (x : SyncPaths). pred x.systems * x.delay ≤ since) paths way_then;
+        way = omega (arith, long);
+        asked = asked_by start (way_ago n_of made since) w' (omega (arith, long))
+            (asks_still start silent (omega (arith, over)) away);
+        up = up_any n_of playable.network made made event (up_itself n_of made) any;
+        limited = λ gone flight.
+            limited_unset (since + gone) event.act then draws done w'
+            (loses_sets_none n_of playable.network made event.act any.0) acts
+            (flies_limited gone since (at_time ∙ sym here) flight seen);
         later = later;
-        is = taken_by (snapshot_of then) since most silent losing
-            (takes d playable made event then draws done w' is acts octet at_time time last keeps after since most
-            silent losing now.loses now.unanswered) lost.is later
-            (taken_begins p since most silent then losing seen rest.sound (omega (arith, over, at_time))) any;
+        is = taken_by (snapshot_of then) start since most silent losing away lost.is later
+            (taken_begins p start since most silent then losing seen rest.sound (omega (arith, over, at_time))) any;
       }
 
   -- and more at that time
@@ -231,25 +263,40 @@ module _ (d : DocumentState) (playable : IsPlayable d) (made : List Timed) (even
     before = so.before;
     alike = so.alike;
     way = so.way;
+    asked = asks_still start silent (omega (arith, now)) away;
+    up = up_more n_of playable.network made ago event so.up since silent more_now;
+    limited = λ gone flight.
+        limited_unset (since + gone) event.act then draws done w'
+        (more_sets_none n_of playable.network made ago event so.up since silent more_now) acts (so.limited gone flight);
     later = so.later;
     is = elim which [
-      | inl (any, unanswered) ↦
-          taken_by so.before since most silent losing
-          (takes d playable made event then draws done w' is acts octet at_time time last keeps after since most silent
-          losing any.0 unanswered) lost.is so.later so.is any
-      | inr lowers ↦
-          lowered_by so.before since most silent losing
-          (spares d playable made event then draws done w' is acts octet at_time time last keeps after since most silent
-          losing (nothing lowers)) lost.is so.later so.is lowers
+      | inl (any, unanswered) ↦ taken_by so.before start since most silent losing away lost.is so.later so.is any
+      | inr lowers ↦ lowered_by so.before start since most silent losing away lost.is so.later so.is lowers
     ];
   }
     where
-      losing : IsLosing p since most silent then
-      losing = lost_losing p since most silent then so.lost.is (at_time ∙ now)
+      start : ℕ
+      start = way_ago n_of ago since
+
+      more_now : TakesMore n_of made event since silent
+      more_now = inl (now, which)
+
+      losing : IsLosing p start since most silent then
+      losing = lost_losing p start since most silent then so.lost.is so.asked (omega arith) (at_time ∙ now)
 
       nothing : LowersUnused n_of made event → MakesNothing n_of made event since
       nothing x =
           inr (losing.off, subst (TurnsInVain n_of made event since) (sym x.act) (x.failed, omega (arith, now)))
+
+      away : TakesAway p start silent then w'
+      away = elim which [
+        | inl (any, unanswered) ↦
+            takes d playable made event then draws done w' is acts octet at_time time last keeps after start since most
+            silent losing any.0 unanswered
+        | inr lowers ↦
+            spares d playable made event then draws done w' is acts octet at_time time last keeps after start since most
+            silent losing (nothing lowers)
+      ]
 
       lost : IsLostTo d ago more since most silent w'
       lost =

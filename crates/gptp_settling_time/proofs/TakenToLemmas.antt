@@ -1,9 +1,10 @@
 -- Worlds of documents since links or systems were taken away at a time, whoever was moved between.
-use Rattle.std.proofs.Common.{◌≡◌, ◌<◌, ◌≤◌, ◌*◌, ℕ, pred, Option, List, subst, inl, inr, arith}
+use Rattle.std.proofs.Common.{◌≡◌, ◌<◌, ◌≤◌, ◌+◌, ◌-◌, ◌*◌, ℕ, pred, Option, List, subst, inl, inr, arith}
 use Rattle.gptp_graph.specs.PathBound.{path_bound}
 use Rattle.gptp_graph.specs.Snapshot.{Snapshot}
 use Rattle.gptp_links.specs.declared.bounds.Bounds.{Bounds}
-use Rattle.gptp_scenario.specs.Network.{pace_of}
+use Rattle.gptp_scenario.specs.Network.{NetworkState, pace_of}
+use Rattle.gptp_scenario.specs.SettlingTime.{way_span}
 use Rattle.gptp_scenario.specs.SyncWait.{sync_paths}
 use Rattle.gptp_scenario.specs.declared.change.Timed.{Timed}
 use Rattle.gptp_scenario.specs.declared.sync_wait.SyncPaths.{SyncPaths}
@@ -29,21 +30,32 @@ use Rattle.gptp_theorem.proofs.CalmKeptLemmas.{no_change}
 use Rattle.gptp_theorem.proofs.SyncPathLemmas.{paths_stand}
 use Rattle.gptp_settling_time.specs.Losses.{MovesNoneInAll, NoneSilent}
 use Rattle.gptp_settling_time.proofs.FitsLemmas.{IsLeftUnmoved}
+use Rattle.gptp_settling_time.proofs.GoneBeforeLemmas.{IsGoneByDelay, UpSince}
+use Rattle.gptp_settling_time.proofs.LeftClaimedLemmas.{HaveAskedBy, asked_acts, asked_later}
 use Rattle.gptp_settling_time.proofs.LeftToLemmas.{less_way}
 use Rattle.gptp_settling_time.proofs.LostClaimedLemmas.{lost_later}
 use Rattle.gptp_settling_time.proofs.LostToLemmas.{IsLostTo, lost_to_act, lost_to_later}
+use Rattle.gptp_settling_time.proofs.SinceSetLemmas.{AreLimitedBy, limited_acts, limited_later}
 use Rattle.gptp_settling_time.proofs.TakenClaimedLemmas.{IsTakenAlways, taken_acts, taken_chooses, taken_later, taken_settles}
 use Rattle.gptp_settling_time.proofs.WereSilentLemmas.{none_silent_from}
 use Rattle.gptp_settling_time.proofs.WorldMovesLemmas.{adjacent_alike, alike_so, unmoved_alike}
 
+-- a way before this time, as paths were after these events
+abbrev pub way_ago : NetworkState → List Timed → ℕ → ℕ
+way_ago n ago since = since - way_span (sync_paths n ago)
+
 -- A world of a document after these events, the last of which came at that time and took something away. What it holds
--- fits the snapshot after those before, from which the network had settled.
+-- fits the snapshot after those before, from which the network had settled. Ports at links asked a way before. Links
+-- that are up were so with the same bounds, by which what was in flight is due.
 pub record IsTakenTo (d : DocumentState) (ago events : List Timed) (since most silent : ℕ) (w : WorldState)
     : Type 0 where
   pub lost : IsLostTo d ago events since most silent w
   pub before : Snapshot
   pub alike : (g : Snapshot) → StandsAfter d.network ago g → AreAlike before g
   pub way : pred (sync_paths d.network ago).systems * (sync_paths d.network ago).delay ≤ since
+  pub asked : HaveAskedBy (way_ago d.network ago since) w
+  pub up : UpSince d.network ago events
+  pub limited : (gone : ℕ) → IsGoneByDelay d.network ago since gone → AreLimitedBy (since + gone) w
   pub later : since < silent
   pub is : IsTakenAlways (pace_of d.network) before silent w
 
@@ -55,6 +67,10 @@ module _ (d : DocumentState) (ago events : List Timed) (since most silent : ℕ)
     before = so.before;
     alike = so.alike;
     way = so.way;
+    asked = asked_later (pace_of d.network) (way_ago d.network ago since) time w so.lost.is.standing.world later first
+        so.asked;
+    up = so.up;
+    limited = λ gone flight. limited_later (since + gone) w time later (so.limited gone flight);
     later = so.later;
     is = taken_later (pace_of d.network) so.before since most silent time w later first so.lost.is so.is;
   }
@@ -67,15 +83,25 @@ module _ (d : DocumentState) (ago events : List Timed) (since most silent : ℕ)
       let p = pace_of d.network in
       let now = was.ready.timely.now in
       let first = was.ready.timely.first in
+      let none = no_change next.item timed.act w next.act in
+      let begun = way_ago d.network ago since in
+      let lost = lost_to_act d ago events since most silent answers t fate drawn w next was so.lost in
+      let then = lost_later p since most silent timed.at w now first so.lost.is in
       record {
-        lost = lost_to_act d ago events since most silent answers t fate drawn w next was so.lost;
+        lost = lost;
         before = so.before;
         alike = so.alike;
         way = so.way;
+        asked = asked_acts p begun silent timed.act (at timed.at w) was.draws t.told.done t.after none was.acts
+            then.standing lost.is.standing.world
+            (asked_later p begun timed.at w so.lost.is.standing.world now first so.asked);
+        up = so.up;
+        limited = λ gone flight.
+            limited_acts (since + gone) timed.act (at timed.at w) was.draws t.told.done t.after none was.acts
+            (limited_later (since + gone) w timed.at now (so.limited gone flight));
         later = so.later;
-        is = taken_acts p so.before since most silent timed.act (at timed.at w) was.draws t.told.done t.after
-            (no_change next.item timed.act w next.act) (next_octet next.item timed.act w next.act) was.acts
-            (lost_later p since most silent timed.at w now first so.lost.is)
+        is = taken_acts p so.before since most silent timed.act (at timed.at w) was.draws t.told.done t.after none
+            (next_octet next.item timed.act w next.act) was.acts then
             (taken_later p so.before since most silent timed.at w now first so.lost.is so.is);
       }
 

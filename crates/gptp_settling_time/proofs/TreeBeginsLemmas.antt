@@ -1,5 +1,5 @@
 -- A tree begins to fall back, whatever its top answers to: what is claimed of the world from then on.
-use Rattle.std.proofs.Common.{◌≡◌, ◌≢◌, ◌⊎◌, ◌≤◌, ◌+◌, ℕ, Some, slice_get, refl, inl, inr, subst, arith}
+use Rattle.std.proofs.Common.{◌≡◌, ◌≢◌, ◌⊎◌, ◌≤◌, ◌+◌, ℕ, Some, slice_get, refl, inl, subst, arith}
 use Rattle.gptp_lists.specs.Members.{In}
 use Rattle.gptp_graph.specs.Best.{IsBest}
 use Rattle.gptp_graph.specs.Snapshot.{Snapshot, System, clocks}
@@ -27,13 +27,14 @@ use Rattle.gptp_invariants.specs.WorldSound.{IsSoundWorld}
 use Rattle.gptp_invariants.specs.WorldStanding.{snapshot_of}
 use Rattle.gptp_invariants.proofs.ChoiceSendLemmas.{world_apart}
 use Rattle.gptp_settling_time.proofs.AlwaysClaimedLemmas.{IsStanding}
-use Rattle.gptp_settling_time.proofs.DueLemmas.{AreDueBy, due_by_interval, in_use_joins}
+use Rattle.gptp_settling_time.proofs.DueLemmas.{AreDueBy, IsGoneBy, gone_due}
 use Rattle.gptp_settling_time.proofs.EndAnswersLemmas.{EndAnswers}
-use Rattle.gptp_settling_time.proofs.FallAlwaysLemmas.{IsFallenAlways, IsGoneBy, fallen_by, falls_within, settles_by, settles_later}
+use Rattle.gptp_settling_time.proofs.FallAlwaysLemmas.{IsFallenAlways, fallen_by, falls_within, settles_by, settles_later}
 use Rattle.gptp_settling_time.proofs.FallDownLemmas.{FlightNames, OffSettles, tree_falls, tree_settles}
 use Rattle.gptp_settling_time.proofs.LeftClaimedLemmas.{HaveAskedLong, left_network}
 use Rattle.gptp_settling_time.proofs.MovedAlwaysLemmas.{after_loss, dark_now}
 use Rattle.gptp_settling_time.proofs.SettledSeenLemmas.{IsSettledSeen}
+use Rattle.gptp_settling_time.proofs.SinceSetLemmas.{AreLimitedBy}
 use Rattle.gptp_settling_time.proofs.TreeSoundBeginLemmas.{outside_begins}
 use Rattle.gptp_settling_time.proofs.TreeSoundLemmas.{IsSoundOutside}
 use Rattle.gptp_settling_time.proofs.WidenedLemmas.{ready_first}
@@ -66,7 +67,8 @@ module _ (p : SettlingParams) (w w' : WorldState) (is' : IsWorld p w') (seen : I
       (pace : KeepPace p) (measured' : LinkIsMeasured w') (past : silent ≤ w.time) (late_then : delay_in w' ≤ w'.time)
       (sound : IsSoundWorld w) (named : FlightNames says_announce (snapshot_of w) (view w))
       (ready' : AreReadyBy p silent w') (silent' : AreSilentBy p silent w')
-      (stays : StaysOutside (snapshot_of w) (snapshot_of w') next) where
+      (stays : StaysOutside (snapshot_of w) (snapshot_of w') next) (Limits : ℕ → Type 0)
+      (limited : (limit : ℕ) → Limits limit → AreLimitedBy limit w') where
     by_now : silent ≤ w'.time
     by_now = let time = a.time in omega (arith, past, time)
 
@@ -111,21 +113,14 @@ module _ (p : SettlingParams) (w w' : WorldState) (is' : IsWorld p w') (seen : I
         dark' = dark_now p silent w' standing' asked' quiet' by_now
 
     -- what was in flight is gone by then
-    due_gone : HaveQuietLinks p.params w' → NothingLapses p.params → (old : ℕ) → IsGoneBy p w.time old w'
+    due_gone : HaveQuietLinks p.params w' → NothingLapses p.params → (old : ℕ) → IsGoneBy p Limits w.time old w'
         → AreDueBy old w'
-    due_gone quiet' off old (inl interval) j l f c at among said =
-        let due = due_by_interval p w' is' j l f c at among said in
+    due_gone quiet' off old =
         let time = a.time in
-        omega (arith, due, time, interval)
-    due_gone quiet' off old (inr (used, delay)) j l f c at among said =
-        let kept' = after_loss p silent w' standing' asked' quiet' by_now off late_then in
-        let time = a.time in
-        elim (kept'.calm.facts.fresh j l f at among (in_use_joins w' is'.sound used j l f at among)) [
-          | inl soon ↦ omega (arith, soon, time, delay)
-          | inr early ↦ absurd (omega (arith, early))
-        ]
+        gone_due p Limits w.time old w' n is' (after_loss p silent w' standing' asked' quiet' by_now off late_then) refl
+        refl limited (omega (arith, time))
 
-    sound_begins : HaveQuietLinks p.params w' → NothingLapses p.params → (old : ℕ) → IsGoneBy p w.time old w'
+    sound_begins : HaveQuietLinks p.params w' → NothingLapses p.params → (old : ℕ) → IsGoneBy p Limits w.time old w'
         → fallen_by n w.time + n.most ≤ old → IsSoundOutside says_announce n.graph next old (view w')
     sound_begins quiet' off old gone fits =
         subst (λ h. (t : CutsTree h n top best next base depth) → StaysOutside h n.graph next
@@ -139,7 +134,7 @@ module _ (p : SettlingParams) (w w' : WorldState) (is' : IsWorld p w') (seen : I
         (λ v in_v. let less = falls_within n w.time (depth v) (t.deep v in_v) in omega (arith, less, fits))
         (due_gone quiet' off old gone)) tree stays moved_top sound (begins quiet' off).0
 
-    pub fallen_begins : IsFallenAlways p (snapshot_of w) silent w.time w'
+    pub fallen_begins : IsFallenAlways p (snapshot_of w) Limits silent w.time w'
     fallen_begins = record {
       standing = standing';
       asked = asked';

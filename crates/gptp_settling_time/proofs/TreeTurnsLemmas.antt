@@ -23,7 +23,8 @@ use Rattle.gptp_bmca_machine.specs.TurnTree.{TurnsTree}
 use Rattle.gptp_bmca_machine.specs.Touch.{StationTouch}
 use Rattle.gptp_bmca_machine.proofs.FallBeginLemmas.{falling_begins, settles_begin}
 use Rattle.gptp_bmca_machine.proofs.FallLeaveLemmas.{TreeAnswers}
-use Rattle.gptp_bmca_machine.proofs.FallLemmas.{IsAftermath, IsFreeAt, off_hold_old}
+use Rattle.gptp_bmca_machine.proofs.UnlinkedLemmas.{off_hold_old}
+use Rattle.gptp_bmca_machine.proofs.FallLemmas.{IsAftermath, IsFreeAt}
 use Rattle.gptp_bmca_machine.proofs.LinkStepLemmas.{lives_at}
 use Rattle.gptp_bmca_machine.proofs.MovedTreeLemmas.{Around, LeadsDown}
 use Rattle.gptp_bmca_machine.proofs.PlaceLemmas.{same_there}

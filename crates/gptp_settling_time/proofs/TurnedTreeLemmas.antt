@@ -26,7 +26,7 @@ use Rattle.gptp_bmca_machine.specs.Run.{NearHaveSettled}
 use Rattle.gptp_bmca_machine.specs.SoundLaws.{UnlinkedAreOff}
 use Rattle.gptp_bmca_machine.specs.Station.{HoldsAt, Reception, Station as SeenStation}
 use Rattle.gptp_bmca_machine.specs.TurnTree.{TurnsTree}
-use Rattle.gptp_bmca_machine.proofs.FallLemmas.{off_drop}
+use Rattle.gptp_bmca_machine.proofs.UnlinkedLemmas.{off_drop}
 use Rattle.gptp_bmca_machine.proofs.RestLemmas.{IsClear, root_above, steps_above}
 use Rattle.gptp_bmca_machine.proofs.TurnEndLemmas.{near_have_settled, system_is_clear}
 use Rattle.gptp_bmca_machine.proofs.TurnLemmas.{TurnsBack, turns_on}

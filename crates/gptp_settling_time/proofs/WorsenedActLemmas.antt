@@ -49,6 +49,7 @@ use Rattle.gptp_settling_time.proofs.PriorityNewsLemmas.{priority_ready, priorit
 use Rattle.gptp_settling_time.proofs.ReactsLemmas.{AnswersAs, Reacts, reacts, reacts_after, reacts_as, reacts_before}
 use Rattle.gptp_settling_time.proofs.ReducedLemmas.{IsReducedStation, reduced_itself}
 use Rattle.gptp_settling_time.proofs.SettledSeenLemmas.{IsSettledSeen}
+use Rattle.gptp_settling_time.proofs.SinceSetLemmas.{AreLimitedBy}
 use Rattle.gptp_settling_time.proofs.TreeBeginsLemmas.{fallen_begins}
 use Rattle.gptp_settling_time.proofs.WorsenedTracesLemmas.{worsened_stays}
 
@@ -60,7 +61,8 @@ module _ (p : SettlingParams) (silent owner value : ℕ) (w : WorldState) (draws
     (best next : System) (depth : ℕ → ℕ)
     (so : IsWorsenedTree (snapshot_of w) (snapshot_of w') owner best next depth)
     (few : path_bound (snapshot_of w') ≤ 255) (late : delay_in w' ≤ w'.time) (sound : IsSoundWorld w)
-    (named : FlightNames says_announce (snapshot_of w) (view w)) where
+    (named : FlightNames says_announce (snapshot_of w) (view w)) (Limits : ℕ → Type 0)
+    (limited : (limit : ℕ) → Limits limit → AreLimitedBy limit w') where
   abbrev n : Network
   n = left_network p silent w'
 
@@ -189,7 +191,7 @@ module _ (p : SettlingParams) (silent owner value : ℕ) (w : WorldState) (draws
       (subst (λ i. slice_get (view w').stations i ≡ Some b.call.s') place_is b.call.there) in
       apart (sym clock ∙ ap (λ (z : SeenStation). z.clock) one ∙ b.call.reacts.clock ∙ b.named)
 
-  pub act_worsened : IsFallenAlways p (snapshot_of w) silent w.time w'
+  pub act_worsened : IsFallenAlways p (snapshot_of w) Limits silent w.time w'
   act_worsened =
       fallen_begins p w w' is' seen silent owner best next 0 depth tree so.in_top wired r.change Other (n.place owner)
       answers outside_at pace measured' past late sound named
@@ -197,4 +199,4 @@ module _ (p : SettlingParams) (silent owner value : ℕ) (w : WorldState) (draws
       (priority_silent p silent owner value w draws done w' is is' measured live quiet_by octet acts)
       (worsened_stays (snapshot_of w) (snapshot_of w') well well' owner next so.in_top so.others
       (λ s member. reacts_after p w is owner value live octet draws done w' acts s member) (clocks_after p w w' r)
-      adjacent_after)
+      adjacent_after) Limits limited

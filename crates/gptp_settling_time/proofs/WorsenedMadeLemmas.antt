@@ -18,8 +18,9 @@ use Rattle.gptp_theorem.specs.PlayedLaws.{IsPlayable}
 use Rattle.gptp_theorem.proofs.AlikeLemmas.{best as alike_best, distance as alike_distance, clock_among, turned}
 use Rattle.gptp_settling_time.specs.Arrivals.{HasArrivedBy}
 use Rattle.gptp_settling_time.specs.TreeLosses.{IsWorsenedTree, WorsensTree}
+use Rattle.gptp_settling_time.proofs.ArrivalsLemmas.{SetLimits}
 use Rattle.gptp_settling_time.proofs.FallAlwaysLemmas.{IsFallenAlways}
-use Rattle.gptp_settling_time.proofs.FallenToLemmas.{IsFallenTo}
+use Rattle.gptp_settling_time.proofs.FallenToLemmas.{IsFallenTo, limits_to}
 use Rattle.gptp_settling_time.proofs.GainLemmas.{lives_so}
 use Rattle.gptp_settling_time.proofs.KeptToLemmas.{KeepsTo}
 use Rattle.gptp_settling_time.proofs.LossMadeLemmas.{HasRestedSo}
@@ -92,7 +93,9 @@ module _ (d : DocumentState) (playable : IsPlayable d) (made : List Timed) (even
       record {
         keeps = after;
         before = snapshot_of then;
-        since = subst (λ t. IsFallenAlways p (snapshot_of then) start t w') at_time
+        ago = more;
+        set = λ limit is. is;
+        since = subst (λ t. IsFallenAlways p (snapshot_of then) (SetLimits n more) start t w') at_time
             (act_worsened p start x.clock x.value then draws done w' keeps.claim.pace keeps.claim.world
             after.claim.world keeps.claim.measured after.claim.measured
             (subst (λ act. Acts act then draws done w') x.act acts)
@@ -106,5 +109,5 @@ module _ (d : DocumentState) (playable : IsPlayable d) (made : List Timed) (even
             (late_then d playable made event then draws done w' at_time time keeps after start rest stood arrived named
             arrives quiet calm off x.delay) rest.sound
             (names_now d playable made event then draws done w' at_time time keeps after start rest stood arrived named
-            arrives quiet calm off));
+            arrives quiet calm off) (SetLimits n more) (limits_to d more w' after));
       }

@@ -16,7 +16,7 @@ use Rattle.gptp_scenario.specs.declared.network.LinkSpec.{LinkSpec}
 use Rattle.gptp_model.specs.World.{port_id}
 use Rattle.gptp_settling_time.specs.Arrivals.{HasArrivedSinceSet}
 use Rattle.gptp_settling_time.specs.Gains.{ChangesNothing, EndHasFailed, IdleNow, IsDownAfter, IsNoWorse, JoinsLive, LeavesCapable, RepeatsNow, UsesNoLink, exchanged_from}
-use Rattle.gptp_settling_time.specs.Losses.{AgesWithin, CutsFarEnd, FailsFarEnd, FailsHeard, LeavesChoice, LowersLink, LowersUnused, NoneUpIsSlower, TurnsLink, UpIsUsed}
+use Rattle.gptp_settling_time.specs.Losses.{AgesWithin, CutsFarEnd, FailsFarEnd, FailsHeard, LeavesChoice, LowersLink, LowersUnused, TurnsLink, UpIsUsed, UpIsWithin}
 use Rattle.gptp_settling_time.specs.TreeLosses.{FallsTree, TurnsTreeLink}
 
 -- ---- events at time 0
@@ -203,12 +203,11 @@ abbrev pub FlightIsGone : NetworkState → List Timed → ℕ → Type 0
 FlightIsGone n events gone =
     (UpIsUsed n events × (gone ≡ (sync_paths n events).delay)) ⊎ (gone ≡ largest_interval (pace_of n))
 
--- From this time on it is gone so much later: as above, or by the greatest delay of a link in use, where no link that
--- is up takes longer, and what was in flight as a link was last set has arrived as soon.
+-- From this time on it is gone so much later: as above, or by what no link that is up takes longer than, if what was in
+-- flight as a link was last set has arrived as soon.
 abbrev pub FlightIsGoneFrom : NetworkState → List Timed → ℕ → ℕ → Type 0
 FlightIsGoneFrom n events time gone =
-    FlightIsGone n events gone
-    ⊎ (NoneUpIsSlower n events × HasArrivedSinceSet n events (time + gone) × (gone ≡ (sync_paths n events).delay))
+    FlightIsGone n events gone ⊎ (UpIsWithin n events gone × HasArrivedSinceSet n events (time + gone))
 
 -- what is in flight at this time is gone by another
 abbrev pub FlightIsGoneBy : NetworkState → List Timed → ℕ → ℕ → Type 0

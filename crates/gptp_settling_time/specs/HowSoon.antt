@@ -485,7 +485,7 @@ RestsAfterAnyLoss n made now rest = (choice : ℕ) × BoundsAnyLoss n made now c
 
 -- After several systems and links were taken away, by which none is moved in all but such as are cut off, it has where
 -- each link that is up then is in use once right traces have been told. Where none is moved, and none lost its link to
--- a nearer one, they needn't be told anew: it has once a way is over, what was in flight is gone, and roles stand.
+-- a nearer one, they needn't be told anew: it has once what was in flight before is gone, and roles stand.
 abbrev pub RestsTaken : NetworkState → List Timed → List Timed → ℕ → Type 0
 RestsTaken n made now rest =
     TakesSeveral n made now × MovesNoneInAll n made (made ++ now)
@@ -493,9 +493,9 @@ RestsTaken n made now rest =
     × ((UpIsUsed n (made ++ now)
     × (max (echo_span (pace_of n) (sync_paths n (made ++ now))) (sync_paths n (made ++ now)).delay ≤ rest))
     ⊎ (LosesFartherFrom n made (made ++ now)
-    × ((gone : ℕ) × FlightIsGone n (made ++ now) gone
+    × ((gone : ℕ) × FlightIsGoneFrom n made (last_change (made ++ now)) gone
     × (NoneSilent n made (made ++ now) ⊎ (silence_span (pace_of n) ≤ rest))
-    × (max (way_span (sync_paths n (made ++ now))) gone ≤ rest))))
+    × (gone ≤ rest))))
 
 abbrev pub RestsAfterLoss : NetworkState → List Timed → List Timed → ℕ → Type 0
 RestsAfterLoss n made now rest =
@@ -504,7 +504,8 @@ RestsAfterLoss n made now rest =
 -- After a tree fell back it has come to rest once the tree has settled and what was in flight is gone.
 abbrev pub RestsTree : NetworkState → ℕ → List Timed → Type 0
 RestsTree n rest events =
-    (gone : ℕ) × FlightIsGone n events gone × (rest ≡ max (2 * way_span (sync_paths n events)) gone)
+    (gone : ℕ) × FlightIsGoneFrom n events (last_change events) gone
+    × (rest ≡ max (2 * way_span (sync_paths n events)) gone)
 
 -- After trees were moved, as a system failed, it has come to rest once right traces have been told by distance since
 -- they settled, and what was in flight is gone. Where all beyond that system was cut off they needn't be told anew.

@@ -21,7 +21,7 @@ use Rattle.std.specs.Prelude.{◌≡◌, ◌<◌, ◌≤◌, ◌⊎◌, ◌+◌,
 use Rattle.gptp_scenario.specs.Calm.{IsCalm, IsUsed, NothingLapses, last_change}
 use Rattle.gptp_scenario.specs.Change.{link_after}
 use Rattle.gptp_scenario.specs.Network.{NetworkState, pace_of}
-use Rattle.gptp_scenario.specs.SettlingTime.{capability_span, silence_span}
+use Rattle.gptp_scenario.specs.SettlingTime.{capability_span, silence_span, way_span}
 use Rattle.gptp_scenario.specs.SyncWait.{sync_paths}
 use Rattle.gptp_scenario.specs.declared.change.Act.TheVariants.{Change as Changing}
 use Rattle.gptp_scenario.specs.declared.change.Change.TheVariants.{Priority1}
@@ -32,7 +32,7 @@ use Rattle.gptp_settling_time.specs.Gains.{AreCapableAnyway, AreCapableNext, Are
 use Rattle.gptp_settling_time.specs.Losses.{AgesWithin, AreSilentAfter, LosesAny, LowersUnused, MovesNoneInAll}
 use Rattle.gptp_settling_time.specs.TreeLosses.{FailsTrees, LosesFartherFrom}
 use Rattle.gptp_settling_time.specs.Pasts.{Aging, AnyPast, Cleared, Fallen, Fewer, Gained, Heard, Left, Lost, Past, Split, Starting, Turned, TurnedTree}
-use Rattle.gptp_settling_time.specs.EventKinds.{AddsHeard, ClearsBy, FailsNow, FallsCalm, FlightIsGone, HasSettledAnyhow, HasSettledHeard, HasSettledSince, IsDownNow, IsDownOrIdle, LeavesSettled, LeavesStanding, LowersUnusedCalm, MakesNothing, StartsWith, TellsAnew, TellsNothing, TurnsCalm, TurnsTreeCalm, UsedVaryLittle, WidensFrom}
+use Rattle.gptp_settling_time.specs.EventKinds.{AddsHeard, ClearsBy, FailsNow, FallsCalm, FlightIsGoneBy, HasSettledAnyhow, HasSettledHeard, HasSettledSince, IsDownNow, IsDownOrIdle, LeavesSettled, LeavesStanding, LowersUnusedCalm, MakesNothing, StartsWith, TellsAnew, TellsNothing, TurnsCalm, TurnsTreeCalm, UsedVaryLittle, WidensFrom}
 
 -- From any past the network has rested, and its ports are capable whatever came before. From a gain, and from what is
 -- heard, they were capable from another start on.
@@ -156,11 +156,11 @@ TakesMore n before event since silent =
     ⊎ RepeatsNow n before event
 
 -- No system is moved by all that these events took away, and none lost its link to a nearer one: nothing that is held
--- names what is gone. What is in flight is gone so much later than this time.
+-- names what is gone. What was in flight is gone by a time, as links were before. Ports were capable a way before.
 abbrev pub LosesFartherNow : NetworkState → List Timed → List Timed → ℕ → ℕ → ℕ → ℕ → Type 0
 LosesFartherNow n ago events time since right old =
-    LosesFartherFrom n ago events × (since ≡ time) × (right ≡ 0)
-    × ((gone : ℕ) × FlightIsGone n events gone × (old ≡ time + gone))
+    LosesFartherFrom n ago events × (since + way_span (sync_paths n ago) ≡ time) × (right ≡ 0)
+    × FlightIsGoneBy n ago time old
 
 -- A network that had settled is cleared, and one that is so stays so. One in which something ages is cleared as the
 -- last link goes down of which an end has failed. One from which systems and links are taken away is as the last is,

@@ -98,11 +98,11 @@ abbrev pub UpIsUsed : NetworkState → List Timed → Type 0
 UpIsUsed n events = (place : ℕ) (v : LinkSpec) → slice_get n.links place ≡ Some v → (link_after events v).up ≡ true
     → IsUsed n.systems events (link_after events v)
 
--- no link that is up after these events takes longer than one in use
-abbrev pub NoneUpIsSlower : NetworkState → List Timed → Type 0
-NoneUpIsSlower n events = (place : ℕ) (v : LinkSpec) → slice_get n.links place ≡ Some v
+-- no link that is up after these events takes longer than this, whether it is in use or not
+abbrev pub UpIsWithin : NetworkState → List Timed → ℕ → Type 0
+UpIsWithin n events most = (place : ℕ) (v : LinkSpec) → slice_get n.links place ≡ Some v
     → (link_after events v).up ≡ true
-    → (link_after events v).bounds.max ≤ (sync_paths n events).delay
+    → (link_after events v).bounds.max ≤ most
 
 -- The system is the far end of each of its links: its neighbours are nearer to the best, or as near and have the lower
 -- clock. So none of them gets its choice from it.

@@ -6,11 +6,11 @@ use Rattle.gptp_scenario.specs.Network.{NetworkState, pace_of}
 use Rattle.gptp_scenario.specs.SettlingTime.{echo_span, loss_span, silence_span, way_span}
 use Rattle.gptp_scenario.specs.SyncWait.{sync_paths}
 use Rattle.gptp_scenario.specs.declared.change.Timed.{Timed}
-use Rattle.gptp_settling_time.specs.Losses.{NoneSilent, NoneUpIsSlower, UpIsUsed}
+use Rattle.gptp_settling_time.specs.Losses.{NoneSilent, UpIsUsed, UpIsWithin}
 use Rattle.gptp_settling_time.specs.Arrivals.{HasArrivedSinceSet}
 use Rattle.gptp_settling_time.specs.TreeLosses.{CutsAllBeyondFrom, LeavesAloneFrom}
 use Rattle.gptp_settling_time.specs.Pasts.{Aging, Cleared, Fallen, Heard, Lost, Past, Split, Turned, TurnedTree}
-use Rattle.gptp_settling_time.specs.EventKinds.{FlightIsGone, HasSettledHeard, nearer_echo_span}
+use Rattle.gptp_settling_time.specs.EventKinds.{FlightIsGone, FlightIsGoneFrom, HasSettledHeard, nearer_echo_span}
 
 -- A cleared network has come to rest by a time, as one whose ports are capable from a start on. What was in flight is
 -- gone. Ports without a link aren't capable any more, or no lost link is silent. And the greatest delay has passed
@@ -64,17 +64,17 @@ pub record HasFallenBack (n : NetworkState) (events : List Timed) (fallen start 
   pub off : NothingLapses n.params
   pub later : fallen + way_span (sync_paths n events) < start
   pub flight : ℕ
-  pub is_gone : FlightIsGone n events flight
+  pub is_gone : FlightIsGoneFrom n events fallen flight
   pub gone : fallen + flight < time
   pub over : HasSettledHeard n events start time
 
--- What is in flight is gone so much later: as above, or by the greatest delay of a link in use where no link that is up
--- takes longer, and what was in flight as the first of these events last set a link has arrived as soon since the last
--- change. None has been set since.
+-- What is in flight is gone so much later: as above, or by what no link that is up takes longer than, if what was in
+-- flight as the first of these events last set a link has arrived as soon since the last change. None has been set
+-- since.
 abbrev pub FlightIsGoneSince : NetworkState → List Timed → List Timed → ℕ → Type 0
-FlightIsGoneSince n ago events flight = FlightIsGone n events flight
-    ⊎ (NoneUpIsSlower n events × HasArrivedSinceSet n ago (last_change events + flight)
-    × (flight ≡ (sync_paths n events).delay))
+FlightIsGoneSince n ago events flight =
+    FlightIsGone n events flight
+    ⊎ (UpIsWithin n events flight × HasArrivedSinceSet n ago (last_change events + flight))
 
 -- What is held and in flight in it is right. Right traces have been told by distance since trees settled, and what was
 -- in flight is gone. Or all beyond the failed system was cut off; then trees have settled, and what was in flight as
