@@ -1,9 +1,10 @@
 -- From when ports measure their links by the least delays in force, by what a document came from, event by event.
-use Rattle.std.proofs.Common.{◌≡◌, ◌<◌, ◌≤◌, ◌+◌, ℕ, ⊤, Bool, true, false, List, [], ◌∷◌, ◌++◌, append_assoc, append-nil, cond, nat_le, refl, sym, subst, inl, inr, arith}
+use Rattle.std.proofs.Common.{◌≡◌, ◌<◌, ◌≤◌, ◌+◌, ℕ, ⊤, Bool, true, false, List, [], ◌∷◌, ◌++◌, append_assoc, append-nil, cond, nat_le, refl, sym, ap, subst, inl, inr, arith}
 use Rattle.gptp_scenario.specs.Calm.{last_change}
 use Rattle.gptp_scenario.specs.Network.{NetworkState, pace_of}
 use Rattle.gptp_scenario.specs.Params.{KeepPace}
-use Rattle.gptp_scenario.specs.SettlingTime.{capability_span}
+use Rattle.gptp_scenario.specs.SettlingTime.{capability_span, way_span}
+use Rattle.gptp_scenario.specs.SyncWait.{sync_paths}
 use Rattle.gptp_scenario.specs.declared.change.Timed.{Timed}
 use Rattle.gptp_network.specs.Document.{DocumentState}
 use Rattle.gptp_network.specs.Events.{AreInOrder}
@@ -26,6 +27,11 @@ abbrev pub AreMeasuredSince : NetworkState → List Timed → ℕ → Type 0
 AreMeasuredSince n events until = (start : ℕ) × AreMeasuredTo n events start × (start ≤ last_change events)
     × (start ≤ until)
 
+-- or since a way before that event, as ways were after the first ones
+abbrev pub AreMeasuredEarly : NetworkState → List Timed → List Timed → Type 0
+AreMeasuredEarly n ago events = (start : ℕ) × AreMeasuredTo n events start
+    × (start + way_span (sync_paths n ago) ≤ last_change events)
+
 -- from when they do, by what the network came from
 abbrev pub AreMeasuredAfter : NetworkState → List Timed → Past → Type 0
 AreMeasuredAfter n events AnyPast = ⊤
@@ -40,7 +46,7 @@ AreMeasuredAfter n events (Cleared ago since silent right old) = AreMeasuredSinc
 AreMeasuredAfter n events (Aging ago aged silent) = AreMeasuredSince n events (last_change events)
 AreMeasuredAfter n events (Split ago gone silent) = AreMeasuredSince n events gone
 AreMeasuredAfter n events (Lost ago since most silent) = AreMeasuredSince n events since
-AreMeasuredAfter n events (Fewer ago since most silent) = AreMeasuredSince n events since
+AreMeasuredAfter n events (Fewer ago since most silent) = AreMeasuredEarly n ago events
 
 -- each event is no earlier than that before it
 abbrev pub AreFrom : ℕ → List Timed → Type 0
@@ -379,14 +385,13 @@ module _ (n : NetworkState) (pace : KeepPace (pace_of n)) (made : List Timed) (e
   cleared_so (Aging made' aged dark) ago since silent right old so (down, same, is_silent, (used, is_since, rest)) =
       since_so (last_change made) since (omega (arith, ordered, is_since)) so
       (λ from. down_now n made event from from down)
-  cleared_so (Fewer made' start most dark) ago since silent right old (from, m, earlier, by)
+  cleared_so (Fewer made' start most dark) ago since silent right old (from, m, earlier)
       (takes, same, is_silent, moves, few, told) =
-      let at : since ≡ event.at = elim told [
-        | inl (used, is_since, rest) ↦ is_since
-        | inr (loses, is_since, rest) ↦ is_since
+      let soon : from ≤ since = elim told [
+        | inl (used, is_since, rest) ↦ omega (arith, earlier, ordered, is_since)
+        | inr (loses, is_since, rest) ↦ omega (arith, earlier, ordered, is_since)
       ] in
-      loss_so from since m (omega (arith, earlier, ordered)) (omega (arith, earlier, ordered, at))
-      (takes_more from start dark takes)
+      loss_so from since m (omega (arith, earlier, ordered)) soon (takes_more from start dark takes)
   cleared_so Starting ago since silent right old so none = absurd none
   cleared_so (Left ago start) ago since silent right old so none = absurd none
   cleared_so (Turned start now) ago since silent right old so none = absurd none
@@ -488,16 +493,32 @@ module _ (n : NetworkState) (pace : KeepPace (pace_of n)) (made : List Timed) (e
   lost_so (Split ago gone start) ago since most silent so none = absurd none
   lost_so (Fewer ago since most start) ago since most silent so none = absurd none
 
+  takes_now : (start : ℕ) (ago : List Timed) → AreMeasuredTo n made start → ago ≡ made
+      → start + way_span (sync_paths n made) ≤ event.at → Leaves n made event Anew start start
+      → AreMeasuredEarly n ago more
+  takes_now start ago m same past leaves =
+      let last = last_behind made event in
+      let way : way_span (sync_paths n ago) ≡ way_span (sync_paths n made) =
+      ap (λ es. way_span (sync_paths n es)) same in
+      (start, go_on n made event start start m (omega arith) leaves, omega (arith, past, last, way))
+
   fewer_so : (past : Past) (ago : List Timed) (since most silent : ℕ) → AreMeasuredAfter n made past
-      → LeadsToFewer n made past event ago since most silent → AreMeasuredSince n more since
+      → LeadsToFewer n made past event ago since most silent → AreMeasuredEarly n ago more
   fewer_so AnyPast ago since most silent so (settled, (same, x, takes)) =
-      let passed = settled.passed in loses_now capable since most silent any_so (omega (arith, passed)) x
+      let passed = settled.passed in
+      takes_now capable ago any_so same (omega (arith, passed)) (loses_on n made event capable capable x.loses)
   fewer_so (Gained start) ago since most silent so (settled, (same, x, takes)) =
-      loses_now start since most silent so (omega (arith, settled)) x
+      takes_now start ago so same (omega (arith, settled)) (loses_on n made event start start x.loses)
   fewer_so (Heard start) ago since most silent so (settled, (same, x, takes)) =
-      loses_now start since most silent so (omega (arith, settled)) x
-  fewer_so (Fewer old begun delay start) ago since most silent so (takes, same, is_since, rest) =
-      since_so begun since (omega (arith, is_since)) so (λ from. takes_more from since silent takes)
+      takes_now start ago so same settled (loses_on n made event start start x.loses)
+  fewer_so (Fewer old begun delay start) ago since most silent (from, m, earlier) (takes, same, rest) =
+      let last = last_behind made event in
+      let way : way_span (sync_paths n ago) ≡ way_span (sync_paths n old) =
+      ap (λ es. way_span (sync_paths n es)) same in (
+        from,
+        go_on n made event from from m (omega arith) (takes_more from since silent takes),
+        omega (arith, earlier, ordered, last, way),
+      )
   fewer_so Starting ago since most silent so none = absurd none
   fewer_so (Left ago start) ago since most silent so none = absurd none
   fewer_so (Turned start now) ago since most silent so none = absurd none
@@ -608,7 +629,8 @@ module _ (n : NetworkState) (pace : KeepPace (pace_of n)) where
   chooses_so events (Aging ago aged start) settled chooses behind so = last_so events settled (last_change events) behind so
   chooses_so events (Split ago gone start) settled chooses behind so = last_so events settled gone behind so
   chooses_so events (Lost ago since most start) settled chooses behind so = last_so events settled since behind so
-  chooses_so events (Fewer ago since most start) settled chooses behind so = last_so events settled since behind so
+  chooses_so events (Fewer ago since most start) settled chooses behind (from, m, earlier) =
+      later_so n events from settled (omega (arith, earlier, behind)) m
 
 -- ---- the events of a document come in their order
 
