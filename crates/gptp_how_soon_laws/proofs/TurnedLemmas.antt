@@ -343,7 +343,8 @@ module _ (n : NetworkState) (network : IsNetwork n) (made events : List Timed) w
         (port_of u q) at_x at joins) [
           | inl still ↦ inl (p, q, still)
           | inr lost ↦
-              let leads = each_is (leads_nearer before t.place) (lost_ends n made events) lost.ends t.lost lost.listed in
+              let leads = each_is (leads_nearer before t.place) (lost_ends n made events)
+              lost.ends t.lost lost.listed in
               let less : e.steps < was.0.steps = elim lost.between [
                 | inl same ↦ nearer_first before t.place was.0 was.1 i e e_there
                     (subst (λ d. leads_nearer before t.place d ≡ true) same leads)

@@ -12,7 +12,6 @@ use Rattle.gptp_model.specs.Acts.{Acts, at as at_time}
 use Rattle.gptp_model.specs.Pending.{NothingBefore}
 use Rattle.gptp_model.specs.World.{WorldState}
 use Rattle.gptp_model.specs.declared.done.Done.{Done}
-use Rattle.gptp_bmca_machine.specs.Acts.{MachineSteps}
 use Rattle.gptp_bmca_machine.specs.Calm.{Calm}
 use Rattle.gptp_bmca_machine.specs.Facts.{StationFacts}
 use Rattle.gptp_bmca_machine.specs.LossLaws.{IsAfterLoss}
@@ -30,21 +29,18 @@ use Rattle.gptp_invariants.specs.WorldBounded.{IsBoundedWorld}
 use Rattle.gptp_invariants.specs.WorldEncodableLaws.{SetsAnOctet}
 use Rattle.gptp_invariants.specs.WorldNews.{AreSilentBy}
 use Rattle.gptp_invariants.specs.WorldStanding.{snapshot_of}
-use Rattle.gptp_invariants.proofs.ChoiceCalmKeptLemmas.{KeepsNetwork, acts_keep, delay_kept, links_quiet, same_snapshot}
+use Rattle.gptp_invariants.proofs.ChoiceCalmKeptLemmas.{KeepsNetwork, same_snapshot}
 use Rattle.gptp_invariants.proofs.ChoicePlaceLemmas.{station_from, station_there}
 use Rattle.gptp_invariants.proofs.ChoicePortLemmas.{held_from}
-use Rattle.gptp_invariants.proofs.ChoiceSeenActLemmas.{acts_seen}
-use Rattle.gptp_invariants.proofs.ChoiceSettlesAsMachineLemmas.{kept_back}
 use Rattle.gptp_invariants.proofs.WorldBoundedLemmas.{bounded_by}
-use Rattle.gptp_invariants.proofs.WorldNewsCourseLemmas.{later_keeps}
-use Rattle.gptp_invariants.proofs.WorldOutlineLemmas.{acts_time}
 use Rattle.gptp_invariants.proofs.WorldSetLemmas.{span_is}
 use Rattle.gptp_invariants.proofs.WorldStandsLemmas.{stands_well}
 use Rattle.gptp_settling_time.proofs.AgingLemmas.{StaysAsNamed, aged_gone, ages_kept}
 use Rattle.gptp_settling_time.proofs.AgingStillLemmas.{IsAgingSeen, aging_kept, aging_over}
 use Rattle.gptp_settling_time.proofs.AlwaysClaimedLemmas.{IsStanding, start_calm, start_network}
 use Rattle.gptp_settling_time.proofs.FitsLemmas.{IsLeftUnmoved, UnlinkedHoldNothing}
-use Rattle.gptp_settling_time.proofs.LeftClaimedLemmas.{HaveAskedBy, HaveAskedLong, asked_acts, asked_heard, asked_later, bare_calm, left_calm, left_net, left_network, same_left, standing_acts, standing_later, way_later}
+use Rattle.gptp_settling_time.proofs.GoesOnLemmas.{GoesOn, goes_acts, goes_later, late_on, quiet_before}
+use Rattle.gptp_settling_time.proofs.LeftClaimedLemmas.{HaveAskedLong, asked_heard, bare_calm, left_calm, left_net, left_network, same_left, way_later}
 use Rattle.gptp_settling_time.proofs.NearEndLemmas.{NearEndsStay, near_ends_hold_none, near_now}
 use Rattle.gptp_settling_time.proofs.SeenSettledLemmas.{seen_chooses, seen_settles}
 use Rattle.gptp_settling_time.proofs.UnlinkedLemmas.{IsLeftSeen}
@@ -124,15 +120,12 @@ pub record IsAgingAlways (p : SettlingParams) (g : Snapshot) (aged silent : ℕ)
       → IsAgingSeen says_announce g (aging_network p silent w) (stay_of p) aged (view w)
 
 module _ (p : SettlingParams) (g : Snapshot) (aged silent : ℕ) (w w' : WorldState)
-    (is : IsAgingAlways p g aged silent w) (standing' : IsStanding p silent w') (asked' : HaveAskedLong w')
-    (keeps : KeepsNetwork w w') (step : MachineSteps says_announce (view w) (view w')) (on : w.time ≤ w'.time) where
+    (is : IsAgingAlways p g aged silent w) (goes : GoesOn p silent w w') where
   same_snap : snapshot_of w' ≡ snapshot_of w
-  same_snap = same_snapshot w w' keeps
+  same_snap = same_snapshot w w' goes.keeps
 
   late_then : delay_in w' ≤ w'.time
-  late_then =
-      let late = is.late in
-      subst (λ delay. delay ≤ w'.time) (sym (delay_kept w w' keeps)) (omega (arith, late, on))
+  late_then = late_on p silent w w' goes is.late
 
   abbrev n : Network
   n = aging_network p silent w
@@ -140,32 +133,32 @@ module _ (p : SettlingParams) (g : Snapshot) (aged silent : ℕ) (w w' : WorldSt
   seen_then : HaveQuietLinks p.params w' → NothingLapses p.params
       → IsAgingSeen says_announce g (aging_network p silent w') (stay_of p) aged (view w')
   seen_then quiet' off =
-      let quiet = links_quiet w' w (kept_back w w' keeps) p.params quiet' in
-      let same = same_aging p silent w w' keeps in
+      let quiet = quiet_before p silent w w' goes quiet' in
+      let same = same_aging p silent w w' goes.keeps in
       let seen = is.seen quiet off in
       let world = is.standing.world in
       let facts = aging_facts p silent w is.standing is.asked quiet in
       let facts' : StationFacts (network_setting n) (view w') =
       subst (λ x. StationFacts (network_setting x) (view w')) same
-      (aging_facts p silent w' standing' asked' quiet') in
+      (aging_facts p silent w' goes.standing goes.asked quiet') in
       let ages' = ages_kept says_announce g (network_setting n) (stay_of p) aged (view w) (view w') facts facts'
-      (named_in p w' standing'.world) step seen.ages in
+      (named_in p w' goes.standing.world) goes.step seen.ages in
       subst (λ x. IsAgingSeen says_announce g x (stay_of p) aged (view w')) (sym same)
       (aging_kept says_announce g n (stay_of p) aged (view w) (view w') is.well
       (stands_well w world.sound world.between world.encodable) is.left
       (aging_after p silent w is.standing is.asked quiet off is.late)
-      (subst (λ x. IsAfterLoss x (view w')) same (aging_after p silent w' standing' asked' quiet' off late_then)) ages'
-      step seen)
+      (subst (λ x. IsAfterLoss x (view w')) same
+      (aging_after p silent w' goes.standing goes.asked quiet' off late_then)) ages' goes.step seen)
 
   aging_step : IsAgingAlways p g aged silent w'
   aging_step = record {
-    standing = standing';
-    asked = asked';
+    standing = goes.standing;
+    asked = goes.asked;
     well = is.well;
     left = subst (IsLeftUnmoved g) (sym same_snap) is.left;
     near = subst AllAreNear (sym same_snap) is.near;
     stay = subst (NearEndsStay g) (sym same_snap) is.stay;
-    way = way_later w w' keeps on is.way;
+    way = way_later w w' goes.keeps goes.on is.way;
     late = late_then;
     seen = seen_then;
   }
@@ -174,22 +167,14 @@ pub aging_later : (p : SettlingParams) (g : Snapshot) (aged silent time : ℕ) (
     → NothingBefore time w.net.pending → IsAgingAlways p g aged silent w
     → IsAgingAlways p g aged silent (at_time time w)
 aging_later p g aged silent time w later first is =
-    aging_step p g aged silent w (at_time time w) is (standing_later p silent time w later first is.standing)
-    (asked_later p w.last_change time w is.standing.world later first is.asked) (later_keeps time w)
-    (inl (record { time = time; later = later; is = refl })) later
+    aging_step p g aged silent w (at_time time w) is (goes_later p silent time w later first is.standing is.asked)
 
 pub aging_acts : (p : SettlingParams) (g : Snapshot) (aged silent : ℕ) (act : Act) (w : WorldState)
     (draws : List Draw) (done : Done) (w' : WorldState) → IsNoChange act → SetsAnOctet act → Acts act w draws done w'
     → IsAgingAlways p g aged silent w → IsAgingAlways p g aged silent w'
 aging_acts p g aged silent act w draws done w' none octet acts is =
-    let world = is.standing.world in
-    let standing' = standing_acts p silent act w draws done w' none octet acts is.standing in
-    let keeps = acts_keep act w draws done w' none acts in
-    let time = acts_time act w draws done w' acts in
-    aging_step p g aged silent w w' is standing'
-    (subst (λ t. HaveAskedBy t w') (sym keeps.change)
-    (asked_acts p w.last_change silent act w draws done w' none acts is.standing standing'.world is.asked)) keeps
-    (inr (acts_seen act w draws done w' none world.sound world.encodable acts)) (omega (arith, time))
+    aging_step p g aged silent w w' is
+    (goes_acts p silent act w draws done w' none octet acts is.standing is.asked)
 
 -- where no port is unanswered, ports without a link aren't capable from now on
 pub aging_now : (p : SettlingParams) (g : Snapshot) (aged silent : ℕ) (w : WorldState)

@@ -14,7 +14,6 @@ use Rattle.gptp_model.specs.Acts.{Acts, at as at_time}
 use Rattle.gptp_model.specs.Pending.{NothingBefore}
 use Rattle.gptp_model.specs.World.{WorldState}
 use Rattle.gptp_model.specs.declared.done.Done.{Done}
-use Rattle.gptp_bmca_machine.specs.Acts.{MachineSteps}
 use Rattle.gptp_bmca_machine.specs.Calm.{Calm}
 use Rattle.gptp_bmca_machine.specs.CutTree.{CutsTree}
 use Rattle.gptp_bmca_machine.specs.EarlyPorts.{ClaimsWhenReady}
@@ -38,20 +37,16 @@ use Rattle.gptp_invariants.specs.ChoiceView.{says_announce, station_view, view}
 use Rattle.gptp_invariants.specs.WorldBounded.{IsBoundedWorld}
 use Rattle.gptp_invariants.specs.WorldEncodableLaws.{SetsAnOctet}
 use Rattle.gptp_invariants.specs.WorldStanding.{snapshot_of}
-use Rattle.gptp_invariants.proofs.ChoiceCalmKeptLemmas.{KeepsNetwork, acts_keep, delay_kept, links_quiet}
 use Rattle.gptp_invariants.proofs.ChoicePlaceLemmas.{station_there}
-use Rattle.gptp_invariants.proofs.ChoiceSeenActLemmas.{acts_seen}
 use Rattle.gptp_invariants.proofs.ChoiceSendLemmas.{world_apart}
 use Rattle.gptp_invariants.proofs.ChoiceSettlesAsMachineLemmas.{kept_back, paths_bound}
 use Rattle.gptp_invariants.proofs.WorldBoundedLemmas.{bounded_by}
-use Rattle.gptp_invariants.proofs.WorldNewsCourseLemmas.{later_keeps}
-use Rattle.gptp_invariants.proofs.WorldOutlineLemmas.{acts_time}
 use Rattle.gptp_invariants.proofs.WorldStandsLemmas.{stands_well}
 use Rattle.gptp_settling_time.proofs.AlwaysClaimedLemmas.{IsStanding, calm_timed}
 use Rattle.gptp_settling_time.proofs.DueLemmas.{IsGoneBy, gone_kept}
 use Rattle.gptp_settling_time.proofs.FallDownLemmas.{OffSettles}
-use Rattle.gptp_settling_time.proofs.LeftClaimedLemmas.{HaveAskedBy, HaveAskedLong, asked_acts, asked_later, left_network, same_left, standing_acts, standing_later}
-use Rattle.gptp_settling_time.proofs.MovedAlwaysLemmas.{after_loss, calm_now, dark_now}
+use Rattle.gptp_settling_time.proofs.GoesOnLemmas.{GoesOn, after_on, calm_now, dark_on, goes_acts, goes_later, late_on, past_on, quiet_before, same_on}
+use Rattle.gptp_settling_time.proofs.LeftClaimedLemmas.{HaveAskedLong, left_network}
 use Rattle.gptp_settling_time.proofs.SeenSettledLemmas.{seen_settles}
 use Rattle.gptp_settling_time.proofs.SettledSeenLemmas.{IsSettledSeen, settled_in}
 use Rattle.gptp_settling_time.proofs.TreeSoundLemmas.{IsSoundOutside, outside_kept}
@@ -128,38 +123,31 @@ module _ (p : SettlingParams) (silent start : ℕ) (w : WorldState) (standing : 
       calm_timed n n.start n.sound (suc (fallen_by n start)) n.claimed n.until (view w) c.facts c
 
 module _ (p : SettlingParams) (g : Snapshot) (Limits : ℕ → Type 0) (silent start : ℕ) (w w' : WorldState)
-    (is : IsFallenAlways p g Limits silent start w) (standing' : IsStanding p silent w') (asked' : HaveAskedLong w')
-    (keeps : KeepsNetwork w w') (step : MachineSteps says_announce (view w) (view w')) (on : w.time ≤ w'.time) where
+    (is : IsFallenAlways p g Limits silent start w) (goes : GoesOn p silent w w') where
   same' : left_network p silent w' ≡ is.n
-  same' = same_left p silent w w' keeps ∙ is.same
+  same' = same_on p silent w w' goes is.n is.same
 
   past' : silent ≤ w'.time
-  past' = let past = is.past in omega (arith, past, on)
-
-  late' : delay_in w' ≤ w'.time
-  late' =
-      let late = is.late in
-      subst (λ delay. delay ≤ w'.time) (sym (delay_kept w w' keeps)) (omega (arith, late, on))
+  past' = past_on p silent w w' goes is.past
 
   module _ (quiet' : HaveQuietLinks p.params w') (off : NothingLapses p.params) where
     quiet : HaveQuietLinks p.params w
-    quiet = links_quiet w' w (kept_back w w' keeps) p.params quiet'
+    quiet = quiet_before p silent w w' goes quiet'
 
     back : FallsOff says_announce g is.n is.top is.best is.next is.base is.depth is.tree start (view w)
     back = (is.seen quiet off).0
 
     kept' : IsAfterLoss is.n (view w')
-    kept' = subst (λ z. IsAfterLoss z (view w')) same' (after_loss p silent w' standing' asked' quiet' past' off late')
+    kept' = after_on p silent w w' goes is.n is.same quiet' is.past off is.late
 
     dark' : UnlinkedAreOff is.n.graph (view w')
-    dark' = subst (λ (z : Network). UnlinkedAreOff z.graph (view w')) same'
-        (dark_now p silent w' standing' asked' quiet' past')
+    dark' = dark_on p silent w w' goes is.n is.same quiet' is.past
 
     back' : FallsOff says_announce g is.n is.top is.best is.next is.base is.depth is.tree start (view w')
     back' =
         falls_on says_announce g is.n (IsCutOff is.n is.next) LeadsNowhere is.top is.best is.next is.base is.depth
         (moves_tree g is.n is.top is.best is.next is.base is.depth is.tree) start (view w) (view w') back kept' dark'
-        step (λ v p u q none joins. absurd none)
+        goes.step (λ v p u q none joins. absurd none)
 
     reached : (v : ℕ) → IsBest is.n.graph v is.next → falls_by is.n start (is.depth v) ≤ fallen_by is.n start
     reached v in_v = falls_within is.n start (is.depth v) (is.tree.deep v in_v)
@@ -176,7 +164,7 @@ module _ (p : SettlingParams) (g : Snapshot) (Limits : ℕ → Type 0) (silent s
     net_n : IsSettlingNetwork timed_n
     net_n =
         subst (λ z. IsSettlingNetwork (record z { slack = suc (fallen_by z start) })) same'
-        (net_then p silent start w' standing' asked' quiet' past')
+        (net_then p silent start w' goes.standing goes.asked quiet' past')
 
     calm_n : Calm timed_n (view w)
     calm_n =
@@ -186,7 +174,7 @@ module _ (p : SettlingParams) (g : Snapshot) (Limits : ℕ → Type 0) (silent s
     calm_n' : Calm timed_n (view w')
     calm_n' =
         subst (λ z. Calm (record z { slack = suc (fallen_by z start) }) (view w')) same'
-        (calm_then p silent start w' standing' asked' quiet' past')
+        (calm_then p silent start w' goes.standing goes.asked quiet' past')
 
     claims_n : ClaimsWhenReady timed_n
     claims_n d from to joins =
@@ -206,17 +194,18 @@ module _ (p : SettlingParams) (g : Snapshot) (Limits : ℕ → Type 0) (silent s
     sound' old gone fits =
         outside_kept says_announce g is.n is.top is.best is.next is.base is.depth is.tree start old
         (λ v in_v. let by = reached v in_v in omega (arith, by, fits)) (view w) (view w') back back'
-        (world_apart w' standing'.world.sound standing'.world.encodable) dark'
-        (is.sound old (gone_kept p Limits start old w' w (kept_back w w' keeps) gone) fits quiet off) step
+        (world_apart w' goes.standing.world.sound goes.standing.world.encodable) dark'
+        (is.sound old (gone_kept p Limits start old w' w (kept_back w w' goes.keeps) gone) fits quiet off) goes.step
 
     settled_on : Settling w → Settling w'
     settled_on (inr (over, invariant)) =
+        let on = goes.on in
         let over' : fallen_by is.n start < w'.time = omega (arith, over, on) in
         inr (
           over',
           invariant_kept says_announce timed_n net_n (view w) (view w') calm_n calm_n'
               (λ i s d due at live near follows late lapse. back.after.kept.lapses i due s at lapse)
-              (no_early_ports says_announce timed_n (view w) (view w') claims_n) step
+              (no_early_ports says_announce timed_n (view w) (view w') claims_n) goes.step
               (λ now. received_then says_announce g is.n is.top is.best is.next is.base is.depth is.tree start
               (fallen_by is.n start) (view w') back' reached over') invariant,
         )
@@ -227,7 +216,7 @@ module _ (p : SettlingParams) (g : Snapshot) (Limits : ℕ → Type 0) (silent s
         settles' =
             tree_settles_on says_announce g is.n (IsCutOff is.n is.next) LeadsNowhere is.top is.best is.next is.base
             is.depth (moves_tree g is.n is.top is.best is.next is.base is.depth is.tree) start (settles_by is.n start)
-            (fallen_by is.n start) (settles_later is.n start) (view w) (view w') back.after back'.after step
+            (fallen_by is.n start) (settles_later is.n start) (view w) (view w') back.after back'.after goes.step
             (off_drop g is.n (view w) (view w') dark') back.falling back'.falling early settles
 
         by : Dec (w'.time ≤ fallen_by is.n start) → Settling w'
@@ -244,9 +233,9 @@ module _ (p : SettlingParams) (g : Snapshot) (Limits : ℕ → Type 0) (silent s
 
   fallen_step : IsFallenAlways p g Limits silent start w'
   fallen_step = record {
-    standing = standing';
-    asked = asked';
-    last = keeps.change ∙ is.last;
+    standing = goes.standing;
+    asked = goes.asked;
+    last = goes.keeps.change ∙ is.last;
     n = is.n;
     same = same';
     top = is.top;
@@ -256,7 +245,7 @@ module _ (p : SettlingParams) (g : Snapshot) (Limits : ℕ → Type 0) (silent s
     depth = is.depth;
     tree = is.tree;
     past = past';
-    late = late';
+    late = late_on p silent w w' goes is.late;
     seen = λ quiet' off. (back' quiet' off, settled_on quiet' off (is.seen (quiet quiet' off) off).1);
     sound = λ old gone fits quiet' off. sound' quiet' off old gone fits;
   }
@@ -266,23 +255,16 @@ pub fallen_later : (p : SettlingParams) (g : Snapshot) (Limits : ℕ → Type 0)
     → NothingBefore time w.net.pending → IsFallenAlways p g Limits silent start w
     → IsFallenAlways p g Limits silent start (at_time time w)
 fallen_later p g Limits silent start time w later first is =
-    fallen_step p g Limits silent start w (at_time time w) is (standing_later p silent time w later first is.standing)
-    (asked_later p w.last_change time w is.standing.world later first is.asked) (later_keeps time w)
-    (inl (record { time = time; later = later; is = refl })) later
+    fallen_step p g Limits silent start w (at_time time w) is
+    (goes_later p silent time w later first is.standing is.asked)
 
 pub fallen_acts : (p : SettlingParams) (g : Snapshot) (Limits : ℕ → Type 0) (silent start : ℕ)
     (act : Act) (w : WorldState)
     (draws : List Draw) (done : Done) (w' : WorldState) → IsNoChange act → SetsAnOctet act → Acts act w draws done w'
     → IsFallenAlways p g Limits silent start w → IsFallenAlways p g Limits silent start w'
 fallen_acts p g Limits silent start act w draws done w' none octet acts is =
-    let world = is.standing.world in
-    let standing' = standing_acts p silent act w draws done w' none octet acts is.standing in
-    let keeps = acts_keep act w draws done w' none acts in
-    let time = acts_time act w draws done w' acts in
-    fallen_step p g Limits silent start w w' is standing'
-    (subst (λ t. HaveAskedBy t w') (sym keeps.change)
-    (asked_acts p w.last_change silent act w draws done w' none acts is.standing standing'.world is.asked)) keeps
-    (inr (acts_seen act w draws done w' none world.sound world.encodable acts)) (omega (arith, time))
+    fallen_step p g Limits silent start w w' is
+    (goes_acts p silent act w draws done w' none octet acts is.standing is.asked)
 
 -- ---- it settles
 

@@ -26,7 +26,7 @@ use Rattle.gptp_settling_time.proofs.ClearedLemmas.{left_is_now}
 use Rattle.gptp_settling_time.proofs.DueLemmas.{IsGoneBy}
 use Rattle.gptp_settling_time.proofs.FallAlwaysLemmas.{IsFallenAlways, fallen_by, fallen_seen, falls_within}
 use Rattle.gptp_settling_time.proofs.LeftClaimedLemmas.{IsLeftAlways, left_itself, left_network}
-use Rattle.gptp_settling_time.proofs.MovedAlwaysLemmas.{nothing_held}
+use Rattle.gptp_settling_time.proofs.GoesOnLemmas.{nothing_held}
 use Rattle.gptp_settling_time.proofs.SettledSeenLemmas.{IsSettledSeen, sound_fits, stage_settled}
 use Rattle.gptp_settling_time.proofs.TreeSoundLemmas.{outside_gone}
 use Rattle.gptp_settling_time.proofs.UnlinkedLemmas.{IsLeftSeen}

@@ -133,6 +133,7 @@ pub mod RestNamesLemmas
 pub mod EndAnswersLemmas
 pub mod TurnsAwayLemmas
 pub mod TurnsTellLemmas
+pub mod GoesOnLemmas
 pub mod MovedAlwaysLemmas
 pub mod OneEndLemmas
 pub mod TurnsBeginLemmas

@@ -1,6 +1,6 @@
 -- A world since a link went down by which one system is moved: its neighbours turn away, and it settles once what was
 -- told before is gone and each distance has had its time.
-use Rattle.std.proofs.Common.{◌≡◌, ◌<◌, ◌≤◌, ◌+◌, ◌*◌, ℕ, zero, suc, pred, List, Some, None, refl, sym, ap, subst, ◌∙◌, inl, inr, arith}
+use Rattle.std.proofs.Common.{◌≡◌, ◌<◌, ◌≤◌, ◌+◌, ◌*◌, ℕ, zero, suc, pred, List, refl, sym, ap, subst, inl, inr, arith}
 use Rattle.gptp_graph.specs.Distance.{IsDistance}
 use Rattle.gptp_graph.specs.PathBound.{path_bound}
 use Rattle.gptp_graph.specs.Snapshot.{Snapshot, System}
@@ -13,12 +13,9 @@ use Rattle.gptp_model.specs.Acts.{Acts, at as at_time}
 use Rattle.gptp_model.specs.Pending.{NothingBefore}
 use Rattle.gptp_model.specs.World.{WorldState}
 use Rattle.gptp_model.specs.declared.done.Done.{Done}
-use Rattle.gptp_bmca_machine.specs.Acts.{MachineSteps}
 use Rattle.gptp_bmca_machine.specs.Calm.{Calm}
 use Rattle.gptp_bmca_machine.specs.Levels.{Invariant}
-use Rattle.gptp_bmca_machine.specs.LossLaws.{IsAfterLoss}
 use Rattle.gptp_bmca_machine.specs.Network.{IsSettlingNetwork, Network, settled_from, since}
-use Rattle.gptp_bmca_machine.specs.Station.{Disabled, Received, Station as SeenStation}
 use Rattle.gptp_bmca_machine.proofs.SettledLemmas.{systems_bounded}
 use Rattle.gptp_bmca_machine.proofs.TimesLemmas.{times_fit}
 use Rattle.gptp_invariants.specs.ChoiceCalm.{HaveQuietLinks, delay_in}
@@ -29,57 +26,18 @@ use Rattle.gptp_invariants.specs.ChoiceView.{says_announce, station_view, view}
 use Rattle.gptp_invariants.specs.WorldBounded.{IsBoundedWorld}
 use Rattle.gptp_invariants.specs.WorldEncodableLaws.{SetsAnOctet}
 use Rattle.gptp_invariants.specs.WorldStanding.{snapshot_of}
-use Rattle.gptp_invariants.proofs.ChoiceCalmKeptLemmas.{KeepsNetwork, acts_keep, delay_kept, links_quiet}
-use Rattle.gptp_invariants.proofs.ChoicePlaceLemmas.{station_from, station_there}
-use Rattle.gptp_invariants.proofs.ChoiceSeenActLemmas.{acts_seen}
-use Rattle.gptp_invariants.proofs.ChoiceSettlesAsMachineLemmas.{kept_back, paths_bound}
+use Rattle.gptp_invariants.proofs.ChoicePlaceLemmas.{station_there}
+use Rattle.gptp_invariants.proofs.ChoiceSettlesAsMachineLemmas.{paths_bound}
 use Rattle.gptp_invariants.proofs.WorldBoundedLemmas.{bounded_by}
-use Rattle.gptp_invariants.proofs.WorldNewsCourseLemmas.{later_keeps}
-use Rattle.gptp_invariants.proofs.WorldOutlineLemmas.{acts_time}
 use Rattle.gptp_invariants.proofs.WorldStandsLemmas.{stands_well}
-use Rattle.gptp_settling_time.proofs.AlwaysClaimedLemmas.{IsStanding, calm_timed, start_calm, start_network}
-use Rattle.gptp_settling_time.proofs.BesideLemmas.{IsDark, IsMoving}
-use Rattle.gptp_settling_time.proofs.FitsLemmas.{UnlinkedHoldNothing}
-use Rattle.gptp_settling_time.proofs.LeftClaimedLemmas.{HaveAskedBy, HaveAskedLong, asked_acts, asked_heard, asked_later, left_calm, left_network, same_left, standing_acts, standing_later}
+use Rattle.gptp_settling_time.proofs.AlwaysClaimedLemmas.{IsStanding, calm_timed}
+use Rattle.gptp_settling_time.proofs.BesideLemmas.{IsMoving}
+use Rattle.gptp_settling_time.proofs.GoesOnLemmas.{GoesOn, after_on, calm_now, dark_on, goes_acts, goes_later, late_on, past_on, quiet_before, same_on}
+use Rattle.gptp_settling_time.proofs.LeftClaimedLemmas.{HaveAskedLong, left_network}
 use Rattle.gptp_settling_time.proofs.MovedLemmas.{EachTurns, each_turns, invariant_then, moving_kept}
 use Rattle.gptp_settling_time.proofs.SeenSettledLemmas.{seen_settles}
 use Rattle.gptp_settling_time.proofs.SettledSeenLemmas.{IsSettledSeen, settled_in}
 use Rattle.gptp_settling_time.proofs.TurnLemmas.{TurnsOne, starts_far}
-
--- ---- what is known of the world's machine
-
-module _ (p : SettlingParams) (silent : ℕ) (w : WorldState) (standing : IsStanding p silent w) (asked : HaveAskedLong w)
-    (quiet : HaveQuietLinks p.params w) (past : silent ≤ w.time) where
-  abbrev n_of : Network
-  n_of = left_network p silent w
-
-  -- ports that no link is at are off
-  pub dark_now : IsDark n_of (view w)
-  dark_now i s place q there live at none =
-      let calm : Calm (start_network p 0 silent w) (view w) =
-      start_calm p silent w standing (asked_heard p silent w asked) quiet 0 in
-      ((calm.stations i s there live).ports place q at).unlinked past none
-
-  pub nothing_held : UnlinkedHoldNothing n_of.graph (view w)
-  nothing_held i s place r there live none (q, at, holds) =
-      let off = dark_now i s place q there live at none in
-      absurd (let both : Received r ≡ Disabled = sym holds ∙ off in cc)
-
-  pub calm_now : Calm n_of (view w)
-  calm_now = left_calm p silent w standing asked quiet nothing_held
-
-  pub after_loss : NothingLapses p.params → delay_in w ≤ w.time → IsAfterLoss n_of (view w)
-  after_loss off late = record {
-    calm = calm_now;
-    capable = λ port linked. omega arith;
-    lapses = λ i due s at lapse.
-        let x = station_from w.stations i s at in
-        let none : s.lapse ≡ None =
-        ap (λ (z : SeenStation). z.lapse) x.is ∙ (standing.world.known.set i x.station x.here).lapses off in
-        absurd (let both : None ≡ Some due = sym none ∙ lapse in cc);
-    begun = omega arith;
-    late = late;
-  }
 
 -- ---- the claim
 
@@ -107,19 +65,7 @@ pub record IsMovedAlways (p : SettlingParams) (g : Snapshot) (silent start : ℕ
       × EachTurns says_announce g n x d e best turns (start + n.most) (turned_by n start) (view w)
 
 module _ (p : SettlingParams) (g : Snapshot) (silent start : ℕ) (w w' : WorldState)
-    (is : IsMovedAlways p g silent start w) (standing' : IsStanding p silent w') (asked' : HaveAskedLong w')
-    (keeps : KeepsNetwork w w') (step : MachineSteps says_announce (view w) (view w')) (on : w.time ≤ w'.time) where
-  same' : left_network p silent w' ≡ is.n
-  same' = same_left p silent w w' keeps ∙ is.same
-
-  past' : silent ≤ w'.time
-  past' = let past = is.past in omega (arith, past, on)
-
-  late' : delay_in w' ≤ w'.time
-  late' =
-      let late = is.late in
-      subst (λ delay. delay ≤ w'.time) (sym (delay_kept w w' keeps)) (omega (arith, late, on))
-
+    (is : IsMovedAlways p g silent start w) (goes : GoesOn p silent w w') where
   room : (far : ℕ) → is.d ≤ far → start + is.n.most + is.n.most < turned_by is.n start far
   room zero least =
       let first = starts_far g is.n is.x is.d is.e is.best is.turns in absurd (omega (arith, first, least))
@@ -130,32 +76,31 @@ module _ (p : SettlingParams) (g : Snapshot) (silent start : ℕ) (w w' : WorldS
       × EachTurns says_announce g is.n is.x is.d is.e is.best is.turns (start + is.n.most) (turned_by is.n start)
       (view w')
   seen_then quiet' off =
-      let quiet = links_quiet w' w (kept_back w w' keeps) p.params quiet' in
-      let (m, each) = is.seen quiet off in
-      let kept' = subst (λ z. IsAfterLoss z (view w')) same'
-      (after_loss p silent w' standing' asked' quiet' past' off late') in
-      let dark' = subst (λ z. IsDark z (view w')) same' (dark_now p silent w' standing' asked' quiet' past') in
-      let m' = moving_kept says_announce g is.n is.x is.d is.e is.best is.turns (view w) (view w') m kept' dark' step in
+      let (m, each) = is.seen (quiet_before p silent w w' goes quiet') off in
+      let kept' = after_on p silent w w' goes is.n is.same quiet' is.past off is.late in
+      let dark' = dark_on p silent w w' goes is.n is.same quiet' is.past in
+      let m' = moving_kept says_announce g is.n is.x is.d is.e is.best is.turns (view w) (view w') m kept' dark'
+      goes.step in
       let begun = is.begun in (
         m',
         each_turns says_announce g is.n is.x is.d is.e is.best is.turns (start + is.n.most) (turned_by is.n start)
-            room (view w) (view w') m m' (omega (arith, begun)) step each,
+            room (view w) (view w') m m' (omega (arith, begun)) goes.step each,
       )
 
   moved_step : IsMovedAlways p g silent start w'
   moved_step = record {
-    standing = standing';
-    asked = asked';
+    standing = goes.standing;
+    asked = goes.asked;
     n = is.n;
-    same = same';
+    same = same_on p silent w w' goes is.n is.same;
     x = is.x;
     d = is.d;
     e = is.e;
     best = is.best;
     turns = is.turns;
-    past = past';
-    begun = let begun = is.begun in omega (arith, begun, on);
-    late = late';
+    past = past_on p silent w w' goes is.past;
+    begun = let begun = is.begun in let on = goes.on in omega (arith, begun, on);
+    late = late_on p silent w w' goes is.late;
     seen = seen_then;
   }
 
@@ -163,22 +108,14 @@ pub moved_later : (p : SettlingParams) (g : Snapshot) (silent start time : ℕ) 
     → NothingBefore time w.net.pending → IsMovedAlways p g silent start w
     → IsMovedAlways p g silent start (at_time time w)
 moved_later p g silent start time w later first is =
-    moved_step p g silent start w (at_time time w) is (standing_later p silent time w later first is.standing)
-    (asked_later p w.last_change time w is.standing.world later first is.asked) (later_keeps time w)
-    (inl (record { time = time; later = later; is = refl })) later
+    moved_step p g silent start w (at_time time w) is (goes_later p silent time w later first is.standing is.asked)
 
 pub moved_acts : (p : SettlingParams) (g : Snapshot) (silent start : ℕ) (act : Act) (w : WorldState)
     (draws : List Draw) (done : Done) (w' : WorldState) → IsNoChange act → SetsAnOctet act → Acts act w draws done w'
     → IsMovedAlways p g silent start w → IsMovedAlways p g silent start w'
 moved_acts p g silent start act w draws done w' none octet acts is =
-    let world = is.standing.world in
-    let standing' = standing_acts p silent act w draws done w' none octet acts is.standing in
-    let keeps = acts_keep act w draws done w' none acts in
-    let time = acts_time act w draws done w' acts in
-    moved_step p g silent start w w' is standing'
-    (subst (λ t. HaveAskedBy t w') (sym keeps.change)
-    (asked_acts p w.last_change silent act w draws done w' none acts is.standing standing'.world is.asked)) keeps
-    (inr (acts_seen act w draws done w' none world.sound world.encodable acts)) (omega (arith, time))
+    moved_step p g silent start w w' is
+    (goes_acts p silent act w draws done w' none octet acts is.standing is.asked)
 
 -- ---- it settles
 

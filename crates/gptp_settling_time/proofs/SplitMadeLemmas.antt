@@ -6,7 +6,7 @@ use Rattle.gptp_lists.specs.Members.{In}
 use Rattle.gptp_graph.specs.PathBound.{path_bound}
 use Rattle.gptp_graph.specs.Snapshot.{IsLinked, PortIdentity, Snapshot, System, clocks, port_of}
 use Rattle.gptp_links.specs.Fate.{Draw}
-use Rattle.gptp_setup.specs.SettlingParams.{SettlingParams, largest_interval}
+use Rattle.gptp_setup.specs.SettlingParams.{SettlingParams}
 use Rattle.gptp_scenario.specs.Network.{NetworkState, pace_of}
 use Rattle.gptp_scenario.specs.SettlingTime.{silence_span}
 use Rattle.gptp_scenario.specs.SyncWait.{sync_paths}
@@ -25,14 +25,12 @@ use Rattle.gptp_invariants.specs.ChoiceCalm.{HaveQuietLinks, delay_in, sync_path
 use Rattle.gptp_invariants.specs.ChoiceSettlesAsMachine.{IsWorld}
 use Rattle.gptp_invariants.specs.ChoiceView.{says_announce, view}
 use Rattle.gptp_invariants.specs.WorldStanding.{snapshot_of}
-use Rattle.gptp_invariants.proofs.WorldGreatestDelayLemmas.{delay_short}
 use Rattle.gptp_invariants.proofs.WorldStandsLemmas.{stands_well}
 use Rattle.gptp_theorem.specs.AlikeLaws.{AreAlike}
 use Rattle.gptp_theorem.specs.PlayedLaws.{IsPlayable}
 use Rattle.gptp_theorem.proofs.AlikeLemmas.{best as alike_best, clock_among, distance as alike_distance, turned}
 use Rattle.gptp_theorem.proofs.CalmLemmas.{quiet_stands}
 use Rattle.gptp_theorem.proofs.SyncPathLemmas.{paths_stand}
-use Rattle.gptp_settling_time.specs.Arrivals.{HasArrivedBy}
 use Rattle.gptp_settling_time.specs.EventKinds.{LowersUnusedCalm}
 use Rattle.gptp_settling_time.specs.Leads.{IsGoneBy, SplitsNow}
 use Rattle.gptp_settling_time.specs.Losses.{LowersUnused}
@@ -41,7 +39,6 @@ use Rattle.gptp_settling_time.proofs.AgesByLemmas.{by_map}
 use Rattle.gptp_settling_time.proofs.AgesByWorldLemmas.{WorldAgesBy}
 use Rattle.gptp_settling_time.proofs.AgingClaimedLemmas.{stay_of}
 use Rattle.gptp_settling_time.proofs.FailedAgesLemmas.{failed_ages_by}
-use Rattle.gptp_settling_time.proofs.FallDownLemmas.{FlightNames}
 use Rattle.gptp_settling_time.proofs.GainLemmas.{lives_so, unused_so, up_so}
 use Rattle.gptp_settling_time.proofs.HoldSpanLemmas.{ages_over}
 use Rattle.gptp_settling_time.proofs.KeptToLemmas.{KeepsTo}
@@ -63,6 +60,7 @@ use Rattle.gptp_settling_time.proofs.WereSilentLemmas.{WereSilent, were_down, we
 use Rattle.gptp_settling_time.proofs.WorldMovesLemmas.{adjacent_alike, alike_so, cut_off_alike, joins_alike, near_so, unmoved_alike, twice_alike}
 use Rattle.gptp_settling_time.proofs.OnwardLemmas.{IsOnwardFrom}
 use Rattle.gptp_bmca_machine.proofs.TwoTopsBeginLemmas.{FlightLeads}
+use Rattle.gptp_settling_time.proofs.TreeMadeLemmas.{few_then, late_then, names_now}
 
 -- and so is one that turns
 turned_alike : (g h g' h' : Snapshot) → AreAlike g h → AreAlike g' h' → (best : System) (t : Turning)
@@ -188,40 +186,12 @@ module _ (d : DocumentState) (playable : IsPlayable d) (made : List Timed) (even
     few_before : path_bound (snapshot_of then) ≤ 255
     few_before = subst (λ (y : SyncPaths). y.systems ≤ 255) paths_then x.few
 
-    few_then : path_bound (snapshot_of w') ≤ 255
-    few_then =
-        let few = x.few in
-        let fewer = x.paths in
-        subst (λ (y : SyncPaths). y.systems ≤ 255) paths_after (omega (arith, few, fewer))
-
     shorter_then : delay_in w' ≤ delay_in then
     shorter_then =
         subst (λ (y : SyncPaths). y.delay ≤ delay_in then) paths_after
         (subst (λ (y : SyncPaths). (sync_paths n more).delay ≤ y.delay) paths_then x.delay)
 
-    -- a delay is over
-    late_then : delay_in w' ≤ w'.time
-    late_then = by splits.arrives
-      where
-        by : HasArrivedBy n made stood splits.arrived → delay_in w' ≤ w'.time
-        by (inl is) =
-            let short : delay_in w' ≤ largest_interval p = delay_short p w' after.claim.world.known in
-            let since = splits.quiet in
-            omega (arith, short, is, since, time)
-        by (inr (is, within)) =
-            let delay = ap (λ (y : SyncPaths). y.delay) paths_then in
-            let shorter = shorter_then in
-            let since = splits.quiet in
-            omega (arith, shorter, delay, is, since, time)
-
-    -- what is in flight names the best
-    names_now : FlightNames says_announce (snapshot_of then) (view then)
-    names_now j l f a best at among said joins is_best =
-        let left = seen_then.calm.left j l f at among in
-        let since = splits.quiet in
-        named j l f a best at among said joins is_best (omega (arith, left, at_time, since))
-
-    -- and leads onward
+    -- what is in flight leads onward
     onward_now : FlightLeads says_announce (snapshot_of then) (view then)
     onward_now j l f a d e at among said joins =
         let left = seen_then.calm.left j l f at among in
@@ -237,6 +207,11 @@ module _ (d : DocumentState) (playable : IsPlayable d) (made : List Timed) (even
     split_to =
         let over = rest.over in
         let past : start ≤ then.time = omega (arith, over, at_time) in
+        let since = splits.quiet in
+        let names = names_now p then seen_then splits.arrived named (omega (arith, since, at_time)) in
+        let few = few_then d playable made more w' after x.paths x.few in
+        let late = late_then d playable made more w' after stood splits.arrived splits.arrives
+        (omega (arith, since, time)) x.delay in
         let lived = lives_so n made then keeps.stands world_then.sound x.clock x.live came.1.place came.1.station
         (record { here = came.1.is.here; named = came.1.is.named }) in
         let by_link = failed_ages_by p x.clock then draws done w' world_then after.claim.world came lived seen_then
@@ -257,9 +232,9 @@ module _ (d : DocumentState) (playable : IsPlayable d) (made : List Timed) (even
           failed = then.time;
           since = anew_begins p x.clock then draws done w' world_then after.claim.world came lived seen_then rest.sound
               start keeps.claim.pace keeps.claim.measured past rest.ready quiet rest.silent
-              (near_so d playable made then keeps x.few) (omega (arith, over, at_time)) names_now onward_now silent best
+              (near_so d playable made then keeps x.few) (omega (arith, over, at_time)) names onward_now silent best
               each
-              few_before few_then shorter_then (GoesOver n before made more then.time gone silent) (SetLimits n made)
+              few_before few shorter_then (GoesOver n before made more then.time gone silent) (SetLimits n made)
               (WereUsed n made then.time)
               (λ limit (most, within, is). subst (λ t. AreLimitedBy t then) (sym is) (keeps.limited most within))
               (λ old (used, past). (
@@ -275,7 +250,7 @@ module _ (d : DocumentState) (playable : IsPlayable d) (made : List Timed) (even
               (over_linked n made event x.clock x.act then w' playable.network keeps.stands world_then.sound
               (stands_well then world_then.sound world_then.between world_then.encodable) after.stands
               after.claim.world.sound then.time port until over_it)) (by links)) (λ port until is. is.1)
-              (over_gone n before made more then.time gone silent) some late_then last;
+              (over_gone n before made more then.time gone silent) some late last;
           were = were_failed n made x.clock then draws done w' world_then after.claim.world came lived keeps.stands
               quiet start past rest.silent;
           unanswered = silent_is;

@@ -32,7 +32,7 @@ use Rattle.gptp_settling_time.proofs.EndAnswersLemmas.{EndAnswers}
 use Rattle.gptp_settling_time.proofs.FallAlwaysLemmas.{IsFallenAlways, fallen_by, falls_within, settles_by, settles_later}
 use Rattle.gptp_settling_time.proofs.FallDownLemmas.{FlightNames, OffSettles, tree_falls, tree_settles}
 use Rattle.gptp_settling_time.proofs.LeftClaimedLemmas.{HaveAskedLong, left_network}
-use Rattle.gptp_settling_time.proofs.MovedAlwaysLemmas.{after_loss, dark_now}
+use Rattle.gptp_settling_time.proofs.GoesOnLemmas.{after_loss, dark_now}
 use Rattle.gptp_settling_time.proofs.SettledSeenLemmas.{IsSettledSeen}
 use Rattle.gptp_settling_time.proofs.SinceSetLemmas.{AreLimitedBy}
 use Rattle.gptp_settling_time.proofs.TreeSoundBeginLemmas.{outside_begins}

@@ -1,6 +1,6 @@
--- A link in use goes down in a world of a document whose choice had stood for an announce interval: what is in flight
--- names the best, and a delay is over.
-use Rattle.std.proofs.Common.{List, [], ap, arith, inl, inr, subst, sym, true, ℕ, ◌++◌, ◌∷◌, ◌≡◌, ◌≤◌, slice_get, Some}
+-- A loss is made in a world of a document whose choice had stood for an announce interval: what is in flight names the
+-- best, a delay is over, and what is so of a link that goes down.
+use Rattle.std.proofs.Common.{List, ap, arith, inl, inr, subst, sym, true, ℕ, ◌≡◌, ◌≤◌, slice_get, Some}
 use Rattle.gptp_lists.proofs.MappedLemmas.{alike}
 use Rattle.gptp_graph.specs.PathBound.{path_bound}
 use Rattle.gptp_links.specs.declared.link.Direction.{Direction}
@@ -9,7 +9,7 @@ use Rattle.gptp_links.specs.Fate.{Draw}
 use Rattle.gptp_setup.specs.SettlingParams.{SettlingParams, largest_interval}
 use Rattle.gptp_scenario.specs.Calm.{IsCalm, IsUsed, NothingLapses}
 use Rattle.gptp_scenario.specs.Change.{link_after}
-use Rattle.gptp_scenario.specs.Network.{IsEnd, NetworkState, pace_of}
+use Rattle.gptp_scenario.specs.Network.{IsEnd, pace_of}
 use Rattle.gptp_scenario.specs.SyncWait.{sync_paths}
 use Rattle.gptp_scenario.specs.declared.change.Act.TheVariants.{Change as Changing}
 use Rattle.gptp_scenario.specs.declared.change.Change.TheVariants.{LinkDown}
@@ -38,73 +38,69 @@ use Rattle.gptp_settling_time.proofs.LossMadeLemmas.{HasRestedSo}
 use Rattle.gptp_settling_time.proofs.NamedLemmas.{IsNamedFrom}
 use Rattle.gptp_settling_time.proofs.SettledSeenLemmas.{IsSettledSeen}
 
-module _ (d : DocumentState) (playable : IsPlayable d) (made : List Timed) (event : Timed) (then : WorldState)
-    (draws : List Draw) (done : Done) (w' : WorldState)
-    (at_time : then.time ≡ event.at) (time : w'.time ≡ event.at) (keeps : KeepsTo d made then)
-    (after : KeepsTo d (made ++ event ∷ []) w') (start : ℕ) (rest : HasRestedSo (pace_of d.network) start event.at then)
-    (stood arrived : ℕ) (named : IsNamedFrom arrived then)
-    (arrives : HasArrivedBy d.network made stood arrived)
-    (quiet : arrived ≤ event.at) (calm : IsCalm d.network made) (off : NothingLapses d.network.params) where
-  abbrev p : SettlingParams
-  p = pace_of d.network
+pub seen_then : (d : DocumentState) → IsPlayable d → (made : List Timed) (then : WorldState) → KeepsTo d made then
+    → (start at : ℕ) → HasRestedSo (pace_of d.network) start at then → IsCalm d.network made
+    → NothingLapses d.network.params → IsSettledSeen (pace_of d.network) then
+seen_then d playable made then keeps start at rest calm off =
+    rest.settled (quiet_stands d.network made then playable.network keeps.stands keeps.claim.world.sound calm).links off
 
-  abbrev n : NetworkState
-  n = d.network
+-- what is in flight names the best
+pub names_now : (p : SettlingParams) (then : WorldState) → IsSettledSeen p then → (arrived : ℕ)
+    → IsNamedFrom arrived then → arrived ≤ then.time → FlightNames says_announce (snapshot_of then) (view then)
+names_now p then seen arrived named quiet j l f a best at among said joins is_best =
+    let left = seen.calm.left j l f at among in
+    named j l f a best at among said joins is_best (omega (arith, left, quiet))
 
-  abbrev more : List Timed
-  more = made ++ event ∷ []
-
-  pub seen_then : IsSettledSeen p then
-  seen_then =
-      rest.settled (quiet_stands n made then playable.network keeps.stands keeps.claim.world.sound calm).links off
+module _ (d : DocumentState) (playable : IsPlayable d) (made more : List Timed) (w' : WorldState)
+    (after : KeepsTo d more w') where
+  abbrev paths : SyncPaths
+  paths = sync_paths d.network made
 
   -- no path of then on has more than 255 systems
-  pub few_then : (sync_paths n more).systems ≤ (sync_paths n made).systems → (sync_paths n made).systems ≤ 255
+  pub few_then : (sync_paths d.network more).systems ≤ paths.systems → paths.systems ≤ 255
       → path_bound (snapshot_of w') ≤ 255
   few_then fewer few =
       subst (λ (y : SyncPaths). y.systems ≤ 255)
-      (paths_stand n more w' playable.network after.stands after.claim.world.sound) (omega (arith, few, fewer))
-
-  -- what is in flight names the best
-  pub names_now : FlightNames says_announce (snapshot_of then) (view then)
-  names_now j l f a best at among said joins is_best =
-      let left = seen_then.calm.left j l f at among in
-      named j l f a best at among said joins is_best (omega (arith, left, at_time, quiet))
+      (paths_stand d.network more w' playable.network after.stands after.claim.world.sound) (omega (arith, few, fewer))
 
   -- a delay is over
-  pub late_then : (sync_paths n more).delay ≤ (sync_paths n made).delay → delay_in w' ≤ w'.time
-  late_then least = by arrives
+  pub late_then : (stood arrived : ℕ) → HasArrivedBy d.network made stood arrived → arrived ≤ w'.time
+      → (sync_paths d.network more).delay ≤ paths.delay → delay_in w' ≤ w'.time
+  late_then stood arrived arrives quiet least = by arrives
     where
-      delay : (sync_paths n more).delay ≡ delay_in w'
+      delay : (sync_paths d.network more).delay ≡ delay_in w'
       delay =
           ap (λ (y : SyncPaths). y.delay)
-          (paths_stand n more w' playable.network after.stands after.claim.world.sound)
+          (paths_stand d.network more w' playable.network after.stands after.claim.world.sound)
 
-      by : HasArrivedBy n made stood arrived → delay_in w' ≤ w'.time
+      by : HasArrivedBy d.network made stood arrived → delay_in w' ≤ w'.time
       by (inl is) =
-          let short : delay_in w' ≤ largest_interval p = delay_short p w' after.claim.world.known in
-          omega (arith, short, is, quiet, time)
-      by (inr (is, within)) = omega (arith, least, delay, is, quiet, time)
+          let short : delay_in w' ≤ largest_interval (pace_of d.network) =
+          delay_short (pace_of d.network) w' after.claim.world.known in
+          omega (arith, short, is, quiet)
+      by (inr (is, within)) = omega (arith, least, delay, is, quiet)
 
+module _ (d : DocumentState) (made : List Timed) (then : WorldState) (keeps : KeepsTo d made then) where
   -- what is so of the link that goes down
-  pub at_link : (owner port : ℕ) (came : Acts (Changing (LinkDown owner port)) then draws done w')
-      (So : LinkSpec → Type 0)
-      → ((place : ℕ) (v : LinkSpec) → slice_get n.links place ≡ Some v
+  pub at_link : (draws : List Draw) (done : Done) (w' : WorldState) (owner port : ℕ)
+      (came : Acts (Changing (LinkDown owner port)) then draws done w') (So : LinkSpec → Type 0)
+      → ((place : ℕ) (v : LinkSpec) → slice_get d.network.links place ≡ Some v
       → IsEnd (port_id owner port) (link_after made v) → So (link_after made v))
       → So (channel_wire came.1.channel)
-  at_link owner port came So so =
+  at_link draws done w' owner port came So so =
       let channel = came.1.channel in
-      let (v, there, same) = alike (link_after made) channel_wire n.links then.net.channels (sym keeps.stands.links)
+      let (v, there, same) = alike (link_after made) channel_wire d.network.links then.net.channels
+      (sym keeps.stands.links)
       came.1.place channel came.1.is.here in
       subst So same (so came.1.place v there (subst (IsEnd (port_id owner port)) (sym same) came.1.is.joined))
 
   -- its ends live
-  pub live_ends : (channel : Channel) → IsUsed n.systems made (channel_wire channel) → (direction : Direction)
+  pub live_ends : (channel : Channel) → IsUsed d.network.systems made (channel_wire channel) → (direction : Direction)
       (at_place : ℕ) (station : Station) → slice_get then.stations at_place ≡ Some station
       → clock station.system ≡ (sender direction channel).clock → station.live ≡ true
   live_ends channel used FromA at_place station stands is =
-      lives_so n made then keeps.stands keeps.claim.world.sound channel.a.clock used.a at_place station
+      lives_so d.network made then keeps.stands keeps.claim.world.sound channel.a.clock used.a at_place station
       (record { here = stands; named = is })
   live_ends channel used FromB at_place station stands is =
-      lives_so n made then keeps.stands keeps.claim.world.sound channel.b.clock used.b at_place station
+      lives_so d.network made then keeps.stands keeps.claim.world.sound channel.b.clock used.b at_place station
       (record { here = stands; named = is })

@@ -31,7 +31,8 @@ use Rattle.gptp_invariants.proofs.WorldNewsCourseLemmas.{later_keeps}
 use Rattle.gptp_invariants.proofs.WorldNewsLemmas.{silent_from_now}
 use Rattle.gptp_settling_time.proofs.AlwaysClaimedLemmas.{IsClaimedAlways}
 use Rattle.gptp_settling_time.proofs.LeftClaimedLemmas.{HaveAskedBy, asked_acts, asked_later, left_net, left_network}
-use Rattle.gptp_settling_time.proofs.MovedAlwaysLemmas.{IsMovedAlways, calm_now, moved_acts, moved_later, moved_seen, nothing_held, turned_by}
+use Rattle.gptp_settling_time.proofs.GoesOnLemmas.{calm_now, nothing_held}
+use Rattle.gptp_settling_time.proofs.MovedAlwaysLemmas.{IsMovedAlways, moved_acts, moved_later, moved_seen, turned_by}
 use Rattle.gptp_settling_time.proofs.MovedLemmas.{best_before, received_then}
 use Rattle.gptp_settling_time.proofs.NamesItselfLemmas.{AllNameItself}
 use Rattle.gptp_settling_time.proofs.RightBeginLemmas.{root_right}

@@ -41,7 +41,7 @@ use Rattle.gptp_settling_time.proofs.FallAlwaysLemmas.{fallen_by, settles_by}
 use Rattle.gptp_settling_time.proofs.FallDownLemmas.{FlightNames}
 use Rattle.gptp_settling_time.proofs.LeftClaimedLemmas.{HaveAskedLong, left_network}
 use Rattle.gptp_settling_time.proofs.LoweredLemmas.{ends, less_then, ready_on, still_joins, wires}
-use Rattle.gptp_settling_time.proofs.MovedAlwaysLemmas.{after_loss, dark_now}
+use Rattle.gptp_settling_time.proofs.GoesOnLemmas.{after_loss, dark_now}
 use Rattle.gptp_settling_time.proofs.ReducedLemmas.{NearerStay}
 use Rattle.gptp_settling_time.proofs.SettledSeenLemmas.{IsSettledSeen}
 use Rattle.gptp_settling_time.proofs.TakenDownLemmas.{silent_down, told_keeps}

@@ -1,5 +1,5 @@
 -- A world since a link went down by which a tree turned to its one way out: it settles within two ways.
-use Rattle.std.proofs.Common.{◌≡◌, ◌<◌, ◌≤◌, ◌+◌, ◌*◌, ℕ, zero, suc, pred, true, List, Some, slice_get, refl, sym, subst, ◌∙◌, inl, inr, arith}
+use Rattle.std.proofs.Common.{◌≡◌, ◌<◌, ◌≤◌, ◌+◌, ◌*◌, ℕ, zero, suc, pred, true, List, Some, slice_get, refl, sym, subst, arith}
 use Rattle.std.proofs.Math.Nat.{mul-le-mul_right}
 use Rattle.gptp_lists.specs.Members.{In}
 use Rattle.gptp_graph.specs.Best.{IsBest}
@@ -18,7 +18,6 @@ use Rattle.gptp_model.specs.Pending.{NothingBefore}
 use Rattle.gptp_model.specs.World.{WorldState}
 use Rattle.gptp_model.specs.declared.done.Done.{Done}
 use Rattle.gptp_model.specs.declared.station.Station.{Station}
-use Rattle.gptp_bmca_machine.specs.Acts.{MachineSteps}
 use Rattle.gptp_bmca_machine.specs.Clean.{CameOverLink}
 use Rattle.gptp_bmca_machine.specs.LossLaws.{IsAfterLoss, Unmoved}
 use Rattle.gptp_bmca_machine.specs.Network.{Network}
@@ -39,18 +38,13 @@ use Rattle.gptp_invariants.specs.ChoiceView.{says_announce, station_view, view}
 use Rattle.gptp_invariants.specs.WorldBounded.{IsBoundedWorld}
 use Rattle.gptp_invariants.specs.WorldEncodableLaws.{SetsAnOctet}
 use Rattle.gptp_invariants.specs.WorldStanding.{snapshot_of}
-use Rattle.gptp_invariants.proofs.ChoiceCalmKeptLemmas.{KeepsNetwork, acts_keep, delay_kept, links_quiet}
 use Rattle.gptp_invariants.proofs.ChoicePlaceLemmas.{station_there}
-use Rattle.gptp_invariants.proofs.ChoiceSeenActLemmas.{acts_seen}
-use Rattle.gptp_invariants.proofs.ChoiceSettlesAsMachineLemmas.{kept_back}
 use Rattle.gptp_invariants.proofs.WorldBoundedLemmas.{AreAbove, bounded_by}
-use Rattle.gptp_invariants.proofs.WorldNewsCourseLemmas.{later_keeps}
-use Rattle.gptp_invariants.proofs.WorldOutlineLemmas.{acts_time}
 use Rattle.gptp_invariants.proofs.WorldStandsLemmas.{stands_well}
 use Rattle.gptp_settling_time.proofs.AlwaysClaimedLemmas.{IsStanding}
 use Rattle.gptp_settling_time.proofs.FallAlwaysLemmas.{fallen_by, falls_within, settles_by, settles_later}
-use Rattle.gptp_settling_time.proofs.LeftClaimedLemmas.{HaveAskedBy, HaveAskedLong, asked_acts, asked_later, left_network, same_left, standing_acts, standing_later}
-use Rattle.gptp_settling_time.proofs.MovedAlwaysLemmas.{after_loss, calm_now, dark_now}
+use Rattle.gptp_settling_time.proofs.GoesOnLemmas.{GoesOn, after_on, calm_now, dark_on, goes_acts, goes_later, late_on, past_on, quiet_before, same_on}
+use Rattle.gptp_settling_time.proofs.LeftClaimedLemmas.{HaveAskedLong, left_network}
 use Rattle.gptp_settling_time.proofs.SeenSettledLemmas.{near_settle}
 
 -- ---- times
@@ -99,35 +93,22 @@ pub record IsTurnedTreeAlways (p : SettlingParams) (g : Snapshot) (silent start 
       (settles_by n start) (turn_times g n tree top other last out best base depth turns start) (view w)
 
 module _ (p : SettlingParams) (g : Snapshot) (silent start : ℕ) (w w' : WorldState)
-    (is : IsTurnedTreeAlways p g silent start w) (standing' : IsStanding p silent w') (asked' : HaveAskedLong w')
-    (keeps : KeepsNetwork w w') (step : MachineSteps says_announce (view w) (view w')) (on : w.time ≤ w'.time) where
-  same' : left_network p silent w' ≡ is.n
-  same' = same_left p silent w w' keeps ∙ is.same
-
-  past' : silent ≤ w'.time
-  past' = let past = is.past in omega (arith, past, on)
-
-  late' : delay_in w' ≤ w'.time
-  late' =
-      let late = is.late in
-      subst (λ delay. delay ≤ w'.time) (sym (delay_kept w w' keeps)) (omega (arith, late, on))
-
+    (is : IsTurnedTreeAlways p g silent start w) (goes : GoesOn p silent w w') where
   module _ (quiet' : HaveQuietLinks p.params w') (off : NothingLapses p.params) where
     quiet : HaveQuietLinks p.params w
-    quiet = links_quiet w' w (kept_back w w' keeps) p.params quiet'
+    quiet = quiet_before p silent w w' goes quiet'
 
     kept' : IsAfterLoss is.n (view w')
-    kept' = subst (λ z. IsAfterLoss z (view w')) same' (after_loss p silent w' standing' asked' quiet' past' off late')
+    kept' = after_on p silent w w' goes is.n is.same quiet' is.past off is.late
 
     dark' : UnlinkedAreOff is.n.graph (view w')
-    dark' = subst (λ (z : Network). UnlinkedAreOff z.graph (view w')) same'
-        (dark_now p silent w' standing' asked' quiet' past')
+    dark' = dark_on p silent w w' goes is.n is.same quiet' is.past
 
     back' : TurnsBack says_announce g is.n is.tree is.top is.other is.last is.out is.best is.base is.depth is.turns
         start (view w')
     back' =
         turns_on says_announce g is.n is.tree is.top is.other is.last is.out is.best is.base is.depth is.turns start
-        (view w) (view w') (is.seen quiet off).0 kept' dark' step
+        (view w) (view w') (is.seen quiet off).0 kept' dark' goes.step
 
     settles' : TurnSettles says_announce g is.n is.tree is.top is.other is.last is.out is.best is.base is.depth is.turns
         start (fallen_by is.n start) (settles_by is.n start)
@@ -136,14 +117,14 @@ module _ (p : SettlingParams) (g : Snapshot) (silent start : ℕ) (w w' : WorldS
         settles_on says_announce g is.n is.tree is.top is.other is.last is.out is.best is.base is.depth is.turns start
         (fallen_by is.n start) (settles_by is.n start)
         (turn_times g is.n is.tree is.top is.other is.last is.out is.best is.base is.depth is.turns start) (view w)
-        (view w') (is.seen quiet off).0 back' step (off_drop g is.n (view w) (view w') dark') (is.seen quiet off).1
+        (view w') (is.seen quiet off).0 back' goes.step (off_drop g is.n (view w) (view w') dark') (is.seen quiet off).1
 
   turned_step : IsTurnedTreeAlways p g silent start w'
   turned_step = record {
-    standing = standing';
-    asked = asked';
+    standing = goes.standing;
+    asked = goes.asked;
     n = is.n;
-    same = same';
+    same = same_on p silent w w' goes is.n is.same;
     tree = is.tree;
     top = is.top;
     other = is.other;
@@ -154,8 +135,8 @@ module _ (p : SettlingParams) (g : Snapshot) (silent start : ℕ) (w w' : WorldS
     depth = is.depth;
     turns = is.turns;
     others = is.others;
-    past = past';
-    late = late';
+    past = past_on p silent w w' goes is.past;
+    late = late_on p silent w w' goes is.late;
     seen = λ quiet' off. (back' quiet' off, settles' quiet' off);
   }
 
@@ -163,22 +144,14 @@ pub turned_tree_later : (p : SettlingParams) (g : Snapshot) (silent start time :
     → NothingBefore time w.net.pending → IsTurnedTreeAlways p g silent start w
     → IsTurnedTreeAlways p g silent start (at_time time w)
 turned_tree_later p g silent start time w later first is =
-    turned_step p g silent start w (at_time time w) is (standing_later p silent time w later first is.standing)
-    (asked_later p w.last_change time w is.standing.world later first is.asked) (later_keeps time w)
-    (inl (record { time = time; later = later; is = refl })) later
+    turned_step p g silent start w (at_time time w) is (goes_later p silent time w later first is.standing is.asked)
 
 pub turned_tree_acts : (p : SettlingParams) (g : Snapshot) (silent start : ℕ) (act : Act) (w : WorldState)
     (draws : List Draw) (done : Done) (w' : WorldState) → IsNoChange act → SetsAnOctet act → Acts act w draws done w'
     → IsTurnedTreeAlways p g silent start w → IsTurnedTreeAlways p g silent start w'
 turned_tree_acts p g silent start act w draws done w' none octet acts is =
-    let world = is.standing.world in
-    let standing' = standing_acts p silent act w draws done w' none octet acts is.standing in
-    let keeps = acts_keep act w draws done w' none acts in
-    let time = acts_time act w draws done w' acts in
-    turned_step p g silent start w w' is standing'
-    (subst (λ t. HaveAskedBy t w') (sym keeps.change)
-    (asked_acts p w.last_change silent act w draws done w' none acts is.standing standing'.world is.asked)) keeps
-    (inr (acts_seen act w draws done w' none world.sound world.encodable acts)) (omega (arith, time))
+    turned_step p g silent start w w' is
+    (goes_acts p silent act w draws done w' none octet acts is.standing is.asked)
 
 -- ---- it settles
 

@@ -1,13 +1,10 @@
 -- A link goes down by which a tree turns to its one way out, in a world of a document whose choice had stood.
-use Rattle.std.proofs.Common.{List, [], arith, inl, inr, subst, sym, ℕ, ◌++◌, ◌∙◌, ◌+◌, ◌∷◌, ◌≡◌, ◌≤◌, ◌⊎◌, slice_get, Some}
-use Rattle.gptp_graph.specs.PathBound.{path_bound}
+use Rattle.std.proofs.Common.{List, [], arith, inl, inr, subst, sym, ℕ, ◌++◌, ◌∙◌, ◌+◌, ◌∷◌, ◌≡◌, ◌≤◌, ◌⊎◌}
 use Rattle.gptp_graph.specs.Snapshot.{Snapshot, System, port_of}
 use Rattle.gptp_links.specs.Fate.{Draw}
 use Rattle.gptp_setup.specs.SettlingParams.{SettlingParams}
 use Rattle.gptp_scenario.specs.Calm.{IsUsed}
-use Rattle.gptp_scenario.specs.Change.{link_after}
-use Rattle.gptp_scenario.specs.Network.{IsEnd, NetworkState, pace_of}
-use Rattle.gptp_scenario.specs.SyncWait.{sync_paths}
+use Rattle.gptp_scenario.specs.Network.{NetworkState, pace_of}
 use Rattle.gptp_scenario.specs.declared.change.Act.TheVariants.{Change as Changing}
 use Rattle.gptp_scenario.specs.declared.change.Change.TheVariants.{LinkDown}
 use Rattle.gptp_scenario.specs.declared.change.Timed.{Timed}
@@ -17,25 +14,20 @@ use Rattle.gptp_model.specs.World.{WorldState, port_id}
 use Rattle.gptp_model.specs.declared.done.Done.{Done}
 use Rattle.gptp_network.specs.Document.{DocumentState}
 use Rattle.gptp_network.proofs.ExistenceLemmas.{stands_after}
-use Rattle.gptp_invariants.specs.ChoiceCalm.{delay_in}
-use Rattle.gptp_invariants.specs.ChoiceView.{says_announce, view}
 use Rattle.gptp_invariants.specs.WorldStanding.{snapshot_of}
 use Rattle.gptp_theorem.specs.AlikeLaws.{AreAlike}
 use Rattle.gptp_theorem.specs.PlayedLaws.{IsPlayable}
-use Rattle.gptp_theorem.specs.Reached.{channel_wire}
 use Rattle.gptp_theorem.proofs.AlikeLemmas.{best as alike_best, clock_among, distance as alike_distance, turned}
 use Rattle.gptp_settling_time.specs.Arrivals.{HasArrivedBy}
 use Rattle.gptp_settling_time.specs.EventKinds.{TurnsTreeCalm}
 use Rattle.gptp_settling_time.specs.TreeLosses.{IsTurnedTree, TurnsTreeLink}
 use Rattle.gptp_settling_time.proofs.TurnedTreeActLemmas.{act_turns_tree}
 use Rattle.gptp_settling_time.proofs.TurnedTreeRestLemmas.{IsTurnedTreeAnew, tree_anew_begins}
-use Rattle.gptp_settling_time.proofs.FallDownLemmas.{FlightNames}
 use Rattle.gptp_settling_time.proofs.TurnedTreeToLemmas.{IsTurnedTreeTo}
 use Rattle.gptp_settling_time.proofs.GainLemmas.{up_so}
 use Rattle.gptp_settling_time.proofs.KeptToLemmas.{KeepsTo}
 use Rattle.gptp_settling_time.proofs.LossMadeLemmas.{HasRestedSo}
 use Rattle.gptp_settling_time.proofs.NamedLemmas.{IsNamedFrom}
-use Rattle.gptp_settling_time.proofs.SettledSeenLemmas.{IsSettledSeen}
 use Rattle.gptp_settling_time.proofs.WorldMovesLemmas.{adjacent_alike, alike_so, joins_alike, near_so, unmoved_alike}
 use Rattle.gptp_settling_time.proofs.TreeMadeLemmas.{at_link, few_then, late_then, live_ends, names_now, seen_then}
 
@@ -123,6 +115,9 @@ module _ (d : DocumentState) (playable : IsPlayable d) (made : List Timed) (even
   turned_tree_to changed =
       let over = rest.over in
       let (tree, last, out, best, base, depth, is) = turns_so in
+      let seen = seen_then d playable made then keeps start event.at rest moves.calm moves.off in
+      let names = names_now p then seen arrived named (omega (arith, quiet, at_time)) in
+      let late = late_then d playable made more w' after stood arrived arrives (omega (arith, quiet, time)) x.delay in
       record {
         keeps = after;
         before = snapshot_of then;
@@ -133,41 +128,11 @@ module _ (d : DocumentState) (playable : IsPlayable d) (made : List Timed) (even
             (up_so n made then keeps.stands (port_id x.clock x.port)
             (λ place u u_there u_end. (x.used place u u_there u_end).up) came.1.place came.1.channel came.1.is)
             (omega (arith, over, at_time)) rest.ready rest.silent seen (near_so d playable made then keeps x.few)
-            (live_ends d playable made event then draws done w' at_time time keeps after start rest stood
-            arrived named arrives quiet moves.calm moves.off came.1.channel
-            (link x.clock x.port came (IsUsed n.systems made) x.used))
-            tree x.top x.other last out best base depth is (few x.paths x.few)
-            (link x.clock x.port came (λ (u : LinkSpec). ((u.a.clock ≡ x.top) × (u.b.clock ≡ x.other))
+            (live_ends d made then keeps came.1.channel
+            (at_link d made then keeps draws done w' x.clock x.port came (IsUsed n.systems made) x.used))
+            tree x.top x.other last out best base depth is (few_then d playable made more w' after x.paths x.few)
+            (at_link d made then keeps draws done w' x.clock x.port came (λ (u : LinkSpec).
+            ((u.a.clock ≡ x.top) × (u.b.clock ≡ x.other))
             ⊎ ((u.b.clock ≡ x.top) × (u.a.clock ≡ x.other))) x.ends) late rest.sound names)
             (time ∙ sym at_time) (changed ∙ time ∙ sym at_time));
       }
-    where
-      seen : IsSettledSeen p then
-      seen =
-          seen_then d playable made event then draws done w' at_time time keeps after start rest stood
-          arrived named arrives quiet moves.calm moves.off
-
-      names : FlightNames says_announce (snapshot_of then) (view then)
-      names =
-          names_now d playable made event then draws done w' at_time time keeps after start rest stood
-          arrived named arrives quiet moves.calm moves.off
-
-      late : delay_in w' ≤ w'.time
-      late =
-          late_then d playable made event then draws done w' at_time time keeps after start rest stood
-          arrived named arrives quiet moves.calm moves.off x.delay
-
-      few : (sync_paths n more).systems ≤ (sync_paths n made).systems → (sync_paths n made).systems ≤ 255
-          → path_bound (snapshot_of w') ≤ 255
-      few =
-          few_then d playable made event then draws done w' at_time time keeps after start rest stood
-          arrived named arrives quiet moves.calm moves.off
-
-      link : (owner port : ℕ) (acted : Acts (Changing (LinkDown owner port)) then draws done w')
-          (So : LinkSpec → Type 0)
-          → ((place : ℕ) (v : LinkSpec) → slice_get n.links place ≡ Some v
-          → IsEnd (port_id owner port) (link_after made v) → So (link_after made v))
-          → So (channel_wire acted.1.channel)
-      link =
-          at_link d playable made event then draws done w' at_time time keeps after start rest stood
-          arrived named arrives quiet moves.calm moves.off

@@ -33,7 +33,7 @@ use Rattle.gptp_settling_time.proofs.AlwaysClaimedLemmas.{IsClaimedAlways}
 use Rattle.gptp_settling_time.proofs.FallAlwaysLemmas.{fallen_by, settles_by}
 use Rattle.gptp_settling_time.proofs.LeftClaimedLemmas.{HaveAskedBy, asked_acts, asked_later, left_net, left_network}
 use Rattle.gptp_settling_time.proofs.NamesItselfLemmas.{AllNameItself, sound_itself}
-use Rattle.gptp_settling_time.proofs.MovedAlwaysLemmas.{dark_now}
+use Rattle.gptp_settling_time.proofs.GoesOnLemmas.{dark_now}
 use Rattle.gptp_settling_time.proofs.RightBeginLemmas.{root_right}
 use Rattle.gptp_settling_time.proofs.TellsRightLemmas.{IsSettledState, LevelTellsRight}
 use Rattle.gptp_settling_time.proofs.ToldAnewLemmas.{SettlesOnce, TellsOnce, once_claimed, same_way, tells_begins, tells_on, told_over, way_in}

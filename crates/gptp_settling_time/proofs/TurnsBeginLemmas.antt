@@ -43,7 +43,8 @@ use Rattle.gptp_settling_time.proofs.AlwaysClaimedLemmas.{IsStanding}
 use Rattle.gptp_settling_time.proofs.BesideLemmas.{IsDark, IsMoving}
 use Rattle.gptp_settling_time.proofs.LeftClaimedLemmas.{HaveAskedLong, left_network}
 use Rattle.gptp_settling_time.proofs.LoweredLemmas.{ends, known, less_then, ready_on, wires}
-use Rattle.gptp_settling_time.proofs.MovedAlwaysLemmas.{IsMovedAlways, after_loss, at_least, dark_now, turned_by}
+use Rattle.gptp_settling_time.proofs.GoesOnLemmas.{after_loss, dark_now}
+use Rattle.gptp_settling_time.proofs.MovedAlwaysLemmas.{IsMovedAlways, at_least, turned_by}
 use Rattle.gptp_settling_time.proofs.MovedLemmas.{EachTurns}
 use Rattle.gptp_settling_time.proofs.ReducedLemmas.{NearerStay}
 use Rattle.gptp_settling_time.proofs.SettledSeenLemmas.{IsSettledSeen}

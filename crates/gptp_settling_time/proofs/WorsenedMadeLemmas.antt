@@ -90,6 +90,9 @@ module _ (d : DocumentState) (playable : IsPlayable d) (made : List Timed) (even
   worsened_to =
       let over = rest.over in
       let (best, next, depth, is) = tree_so in
+      let seen = seen_then d playable made then keeps start event.at rest calm off in
+      let names = names_now p then seen arrived named (omega (arith, quiet, at_time)) in
+      let late = late_then d playable made more w' after stood arrived arrives (omega (arith, quiet, time)) x.delay in
       record {
         keeps = after;
         before = snapshot_of then;
@@ -101,13 +104,7 @@ module _ (d : DocumentState) (playable : IsPlayable d) (made : List Timed) (even
             (subst (λ act. Acts act then draws done w') x.act acts)
             (λ place station k.
             lives_so n made then keeps.stands keeps.claim.world.sound x.clock x.live place station k) x.octet
-            (omega (arith, over, at_time)) rest.ready rest.silent
-            (seen_then d playable made event then draws done w' at_time time keeps after start rest stood arrived named
-            arrives quiet calm off) (near_so d playable made then keeps x.few) best next depth is
-            (few_then d playable made event then draws done w' at_time time keeps after start rest stood arrived named
-            arrives quiet calm off x.paths x.few)
-            (late_then d playable made event then draws done w' at_time time keeps after start rest stood arrived named
-            arrives quiet calm off x.delay) rest.sound
-            (names_now d playable made event then draws done w' at_time time keeps after start rest stood arrived named
-            arrives quiet calm off) (SetLimits n more) (limits_to d more w' after));
+            (omega (arith, over, at_time)) rest.ready rest.silent seen (near_so d playable made then keeps x.few) best
+            next depth is (few_then d playable made more w' after x.paths x.few) late rest.sound names
+            (SetLimits n more) (limits_to d more w' after));
       }
