@@ -100,16 +100,10 @@ asked_acts p since silent act w draws done w' none acts standing world' asked at
       first_acted p silent act w draws done w' none acts standing.world world' standing.measured at one by x,
     )
 
--- so what is told to it is heard, and it has measured the link
+-- so what is told to it is heard
 pub asked_heard : (p : SettlingParams) (start : ℕ) (w : WorldState) → HaveAskedLong w → AreHeard p start w
 asked_heard p start w asked at stands =
     let (first, by, before, x) = asked at stands in inr (inr (inr (first, by, x)))
-
-pub asked_ready : (p : SettlingParams) (w : WorldState) → HaveAskedLong w → AreReadyBy p w.last_change w
-asked_ready p w asked at stands =
-    let (first, by, before, x) = asked at stands in
-    let soon = x.is.1 in
-    inl (first, (x.is.0, omega (arith, before, soon)))
 
 -- ---- a loss that moved none but such as it cut off
 
