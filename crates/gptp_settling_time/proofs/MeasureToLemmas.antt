@@ -1,5 +1,6 @@
 -- From when ports measure their links by the least delays in force after events of a document, one after another.
-use Rattle.std.proofs.Common.{◌≡◌, ◌⊎◌, ◌≤◌, ◌+◌, ◌*◌, ℕ, ⊤, ⊥, List, [], ◌∷◌, ◌++◌, append_assoc, append-nil, refl, inl, inr, sym, subst}
+use Rattle.std.proofs.Common.{◌≡◌, ◌⊎◌, ◌≤◌, ◌+◌, ◌*◌, ℕ, List, [], ◌∷◌, ◌++◌, append_assoc, append-nil, refl, inl, inr, sym, subst}
+use Rattle.std.specs.Prelude.{⊤}
 use Rattle.gptp_setup.specs.Intervals.{interval_of}
 use Rattle.gptp_setup.specs.SettlingParams.{largest_interval}
 use Rattle.gptp_scenario.specs.Calm.{IsCalm, IsLive}

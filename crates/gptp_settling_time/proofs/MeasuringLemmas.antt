@@ -1,5 +1,5 @@
 -- From when the ports of a world measure its links by the least delays in force, and that they have measured them.
-use Rattle.std.proofs.Common.{◌≡◌, ◌⊎◌, ◌≤◌, ◌<◌, ◌+◌, ◌-◌, ◌*◌, ℕ, ⊥, zero, suc, true, List, Some, slice_get, refl, sym, ap, subst, ◌∙◌, inl, inr, arith}
+use Rattle.std.proofs.Common.{◌≡◌, ◌⊎◌, ◌≤◌, ◌<◌, ◌+◌, ◌-◌, ◌*◌, ℕ, zero, suc, true, List, Some, slice_get, refl, sym, ap, subst, ◌∙◌, inl, inr, arith}
 use Rattle.gptp_lists.proofs.MappedLemmas.{same_there, some_same}
 use Rattle.gptp_graph.specs.Snapshot.{Joins, PortIdentity}
 use Rattle.gptp_links.specs.Fate.{Draw}
@@ -52,7 +52,7 @@ IsMeasuredSoon p start at w =
 -- or it does from a request on that is sent by one of these times
 abbrev pub IsMeasuredOr : SettlingParams → ℕ → (ℕ → Type 0) → LinkPlace → WorldState → Type 0
 IsMeasuredOr p start Asks at w =
-    IsMeasuredSoon p start at w ⊎ ((time : ℕ) × Asks time × ((first : ℕ) × IsMeasuringAt first time at w))
+    IsMeasuredSoon p start at w ⊎ ((time : ℕ) × Asks time × (first : ℕ) × IsMeasuringAt first time at w)
 
 abbrev pub AreMeasuredSoon : SettlingParams → ℕ → WorldState → Type 0
 AreMeasuredSoon p start w = (at : LinkPlace) → LinkStandsAt at w → IsMeasuredSoon p start at w
