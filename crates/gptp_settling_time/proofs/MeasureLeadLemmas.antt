@@ -208,10 +208,12 @@ begins_never n start capable = (
 
 module _ (n : NetworkState) (pace : KeepPace (pace_of n)) where
   pub anyway_never : (events : List Timed) (start : ℕ) → AreCapableAnyway n events start → IsNeverAnew n events start
+  unfolding anew_measured anyway_measured
   anyway_never events start anyway = (anyway_measured n pace events start anyway, λ anew. cc)
 
   module _ (made : List Timed) (event : Timed) (start next : ℕ) (so : IsNeverAnew n made start) where
     never_on : start ≤ next → Leaves n made event Never start next → IsNeverAnew n (made ++ event ∷ []) next
+    unfolding on_event
     never_on longer leaves = (
       on_event n made event Never start next (λ first. cc) so.0 (λ anew. absurd (so.1 anew)) longer leaves,
       λ anew. cc,

@@ -201,7 +201,7 @@ module _ (n : NetworkState) (pace : KeepPace (pace_of n)) (made : List Timed) (e
 
   gains_so : (past : Past) (next : ℕ) → AreMeasuredAfter n made past → LeadsToGain n made past event next
       → AreMeasuredTo n more next
-  gains_so AnyPast next so (rested, from, anyway, gain) =
+  gains_so AnyPast next so (rested, (from, anyway, gain)) =
       next_so from next (anyway_measured n pace made from anyway) gain
   gains_so (Gained start) next so gain = still_so start next so gain
   gains_so (Heard start) next so gain = still_so start next so gain
@@ -312,14 +312,14 @@ module _ (n : NetworkState) (pace : KeepPace (pace_of n)) (made : List Timed) (e
       since_so (last_change made) (last_change more) ordered_last so
       (λ from. down_or_idle n made event from from down)
   left_so Starting ago next so none = absurd none
-  left_so (Turned start now) ago next so none = absurd none
+  left_so (Turned start' now') ago next so none = absurd none
   left_so (Fallen start now) ago next so none = absurd none
   left_so (TurnedTree start now) ago next so none = absurd none
-  left_so (Cleared ago since start right old) ago next so none = absurd none
-  left_so (Aging ago aged start) ago next so none = absurd none
-  left_so (Split ago gone start) ago next so none = absurd none
-  left_so (Lost ago since most start) ago next so none = absurd none
-  left_so (Fewer ago since most start) ago next so none = absurd none
+  left_so (Cleared ago' since' start' right' old') ago next so none = absurd none
+  left_so (Aging ago' aged' start') ago next so none = absurd none
+  left_so (Split ago' gone' start') ago next so none = absurd none
+  left_so (Lost ago' since' most' start') ago next so none = absurd none
+  left_so (Fewer ago' since' most' start') ago next so none = absurd none
 
   turned_so : (past : Past) (silent time : ℕ) → AreMeasuredAfter n made past
       → LeadsToTurned n made past event silent time → AreMeasuredSince n more time
@@ -348,18 +348,18 @@ module _ (n : NetworkState) (pace : KeepPace (pace_of n)) (made : List Timed) (e
   -- traces are told anew, or since what was so before
   far_leaves : (start from silent right old : ℕ) → ClearsFarEnd n made event from silent right old
       → Leaves n made event Anew start start
-  far_leaves start from silent right old (none, inl (x, rest)) =
+  far_leaves start from silent right old (none, inl (x, dark, flight)) =
       goes_down n made event start start x.cuts.lowers.clock x.cuts.lowers.port x.cuts.lowers.act
-  far_leaves start from silent right old (none, inr (x, rest)) = fails n made event start start x.fails.clock x.fails.act
+  far_leaves start from silent right old (none, inr (x, dark, flight)) = fails n made event start start x.fails.clock x.fails.act
 
   clears_so : (start since silent right old : ℕ) → AreMeasuredTo n made start → start ≤ event.at
       → ClearsBy n made event start since silent right old → AreMeasuredSince n more since
   clears_so start since silent right old m past (inl (same, inl far)) =
       loss_so start since m past (omega (arith, same)) (far_leaves start start silent right old far)
-  clears_so start since silent right old m past (inl (same, inr (x, rest))) =
+  clears_so start since silent right old m past (inl (same, inr (x, dark, late, flight))) =
       loss_so start since m past (omega (arith, same))
       (goes_down n made event start start x.lowers.clock x.lowers.port x.lowers.act)
-  clears_so start since silent right old m past (inr (aged, x, (used, same, rest))) =
+  clears_so start since silent right old m past (inr (aged, x, (used, same, right_is, old_is))) =
       loss_so start since m past (omega (arith, past, same))
       (fails n made event start start x.fails.clock x.fails.act)
 
@@ -377,29 +377,29 @@ module _ (n : NetworkState) (pace : KeepPace (pace_of n)) (made : List Timed) (e
       clears_so start since silent right old so (omega (arith, settled)) clears
   cleared_so (Heard start) ago since silent right old so (settled, same, clears) =
       clears_so start since silent right old so (omega (arith, settled)) clears
-  cleared_so (Cleared made' start dark clean last) ago since silent right old so (down, same, (is_since, rest)) =
+  cleared_so (Cleared made' start dark clean last) ago since silent right old so (down, same, (is_since, dark_is, right_is, old_is)) =
       since_so start since (omega (arith, is_since)) so
       (λ from. elim down [
         | inl (x, late) ↦ unused_down n made event from from x.lowers
         | inr idle ↦ inl idle.0
       ])
-  cleared_so (Aging made' aged dark) ago since silent right old so (down, same, is_silent, (used, is_since, rest)) =
+  cleared_so (Aging made' aged dark) ago since silent right old so (down, same, is_silent, (used, is_since, right_is, old_is)) =
       since_so (last_change made) since (omega (arith, ordered, is_since)) so
       (λ from. down_now n made event from from down)
   cleared_so (Fewer made' start most dark) ago since silent right old (from, m, earlier)
       (takes, same, is_silent, moves, few, told) =
       let soon : from ≤ since = elim told [
-        | inl (used, is_since, rest) ↦ omega (arith, earlier, ordered, is_since)
-        | inr (loses, is_since, rest) ↦ omega (arith, earlier, ordered, is_since)
+        | inl (used, is_since, right_is, old_is) ↦ omega (arith, earlier, ordered, is_since)
+        | inr (loses, is_since, right_is, flight) ↦ omega (arith, earlier, ordered, is_since)
       ] in
       loss_so from since m (omega (arith, earlier, ordered)) soon (takes_more from start dark takes)
   cleared_so Starting ago since silent right old so none = absurd none
-  cleared_so (Left ago start) ago since silent right old so none = absurd none
-  cleared_so (Turned start now) ago since silent right old so none = absurd none
+  cleared_so (Left ago' start') ago since silent right old so none = absurd none
+  cleared_so (Turned start' now') ago since silent right old so none = absurd none
   cleared_so (Fallen start now) ago since silent right old so none = absurd none
   cleared_so (TurnedTree start now) ago since silent right old so none = absurd none
-  cleared_so (Split ago gone start) ago since silent right old so none = absurd none
-  cleared_so (Lost ago since most start) ago since silent right old so none = absurd none
+  cleared_so (Split ago' gone' start') ago since silent right old so none = absurd none
+  cleared_so (Lost ago' since' most' start') ago since silent right old so none = absurd none
 
   aging_so : (past : Past) (ago : List Timed) (aged silent : ℕ) → AreMeasuredAfter n made past
       → LeadsToAging n made past event ago aged silent → AreMeasuredSince n more (last_change more)
@@ -416,17 +416,17 @@ module _ (n : NetworkState) (pace : KeepPace (pace_of n)) (made : List Timed) (e
       let last = last_behind made event in
       loss_so start (last_change more) so (omega (arith, settled)) (omega (arith, settled, last))
       (fails n made event start start x.fails.clock x.fails.act)
-  aging_so (Aging old gone start) ago aged silent so (down, rest) =
+  aging_so (Aging old gone start) ago aged silent so (down, same, dark_is, how) =
       since_so (last_change made) (last_change more) ordered_last so (λ from. down_now n made event from from down)
   aging_so Starting ago aged silent so none = absurd none
-  aging_so (Left ago start) ago aged silent so none = absurd none
-  aging_so (Turned start now) ago aged silent so none = absurd none
+  aging_so (Left ago' start') ago aged silent so none = absurd none
+  aging_so (Turned start' now') ago aged silent so none = absurd none
   aging_so (Fallen start now) ago aged silent so none = absurd none
   aging_so (TurnedTree start now) ago aged silent so none = absurd none
-  aging_so (Cleared ago since start right old) ago aged silent so none = absurd none
-  aging_so (Split ago gone start) ago aged silent so none = absurd none
-  aging_so (Lost ago since most start) ago aged silent so none = absurd none
-  aging_so (Fewer ago since most start) ago aged silent so none = absurd none
+  aging_so (Cleared ago' since' start' right' old') ago aged silent so none = absurd none
+  aging_so (Split ago' gone' start') ago aged silent so none = absurd none
+  aging_so (Lost ago' since' most' start') ago aged silent so none = absurd none
+  aging_so (Fewer ago' since' most' start') ago aged silent so none = absurd none
 
   -- trees are moved as a system fails
   splits_so : (start stood gone silent : ℕ) → AreMeasuredTo n made start → start ≤ stood
@@ -451,14 +451,14 @@ module _ (n : NetworkState) (pace : KeepPace (pace_of n)) (made : List Timed) (e
       loss_so from gone m (omega (arith, earlier, ordered)) (omega (arith, earlier, ordered, is_gone))
       (down_now n made event from from down)
   split_so Starting ago gone silent so none = absurd none
-  split_so (Left ago start) ago gone silent so none = absurd none
-  split_so (Turned start now) ago gone silent so none = absurd none
+  split_so (Left ago' start') ago gone silent so none = absurd none
+  split_so (Turned start' now') ago gone silent so none = absurd none
   split_so (Fallen start now) ago gone silent so none = absurd none
   split_so (TurnedTree start now) ago gone silent so none = absurd none
-  split_so (Cleared ago since start right old) ago gone silent so none = absurd none
-  split_so (Aging ago aged start) ago gone silent so none = absurd none
-  split_so (Lost ago since most start) ago gone silent so none = absurd none
-  split_so (Fewer ago since most start) ago gone silent so none = absurd none
+  split_so (Cleared ago' since' start' right' old') ago gone silent so none = absurd none
+  split_so (Aging ago' aged' start') ago gone silent so none = absurd none
+  split_so (Lost ago' since' most' start') ago gone silent so none = absurd none
+  split_so (Fewer ago' since' most' start') ago gone silent so none = absurd none
 
   loses_now : (start since most silent : ℕ) → AreMeasuredTo n made start → start ≤ event.at
       → LosesNow n made event since most silent → AreMeasuredSince n more since
@@ -480,19 +480,19 @@ module _ (n : NetworkState) (pace : KeepPace (pace_of n)) (made : List Timed) (e
       loses_now start since most silent so (omega (arith, settled)) x
   lost_so (Heard start) ago since most silent so (settled, used, x) =
       loses_now start since most silent so (omega (arith, settled)) x
-  lost_so (Lost old begun delay start) ago since most silent so (inl x, same, is_since, rest) =
+  lost_so (Lost old begun delay start) ago since most silent so (inl x, same, is_since, most_is, silent_is) =
       since_so begun since (omega (arith, is_since)) so (λ from. loses_more from since silent x)
-  lost_so (Lost old begun delay start) ago since most silent so (inr again, same, is_since, rest) =
+  lost_so (Lost old begun delay start) ago since most silent so (inr again, same, is_since, most_is, silent_is) =
       since_so begun since (omega (arith, is_since)) so (λ from. repeats n made event from from again)
   lost_so Starting ago since most silent so none = absurd none
-  lost_so (Left ago start) ago since most silent so none = absurd none
-  lost_so (Turned start now) ago since most silent so none = absurd none
+  lost_so (Left ago' start') ago since most silent so none = absurd none
+  lost_so (Turned start' now') ago since most silent so none = absurd none
   lost_so (Fallen start now) ago since most silent so none = absurd none
   lost_so (TurnedTree start now) ago since most silent so none = absurd none
-  lost_so (Cleared ago since start right old) ago since most silent so none = absurd none
-  lost_so (Aging ago aged start) ago since most silent so none = absurd none
-  lost_so (Split ago gone start) ago since most silent so none = absurd none
-  lost_so (Fewer ago since most start) ago since most silent so none = absurd none
+  lost_so (Cleared ago' since' start' right' old') ago since most silent so none = absurd none
+  lost_so (Aging ago' aged' start') ago since most silent so none = absurd none
+  lost_so (Split ago' gone' start') ago since most silent so none = absurd none
+  lost_so (Fewer ago' since' most' start') ago since most silent so none = absurd none
 
   takes_now : (start : ℕ) (ago : List Timed) → AreMeasuredTo n made start → ago ≡ made
       → start + way_span (sync_paths n made) ≤ event.at → Leaves n made event Anew start start
@@ -505,14 +505,14 @@ module _ (n : NetworkState) (pace : KeepPace (pace_of n)) (made : List Timed) (e
 
   fewer_so : (past : Past) (ago : List Timed) (since most silent : ℕ) → AreMeasuredAfter n made past
       → LeadsToFewer n made past event ago since most silent → AreMeasuredEarly n ago more
-  fewer_so AnyPast ago since most silent so (settled, (same, x, takes)) =
+  fewer_so AnyPast ago since most silent so (settled, (same, x, takes, some)) =
       let passed = settled.passed in
       takes_now capable ago any_so same (omega (arith, passed)) (loses_on n made event capable capable x.loses)
-  fewer_so (Gained start) ago since most silent so (settled, (same, x, takes)) =
+  fewer_so (Gained start) ago since most silent so (settled, (same, x, takes, some)) =
       takes_now start ago so same (omega (arith, settled)) (loses_on n made event start start x.loses)
-  fewer_so (Heard start) ago since most silent so (settled, (same, x, takes)) =
+  fewer_so (Heard start) ago since most silent so (settled, (same, x, takes, some)) =
       takes_now start ago so same settled (loses_on n made event start start x.loses)
-  fewer_so (Fewer old begun delay start) ago since most silent (from, m, earlier) (takes, same, rest) =
+  fewer_so (Fewer old begun delay start) ago since most silent (from, m, earlier) (takes, same, since_is, most_is, silent_is) =
       let last = last_behind made event in
       let way : way_span (sync_paths n ago) ≡ way_span (sync_paths n old) =
       ap (λ es. way_span (sync_paths n es)) same in (
@@ -521,14 +521,14 @@ module _ (n : NetworkState) (pace : KeepPace (pace_of n)) (made : List Timed) (e
         omega (arith, earlier, ordered, last, way),
       )
   fewer_so Starting ago since most silent so none = absurd none
-  fewer_so (Left ago start) ago since most silent so none = absurd none
-  fewer_so (Turned start now) ago since most silent so none = absurd none
+  fewer_so (Left ago' start') ago since most silent so none = absurd none
+  fewer_so (Turned start' now') ago since most silent so none = absurd none
   fewer_so (Fallen start now) ago since most silent so none = absurd none
   fewer_so (TurnedTree start now) ago since most silent so none = absurd none
-  fewer_so (Cleared ago since start right old) ago since most silent so none = absurd none
-  fewer_so (Aging ago aged start) ago since most silent so none = absurd none
-  fewer_so (Split ago gone start) ago since most silent so none = absurd none
-  fewer_so (Lost ago since most start) ago since most silent so none = absurd none
+  fewer_so (Cleared ago' since' start' right' old') ago since most silent so none = absurd none
+  fewer_so (Aging ago' aged' start') ago since most silent so none = absurd none
+  fewer_so (Split ago' gone' start') ago since most silent so none = absurd none
+  fewer_so (Lost ago' since' most' start') ago since most silent so none = absurd none
 
   -- ---- all of these
 
