@@ -28,6 +28,7 @@ pub mod WayExistLemmas
 pub mod DocumentExistLemmas
 pub mod LineExistLemmas
 pub mod StatedExistLemmas
+pub mod BesideStepLemmas
 pub mod ContinuesLemmas
 pub mod SpelledLemmas
 pub mod BesideSendLemmas

@@ -397,7 +397,7 @@ module _ (d : DocumentState) (playable : IsPlayable d) where
     asks_by Unchanged row own = absurd own
     asks_by Gained row own = absurd own
     asks_by Lowered row own =
-        let (rest, (l, flight)) = lowered n playable.network all b at late well row in
+        let (rest, l) = lowered n playable.network all b at late well row in
         inl (rest, behind l.first (Losing 0 0) (inl (l.lowers, refl, inl refl)))
     asks_by CutOff row own =
         let x = cut_off n playable.network all b at late well row in

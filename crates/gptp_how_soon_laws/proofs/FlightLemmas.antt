@@ -85,8 +85,12 @@ gone_within n Is flight is longest = by (nat_le flight interval) refl
     interval = largest_interval (pace_of n)
 
     by : (test : Bool) → nat_le flight interval ≡ test → Is (min flight interval)
-    by true less = let most : flight ≤ interval = grind (arith, nat_tests) in subst Is (omega (arith, most)) is
-    by false more = let least : interval < flight = grind (arith, nat_tests) in subst Is (omega (arith, least)) longest
+    by true less =
+        let most : flight ≤ interval = grind (arith, nat_tests) in
+        let same : flight ≡ min flight interval = omega (arith, most) in subst Is same is
+    by false more =
+        let least : interval < flight = grind (arith, nat_tests) in
+        let same : interval ≡ min flight interval = omega (arith, least) in subst Is same longest
 
 -- each link that is up takes no longer than the greatest of them
 up_most : (ss : List Standing) (s : Standing) → In s ss → s.cable.up ≡ true → s.cable.bounds.max ≤ longest_up ss

@@ -4,15 +4,5 @@ mod ReadingLemmas
 mod HeardLemmas
 mod PairLemmas
 mod SoonLemmas
-mod BetterLemmas
-mod BackLemmas
-mod EarlyLemmas
-mod RingLemmas
-mod FarLemmas
-mod PowerLemmas
-mod HeardRingLemmas
-mod RootlessRingLemmas
-mod TurnedRingLemmas
-mod CutLineLemmas
-mod HungRootLemmas
+mod BoundsLemmas
 mod AgeLemmas

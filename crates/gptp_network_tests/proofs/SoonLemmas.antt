@@ -17,25 +17,17 @@ use Rattle.gptp_lists.proofs.MappedLemmas.{alike}
 use Rattle.gptp_lists.proofs.SystemSpecLemmas.{In-slice_get, slice_get-In}
 use Rattle.gptp_scenario.specs.Change.{link_after}
 use Rattle.gptp_scenario.specs.declared.network.LinkSpec.{LinkSpec}
-use Rattle.gptp_network.specs.Document.{DocumentState}
-use Rattle.gptp_scenario.specs.Network.{IsNetwork, pace_of}
-use Rattle.gptp_scenario.specs.SettlingTime.{way_span}
-use Rattle.gptp_scenario.specs.SyncWait.{sync_paths}
+use Rattle.gptp_scenario.specs.Network.{pace_of}
 use Rattle.gptp_scenario.specs.declared.sync_wait.SyncPaths.{SyncPaths}
 use Rattle.gptp_theorem.specs.Headline.{WorldIsCalm}
-use Rattle.gptp_theorem.specs.PlayedLaws.{IsPlayable}
 use Rattle.gptp_theorem.specs.Reached.{channel_wire}
 use Rattle.gptp_theorem.proofs.CalmLemmas.{pace_stands, quiet_stands}
 use Rattle.gptp_theorem.proofs.SyncPathLemmas.{paths_stand}
 use Rattle.gptp_bmca_machine.specs.Settled.{IsSlaveOf}
-use Rattle.gptp_setup.specs.SettlingParams.{SettlingParams}
-use Rattle.gptp_settling_time.specs.ChoiceBounds.{ChoiceAloneBoundsHold, ChoiceBoundsHold}
-use Rattle.gptp_settling_time.specs.HowSoon.{IsChoiceAloneBound, IsChoiceBound, two_exchanges}
 use Rattle.gptp_settling_time.specs.Starts.{DelaysVaryLittle, LinksVaryLittle, StartsSettleAtOnce}
-use Rattle.gptp_settling_time.proofs.ClaimedToLemmas.{used_vary}
 use Rattle.gptp_system.specs.State.{clock}
-use Rattle.gptp_network_tests.specs.Pair.{HasBegun, IsPairAt, first_member, pair_document, pair_network, pair_pace, pair_snapshot, params}
-use Rattle.gptp_network_tests.specs.Soon.{ChoosesWithin, IsPairSoon, SettlesWithin}
+use Rattle.gptp_network_tests.specs.Pair.{HasBegun, IsPairAt, first_member, pair_network, pair_pace, pair_snapshot, params}
+use Rattle.gptp_network_tests.specs.Soon.{IsPairSoon}
 use Rattle.gptp_network_tests.proofs.PairLemmas.{bounded, calm as is_calm, comes_to, lives, near, pace_is, paths_are, root_is, slave_is, steps_are}
 
 -- the frames of their link take 500 ns
@@ -114,38 +106,3 @@ followed_soon w number (Some (root, steps, port)) named k some none =
     (subst (λ n. IsSlaveOf pair_snapshot n some.station.system.slave) own
     (subst (λ g. IsSlaveOf g (clock some.station.system) some.station.system.slave) k.at.snapshot is.slave)) in
     rw (root_same, steps_same, port_same) refl
-
--- ---- runs of documents
-
--- by two exchanges and the delay of the link after they began
-pub pair_bound : IsChoiceBound pair_document 0 1000002500
-pair_bound =
-    ([], inl (refl, (is_calm, inr (refl, inr (tt, (1000002000, inl ready, inl (used_vary pair_network [] few, is)))))))
-  where
-    ready : 1000002000 ≡ two_exchanges (pace_of pair_network) (sync_paths pair_network [])
-    ready =
-        subst (λ (p : SettlingParams). 1000002000 ≡ two_exchanges p (sync_paths pair_network [])) (sym (pace_is params))
-        (subst (λ (x : SyncPaths). 1000002000 ≡ two_exchanges pair_pace x) (sym (paths_are params)) refl)
-
-    is : 1000002500 ≡ 1000002000 + way_span (sync_paths pair_network [])
-    is = subst (λ (x : SyncPaths). 1000002500 ≡ 1000002000 + way_span x) (sym (paths_are params)) refl
-
--- a document that can be played settles within its choice bound
-pub settles_within : {F : Type 0} (answers : Bounds → ℕ → F → Option ℕ → F → Type 0) → ChoiceBoundsHold answers
-    → (d : DocumentState) → (IsNetwork d.network → IsPlayable d) → (time choice : ℕ) → IsChoiceBound d time choice
-    → SettlesWithin answers d time choice
-settles_within answers theorem d playable time choice bound next until fate start w ts t network unfolds member none
-    late early =
-    let both =
-    theorem d time choice next until fate start w ts t (playable network) unfolds member bound none late early in
-    both.0.settled
-
--- and its choice stands within its bound of the choice alone
-pub chooses_within : {F : Type 0} (answers : Bounds → ℕ → F → Option ℕ → F → Type 0) → ChoiceAloneBoundsHold answers
-    → (d : DocumentState) → (IsNetwork d.network → IsPlayable d) → (time choice : ℕ) → IsChoiceAloneBound d time choice
-    → ChoosesWithin answers d time choice
-chooses_within answers theorem d playable time choice bound next until fate start w ts t network unfolds member none
-    late early =
-    let both =
-    theorem d time choice next until fate start w ts t (playable network) unfolds member bound none late early in
-    both.0.choice

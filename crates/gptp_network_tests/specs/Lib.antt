@@ -1,5 +1,5 @@
 pub mod Pair
-pub mod Ring
 pub mod Readings
 pub mod Soon
+pub mod Bounds
 pub mod Ages

@@ -1,8 +1,8 @@
 //! Worked rows of networks and documents, as an outside caller sees them: also that whatever the order of acts and the
 //! fate of frames, a calm network settles in time.
 //!
-//! What they expect was written down before the code. What is in `ages`, `drawn`, `readings`, `soon` and `stamps` is no
-//! test: their contracts follow from those of the crates below.
+//! What they expect was written down before the code. What is in `ages`, `bounds`, `drawn`, `readings`, `soon` and
+//! `stamps` is no test: their contracts follow from those of the crates below.
 #![tactic(auto)]
 
 pub mod ages;
@@ -10,6 +10,7 @@ pub mod ages;
 mod at_rest;
 #[cfg(test)]
 mod backwards;
+pub mod bounds;
 #[cfg(test)]
 mod constants;
 #[cfg(test)]

@@ -1,6 +1,6 @@
 -- Several systems and links are taken away at a time. What was in flight then, and what is sent at that time, is due so
 -- much later as it was before: no link comes up, and none is set.
-use Rattle.std.proofs.Common.{◌≡◌, ◌⊎◌, ◌≤◌, ◌+◌, ℕ, Bool, true, false, List, [], ◌∷◌, ◌++◌, Some, slice_get, refl, sym, ap, subst, ◌∙◌, inl, inr, max, arith}
+use Rattle.std.proofs.Common.{◌≡◌, ◌⊎◌, ◌≤◌, ◌+◌, ℕ, Bool, true, false, List, [], ◌∷◌, ◌++◌, Some, slice_get, refl, sym, ap, subst, ◌∙◌, inl, inr, arith}
 use Rattle.std.specs.Prelude.{if◌then◌else◌}
 use Rattle.gptp_lists.specs.Members.{In}
 use Rattle.gptp_lists.proofs.SystemSpecLemmas.{In-map, In-slice_get}
@@ -16,26 +16,21 @@ use Rattle.gptp_scenario.specs.declared.change.Act.TheVariants.{Change as Changi
 use Rattle.gptp_scenario.specs.declared.change.Change.TheVariants.{Fail, Inject, LinkDown, LinkSet, LinkUp, Priority1, Recover}
 use Rattle.gptp_scenario.specs.declared.change.Timed.{Timed}
 use Rattle.gptp_scenario.specs.declared.network.LinkSpec.{LinkSpec}
-use Rattle.gptp_model.specs.Sound.{IsSound}
-use Rattle.gptp_model.specs.World.{Channel, WorldState, world_queue}
-use Rattle.gptp_bmca_machine.specs.Frame.{AnnounceFrame}
+use Rattle.gptp_model.specs.World.{WorldState, world_queue}
 use Rattle.gptp_invariants.specs.ChoiceCalm.{delay_in}
 use Rattle.gptp_invariants.specs.ChoiceSettlesAsMachine.{IsWorld}
 use Rattle.gptp_invariants.specs.ChoiceView.{frame_view, lane_place, lane_view}
-use Rattle.gptp_invariants.proofs.ChoiceCalmFactLemmas.{frame_from}
 use Rattle.gptp_invariants.proofs.ChoiceSeenLaneLemmas.{lane_there}
-use Rattle.gptp_invariants.proofs.DelayLimitLemmas.{in_queue}
-use Rattle.gptp_invariants.proofs.WorldDueLemmas.{frames_on_links}
 use Rattle.gptp_theorem.proofs.EventLemmas.{link_behind}
 use Rattle.gptp_settling_time.specs.Arrivals.{HasArrivedSinceSet, sets_link}
 use Rattle.gptp_settling_time.specs.Gains.{ChangesNothing}
 use Rattle.gptp_settling_time.specs.Leads.{TakesAny, TakesMore}
-use Rattle.gptp_settling_time.specs.Losses.{LosesAny, NoneUpIsSlower, UpIsUsed}
-use Rattle.gptp_settling_time.proofs.DueLemmas.{AreDueBy, UpIsInUse, flies_soon}
+use Rattle.gptp_settling_time.specs.Losses.{LosesAny, UpIsUsed, UpIsWithin}
+use Rattle.gptp_settling_time.proofs.DueLemmas.{UpIsInUse, flies_soon}
 use Rattle.gptp_settling_time.proofs.SamePathsLemmas.{idle_same}
 use Rattle.gptp_settling_time.proofs.SettledSeenLemmas.{IsSettledSeen}
 use Rattle.gptp_settling_time.proofs.SilentSpanLemmas.{greatest_most}
-use Rattle.gptp_settling_time.proofs.SinceSetLemmas.{AreLimitedBy, arrive_limit}
+use Rattle.gptp_settling_time.proofs.SinceSetLemmas.{AreLimitedBy}
 
 -- ---- links that are up were up
 
@@ -130,19 +125,20 @@ module _ (n : NetworkState) (network : IsNetwork n) (made : List Timed) where
 
 -- ---- by when it is due
 
--- What is in flight from a time on after these events is gone so much later, the greatest delay of a link in use: each
--- link that is up is in use, or none takes longer, and what was in flight as a link was last set has arrived as soon.
+-- What is in flight from a time on after these events is gone so much later: by the greatest delay, where each link
+-- that is up is in use; or by what none takes longer than, if what was in flight as a link was last set has arrived as
+-- soon.
 abbrev pub IsGoneByDelay : NetworkState → List Timed → ℕ → ℕ → Type 0
 IsGoneByDelay n ago since gone =
-    (gone ≡ (sync_paths n ago).delay)
-    × (UpIsUsed n ago ⊎ (NoneUpIsSlower n ago × HasArrivedSinceSet n ago (since + gone)))
+    (UpIsUsed n ago × (gone ≡ (sync_paths n ago).delay))
+    ⊎ (UpIsWithin n ago gone × HasArrivedSinceSet n ago (since + gone))
 
--- where each link that is up is in use none that is up is slower
-pub none_slower : (n : NetworkState) (ago : List Timed) (since gone : ℕ) → IsGoneByDelay n ago since gone
-    → NoneUpIsSlower n ago
-none_slower n ago since gone (is, inr (slower, arrived)) = slower
-none_slower n ago since gone (is, inl used) = λ place v there up.
-    greatest_most n.systems ago n.links place v there (used place v there up)
+-- no link that is up takes longer
+pub up_within : (n : NetworkState) (ago : List Timed) (since gone : ℕ) → IsGoneByDelay n ago since gone
+    → UpIsWithin n ago gone
+up_within n ago since gone (inr (within, arrived)) = within
+up_within n ago since gone (inl (used, is)) = λ place v there up.
+    let most = greatest_most n.systems ago n.links place v there (used place v there up) in omega (arith, most, is)
 
 -- a limit that is later is one too
 pub limited_weaker : (gone old : ℕ) (w : WorldState) → gone ≤ old → AreLimitedBy gone w → AreLimitedBy old w
@@ -168,16 +164,3 @@ used_limited p w is seen used link channel here = record {
         flies_soon p w is seen used (lane_place link direction) (lane_view direction channel) (frame_view f)
         (lane_there w.net.channels link direction channel here)
         (In-map frame_view f (world_queue direction channel) among)
-
--- So all is due by then, where no link that is up takes longer than so much.
-pub due_within : (most old : ℕ) (w : WorldState) → IsSound w
-    → ((link : ℕ) (channel : Channel) → slice_get w.net.channels link ≡ Some channel → channel.up ≡ true
-    → channel.bounds.max ≤ most) → AreLimitedBy old w → w.time + most ≤ old → AreDueBy old w
-due_within most old w sound slower limited later j l f a there member said =
-    let at = frame_from w j l f there member in
-    let up = frames_on_links w sound at.link at.direction at.channel at.frame at.here at.among in
-    let short = slower at.link at.channel at.here up in
-    let soon : at.frame.due ≤ max (w.time + at.channel.bounds.max) old =
-    in_queue (arrive_limit old w.time) w.time at.direction at.channel (limited at.link at.channel at.here) at.frame
-    at.among in
-    subst (λ (x : AnnounceFrame). x.due ≤ old) (sym at.is) (omega (arith, soon, short, later))

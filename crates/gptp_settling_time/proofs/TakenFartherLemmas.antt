@@ -3,7 +3,6 @@
 -- old.
 use Rattle.std.proofs.Common.{◌≡◌, ◌⊎◌, ◌<◌, ◌≤◌, ◌+◌, ◌*◌, ◌∙◌, ℕ, suc, pred, true, List, Some, slice_get, sym, ap, subst, inl, inr, arith}
 use Rattle.gptp_lists.specs.Members.{In}
-use Rattle.gptp_lists.proofs.MappedLemmas.{alike}
 use Rattle.gptp_graph.specs.Distance.{IsDistance}
 use Rattle.gptp_graph.specs.PathBound.{path_bound}
 use Rattle.gptp_graph.specs.Snapshot.{IsLinked, IsWellFormed, Joins, PortIdentity, Snapshot, clocks, port_of}
@@ -12,11 +11,9 @@ use Rattle.gptp_graph.proofs.LinkLemmas.{Joins-clock, Joins-sym}
 use Rattle.gptp_graph.proofs.SystemLemmas.{In-clocks}
 use Rattle.gptp_links.specs.declared.bounds.Bounds.{Bounds}
 use Rattle.gptp_setup.specs.SettlingParams.{SettlingParams}
-use Rattle.gptp_scenario.specs.Change.{link_after}
 use Rattle.gptp_scenario.specs.Network.{pace_of}
 use Rattle.gptp_scenario.specs.SyncWait.{sync_paths}
 use Rattle.gptp_scenario.specs.declared.change.Timed.{Timed}
-use Rattle.gptp_scenario.specs.declared.network.LinkSpec.{LinkSpec}
 use Rattle.gptp_model.specs.World.{WorldState}
 use Rattle.gptp_network.specs.Document.{DocumentState}
 use Rattle.gptp_network.proofs.ExistenceLemmas.{stands_after}
@@ -35,7 +32,6 @@ use Rattle.gptp_invariants.specs.ChoiceView.{says_announce, view}
 use Rattle.gptp_invariants.specs.WorldStanding.{snapshot_of}
 use Rattle.gptp_invariants.proofs.WorldStandsLemmas.{stands_well}
 use Rattle.gptp_theorem.specs.PlayedLaws.{IsPlayable}
-use Rattle.gptp_theorem.specs.Reached.{channel_wire}
 use Rattle.gptp_settling_time.specs.EventKinds.{FlightIsGoneBy, FlightIsGoneFrom}
 use Rattle.gptp_settling_time.specs.Leads.{LosesFartherNow}
 use Rattle.gptp_settling_time.specs.Losses.{MovesNoneInAll}
@@ -45,9 +41,10 @@ use Rattle.gptp_settling_time.proofs.AgingStillLemmas.{aging_over}
 use Rattle.gptp_settling_time.proofs.AtRestLemmas.{LinksAreAtRest, TellsSettled, either, flight_settled, held_settled}
 use Rattle.gptp_settling_time.proofs.ClearedLemmas.{IsCleared}
 use Rattle.gptp_settling_time.proofs.ClearedToLemmas.{IsClearedTo}
-use Rattle.gptp_settling_time.proofs.DueLemmas.{AreDueBy, due_by_interval}
+use Rattle.gptp_settling_time.proofs.DueLemmas.{AreDueBy, due_by_interval, due_within}
 use Rattle.gptp_settling_time.proofs.FitsLemmas.{IsLeftUnmoved, UnlinkedHoldNothing, distance_before}
-use Rattle.gptp_settling_time.proofs.GoneBeforeLemmas.{IsGoneByDelay, due_within, none_slower}
+use Rattle.gptp_settling_time.proofs.GoesToLemmas.{within_to}
+use Rattle.gptp_settling_time.proofs.GoneBeforeLemmas.{IsGoneByDelay, up_within}
 use Rattle.gptp_settling_time.proofs.LeftClaimedLemmas.{HaveAskedBy, HaveAskedLong, IsLeftAlways, left_calm, left_net, left_network}
 use Rattle.gptp_settling_time.proofs.LostClaimedLemmas.{IsLostAlways, asked_are_heard}
 use Rattle.gptp_settling_time.proofs.NearEndLemmas.{near_holds_none}
@@ -269,25 +266,19 @@ module _ (d : DocumentState) (ago events : List Timed) (since most silent : ℕ)
     where
       by_delay : IsGoneByDelay d.network ago since gone → AreDueBy (since + gone) w
       by_delay goes =
-          let slower = none_slower d.network ago since gone goes in
-          let delay = goes.0 in
-          due_within gone (since + gone) w so.lost.keeps.claim.world.sound (λ link channel here up.
-          let (v, there, same) = alike (link_after events) channel_wire d.network.links w.net.channels
-          (sym so.lost.keeps.stands.links) link channel here in
-          let (was, bounds) = so.up link v there (ap (λ (x : LinkSpec). x.up) same ∙ up) in
-          let short = slower link v there was in
-          let one : (link_after events v).bounds.max ≡ (link_after ago v).bounds.max =
-          ap (λ (b : Bounds). b.max) bounds in
-          let longest : (link_after events v).bounds.max ≡ channel.bounds.max =
-          ap (λ (x : LinkSpec). x.bounds.max) same in
-          omega (arith, short, one, longest, delay)) (so.limited gone goes) (omega (arith, now))
+          due_within gone (since + gone) (since + gone) w so.lost.keeps.claim.world.sound
+          (within_to d playable events w so.lost.keeps gone (λ place v there up.
+          let (was, bounds) = so.up place v there up in
+          let short = up_within d.network ago since gone goes place v there was in
+          let one = ap (λ (b : Bounds). b.max) bounds in
+          omega (arith, short, one))) (so.limited gone goes) (omega arith) (omega (arith, now))
 
       by : FlightIsGoneFrom d.network ago since gone → AreDueBy (since + gone) w
-      by (inl (inl (used, delay))) = by_delay (delay, inl used)
+      by (inl (inl used)) = by_delay (inl used)
       by (inl (inr interval)) =
           subst (λ t. AreDueBy t w) (omega (arith, now, interval))
           (due_by_interval p_of w so.lost.keeps.claim.world)
-      by (inr (slower, arrived, delay)) = by_delay (delay, inr (slower, arrived))
+      by (inr within) = by_delay (inr within)
 
   taken_farther : LosesFartherFrom d.network ago events → w.time ≡ since → (old : ℕ)
       → FlightIsGoneBy d.network ago since old

@@ -206,12 +206,12 @@ module _ (d : DocumentState) (playable : IsPlayable d) (made : List Timed) (even
   -- what is in flight then is due as links say
   flies_limited : (gone since : ℕ) → then.time ≡ since → IsGoneByDelay n_of made since gone → IsSettledSeen p then
       → AreLimitedBy (since + gone) then
-  flies_limited gone since now (is, inl used) seen =
+  flies_limited gone since now (inl (used, is)) seen =
       let delay = ap (λ (x : SyncPaths). x.delay) paths_then in
       limited_weaker (then.time + delay_in then) (since + gone) then (omega (arith, is, now, delay))
       (used_limited p then world_then seen (up_in_use d made then keeps used))
-  flies_limited gone since now (is, inr (slower, (most, within, arrived))) seen =
-      limited_weaker (arrived_by most made) (since + gone) then arrived (keeps.limited most within)
+  flies_limited gone since now (inr (within, (most, bounded, arrived))) seen =
+      limited_weaker (arrived_by most made) (since + gone) then arrived (keeps.limited most bounded)
 
   -- ports that asked by a time before did so still
   asks_still : (start silent : ℕ) → start ≤ event.at → TakesAway p start silent then w' → HaveAskedBy start w'

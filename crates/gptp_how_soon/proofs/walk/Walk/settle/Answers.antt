@@ -11,7 +11,7 @@ pub returns-clause-is : goal.returns-clause-is
 returns-clause-is c =
     settled_so c.args.network.now c.args.self.now c.args.at c.is_none-first.result
     c.is_from_rest-from_rest.result c.is_calm.result c.sets_link.result c.up_is_used-all_used.result
-    c.any_silent.result c.longest_up.result c.flight_over-flight.result c.flight_over-flight_before.result
+    c.any_silent.result c.longest_up-longest.result c.flight_over-flight.result c.flight_over-flight_before.result
     c.in_ok-moves.moves
     c.args.paths
     c.as_slice-told.result.now c.as_slice-standings.result.now c.as_slice-used.result.now c.as_slice-new.result.now
@@ -19,10 +19,10 @@ returns-clause-is c =
     c.arrived_before-arrived_before.result c.row_of.result c.times_by.result
     c.times_by.ensures.is
     (c.flight_over-flight.ensures
-    ∙ ap (λ arrived. flight_over c.up_is_used-all_used.result c.args.paths.delay c.longest_up.result arrived c.args.at)
+    ∙ ap (λ arrived. flight_over c.up_is_used-all_used.result c.args.paths.delay c.longest_up-longest.result arrived c.args.at)
     c.from.ensures)
     c.flight_over-flight_before.ensures
-    c.longest_up.ensures
+    c.longest_up-longest.ensures
     c.arrived_before-arrived_before.ensures
     c.up_is_used-all_used.ensures c.any_silent.ensures c.row_of.ensures
     (c.in_ok-moves.ensures.is
