@@ -511,8 +511,8 @@ module _ (d : DocumentState) (playable : IsPlayable d) where
     ]
 
     -- links that are set are measured anew
-    asked : Settling → ℕ
-    asked s = set_span n.params v.paths (sets_link v.told)
+    abbrev asked : ℕ
+    asked = set_span n.params v.paths (sets_link v.told)
 
     later_so : TellsSo d playable (b.at ∷ earlier) (time_at d (Some b) at)
     later_so s is =
@@ -525,14 +525,14 @@ module _ (d : DocumentState) (playable : IsPlayable d) where
           sooner = x.sooner;
           sound = rest_so s it settles;
           rest = it.rest;
-          asked = asked s;
-          measured = subst (λ es. AreMeasuredBefore n es (suc (at + max s.choice (asked s))))
+          asked = asked;
+          measured = subst (λ es. AreMeasuredBefore n es (suc (at + max s.choice asked)))
               (sym (parted all b.at at playable.events.in_order late between))
               (measured_later n playable.network all b at late well (calm_from n (made ++ now) it.calm) s it
               (λ rest.
               let told = so rest.settling rest.is in (told.asked, told.measured, told.over)));
           over = it.over;
-          exact = subst (λ es. max (at + max s.choice (asked s)) (arrived_by (longest_delay n es) (last_set es))
+          exact = subst (λ es. max (at + max s.choice asked) (arrived_by (longest_delay n es) (last_set es))
               + window_span n.params + (sync_paths n es).systems * (n.params.threshold + n.params.residence)
               ≤ s.exact_from) (sym (parted all b.at at playable.events.in_order late between)) it.exact;
         }

@@ -1,5 +1,5 @@
 -- By when links are measured whose least delay events raise, by what is told of their time and of that before.
-use Rattle.std.proofs.Common.{◌≡◌, ◌<◌, ◌≤◌, ◌⊎◌, inl, inr, ◌+◌, ◌*◌, ℕ, Bool, true, false, cond, max, suc, List, [], ◌∷◌, ◌++◌, filter, length, append_assoc, append-nil, refl, sym, ap, subst, ◌∙◌, arith}
+use Rattle.std.proofs.Common.{◌≡◌, ◌<◌, ◌≤◌, ◌⊎◌, inl, inr, ◌+◌, ◌*◌, ℕ, Bool, true, false, cond, max, suc, List, [], ◌∷◌, ◌++◌, filter, length, append_assoc, append-nil, Some, refl, sym, ap, subst, ◌∙◌, arith}
 use Rattle.std.specs.List.{AllByRecursion, list_any}
 use Rattle.std.specs.Prelude.{◌&&◌, ◌||◌, ◌==◌, if◌then◌else◌, not}
 use Rattle.std.proofs.lemmas.Bool.{and_parts, eqb-true, or_cases, or_parts}
@@ -192,7 +192,7 @@ still_paths n network made (event ∷ events) (one, each) =
 wider_sets : (n : NetworkState) (settled time : ℕ) (made now : List Timed) → AreWiderEvents n settled time made now
     → sets_link (told_of n made now) ≡ true
 wider_sets n settled time made [] none = absurd none
-wider_sets n settled time made (event ∷ events) (by, x, rest) =
+wider_sets n settled time made (event ∷ events) (by, x, soon, idle) =
     ap (λ act. sets_bounds act || sets_link (told_of n (made ++ event ∷ []) events)) x.act
 
 -- the first of three tests holds where all do
