@@ -162,9 +162,12 @@ module _ (n : NetworkState) where
   anew_on : (before : List Timed) (how : HowAsked) (start : ℕ) (event : Timed) (events : List Timed)
       → MeasureOn n before how start (event ∷ events) Never (last_change (event ∷ events) + span)
   anew_on before how start event [] = (Never, event.at + span, inl (omega arith), (refl, refl))
-  anew_on before how start event (next ∷ events) =
-      (Never, event.at + span, inl (omega arith),
-      anew_on (before ++ event ∷ []) Never (event.at + span) next events)
+  anew_on before how start event (next ∷ events) = (
+    Never,
+    event.at + span,
+    inl (omega arith),
+    anew_on (before ++ event ∷ []) Never (event.at + span) next events,
+  )
 
   anew_to : (events : List Timed) → MeasureTo n events Never (last_change events + span)
   anew_to [] = (Never, 0 + span, inr (omega arith), (refl, refl))

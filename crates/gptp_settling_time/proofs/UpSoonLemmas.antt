@@ -114,10 +114,10 @@ module _ (p : SettlingParams) (number port : ℕ) (w : WorldState) (draws : List
       (measures at stands)))
       (λ at used one. elim (soon used) [
         | inl over ↦ inl (inl (inl (
-            w.time,
-            w.time,
-            (one, exchange_over p w.time next at w' is' one.is.link over),
-          )))
+          w.time,
+          w.time,
+          (one, exchange_over p w.time next at w' is' one.is.link over),
+        )))
         | inr asks ↦ inr (w.time, asks, w.time, one)
       ])
 
