@@ -50,7 +50,8 @@ use Rattle.gptp_how_soon_laws.proofs.UnmovedLemmas.{AreWell}
 
 -- the greatest delay of a link in use is that of none that is greater
 delays_within : (n : NetworkState) (events : List Timed) (most : ℕ) (ws : List LinkSpec)
-    → ((w : LinkSpec) → In w ws → IsUsed n.systems events (link_after events w) → (link_after events w).bounds.max ≤ most)
+    → ((w : LinkSpec) → In w ws → IsUsed n.systems events (link_after events w)
+    → (link_after events w).bounds.max ≤ most)
     → greatest_delay n.systems events ws ≤ most
 delays_within n events most [] each = omega arith
 delays_within n events most (w ∷ ws) each =
@@ -330,19 +331,22 @@ module _ (n : NetworkState) (network : IsNetwork n) (events : List Timed) (b : S
     grows : (s : Settling) → IsTelling n v s → Grows s.choice
     grows s it = by (n.params.sync_timeout == 0) refl
       where
-        row_choice : ℕ
+        abbrev row_choice : ℕ
         row_choice = choice_of_row n (loss_at v) v.paths (row_at v) (gained_at n v)
+
+        abbrev span : ℕ
+        span = settling_span_with (pace_of n) v.paths v.paths.systems
 
         by : (off : Bool) → (n.params.sync_timeout == 0) ≡ off → Grows s.choice
         by true off =
             let same : s.choice ≡ row_choice =
             it.choice
-            ∙ ap (λ test. if not test then settling_span_with (pace_of n) v.paths v.paths.systems else row_choice) off in
+            ∙ ap (λ test. if not test then span else row_choice) off in
             subst Grows (sym same) (row_grows (row_at v) refl)
         by false off =
-            let same : s.choice ≡ settling_span_with (pace_of n) v.paths v.paths.systems =
+            let same : s.choice ≡ span =
             it.choice
-            ∙ ap (λ test. if not test then settling_span_with (pace_of n) v.paths v.paths.systems else row_choice) off in
+            ∙ ap (λ test. if not test then span else row_choice) off in
             let requests = (keeps_pace n network).requests in
             inr (omega (arith, same, requests))
 

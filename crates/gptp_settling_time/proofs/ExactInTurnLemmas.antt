@@ -231,9 +231,10 @@ module _ {F : Type 0} (answers : Bounds → ℕ → F → Option ℕ → F → T
         drawn = step.drawn;
         was = step.was;
         right = λ on.
-            carries_right d playable events is.calm is.last settled is.settles behind most within old measured again (at now t.before)
-            (exact_later d playable events is.calm is.last settled is.settles behind most within old measured again t.before now
-            step.was.ready.timely.now step.was.ready.timely.first step.before)
+            carries_right d playable events is.calm is.last settled is.settles behind most within old measured again
+            (at now t.before)
+            (exact_later d playable events is.calm is.last settled is.settles behind most within old measured again
+            t.before now step.was.ready.timely.now step.was.ready.timely.first step.before)
             on shown;
       }
 

@@ -145,8 +145,8 @@ module _ (d : DocumentState) (events : List Timed) where
               let then = claim_later p w timed.at was.ready.timely.now was.ready.timely.first keeps.claim in
               let after = claim_kept answers p timed fate drawn w t.after t.told.done (next_fits w timed next)
               (next_prompt w timed next) (next_octet next.item timed.act w next.act) was keeps.claim in
-              measured_acts p start (AsksAt d.network events how) timed.act (at timed.at w) was.draws t.told.done t.after
-              (no_change next.item timed.act w next.act) was.acts then.world after.world then.measured
+              measured_acts p start (AsksAt d.network events how) timed.act (at timed.at w) was.draws t.told.done
+              t.after (no_change next.item timed.act w next.act) was.acts then.world after.world then.measured
               (measured_time p start (AsksAt d.network events how) timed.at w keeps.claim.world.sound
               was.ready.timely.now was.ready.timely.first (keeps.measures how start led));
           named = named_acts (pace_of d.network) timed.act (at timed.at w) was.draws t.told.done t.after

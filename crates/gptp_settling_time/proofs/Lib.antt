@@ -4,6 +4,7 @@ pub mod MeasuringLemmas
 pub mod MeasureToLemmas
 pub mod MeasuredEventLemmas
 pub mod MeasureLeadLemmas
+pub mod MeasuredAfterLemmas
 pub mod MeasuredInTurnLemmas
 pub mod StoodEventLemmas
 pub mod OneCallLemmas

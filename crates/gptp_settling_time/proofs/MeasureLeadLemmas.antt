@@ -173,7 +173,8 @@ module _ (n : NetworkState) where
   anew_to [] = (Never, 0 + span, inr (omega arith), (refl, refl))
   anew_to (event ∷ events) = (AtFirst, 0, inl refl, anew_on [] AtFirst 0 event events)
 
-  pub anew_measured : (events : List Timed) (start : ℕ) → last_change events + span ≤ start → AreMeasuredTo n events start
+  pub anew_measured : (events : List Timed) (start : ℕ) → last_change events + span ≤ start
+      → AreMeasuredTo n events start
   anew_measured events start late = record {
     how = Never;
     by = last_change events + span;
@@ -183,7 +184,8 @@ module _ (n : NetworkState) where
   }
 
   module _ (pace : KeepPace (pace_of n)) where
-    anyway_span : (events : List Timed) (start : ℕ) → AreCapableAnyway n events start → last_change events + span ≤ start
+    anyway_span : (events : List Timed) (start : ℕ) → AreCapableAnyway n events start
+        → last_change events + span ≤ start
     anyway_span events start (inl (live, late)) = omega (arith, late)
     anyway_span events start (inr late) = let requests = pace.requests in omega (arith, late, requests)
 

@@ -87,8 +87,8 @@ pub record AreMeasuredTo (n : NetworkState) (events : List Timed) (start : ℕ) 
 
 -- ---- one event more
 
-one_more_on : (n : NetworkState) (before : List Timed) (how : HowAsked) (start : ℕ) (events : List Timed) (event : Timed)
-    (last : HowAsked) (until : ℕ) → MeasureOn n before how start (events ++ event ∷ []) last until
+one_more_on : (n : NetworkState) (before : List Timed) (how : HowAsked) (start : ℕ) (events : List Timed)
+    (event : Timed) (last : HowAsked) (until : ℕ) → MeasureOn n before how start (events ++ event ∷ []) last until
     → (then : HowAsked) × (now : ℕ) × MeasureOn n before how start events then now
     × MeasureNext n (before ++ events) then now event last until
 one_more_on n before how start [] event last until (then, next, one, (is, same)) = (
@@ -136,8 +136,8 @@ on_more n before how start (first ∷ events) event then now last until (was, ne
       (subst (λ es. MeasureNext n es then now event last until) (sym (append_assoc before (first ∷ []) events)) behind),
 )
 
-pub measure_more : (n : NetworkState) (events : List Timed) (event : Timed) (then : HowAsked) (now : ℕ) (last : HowAsked)
-    (until : ℕ) → MeasureTo n events then now → MeasureNext n events then now event last until
+pub measure_more : (n : NetworkState) (events : List Timed) (event : Timed) (then : HowAsked) (now : ℕ)
+    (last : HowAsked) (until : ℕ) → MeasureTo n events then now → MeasureNext n events then now event last until
     → MeasureTo n (events ++ event ∷ []) last until
 measure_more n events event then now last until (how, start, begins, on) behind =
     (how, start, begins, on_more n [] how start events event then now last until on behind)

@@ -53,8 +53,8 @@ not_both how first anew = let both : AtFirst ≡ Anew = sym first ∙ anew in cc
 
 -- ---- what was first asked over at time 0
 
-module _ (d : DocumentState) (playable : IsPlayable d) (events : List Timed) (w : WorldState) (keeps : KeepsTo d events w)
-    (how : HowAsked) (start : ℕ) where
+module _ (d : DocumentState) (playable : IsPlayable d) (events : List Timed) (w : WorldState)
+    (keeps : KeepsTo d events w) (how : HowAsked) (start : ℕ) where
   abbrev net : NetworkState
   net = d.network
 
@@ -174,8 +174,8 @@ module _ (d : DocumentState) (playable : IsPlayable d) (made : List Timed) (even
           (act_is (Priority1 number value) same))
 
     -- at time 0, as the network starts
-    first_on : before ≡ AtFirst → start ≤ next → after ≡ AtFirst → event.at ≡ 0 → (c : Change) → change ≡ c → TellsNothing (Changing c)
-        → AreMeasuredOr p next After w'
+    first_on : before ≡ AtFirst → start ≤ next → after ≡ AtFirst → event.at ≡ 0 → (c : Change) → change ≡ c
+        → TellsNothing (Changing c) → AreMeasuredOr p next After w'
     first_on first longer still zero = by
       where
         others : (time : ℕ) → AsksAt n made before time → After time
@@ -208,7 +208,8 @@ module _ (d : DocumentState) (playable : IsPlayable d) (made : List Timed) (even
 
       nothing_on : ChangesNothing n made event.act → AreMeasuredOr p next After w'
       nothing_on nothing =
-          let idle = idle_so n made then keeps.stands world.sound change (subst (ChangesNothing n made) is_act nothing) in
+          let idle = idle_so n made then keeps.stands world.sound change
+          (subst (ChangesNothing n made) is_act nothing) in
           let still : StandsStill then w' = idle_still then world.sound draws w' change idle (came change refl).1 in
           λ at stands.
           measured_for p start Old at next After w' longer olds

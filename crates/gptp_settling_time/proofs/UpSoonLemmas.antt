@@ -83,7 +83,8 @@ module _ (p : SettlingParams) (number port : ℕ) (w : WorldState) (draws : List
       so_down : (at : LinkPlace) → LinkStandsAt at w' → So at
       so_down at stands = elim (same_place at.link k.place) [
         | inl place_is ↦
-            new at (is_used at place_is (before at stands)) (up_first p number port w draws done w' pace is measured acts down at place_is (before at stands))
+            new at (is_used at place_is (before at stands))
+            (up_first p number port w draws done w' pace is measured acts down at place_is (before at stands))
         | inr apart ↦
             let old = before at stands in
             on at (stood_in at brought w old refl

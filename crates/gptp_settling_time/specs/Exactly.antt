@@ -73,7 +73,7 @@ AreExactFrom p settled w time w' done = (steps number error : ℕ) (offset ahead
 
 -- ---- laws
 
--- A world since news whose ports are capable from a start on, and measure by the least delays in force from then on, and
+-- A world since news whose ports are capable from a start on, and measure by the least delays in force since then, and
 -- in which nothing is changed: each act in it that is done once it has settled.
 abbrev pub NewsAreExact : {F : Type 0} → (Bounds → ℕ → F → Option ℕ → F → Type 0) → Type 0
 NewsAreExact {F} answers = (p : SettlingParams) (start settled until m : ℕ) (told : List Told) (timed : Timed)
