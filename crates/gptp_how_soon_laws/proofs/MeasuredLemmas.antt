@@ -328,15 +328,15 @@ module _ (n : NetworkState) (network : IsNetwork n) (events : List Timed) (b : S
         kept_grows 0 (rest_so n network events b at late from)
         (first_holds (keeps_paths v.paths_before v.paths) (takes_several v.told) v.moves.taken taken)
 
+    abbrev row_choice : ℕ
+    row_choice = choice_of_row n (loss_at v) v.paths (row_at v) (gained_at n v)
+
+    abbrev span : ℕ
+    span = settling_span_with (pace_of n) v.paths v.paths.systems
+
     grows : (s : Settling) → IsTelling n v s → Grows s.choice
     grows s it = by (n.params.sync_timeout == 0) refl
       where
-        abbrev row_choice : ℕ
-        row_choice = choice_of_row n (loss_at v) v.paths (row_at v) (gained_at n v)
-
-        abbrev span : ℕ
-        span = settling_span_with (pace_of n) v.paths v.paths.systems
-
         by : (off : Bool) → (n.params.sync_timeout == 0) ≡ off → Grows s.choice
         by true off =
             let same : s.choice ≡ row_choice =

@@ -74,6 +74,7 @@ pub mod TakenDownLemmas
 pub mod FailedDownLemmas
 pub mod RestClaimedLemmas
 pub mod WiderLinkLemmas
+pub mod SetBoundsLemmas
 pub mod WidenedLemmas
 pub mod SameLinkLemmas
 pub mod StandsLikeLemmas

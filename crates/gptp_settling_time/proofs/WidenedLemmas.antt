@@ -1,18 +1,13 @@
 -- A link in use whose delays get wider: in a world that has settled all stands as it did, and claims are made of all
 -- links always.
-use Rattle.std.proofs.Common.{◌≡◌, ◌≢◌, ◌⊎◌, ◌<◌, ◌≤◌, ◌+◌, ◌*◌, ℕ, zero, suc, min, true, List, [], ◌∷◌, map, Some, slice_get, slice_set, refl, sym, ap, subst, ◌∙◌, inl, inr, arith}
-use Rattle.std.specs.Prelude.{if◌then◌else◌}
+use Rattle.std.proofs.Common.{◌≡◌, ◌≢◌, ◌⊎◌, ◌<◌, ◌≤◌, ◌+◌, ◌*◌, ℕ, min, true, List, map, Some, slice_get, refl, sym, ap, subst, ◌∙◌, inl, inr, arith}
 use Rattle.std.proofs.lemmas.Bool.{cases_lt}
-use Rattle.std.proofs.lemmas.Option.{same_Some}
 use Rattle.gptp_lists.specs.Members.{In}
 use Rattle.gptp_lists.proofs.MappedLemmas.{same_there}
 use Rattle.gptp_lists.proofs.PlaceLemmas.{get-set_other, get-set_same, same_place}
 use Rattle.gptp_graph.specs.PathBound.{BoundsPaths}
-use Rattle.gptp_graph.specs.Snapshot.{System}
 use Rattle.gptp_vector.specs.declared.port.PortId.{PortId}
 use Rattle.gptp_links.specs.declared.bounds.Bounds.{Bounds}
-use Rattle.gptp_links.specs.declared.link.Direction.{Direction}
-use Rattle.gptp_links.specs.declared.link.Direction.TheVariants.{FromA, FromB}
 use Rattle.gptp_links.specs.Fate.{Draw}
 use Rattle.gptp_links.specs.Queue.{Frame}
 use Rattle.gptp_pdelay.specs.GoodLink.{IsGoodLink}
@@ -21,15 +16,14 @@ use Rattle.gptp_scenario.specs.Params.{KeepPace}
 use Rattle.gptp_scenario.specs.declared.change.Act.TheVariants.{Change as Changing}
 use Rattle.gptp_scenario.specs.declared.change.Change.TheVariants.{LinkSet}
 use Rattle.gptp_setup.specs.declared.setup.Params.{Params}
-use Rattle.gptp_setup.specs.declared.setup.Setup.{Setup}
 use Rattle.gptp_setup.specs.Intervals.{interval_of}
 use Rattle.gptp_setup.specs.SettlingParams.{SettlingParams}
 use Rattle.gptp_setup.specs.Stamping.{blur_of}
-use Rattle.gptp_system.specs.Measures.{Part, measure_at}
+use Rattle.gptp_system.specs.Measures.{measure_at}
 use Rattle.gptp_model.specs.Acts.{Acts, set_to}
 use Rattle.gptp_model.specs.Changing.{with_bounds}
 use Rattle.gptp_model.specs.declared.done.Done.{Done}
-use Rattle.gptp_model.specs.World.{Channel, WorldState, receiver, sender, world_queue}
+use Rattle.gptp_model.specs.World.{Channel, WorldState, receiver, sender}
 use Rattle.gptp_pdelay_machine.specs.Facts.{Facts}
 use Rattle.gptp_pdelay_machine.specs.First.{InvFirst, MeasuresBy}
 use Rattle.gptp_pdelay_machine.specs.FirstLaws.{exchange_span}
@@ -44,14 +38,14 @@ use Rattle.gptp_bmca_machine.proofs.SoundEverywhereLemmas.{on_links}
 use Rattle.gptp_bmca_machine.proofs.SoundLemmas.{received_fits}
 use Rattle.gptp_invariants.specs.ChoiceCalm.{HaveQuietLinks, paths_with}
 use Rattle.gptp_invariants.specs.ChoiceSettlesAsMachine.{IsWorld}
-use Rattle.gptp_invariants.specs.ChoiceView.{lane_view, lanes_view, says_announce, station_view, view}
+use Rattle.gptp_invariants.specs.ChoiceView.{says_announce, station_view, view}
 use Rattle.gptp_invariants.specs.DelayFirstAt.{IsFirstAt, IsFirstBy, IsMeasuringAt, IsMeasuringBefore}
-use Rattle.gptp_invariants.specs.DelayLinkView.{IsLinkOf, LinkPlace, least_delay, link_setting, meter, pair, pair_view, reads_as_reply, reads_as_request, setting_view, kept_view}
+use Rattle.gptp_invariants.specs.DelayLinkView.{IsLinkOf, LinkPlace, least_delay, link_setting, meter, pair, reads_as_reply, reads_as_request, kept_view}
 use Rattle.gptp_invariants.specs.DelayMeasured.{LinkIsMeasured, LinkStandsAt}
 use Rattle.gptp_invariants.specs.FailedUnanswered.{IsFailedAmong, IsLastAnswered, IsOff, StandsUnanswered}
 use Rattle.gptp_invariants.specs.WorldNews.{AreReadyBy, AreSilentBy, IsNews, IsReadyBy, news_network}
 use Rattle.gptp_invariants.specs.WorldSound.{IsSoundWorld}
-use Rattle.gptp_invariants.specs.WorldStanding.{channel_is_used, live_stations, snapshot_of, standing_link, used_channels}
+use Rattle.gptp_invariants.specs.WorldStanding.{channel_is_used, live_stations, snapshot_of}
 use Rattle.gptp_invariants.proofs.DelayEndLemmas.{renamed}
 use Rattle.gptp_invariants.proofs.DelayLinkLemmas.{good_between}
 use Rattle.gptp_invariants.proofs.DelayUsedLinkLemmas.{receiver_lives}
@@ -64,6 +58,7 @@ use Rattle.gptp_settling_time.proofs.LinkUpLemmas.{lane_set}
 use Rattle.gptp_settling_time.proofs.MeasuringLemmas.{AreMeasuredOr, IsMeasuredOr, has_begun, measured_for}
 use Rattle.gptp_settling_time.proofs.SameLinkLemmas.{StaysSameLink, measured_same, ready_same}
 use Rattle.gptp_settling_time.proofs.SettledSeenLemmas.{HasSettledSeen, IsSettledSeen, stage_settled}
+use Rattle.gptp_settling_time.proofs.SetBoundsLemmas.{lanes_set, links_set, pair_set, queue_set, receiver_set, sender_set, setting_set}
 use Rattle.gptp_settling_time.proofs.StandsLikeLemmas.{none_short}
 use Rattle.gptp_settling_time.proofs.WiderLinkLemmas.{facts_wide, first_wide, measures_wide}
 use Rattle.gptp_settling_time.proofs.WillAskLemmas.{first_from, first_since, watched_later}
@@ -101,58 +96,6 @@ module _ (p : SettlingParams) (start : ℕ) (w : WorldState) (is : IsWorld p w) 
   ready_heard ready at stands =
       let (first, by) = ready_first at (ready at stands) in
       inr (inr (inr (first, start, record { is = by; late = past })))
-
--- ---- what doesn't look at delays
-
-sender_set : (direction : Direction) (c : Channel) (b : Bounds)
-    → sender direction (record c { bounds = b }) ≡ sender direction c
-sender_set FromA c b = refl
-sender_set FromB c b = refl
-
-receiver_set : (direction : Direction) (c : Channel) (b : Bounds)
-    → receiver direction (record c { bounds = b }) ≡ receiver direction c
-receiver_set FromA c b = refl
-receiver_set FromB c b = refl
-
-queue_set : (direction : Direction) (c : Channel) (b : Bounds)
-    → world_queue direction (record c { bounds = b }) ≡ world_queue direction c
-queue_set FromA c b = refl
-queue_set FromB c b = refl
-
-pair_set : (time period : ℕ) (direction : Direction) (c : Channel) (b : Bounds) (x y : Part)
-    → pair_view time period direction (record c { bounds = b }) x y ≡ pair_view time period direction c x y
-pair_set time period FromA c b x y = refl
-pair_set time period FromB c b x y = refl
-
-setting_set : (direction : Direction) (c : Channel) (b : Bounds) (x y : Setup)
-    → setting_view direction (record c { bounds = b }) x y ≡ record (setting_view direction c x y) { most = b.max }
-setting_set FromA c b x y = refl
-setting_set FromB c b x y = refl
-
-lane_view_set : (direction : Direction) (c : Channel) (b : Bounds) → b.loss ≡ c.bounds.loss
-    → lane_view direction (record c { bounds = b }) ≡ lane_view direction c
-lane_view_set FromA c b same = ap (λ loss. record (lane_view FromA c) { loss = loss }) same
-lane_view_set FromB c b same = ap (λ loss. record (lane_view FromB c) { loss = loss }) same
-
-lanes_set : (channels : List Channel) (i : ℕ) (c : Channel) (b : Bounds) → slice_get channels i ≡ Some c
-    → b.loss ≡ c.bounds.loss → lanes_view (slice_set channels i (record c { bounds = b })) ≡ lanes_view channels
-lanes_set [] i c b here same = refl
-lanes_set (first ∷ channels) zero c b here same =
-    (λ i. lane_view_set FromA c b same i ∷ lane_view_set FromB c b same i ∷ lanes_view channels)
-    ∙ ap (λ (x : Channel). lane_view FromA x ∷ lane_view FromB x ∷ lanes_view channels) (sym (same_Some first c here))
-lanes_set (first ∷ channels) (suc i) c b here same =
-    ap (λ rest. lane_view FromA first ∷ lane_view FromB first ∷ rest) (lanes_set channels i c b here same)
-
-links_set : (systems : List System) (channels : List Channel) (i : ℕ) (c : Channel) (b : Bounds)
-    → slice_get channels i ≡ Some c
-    → used_channels systems (slice_set channels i (record c { bounds = b })) ≡ used_channels systems channels
-links_set systems [] i c b here = refl
-links_set systems (first ∷ channels) zero c b here =
-    ap (λ (x : Channel). if channel_is_used systems x then standing_link x ∷ used_channels systems channels
-    else used_channels systems channels) (sym (same_Some first c here))
-links_set systems (first ∷ channels) (suc i) c b here =
-    ap (λ rest. if channel_is_used systems first then standing_link first ∷ rest else rest)
-    (links_set systems channels i c b here)
 
 -- ---- the link gets wider
 
