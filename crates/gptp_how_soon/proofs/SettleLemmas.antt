@@ -14,12 +14,13 @@ use Rattle.gptp_how_soon.specs.Bounds.{arrived_by, times_by}
 use Rattle.gptp_how_soon.specs.Gains.{heard_by, ready}
 use Rattle.gptp_how_soon.specs.Kinds.{begins_wider, brings_nothing, is_loss, makes_nothing, sets_link}
 use Rattle.gptp_how_soon.specs.Links.{new_among}
-use Rattle.gptp_how_soon.specs.Rest.{are_losses_followed, asks_who_is_moved, failed_row, is_end_followed, is_failing_followed, is_from_rest, is_lowering_followed, is_taking_followed, is_worsening_followed, no_moves, row_of}
+use Rattle.gptp_how_soon.specs.Losses.{lowers_one}
+use Rattle.gptp_how_soon.specs.Rest.{are_losses_followed, asks_who_is_moved, failed_row, is_end_followed, is_failing_followed, is_from_rest, is_link_followed, is_taking_followed, is_worsening_followed, no_moves, row_of}
 use Rattle.gptp_how_soon.specs.Silent.{any_silent}
 use Rattle.gptp_how_soon.specs.Times.{settling_time}
 use Rattle.gptp_how_soon.specs.Walk.{moves_seen, view_seen}
 use Rattle.gptp_how_soon.specs.declared.bounds.Row.{Row}
-use Rattle.gptp_how_soon.specs.declared.bounds.Row.TheVariants.{AnyLosses, AnyPast, CutOff, FailedEnd, FailedHeard, FailureCutsOff, FailureMovesTrees, Gained, Lowered, SystemTurned, TakenApart, TakenAway, TreeFalls, TreeTurned, Unchanged}
+use Rattle.gptp_how_soon.specs.declared.bounds.Row.TheVariants.{AnyLosses, AnyPast, CutOff, FailedEnd, FailedHeard, FailureCutsOff, FailureMovesTrees, Gained, Lowered, SystemTurned, TakenApart, TakenAway, TakenHeard, TreeFalls, TreeTurned, Unchanged}
 use Rattle.gptp_how_soon.specs.declared.bounds.SettlingTime.{SettlingTime}
 use Rattle.gptp_how_soon.specs.declared.kinds.Told.{Told}
 use Rattle.gptp_how_soon.specs.declared.rest.Moves.{Moves}
@@ -34,21 +35,22 @@ abbrev asked_of : Moves → Bool → Moves
 asked_of moves asked = if asked then moves else no_moves
 
 -- the row of a time, by what its events are
-abbrev row_by : Bool → Bool → Bool → Bool → Bool → Bool → Bool → Bool → Bool → Bool → Bool → Moves → Row
-row_by rest first idle followed lowering failing ending taking worse loses losses moves =
+abbrev row_by : Bool → Bool → Bool → Bool → Bool → Bool → Bool → Bool → Bool → Bool → Bool → Bool → Moves → Row
+row_by rest first idle followed link lowers failing ending taking worse loses losses moves =
     if not rest then AnyPast
     else if first then Gained
     else if idle then Unchanged
     else if followed && not moves.moved then Unchanged
-    else if lowering && not moves.moved then if moves.cut then CutOff else Lowered
-    else if lowering && moves.turned then SystemTurned
-    else if (lowering && moves.falls) || (worse && moves.worsens) then TreeFalls
-    else if lowering && moves.tree_turns then TreeTurned
+    else if link && not moves.moved then if moves.cut then CutOff else Lowered
+    else if link && moves.turned then SystemTurned
+    else if (link && lowers && moves.falls) || (worse && moves.worsens) then TreeFalls
+    else if link && lowers && moves.tree_turns then TreeTurned
     else if failing && not moves.moved then failed_row moves.far moves.any_moved
     else if failing && moves.trees_move then FailureMovesTrees
     else if ending && (moves.far && not moves.any_moved) then FailedEnd
     else if taking && moves.apart then TakenApart
     else if taking && moves.taken then TakenAway
+    else if taking && moves.ages then TakenHeard
     else if loses then if losses then AnyLosses else AnyPast
     else Gained
 
@@ -58,22 +60,22 @@ same_row : (from_rest first : Bool) (before paths : SyncPaths) (told : List Told
     ≡ row_of from_rest first before paths told moves
 same_row from_rest first before paths told moves =
     by from_rest (list_all makes_nothing told || begins_wider told) (are_losses_followed before told)
-    (is_lowering_followed before paths told) (is_failing_followed before paths told)
+    (is_link_followed before paths told) (lowers_one told) (is_failing_followed before paths told)
     (is_end_followed before paths told) (is_taking_followed before paths told)
     (is_worsening_followed before paths told) (list_any is_loss told) (list_all brings_nothing told)
   where
-    by : (rest idle followed lowering failing ending taking worse loses losses : Bool)
-        → row_by rest first idle followed lowering failing ending taking worse loses losses
-        (asked_of moves (rest && (followed || lowering || failing || ending || taking || worse)))
-        ≡ row_by rest first idle followed lowering failing ending taking worse loses losses moves
-    by false idle followed lowering failing ending taking worse loses losses = refl
-    by true idle true lowering failing ending taking worse loses losses = refl
-    by true idle false true failing ending taking worse loses losses = refl
-    by true idle false false true ending taking worse loses losses = refl
-    by true idle false false false true taking worse loses losses = refl
-    by true idle false false false false true worse loses losses = refl
-    by true idle false false false false false true loses losses = refl
-    by true idle false false false false false false loses losses = refl
+    by : (rest idle followed link lowers failing ending taking worse loses losses : Bool)
+        → row_by rest first idle followed link lowers failing ending taking worse loses losses
+        (asked_of moves (rest && (followed || link || failing || ending || taking || worse)))
+        ≡ row_by rest first idle followed link lowers failing ending taking worse loses losses moves
+    by false idle followed link lowers failing ending taking worse loses losses = refl
+    by true idle true link lowers failing ending taking worse loses losses = refl
+    by true idle false true lowers failing ending taking worse loses losses = refl
+    by true idle false false lowers true ending taking worse loses losses = refl
+    by true idle false false lowers false true taking worse loses losses = refl
+    by true idle false false lowers false false true worse loses losses = refl
+    by true idle false false lowers false false false true loses losses = refl
+    by true idle false false lowers false false false false loses losses = refl
 
 -- ---- what others hold
 
@@ -82,6 +84,7 @@ abbrev counts_held : Row → Bool
 counts_held FailedHeard = true
 counts_held FailureCutsOff = true
 counts_held FailureMovesTrees = true
+counts_held TakenHeard = true
 counts_held row = false
 
 -- it counts only where it is asked whom events move
@@ -89,28 +92,28 @@ held_asked : (from_rest first : Bool) (before paths : SyncPaths) (told : List To
     → asks_who_is_moved from_rest before paths told ≡ false
     → counts_held (row_of from_rest first before paths told moves) ≡ false
 held_asked from_rest first before paths told moves =
-    by from_rest (are_losses_followed before told) (is_lowering_followed before paths told)
+    by from_rest (are_losses_followed before told) (is_link_followed before paths told) (lowers_one told)
     (is_failing_followed before paths told) (is_end_followed before paths told)
     (is_taking_followed before paths told) (is_worsening_followed before paths told) first
     (list_all makes_nothing told || begins_wider told)
     (list_any is_loss told) (list_all brings_nothing told)
   where
-    by : (rest followed lowering failing ending taking worse starts idle loses losses : Bool)
-        → (rest && (followed || lowering || failing || ending || taking || worse)) ≡ false
-        → counts_held (row_by rest starts idle followed lowering failing ending taking worse loses losses moves)
+    by : (rest followed link lowers failing ending taking worse starts idle loses losses : Bool)
+        → (rest && (followed || link || failing || ending || taking || worse)) ≡ false
+        → counts_held (row_by rest starts idle followed link lowers failing ending taking worse loses losses moves)
         ≡ false
-    by false followed lowering failing ending taking worse starts idle loses losses none = refl
-    by true true lowering failing ending taking worse starts idle loses losses none = absurd cc
-    by true false true failing ending taking worse starts idle loses losses none = absurd cc
-    by true false false true ending taking worse starts idle loses losses none = absurd cc
-    by true false false false true taking worse starts idle loses losses none = absurd cc
-    by true false false false false true worse starts idle loses losses none = absurd cc
-    by true false false false false false true starts idle loses losses none = absurd cc
-    by true false false false false false false true idle loses losses none = refl
-    by true false false false false false false false true loses losses none = refl
-    by true false false false false false false false false true true none = refl
-    by true false false false false false false false false true false none = refl
-    by true false false false false false false false false false losses none = refl
+    by false followed link lowers failing ending taking worse starts idle loses losses none = refl
+    by true true link lowers failing ending taking worse starts idle loses losses none = absurd cc
+    by true false true lowers failing ending taking worse starts idle loses losses none = absurd cc
+    by true false false lowers true ending taking worse starts idle loses losses none = absurd cc
+    by true false false lowers false true taking worse starts idle loses losses none = absurd cc
+    by true false false lowers false false true worse starts idle loses losses none = absurd cc
+    by true false false lowers false false false true starts idle loses losses none = absurd cc
+    by true false false lowers false false false false true idle loses losses none = refl
+    by true false false lowers false false false false false true loses losses none = refl
+    by true false false lowers false false false false false false true true none = refl
+    by true false false lowers false false false false false false true false none = refl
+    by true false false lowers false false false false false false false losses none = refl
 
 module _ (n : NetworkState) (at arrived : ℕ) (paths_before paths : SyncPaths)
     (used silent calm sets : Bool) (flight flight_before : Option ℕ) (gained : ℕ) where
@@ -144,6 +147,7 @@ module _ (n : NetworkState) (at arrived : ℕ) (paths_before paths : SyncPaths)
   held_apart FailureMovesTrees held other all some one any is = absurd cc
   held_apart TakenAway held other all some one any is = refl
   held_apart TakenApart held other all some one any is = refl
+  held_apart TakenHeard held other all some one any is = absurd cc
   held_apart AnyLosses held other all some one any is = refl
   held_apart Gained held other all some one any is = refl
 

@@ -42,7 +42,7 @@ use Rattle.gptp_how_soon.specs.Silent.{is_heard_link, own_intervals}
 use Rattle.gptp_how_soon.specs.Times.{IsWatchedShortly, View, events_at, events_before, gained_at, heard_at, last_of, last_set, loss_at, row_at, settling_time, settling_times, settling_times_from, time_at, view_at}
 use Rattle.gptp_how_soon.specs.declared.bounds.Loss.{Loss}
 use Rattle.gptp_how_soon.specs.declared.bounds.Row.{Row}
-use Rattle.gptp_how_soon.specs.declared.bounds.Row.TheVariants.{AnyLosses, AnyPast, CutOff, FailedEnd, FailedHeard, FailureCutsOff, FailureMovesTrees, Gained, Lowered, SystemTurned, TakenApart, TakenAway, TreeFalls, TreeTurned, Unchanged}
+use Rattle.gptp_how_soon.specs.declared.bounds.Row.TheVariants.{AnyLosses, AnyPast, CutOff, FailedEnd, FailedHeard, FailureCutsOff, FailureMovesTrees, Gained, Lowered, SystemTurned, TakenApart, TakenAway, TakenHeard, TreeFalls, TreeTurned, Unchanged}
 use Rattle.gptp_how_soon.specs.declared.bounds.SettlingTime.{SettlingTime}
 use Rattle.gptp_how_soon.specs.declared.kinds.Told.{Told}
 use Rattle.gptp_how_soon.proofs.SilentLemmas.{held_within}
@@ -166,6 +166,7 @@ module _ (n : NetworkState) (network : IsNetwork n) (paths : SyncPaths) (few : p
         by FailureMovesTrees = cut_most
         by TakenAway = omega arith
         by TakenApart = quiet 0 (omega arith)
+        by TakenHeard = let a = aged_most in quiet (aged_by loss) (omega (arith, a))
         by AnyLosses = roles_lost
         by Gained = early
 
@@ -217,6 +218,7 @@ module _ (n : NetworkState) (network : IsNetwork n) (paths : SyncPaths) (few : p
             195000000000000 (omega (arith, e, short)) (omega (arith, l))
         by TakenApart =
             let g = gone loss.flight_before in quiet (gone_by n loss.flight_before) (omega (arith, g))
+        by TakenHeard = aged
         by AnyLosses = roles_lost
         by Gained = early
 
@@ -245,6 +247,7 @@ module _ (n : NetworkState) (network : IsNetwork n) (paths : SyncPaths) (few : p
         by true FailureMovesTrees = let w = way in let e = kept in let a = aged_most in omega (arith, w, e, a)
         by true TakenAway = let e = echo in omega (arith, e)
         by true TakenApart = omega arith
+        by true TakenHeard = let e = echo in let a = aged_most in omega (arith, e, a)
         by true AnyLosses = let l = losses loss soon in omega (arith, l)
         by true Gained = omega (arith, early)
 

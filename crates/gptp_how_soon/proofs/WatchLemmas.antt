@@ -13,7 +13,7 @@ use Rattle.gptp_how_soon.specs.Kinds.{sets_link}
 use Rattle.gptp_how_soon.specs.Times.{View, events_at, events_before, gained_at, loss_at, row_at, settling_times, settling_times_from, time_at, view_at}
 use Rattle.gptp_how_soon.specs.declared.bounds.Loss.{Loss}
 use Rattle.gptp_how_soon.specs.declared.bounds.Row.{Row}
-use Rattle.gptp_how_soon.specs.declared.bounds.Row.TheVariants.{AnyLosses, AnyPast, CutOff, FailedEnd, FailedHeard, FailureCutsOff, FailureMovesTrees, Gained, Lowered, SystemTurned, TakenApart, TakenAway, TreeFalls, TreeTurned, Unchanged}
+use Rattle.gptp_how_soon.specs.declared.bounds.Row.TheVariants.{AnyLosses, AnyPast, CutOff, FailedEnd, FailedHeard, FailureCutsOff, FailureMovesTrees, Gained, Lowered, SystemTurned, TakenApart, TakenAway, TakenHeard, TreeFalls, TreeTurned, Unchanged}
 use Rattle.gptp_how_soon.specs.declared.bounds.Settling.{Settling}
 use Rattle.gptp_how_soon.specs.declared.bounds.SettlingTime.{SettlingTime}
 
@@ -48,6 +48,7 @@ roles_later n loss paths row gained = by (n.params.sync_timeout == 0) row
     by true FailureMovesTrees = quiet (choice_of_row n loss paths FailureMovesTrees gained)
     by true TakenAway = omega arith
     by true TakenApart = omega arith
+    by true TakenHeard = quiet (choice_of_row n loss paths TakenHeard gained)
     by true AnyLosses = quiet (any_loss_span n loss paths)
     by true Gained = omega arith
 

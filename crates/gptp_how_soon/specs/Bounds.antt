@@ -10,7 +10,7 @@ use Rattle.gptp_scenario.specs.declared.sync_wait.SyncPaths.{SyncPaths}
 use Rattle.gptp_how_soon.specs.Flight.{gone_by}
 use Rattle.gptp_how_soon.specs.declared.bounds.Loss.{Loss}
 use Rattle.gptp_how_soon.specs.declared.bounds.Row.{Row}
-use Rattle.gptp_how_soon.specs.declared.bounds.Row.TheVariants.{AnyLosses, AnyPast, CutOff, FailedEnd, FailedHeard, FailureCutsOff, FailureMovesTrees, Gained, Lowered, SystemTurned, TakenApart, TakenAway, TreeFalls, TreeTurned, Unchanged}
+use Rattle.gptp_how_soon.specs.declared.bounds.Row.TheVariants.{AnyLosses, AnyPast, CutOff, FailedEnd, FailedHeard, FailureCutsOff, FailureMovesTrees, Gained, Lowered, SystemTurned, TakenApart, TakenAway, TakenHeard, TreeFalls, TreeTurned, Unchanged}
 use Rattle.gptp_how_soon.specs.declared.bounds.Settling.{Settling}
 use Rattle.gptp_how_soon.specs.declared.bounds.SettlingTime.{SettlingTime}
 
@@ -42,8 +42,9 @@ quiet_by n loss choice = if loss.silent then max choice (silence_span (pace_of n
 
 -- The choice, by what a loss leaves of before. Where something may lapse for want of Sync it takes the span. Else it is
 -- as the row says, with so much after gains. Where others heard a system that fails it stands once they don't hold that
--- any more. A system that turns tells what it chooses, and its neighbours answer: a way there, and one back. A tree
--- that falls off, or turns, drops what it had within a way, and has another within one more.
+-- any more, and so it does where several are taken away. A system that turns tells what it chooses, and its neighbours
+-- answer: a way there, and one back. A tree that falls off, or turns, drops what it had within a way, and has another
+-- within one more.
 abbrev pub choice_of_row : NetworkState → Loss → SyncPaths → Row → ℕ → ℕ
 choice_of_row n loss paths AnyPast gained = settling_span_at_once (pace_of n) paths
 choice_of_row n loss paths Unchanged gained = 0
@@ -58,6 +59,7 @@ choice_of_row n loss paths TreeTurned gained = 2 * way_span paths
 choice_of_row n loss paths FailureMovesTrees gained = aged_by loss + 2 * way_span paths
 choice_of_row n loss paths TakenAway gained = 0
 choice_of_row n loss paths TakenApart gained = 0
+choice_of_row n loss paths TakenHeard gained = aged_by loss
 choice_of_row n loss paths AnyLosses gained = any_loss_span n loss paths
 choice_of_row n loss paths Gained gained = gained
 
@@ -82,6 +84,7 @@ roles_of_row n loss paths FailureMovesTrees gained =
     quiet_by n loss (choice_of_row n loss paths FailureMovesTrees gained)
 roles_of_row n loss paths TakenAway gained = 0
 roles_of_row n loss paths TakenApart gained = quiet_by n loss 0
+roles_of_row n loss paths TakenHeard gained = quiet_by n loss (choice_of_row n loss paths TakenHeard gained)
 roles_of_row n loss paths AnyLosses gained = quiet_by n loss (any_loss_span n loss paths)
 roles_of_row n loss paths Gained gained = gained
 
@@ -90,9 +93,9 @@ roles_by n loss paths row gained =
     if not (n.params.sync_timeout == 0) then settling_span_with (pace_of n) paths paths.systems
     else roles_of_row n loss paths row gained
 
--- How much later than a system fails that others heard each tells a right trace, and what was in flight is gone. They
--- do at once where each link that is up is in use. Else they do once nobody holds what names it, 1 ns later than the
--- choice stands; and ports at other links that are up have to be off.
+-- How much later than a system fails that others heard, or several are taken away, each tells a right trace, and what
+-- was in flight is gone. They do at once where each link that is up is in use. Else they do once nobody holds what
+-- names it, 1 ns later than the choice stands; and ports at other links that are up have to be off.
 abbrev pub aged_echo_span : NetworkState → Loss → SyncPaths → ℕ
 aged_echo_span n loss paths =
     if loss.used then max (echo_span (pace_of n) paths) paths.delay
@@ -140,6 +143,7 @@ sound_of_row n loss paths FailureMovesTrees gained =
     else aged_by loss + 2 * way_span paths + max (echo_span (pace_of n) paths) (largest_interval (pace_of n)))
 sound_of_row n loss paths TakenAway gained = taken_echo_span n loss paths
 sound_of_row n loss paths TakenApart gained = quiet_by n loss (gone_by n loss.flight_before)
+sound_of_row n loss paths TakenHeard gained = aged_echo_span n loss paths
 sound_of_row n loss paths AnyLosses gained = quiet_by n loss (any_loss_span n loss paths)
 sound_of_row n loss paths Gained gained = gained
 
@@ -161,6 +165,7 @@ echo_of_row n loss paths SystemTurned = echo_span (pace_of n) paths
 echo_of_row n loss paths TreeTurned = echo_span (pace_of n) paths
 echo_of_row n loss paths FailureMovesTrees = echo_if_kept n loss paths
 echo_of_row n loss paths TakenAway = echo_span (pace_of n) paths
+echo_of_row n loss paths TakenHeard = echo_span (pace_of n) paths
 echo_of_row n loss paths row = 0
 
 abbrev pub echo_by : NetworkState → Loss → SyncPaths → Row → ℕ

@@ -1,5 +1,5 @@
 -- For how long something is in flight over the links of a network (profile).
-use Rattle.std.specs.Prelude.{ℕ, ◌+◌, max, min, nat_le, Bool, if◌then◌else◌, List, [], ◌∷◌, Option, Some, None}
+use Rattle.std.specs.Prelude.{◌||◌, ℕ, ◌+◌, max, min, nat_le, Bool, if◌then◌else◌, List, [], ◌∷◌, Option, Some, None}
 use Rattle.gptp_setup.specs.SettlingParams.{largest_interval}
 use Rattle.gptp_scenario.specs.Network.{NetworkState, pace_of}
 use Rattle.gptp_topology.specs.declared.course.Standing.{Standing}
@@ -18,6 +18,11 @@ longest_up (s ∷ ss) = max (delay_up s) (longest_up ss)
 abbrev pub flight_over : Bool → ℕ → ℕ → ℕ → ℕ → Option ℕ
 flight_over used delay longest arrived at =
     if used then Some delay else if nat_le arrived (at + longest) then Some longest else None
+
+-- What is in flight at a time is due within the greatest delay of its own link: each that is up is in use, or what was
+-- in flight as a link was last set has arrived by then.
+abbrev pub flies_in_time : Bool → ℕ → ℕ → Bool
+flies_in_time used arrived at = used || nat_le arrived at
 
 -- What was in flight is gone so much later: nothing is for longer than an announce interval.
 abbrev pub gone_by : NetworkState → Option ℕ → ℕ

@@ -1,7 +1,7 @@
 -- What the events of a time take away (profile).
 use Rattle.std.specs.Prelude.{◌&&◌, ◌||◌, not, Bool, false, List, [], ◌∷◌}
 use Rattle.std.specs.List.{list_all}
-use Rattle.gptp_how_soon.specs.Kinds.{is_failing, is_idle, is_loss, is_lowering, is_priority1, is_worsening, lowers_unused}
+use Rattle.gptp_how_soon.specs.Kinds.{is_failing, is_idle, is_loss, is_lowering, is_priority1, is_wider, is_worsening, lowers_unused}
 use Rattle.gptp_how_soon.specs.declared.kinds.Told.{Told}
 
 -- it repeats what stands: it changes nothing, and sets no priority1
@@ -37,9 +37,17 @@ abbrev pub fails_beside_idle : List Told → Bool
 fails_beside_idle [] = false
 fails_beside_idle (e ∷ es) = is_failing e && list_all is_idle_beside es
 
--- one link or one system is taken away
+-- a link gets wider by the first event, and by the next one a link in use goes down so
+abbrev pub lowers_behind_wider : List Told → Bool
+lowers_behind_wider [] = false
+lowers_behind_wider (e ∷ es) = is_wider e && lowers_one es
+
+-- one link is taken away, behind one that gets wider or not; and one link or one system
+abbrev pub takes_link : List Told → Bool
+takes_link told = lowers_one told || lowers_behind_wider told
+
 abbrev pub takes_one : List Told → Bool
-takes_one told = lowers_one told || fails_first told
+takes_one told = takes_link told || fails_first told
 
 -- A link in use goes down by the first, or a live system fails. So it is of the others, or they are as beside one that
 -- fails. There is one more at least: one alone is taken away as above.

@@ -7,9 +7,9 @@ use Rattle.std.specs.List.{list_all, list_any}
 use Rattle.gptp_scenario.specs.SettlingTime.{way_span}
 use Rattle.gptp_scenario.specs.declared.sync_wait.SyncPaths.{SyncPaths}
 use Rattle.gptp_how_soon.specs.Kinds.{begins_wider, brings_nothing, fails_and_recovers, first_wider_by, is_gain, is_loss, is_other, is_recovery, is_wider, leaves_links, lowers_unused, makes_nothing, tells_nothing}
-use Rattle.gptp_how_soon.specs.Losses.{fails_beside_idle, fails_first, lowers_one, takes_several, worsens_first}
+use Rattle.gptp_how_soon.specs.Losses.{fails_beside_idle, fails_first, lowers_behind_wider, lowers_one, takes_link, takes_several, worsens_first}
 use Rattle.gptp_how_soon.specs.declared.bounds.Row.{Row}
-use Rattle.gptp_how_soon.specs.declared.bounds.Row.TheVariants.{AnyLosses, AnyPast, CutOff, FailedEnd, FailedHeard, FailureCutsOff, FailureMovesTrees, Gained, Lowered, SystemTurned, TakenApart, TakenAway, TreeFalls, TreeTurned, Unchanged}
+use Rattle.gptp_how_soon.specs.declared.bounds.Row.TheVariants.{AnyLosses, AnyPast, CutOff, FailedEnd, FailedHeard, FailureCutsOff, FailureMovesTrees, Gained, Lowered, SystemTurned, TakenApart, TakenAway, TakenHeard, TreeFalls, TreeTurned, Unchanged}
 use Rattle.gptp_how_soon.specs.declared.bounds.Settling.{Settling}
 use Rattle.gptp_how_soon.specs.declared.bounds.SettlingTime.{SettlingTime}
 use Rattle.gptp_how_soon.specs.declared.kinds.Told.{Told}
@@ -57,9 +57,17 @@ settles_wider_by b at paths_before paths by None = false
 settles_wider_by b at paths_before paths by (Some s) =
     nat_lt (b.at + s.sound + 2 * by + way_span paths) (at + way_span paths_before)
 
-abbrev pub is_wider_followed : SettlingTime → ℕ → SyncPaths → SyncPaths → List Told → Bool
-is_wider_followed b at paths_before paths told =
-    begins_wider told && settles_wider_by b at paths_before paths (first_wider_by told) b.settling
+-- So it is where a link goes down by the next event. There no link may have been slower than the slowest in use before:
+-- the network is as calm then, and a way takes no longer.
+abbrev pub settles_later_by : SettlingTime → ℕ → ℕ → Option Settling → Bool
+settles_later_by b at by None = false
+settles_later_by b at by (Some s) = nat_lt (b.at + s.sound + 2 * by) at
+
+abbrev pub is_wider_followed : ℕ → SettlingTime → ℕ → SyncPaths → SyncPaths → List Told → Bool
+is_wider_followed longest b at paths_before paths told =
+    (begins_wider told && settles_wider_by b at paths_before paths (first_wider_by told) b.settling)
+    || (lowers_behind_wider told && nat_le longest paths_before.delay
+    && settles_later_by b at (first_wider_by told) b.settling)
 
 -- Losses are followed where each is a priority1, no other event makes something of what stands, and no path had more
 -- than 255 systems before.
@@ -73,11 +81,15 @@ keeps_paths paths_before paths =
     nat_le paths_before.systems 255 && nat_le paths.delay paths_before.delay
     && nat_le paths.systems paths_before.systems
 
--- Then a link that goes down by the first event of a time is followed, where the others repeat what stands. So is a
--- system that fails, alone or as it loses its power.
-abbrev pub is_lowering_followed : SyncPaths → SyncPaths → List Told → Bool
-is_lowering_followed paths_before paths told = keeps_paths paths_before paths && lowers_one told
+-- Then a link that goes down is followed, where the other events repeat what stands, or a link gets wider by the first.
+-- Trees are followed where it goes down by the first.
+abbrev pub is_link_followed : SyncPaths → SyncPaths → List Told → Bool
+is_link_followed paths_before paths told = keeps_paths paths_before paths && takes_link told
 
+abbrev pub is_lowering_followed : SyncPaths → SyncPaths → List Told → Bool
+is_lowering_followed paths_before paths told = is_link_followed paths_before paths told && lowers_one told
+
+-- So is a system that fails, alone or as it loses its power.
 abbrev pub is_failing_followed : SyncPaths → SyncPaths → List Told → Bool
 is_failing_followed paths_before paths told = keeps_paths paths_before paths && fails_first told
 
@@ -101,7 +113,7 @@ is_from_rest longest at paths_before paths told (Some b) =
     && are_events_followed told
     && are_turns_followed told
     && (not (list_any is_recovery told) || are_recoveries_followed longest b.at at told)
-    && (not (list_any is_wider told) || is_wider_followed b at paths_before paths told)
+    && (not (list_any is_wider told) || is_wider_followed longest b at paths_before paths told)
 
 -- ---- rows
 
@@ -116,6 +128,7 @@ other_row paths_before paths told moves =
     if is_end_followed paths_before paths told && (moves.far && not moves.any_moved) then FailedEnd
     else if is_taking_followed paths_before paths told && moves.apart then TakenApart
     else if is_taking_followed paths_before paths told && moves.taken then TakenAway
+    else if is_taking_followed paths_before paths told && moves.ages then TakenHeard
     else if list_any is_loss told then if list_all brings_nothing told then AnyLosses else AnyPast
     else Gained
 
@@ -126,16 +139,16 @@ other_row paths_before paths told moves =
 -- link that goes down cuts off a far end, and whether the one system that it moves turns, or a tree falls off or turns.
 -- A tree falls back too as its best gets worse. Of a system that fails it matters whether it was a far end, so that no
 -- other heard it, and whether it cuts off another, or trees. Where several are taken away it matters whether all of
--- them together move any system, also one that is cut off, whether a live system lost its link to a nearer one, and
--- whether a link is left silent. All other losses have one row.
+-- them together move any system, also one that is cut off, whether a live system lost its link to a nearer one, whether
+-- a link is left silent, and whether what was in flight is due in time. All other losses have one row.
 abbrev pub row_of : Bool → Bool → SyncPaths → SyncPaths → List Told → Moves → Row
 row_of from_rest first paths_before paths told moves =
     if not from_rest then AnyPast
     else if first then Gained
     else if list_all makes_nothing told || begins_wider told then Unchanged
     else if are_losses_followed paths_before told && not moves.moved then Unchanged
-    else if is_lowering_followed paths_before paths told && not moves.moved then if moves.cut then CutOff else Lowered
-    else if is_lowering_followed paths_before paths told && moves.turned then SystemTurned
+    else if is_link_followed paths_before paths told && not moves.moved then if moves.cut then CutOff else Lowered
+    else if is_link_followed paths_before paths told && moves.turned then SystemTurned
     else if (is_lowering_followed paths_before paths told && moves.falls)
     || (is_worsening_followed paths_before paths told && moves.worsens)
     then TreeFalls
@@ -148,7 +161,7 @@ row_of from_rest first paths_before paths told moves =
 abbrev pub asks_who_is_moved : Bool → SyncPaths → SyncPaths → List Told → Bool
 asks_who_is_moved from_rest paths_before paths told =
     from_rest
-    && (are_losses_followed paths_before told || is_lowering_followed paths_before paths told
+    && (are_losses_followed paths_before told || is_link_followed paths_before paths told
     || is_failing_followed paths_before paths told || is_end_followed paths_before paths told
     || is_taking_followed paths_before paths told
     || is_worsening_followed paths_before paths told)
@@ -166,6 +179,7 @@ no_moves = record {
   trees_move = false;
   taken = false;
   apart = false;
+  ages = false;
   cuts_all = false;
   alone = false;
   far = false;

@@ -27,7 +27,7 @@ use Rattle.gptp_how_soon.specs.Gains.{heard_by, ready}
 use Rattle.gptp_how_soon.specs.Alone.{leaves_alone_after}
 use Rattle.gptp_how_soon.specs.Chosen.{moves_counted, moves_some}
 use Rattle.gptp_how_soon.specs.Far.{are_far_after, cut_far_ends_after, up_is_used}
-use Rattle.gptp_how_soon.specs.Flight.{flight_over, longest_up}
+use Rattle.gptp_how_soon.specs.Flight.{flies_in_time, flight_over, longest_up}
 use Rattle.gptp_how_soon.specs.Kinds.{sets_bounds, sets_link, told_by}
 use Rattle.gptp_how_soon.specs.Losses.{takes_one}
 use Rattle.gptp_how_soon.specs.Links.{longest_delay, new_links}
@@ -154,6 +154,8 @@ moves_at n made now before at = record {
   trees_move = has_come_after n made before at && moves_trees_after n made (made ++ now);
   taken = not (moves_some n made (made ++ now)) && not (silent_after n made (made ++ now));
   apart = not (moves_some n made (made ++ now)) && far_ends_move_after n made (made ++ now);
+  ages = not (moves_some n made (made ++ now))
+      && flies_in_time (up_is_used (standings_after n made)) (arrived_after n made) at;
   cuts_all = (has_come_after n made before at && moves_trees_after n made (made ++ now))
       && cuts_all_after n made (made ++ now);
   alone = up_is_used (standings_after n made) && leaves_alone_after n made (made ++ now);

@@ -13,7 +13,7 @@ use Rattle.gptp_how_soon.specs.Bounds.{arrived_by}
 use Rattle.gptp_how_soon.specs.Alone.{leaves_alone}
 use Rattle.gptp_how_soon.specs.Chosen.{any_counted, any_moved, chosen_over, ends_among, ends_in_use}
 use Rattle.gptp_how_soon.specs.Far.{all_cut_far_ends, are_far, up_is_used}
-use Rattle.gptp_how_soon.specs.Flight.{longest_up}
+use Rattle.gptp_how_soon.specs.Flight.{flies_in_time, longest_up}
 use Rattle.gptp_how_soon.specs.Kinds.{sets_bounds, told_by}
 use Rattle.gptp_how_soon.specs.Losses.{takes_one}
 use Rattle.gptp_how_soon.specs.Links.{delay_set, longest_among, lost_among, new_among}
@@ -135,6 +135,8 @@ moves_seen n w at = record {
       && not (any_silent w.used_before.items w.tables.standings.items);
   apart = not (any_moved (systems_in w.tables.nodes.items) (chosen_before w) (chosen_now w))
       && list_all (far_end_moves (systems_in w.tables.nodes.items) (chosen_before w) (chosen_now w)) (lost_seen w);
+  ages = not (any_moved (systems_in w.tables.nodes.items) (chosen_before w) (chosen_now w))
+      && flies_in_time w.all_used_before (arrived_by w.longest_before w.set_before) at;
   cuts_all = (has_come_seen n w at
       && moves_trees (systems_in w.tables.nodes.items) (lost_seen w) (ends_in_use w.ends.items (used_now w))
       (chosen_before w) (chosen_now w))

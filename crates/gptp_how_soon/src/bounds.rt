@@ -92,6 +92,8 @@ pub enum Row {
     TakenAway,
     /// So it is, and links may be left silent; but no live system lost its link to a nearer one.
     TakenApart,
+    /// So it is, but far ends that live may have lost their links. What was in flight before was due by its own link.
+    TakenHeard,
     /// Some of its events are losses, the others make nothing of what stands, and no other row of a loss is so.
     AnyLosses,
     /// None of its events is a loss.
@@ -229,7 +231,7 @@ fn choice_by(network: &Network, loss: Loss, paths: SyncPaths, row: Row, gained: 
     match row {
         Row::AnyPast => settling_span_at_once(network, paths),
         Row::Unchanged | Row::Lowered | Row::FailedEnd | Row::TakenAway | Row::TakenApart => 0,
-        Row::FailedHeard => aged_by(loss),
+        Row::FailedHeard | Row::TakenHeard => aged_by(loss),
         Row::FailureCutsOff | Row::FailureMovesTrees => aged_by(loss) + 2 * way_span(paths),
         Row::CutOff | Row::SystemTurned | Row::TreeFalls | Row::TreeTurned => 2 * way_span(paths),
         Row::AnyLosses => any_loss_span(network, loss, paths),
@@ -254,7 +256,7 @@ fn roles_by(network: &Network, loss: Loss, paths: SyncPaths, row: Row, gained: u
         Row::AnyPast => settling_span_at_once(network, paths),
         Row::Unchanged | Row::Lowered | Row::TakenAway => 0,
         Row::FailedEnd | Row::TakenApart => quiet_by(network, loss, 0),
-        Row::FailedHeard => quiet_by(network, loss, aged_by(loss)),
+        Row::FailedHeard | Row::TakenHeard => quiet_by(network, loss, aged_by(loss)),
         Row::FailureCutsOff | Row::FailureMovesTrees => {
             quiet_by(network, loss, aged_by(loss) + 2 * way_span(paths))
         }
@@ -275,8 +277,8 @@ fn echo_span(network: &Network, paths: SyncPaths) -> u64
     (paths.systems as u64).saturating_sub(1) * (interval_of(network.largest()) + paths.delay)
 }
 
-/// By how much later than a system fails that others heard each tells a trace without it, in ns, and what was in flight
-/// is gone.
+/// By how much later than a system fails that others heard, or several are taken away, each tells a trace without them,
+/// in ns, and what was in flight is gone.
 fn aged_echo_span(network: &Network, loss: Loss, paths: SyncPaths) -> u64
     requires few { paths.systems ≤ 512 }
     requires short { paths.delay ≤ 16000000000 }
@@ -347,7 +349,7 @@ fn sound_by(network: &Network, loss: Loss, paths: SyncPaths, row: Row, gained: u
         Row::TakenAway => taken_echo_span(network, loss, paths),
         Row::CutOff | Row::TreeFalls => (2 * way_span(paths)).max(gone),
         Row::FailedEnd | Row::TakenApart => quiet_by(network, loss, gone_before),
-        Row::FailedHeard => aged_echo_span(network, loss, paths),
+        Row::FailedHeard | Row::TakenHeard => aged_echo_span(network, loss, paths),
         Row::FailureCutsOff => {
             if loss.cuts_all {
                 quiet_by(network, loss, apart_by(network, loss, paths))
@@ -389,7 +391,7 @@ fn retold_by(network: &Network, loss: Loss, paths: SyncPaths, row: Row, gained: 
         Row::AnyPast => settling_span_at_once(network, paths),
         Row::Unchanged | Row::FailedEnd | Row::TakenApart => 0,
         Row::Lowered | Row::TakenAway => echo_span(network, paths),
-        Row::FailedHeard => aged_by(loss) + echo_span(network, paths),
+        Row::FailedHeard | Row::TakenHeard => aged_by(loss) + echo_span(network, paths),
         Row::FailureCutsOff | Row::FailureMovesTrees => {
             let echo = if loss.cuts_all {
                 0

@@ -106,9 +106,9 @@ fn what_a_failure_cuts_off_or_turns_costs_two_ways(rt: HostRuntime) -> Result<()
         "[[event]]\nat = 30000000000\nkind = \"fail\"\nclock = \"000000000000000b\"\n";
     const DOWN: &str =
         "[[event]]\nat = 30000000000\nkind = \"link_down\"\nclock = \"000000000000000b\"\nport = ";
-    // In each row b fails, or loses its power and so many links. The next three move others that keep their root and get
-    // it by one link; after them one gets it by two. The last three cut off such as are joined beside b at two of them,
-    // the last one of all besides.
+    // In each row b fails, or loses its power and so many links. The next three move others that keep their root and
+    // get it by one link; after them one gets it by two. The last three cut off such as are joined beside b at two of
+    // them, the last one of all besides.
     for (case, ports, links, hang, power) in [
         (
             "one is cut off",
@@ -346,9 +346,9 @@ fn an_end_station_may_be_left_without_a_link(rt: HostRuntime) -> Result<(), Fail
 }
 
 #[test]
-fn losses_that_move_no_system_together_cost_nothing(rt: HostRuntime) -> Result<(), Fail> {
-    // Each of b, c and d has a link to a. In the row before the last c is farther then; in the last two links are left
-    // silent.
+fn losses_that_move_no_system_together_cost_what_is_held(rt: HostRuntime) -> Result<(), Fail> {
+    // Each of b, c and d has a link to a. In one row c is farther then. In the two last ones two links are left silent;
+    // the far end of one of them lives in the last, d, and holds what it had from c.
     for (case, events, bound) in [
         (
             "two links go down",
@@ -394,7 +394,12 @@ fn losses_that_move_no_system_together_cost_nothing(rt: HostRuntime) -> Result<(
         (
             "one hangs behind a link that goes down",
             &[("link_down", "b", "2"), ("fail", "d", "")] as &[(&str, &str, &str)],
-            (10_000_002_050, 11_000_000_000),
+            (0, 11_000_000_000),
+        ),
+        (
+            "one hangs that another heard, behind a link that goes down",
+            &[("link_down", "b", "2"), ("fail", "c", "")] as &[(&str, &str, &str)],
+            (3_000_000_410, 11_000_000_000),
         ),
     ] {
         let mut text = String::new(rt.alloc());

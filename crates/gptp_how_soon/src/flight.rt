@@ -1,7 +1,7 @@
 //! For how long something is in flight over the links of a network.
 
 ghost use Rattle.std.specs.Prelude.{◌≡◌, ◌≤◌};
-ghost use Rattle.gptp_how_soon.specs.Flight.{delay_up, flight_over, gone_by, longest_up};
+ghost use Rattle.gptp_how_soon.specs.Flight.{delay_up, flies_in_time, flight_over, gone_by, longest_up};
 
 use crate::bounds::announce_interval;
 use gptp_scenario::Network;
@@ -48,6 +48,14 @@ pub(crate) fn flight_over(
     } else {
         None
     }
+}
+
+/// Whether what is in flight at a time is due within the greatest delay of its own link, by whether each link that is
+/// up is in use, and by when what was in flight as one was last set has arrived.
+pub(crate) fn flies_in_time(used: bool, arrived: u128, at: u64) -> bool
+    ensures { result ≡ flies_in_time used arrived at }
+{
+    used || arrived <= u128::from(at)
 }
 
 /// By how much later than a time what was in flight is gone, in ns, where it is so for so long at most or that isn't

@@ -281,7 +281,7 @@ fn is_other(told: &Told) -> bool
     matches!(told.kind, Kind::Other)
 }
 
-fn is_wider(told: &Told) -> bool
+pub(crate) fn is_wider(told: &Told) -> bool
     ensures { result ≡ is_wider told.now }
 {
     matches!(told.kind, Kind::Wider { by: _ })

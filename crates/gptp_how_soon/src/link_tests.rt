@@ -379,3 +379,48 @@ fn the_slowest_link_may_go_down(rt: HostRuntime) -> Result<(), Fail> {
     }
     Ok(())
 }
+
+#[test]
+fn a_link_may_get_wider_before_another_goes_down(rt: HostRuntime) -> Result<(), Fail> {
+    // The slowest takes 500 ns since 30 s. By the last two rows the other order has the general bound, and so has a link
+    // that gets slower than that one.
+    for (case, first, max, port, bound) in [
+        ("none is moved", true, 450, "b\"\nport = 2", (0, 0)),
+        ("one turns", true, 450, "d\"\nport = 2", (3_000, 3_000)),
+        (
+            "it gets wider behind",
+            false,
+            450,
+            "d\"\nport = 2",
+            (15_000_003_500, 15_000_003_500),
+        ),
+        (
+            "it gets slower than all",
+            true,
+            600,
+            "b\"\nport = 2",
+            (15_000_004_200, 15_000_004_200),
+        ),
+    ] {
+        let mut text = String::new(rt.alloc());
+        text.push_str(
+            "[[event]]\nat = 30000000000\nkind = \"link_set\"\nclock = \"000000000000000a\"\nport = 1\nmin = 380\nmax = 500\nloss = 0\n",
+        )?;
+        for sets in [first, !first] {
+            if sets {
+                writeln!(
+                    text,
+                    "[[event]]\nat = 60000000000\nkind = \"link_set\"\nclock = \"000000000000000c\"\nport = 2\nmin = 380\nmax = {max}\nloss = 0"
+                )?;
+            } else {
+                writeln!(
+                    text,
+                    "[[event]]\nat = 60000000000\nkind = \"link_down\"\nclock = \"000000000000000{port}"
+                )?;
+            }
+        }
+        let times = ring(rt.alloc(), text.as_str())?;
+        assert_eq!(rt; bounds(&times, 60_000_000_000), Some(bound), "{case}");
+    }
+    Ok(())
+}

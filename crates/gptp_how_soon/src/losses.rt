@@ -2,10 +2,11 @@
 
 ghost use Rattle.std.specs.Prelude.{◌≡◌};
 ghost use Rattle.std.specs.List.{list_all};
-ghost use Rattle.gptp_how_soon.specs.Losses.{fails_beside_idle, fails_first, is_down_too, is_idle_beside, lowers_one, repeats, taken_too, takes_any, takes_one, takes_several, worsens_first};
+ghost use Rattle.gptp_how_soon.specs.Losses.{fails_beside_idle, fails_first, is_down_too, is_idle_beside, lowers_behind_wider, lowers_one, repeats, taken_too, takes_any, takes_link, takes_one, takes_several, worsens_first};
 
 use crate::kinds::{
-    Told, is_failing, is_idle, is_loss, is_lowering, is_priority1, is_worsening, lowers_unused,
+    Told, is_failing, is_idle, is_loss, is_lowering, is_priority1, is_wider, is_worsening,
+    lowers_unused,
 };
 
 /// Whether it repeats what stands: it changes nothing, and sets no `priority1`.
@@ -92,11 +93,28 @@ pub(crate) fn fails_beside_idle(told: &[Told]) -> bool
     }
 }
 
+/// Whether a link gets wider by the first of these events, and behind it a link in use goes down, so too.
+pub(crate) fn lowers_behind_wider(told: &[Told]) -> bool
+    ensures { result ≡ lowers_behind_wider told.now }
+{
+    match told.split_first() {
+        Some((first, others)) => is_wider(first) && lowers_one(others),
+        None => false,
+    }
+}
+
+/// Whether one link is taken away by these events.
+pub(crate) fn takes_link(told: &[Told]) -> bool
+    ensures { result ≡ takes_link told.now }
+{
+    lowers_one(told) || lowers_behind_wider(told)
+}
+
 /// Whether one link or one system is taken away by these events.
 pub(crate) fn takes_one(told: &[Told]) -> bool
     ensures { result ≡ takes_one told.now }
 {
-    lowers_one(told) || fails_first(told)
+    takes_link(told) || fails_first(told)
 }
 
 /// Whether a link in use goes down by it, or a live system fails.

@@ -2,7 +2,9 @@
 
 ghost use Rattle.std.specs.Prelude.{◌≡◌, ◌≤◌, ◌+◌, ◌*◌, ◌&&◌, ◌||◌, nat_le, nat_lt};
 ghost use Rattle.gptp_scenario.specs.SettlingTime.{way_span};
-ghost use Rattle.gptp_how_soon.specs.Rest.{are_events_followed, are_losses_followed, are_recoveries_followed, are_turns_followed, asks_who_is_moved, is_end_followed, is_failing_followed, failed_row, has_come, is_from_rest, is_lowering_followed, is_taking_followed, is_wider_followed, is_worsening_followed, keeps_paths, other_row, rested, row_of, settles_wider_by};
+ghost use Rattle.gptp_how_soon.specs.Kinds.{first_wider_by};
+ghost use Rattle.gptp_how_soon.specs.Losses.{lowers_behind_wider};
+ghost use Rattle.gptp_how_soon.specs.Rest.{are_events_followed, are_losses_followed, are_recoveries_followed, are_turns_followed, asks_who_is_moved, is_end_followed, is_failing_followed, failed_row, has_come, is_from_rest, is_link_followed, is_lowering_followed, is_taking_followed, is_wider_followed, is_worsening_followed, keeps_paths, other_row, rested, row_of, settles_later_by, settles_wider_by};
 
 use crate::bounds::{Row, SettlingTime, way_span};
 use crate::kinds::{
@@ -10,7 +12,10 @@ use crate::kinds::{
     any_loss, any_lowers_unused, any_other, any_recovery, any_wider, begins_wider,
     fails_and_recovers, first_wider_by,
 };
-use crate::losses::{fails_beside_idle, fails_first, lowers_one, takes_several, worsens_first};
+use crate::losses::{
+    fails_beside_idle, fails_first, lowers_behind_wider, lowers_one, takes_link, takes_several,
+    worsens_first,
+};
 use gptp_scenario::SyncPaths;
 
 /// Whom the events of a time move.
@@ -36,6 +41,9 @@ pub struct Moves {
     pub taken: bool,
     /// Whether they move none, also none that is cut off, and no live system lost its link to a nearer one.
     pub apart: bool,
+    /// Whether they move no system, also none that is cut off, and what was in flight before is due within the greatest
+    /// delay of its own link: each link that was up was in use, or what was in flight as one was last set has arrived.
+    pub ages: bool,
     /// Whether then each system of these trees gets a worse root, and each live far end of a link that is lost is
     /// moved.
     pub cuts_all: bool,
@@ -156,8 +164,44 @@ fn settles_wider_by(
     }
 }
 
-/// Whether a link that gets wider is followed.
+/// Whether what was sound so much later than a time, in ns, would have been so by another where a link is wider by so
+/// much, and a way takes as long.
+fn stood_later(last: u64, sound: u64, by: u64, at: u64) -> bool
+    ensures { result ≡ nat_lt (last + sound + 2 * by) at }
+{
+    u128::from(last) + u128::from(sound) + 2 * u128::from(by) < u128::from(at)
+}
+
+/// Whether what was at a time before settles so.
+fn settles_later_by(before: &SettlingTime, at: u64, by: u64) -> bool
+    ensures { result ≡ settles_later_by before.now at by before.now.settling }
+{
+    match before.settling {
+        Some(settling) => stood_later(before.at, settling.sound, by, at),
+        None => false,
+    }
+}
+
+/// Whether a link that gets wider is followed where another goes down behind it.
+fn is_wider_followed_down(
+    longest: u64,
+    before: &SettlingTime,
+    at: u64,
+    paths_before: SyncPaths,
+    told: &[Told],
+) -> bool
+    ensures { result
+        ≡ (lowers_behind_wider told.now && nat_le longest paths_before.delay
+        && settles_later_by before.now at (first_wider_by told.now) before.now.settling) }
+{
+    lowers_behind_wider(told)
+        && longest <= paths_before.delay
+        && settles_later_by(before, at, first_wider_by(told))
+}
+
+/// Whether a link that gets wider is followed, by the greatest delay that a link has had, in ns.
 fn is_wider_followed(
+    longest: u64,
     before: &SettlingTime,
     at: u64,
     paths_before: SyncPaths,
@@ -166,9 +210,10 @@ fn is_wider_followed(
 ) -> bool
     requires few { paths.systems ≤ 512 }
     requires short { paths.delay ≤ 16000000000 }
-    ensures { result ≡ is_wider_followed before.now at paths_before paths told.now }
+    ensures { result ≡ is_wider_followed longest before.now at paths_before paths told.now }
 {
-    begins_wider(told) && settles_wider_by(before, at, paths_before, paths, first_wider_by(told))
+    (begins_wider(told) && settles_wider_by(before, at, paths_before, paths, first_wider_by(told)))
+        || is_wider_followed_down(longest, before, at, paths_before, told)
 }
 
 /// Whether a time is from rest.
@@ -190,7 +235,8 @@ pub(crate) fn is_from_rest(
                 && are_events_followed(told)
                 && are_turns_followed(told)
                 && (!any_recovery(told) || are_recoveries_followed(longest, before.at, at, told))
-                && (!any_wider(told) || is_wider_followed(&before, at, paths_before, paths, told))
+                && (!any_wider(told)
+                    || is_wider_followed(longest, &before, at, paths_before, paths, told))
         }
         None => all_tell_nothing(told),
     }
@@ -214,10 +260,17 @@ fn keeps_paths(paths_before: SyncPaths, paths: SyncPaths) -> bool
 }
 
 /// Whether a link that goes down is followed.
+fn is_link_followed(paths_before: SyncPaths, paths: SyncPaths, told: &[Told]) -> bool
+    ensures { result ≡ is_link_followed paths_before paths told.now }
+{
+    keeps_paths(paths_before, paths) && takes_link(told)
+}
+
+/// Whether trees are followed that a link moves as it goes down.
 fn is_lowering_followed(paths_before: SyncPaths, paths: SyncPaths, told: &[Told]) -> bool
     ensures { result ≡ is_lowering_followed paths_before paths told.now }
 {
-    keeps_paths(paths_before, paths) && lowers_one(told)
+    is_link_followed(paths_before, paths, told) && lowers_one(told)
 }
 
 /// Whether a system that fails is followed.
@@ -259,7 +312,7 @@ pub(crate) fn asks_who_is_moved(
 {
     from_rest
         && (are_losses_followed(paths_before, told)
-            || is_lowering_followed(paths_before, paths, told)
+            || is_link_followed(paths_before, paths, told)
             || is_failing_followed(paths_before, paths, told)
             || is_end_followed(paths_before, paths, told)
             || is_taking_followed(paths_before, paths, told)
@@ -290,6 +343,8 @@ fn other_row(paths_before: SyncPaths, paths: SyncPaths, told: &[Told], moves: Mo
         Row::TakenApart
     } else if is_taking_followed(paths_before, paths, told) && moves.taken {
         Row::TakenAway
+    } else if is_taking_followed(paths_before, paths, told) && moves.ages {
+        Row::TakenHeard
     } else if any_loss(told) {
         if all_bring_nothing(told) {
             Row::AnyLosses
@@ -321,9 +376,9 @@ pub(crate) fn row_of(
         Row::Unchanged
     } else if are_losses_followed(paths_before, told) && !moves.moved {
         Row::Unchanged
-    } else if is_lowering_followed(paths_before, paths, told) && !moves.moved {
+    } else if is_link_followed(paths_before, paths, told) && !moves.moved {
         if moves.cut { Row::CutOff } else { Row::Lowered }
-    } else if is_lowering_followed(paths_before, paths, told) && moves.turned {
+    } else if is_link_followed(paths_before, paths, told) && moves.turned {
         Row::SystemTurned
     } else if (is_lowering_followed(paths_before, paths, told) && moves.falls)
         || (is_worsening_followed(paths_before, paths, told) && moves.worsens)

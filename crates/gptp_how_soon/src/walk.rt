@@ -15,7 +15,7 @@ use crate::chosen::{
     Chosen, Ends, any_counted, any_moved, choose, copy_systems, ends_in_use, ends_of,
 };
 use crate::far::{all_cut_far_ends, are_far, up_is_used};
-use crate::flight::{flight_over, longest_up};
+use crate::flight::{flies_in_time, flight_over, longest_up};
 use crate::gains::{heard, ready};
 use crate::kinds::{Told, sets_bounds, sets_link, tell};
 use crate::links::{delay_set, longest_among, lost_among, mark_used, new_links};
@@ -165,6 +165,7 @@ impl Walk {
                 !any_moved,
                 all_far_ends_move(&systems, &lost, &before, &now),
             ),
+            ages: both(!any_moved, flies_in_time(self.all_used_before, arrived, at)),
             cuts_all: both(both(come, trees), cuts_all(&systems, &lost, &before, &now)),
             alone: both(
                 self.all_used_before,
@@ -200,6 +201,7 @@ impl Walk {
                 trees_move: false,
                 taken: false,
                 apart: false,
+                ages: false,
                 cuts_all: false,
                 alone: false,
                 far: false,

@@ -17,15 +17,15 @@ use Rattle.gptp_network.proofs.SnapshotLemmas.{from_filter}
 use Rattle.gptp_theorem.specs.PlayedLaws.{IsPlayable}
 use Rattle.gptp_how_soon.specs.Bounds.{aged_by, aged_echo_span, any_loss_span, arrived_by, choice_by, choice_of_row, quiet_by, roles_of_row, set_span, sound_by}
 use Rattle.gptp_how_soon.specs.Flight.{gone_by}
-use Rattle.gptp_how_soon.specs.Kinds.{is_lowering, sets_link}
+use Rattle.gptp_how_soon.specs.Kinds.{sets_link}
 use Rattle.gptp_how_soon.specs.Links.{longest_delay}
 use Rattle.gptp_how_soon.specs.Times.{View, events_at, gained_at, last_set, loss_at, ready_at, row_at, settling_time, settling_times, settling_times_from, time_at, view_at}
 use Rattle.gptp_how_soon.specs.declared.bounds.Loss.{Loss}
 use Rattle.gptp_how_soon.specs.declared.bounds.Row.{Row}
-use Rattle.gptp_how_soon.specs.declared.bounds.Row.TheVariants.{AnyLosses, AnyPast, CutOff, FailedEnd, FailedHeard, FailureCutsOff, FailureMovesTrees, Gained, Lowered, SystemTurned, TakenApart, TakenAway, TreeFalls, TreeTurned, Unchanged}
+use Rattle.gptp_how_soon.specs.declared.bounds.Row.TheVariants.{AnyLosses, AnyPast, CutOff, FailedEnd, FailedHeard, FailureCutsOff, FailureMovesTrees, Gained, Lowered, SystemTurned, TakenApart, TakenAway, TakenHeard, TreeFalls, TreeTurned, Unchanged}
 use Rattle.gptp_how_soon.specs.declared.bounds.Settling.{Settling}
 use Rattle.gptp_how_soon.specs.declared.bounds.SettlingTime.{SettlingTime}
-use Rattle.gptp_settling_time.specs.HowSoon.{BeforeRepeats, BoundsAnyLoss, BoundsChoice, BoundsEvents, BoundsLoss, BoundsSplit, BoundsTree, FailsTreesFirst, IsChoiceBoundAfter, IsLossBoundAfter, IsRestBoundAfter, NoneBetween, RestsAfterAnyLoss, RestsAfterLoss, RestsOnceTold, RestsSplit, RestsTaken, RestsTree, RolesAfterFailure, TreeNext}
+use Rattle.gptp_settling_time.specs.HowSoon.{BesideIdle, BoundsAnyLoss, BoundsChoice, BoundsEvents, BoundsLoss, BoundsSplit, BoundsTree, FailsTreesFirst, IsChoiceBoundAfter, IsLossBoundAfter, IsRestBoundAfter, NoneBetween, RestsAfterAnyLoss, RestsAfterLoss, RestsAfterOneLoss, RestsOnceAged, RestsOnceTold, RestsSplit, RestsTaken, RestsTree, RolesAfterFailure, TakesHeard, TreeNext}
 use Rattle.gptp_settling_time.specs.EventKinds.{FlightIsGoneFrom}
 use Rattle.gptp_settling_time.specs.Measuring.{AreMeasuredBefore}
 use Rattle.gptp_topology.proofs.RestLemmas.{calm_from}
@@ -39,12 +39,13 @@ use Rattle.gptp_how_soon_laws.specs.Choice.{SettlingsAreChoiceBounds}
 use Rattle.gptp_how_soon_laws.proofs.FailedLemmas.{used_up}
 use Rattle.gptp_how_soon_laws.proofs.RowBoundLemmas.{HasOwnBounds, IsSoundSooner, IsTelling, bounds_choice, choice_or_own, past_row, sound_or_sooner, tells}
 use Rattle.gptp_how_soon_laws.proofs.RowLemmas.{gained, unchanged}
+use Rattle.gptp_how_soon_laws.proofs.RowAgesLemmas.{heard_bounds, heard_rests, heard_taken}
 use Rattle.gptp_how_soon_laws.proofs.RowApartLemmas.{apart_bounds, apart_rests, taken_apart}
-use Rattle.gptp_how_soon_laws.proofs.RowLossLemmas.{ComesLate, CutsAll, FailsLate, FallsLate, GoesFirst, TakesSome, all_cut, cut_off, failed, failure_cuts, flight_since, heard, left_alone, losses, lowered, none_left, same_paths, taken, tree_falls, tree_turned, turned}
+use Rattle.gptp_how_soon_laws.proofs.RowLossLemmas.{ComesLate, CutsAll, FailsLate, FallsLate, LowersLate, TakesSome, all_cut, cut_off, failed, failure_cuts, flight_since, heard, late_stands, late_ways, left_alone, losses, lowered, none_left, taken, tree_falls, tree_turned, turned}
 use Rattle.gptp_how_soon_laws.proofs.AgedLemmas.{aged, aging, alone_rests, quiet_later, split_rests}
 use Rattle.gptp_how_soon_laws.proofs.LossBoundLemmas.{beside, greater, no_later, some_before, some_heard, some_lost, some_rested, some_trees}
-use Rattle.gptp_how_soon_laws.proofs.RepeatLemmas.{before_repeats}
 use Rattle.gptp_how_soon_laws.proofs.MeasuredLemmas.{measured_later}
+use Rattle.gptp_how_soon_laws.proofs.DownBehindLemmas.{rest_calm}
 use Rattle.gptp_how_soon_laws.proofs.RowTestLemmas.{HasComeToRest}
 use Rattle.gptp_how_soon_laws.proofs.UnmovedLemmas.{AreWell}
 use Rattle.gptp_how_soon_laws.proofs.TreeWorsenedLemmas.{octets_at}
@@ -122,19 +123,29 @@ module _ (d : DocumentState) (playable : IsPlayable d) where
               (sym (parted all b.at at playable.events.in_order late between)) bound,
         )
 
-    -- what is so of all events, or of the first, before such that repeat what stands
-    alone : (Are : List Timed → List Timed → Type 0) → Are made now → BeforeRepeats n Are made now
-    alone Are is = before_none n Are made now is
-
-    behind : (g : GoesFirst n playable.network all b at late is_lowering) (Are : List Timed → List Timed → Type 0)
-        → Are made (g.x.event ∷ []) → BeforeRepeats n Are made now
-    behind g Are is = before_repeats n playable.network is_lowering made now g.x Are is
-
     abbrev Resting : ℕ → List Timed → List Timed → Type 0
     Resting sound made now = RestsAfterLoss n made now sound
 
     abbrev Losing : ℕ → ℕ → List Timed → List Timed → Type 0
     Losing choice roles made now = BoundsLoss n made now choice roles
+
+    -- What is so of the events stands beside idle ones, where the network was calm.
+    abbrev Stands : HasComeToRest b at → (List Timed → List Timed → Type 0) → Type 0
+    Stands rest Are =
+        IsCalm n made → NothingLapses n.params → BesideIdle n (b.at + rest.settling.sound) at Are made now
+
+    calm_before : (rest : HasComeToRest b at) → IsCalm n made
+    calm_before rest = rest_calm n all earlier b.at rest.settling.sound (sound_before rest).0
+
+    -- so it does of all of them
+    alone : (rest : HasComeToRest b at) (Are : List Timed → List Timed → Type 0)
+        → ((events : List Timed) → Are made events → events ≡ [] → ⊥) → Are made now → Stands rest Are
+    alone rest Are some is calm off =
+        let before = before_none n Are made now is in
+        beside n made now (b.at + rest.settling.sound) at Are (some_before n made now Are some before) before
+
+    abbrev Lowers : Type 0
+    Lowers = LowersLate n playable.network all b at late
 
     -- an event of this kind comes once what was in flight has arrived, and all ask for this
     tree_next : (Is : List Timed → Timed → Type 0) (Asks : List Timed → Type 0) → IsCalm n (events_by at all)
@@ -154,7 +165,7 @@ module _ (d : DocumentState) (playable : IsPlayable d) where
     -- it comes to rest so after a loss, or after a tree is cut off, one turns, or a failure cuts trees off
     abbrev Rests : ℕ → Type 0
     Rests sound =
-        (HasComeToRest b at × BeforeRepeats n (Resting sound) made now)
+        ((rest : HasComeToRest b at) × Stands rest (Resting sound))
         ⊎ (((rest : HasComeToRest b at) × FallsLate n playable.network all b at late rest
         × (sound ≡ max (2 * way_span v.paths) (gone_by n loss.flight)))
         ⊎ (((rest : HasComeToRest b at) × ComesLate n playable.network all b at late (TurnsTreeLink n) rest
@@ -163,22 +174,9 @@ module _ (d : DocumentState) (playable : IsPlayable d) where
 
     rests : (sound : ℕ) → IsCalm n (events_by at all) → NothingLapses n.params → Rests sound
         → IsRestBoundAfter n all (b.at ∷ earlier) at sound
-    rests sound calm off (inl (rest, loses)) =
+    rests sound calm off (inl (rest, stands)) =
         let (bound, past) = sound_before rest in
-        inr (inl (
-          late,
-          between,
-          calm,
-          off,
-          (
-            rest.settling.sound,
-            bound,
-            past,
-            beside n made now (b.at + rest.settling.sound) at (Resting sound)
-                (some_before n made now (Resting sound) (some_rested n made now sound) loses)
-                loses,
-          ),
-        ))
+        inr (inl (late, between, calm, off, (rest.settling.sound, bound, past, stands (calm_before rest) off)))
     rests sound calm off (inr (inl (rest, tree, is))) =
         inr (inr (inl (tree_next (FallsTree n) (RestsTree n sound) calm off rest tree.comes
         (gone_by n loss.flight, tree.flight, is))))
@@ -196,12 +194,24 @@ module _ (d : DocumentState) (playable : IsPlayable d) where
         inr (inr (inr (inl (tree_next (TurnsTreeLink n) (λ events. sound ≡ turned_echo_span n events) calm off rest
         tree is))))
 
+    -- after a loss by all events, or by one link that goes down
+    rests_alone : (sound : ℕ) (rest : HasComeToRest b at) → Resting sound made now → Rests sound
+    rests_alone sound rest is = inl (rest, alone rest (Resting sound) (some_rested n made now sound) is)
+
+    rests_late : (sound : ℕ) (l : Lowers) → RestsAfterOneLoss n l.front.ahead (l.first.x.event ∷ []) sound → Rests sound
+    rests_late sound l is =
+        inl (
+          l.rested,
+          late_stands n playable.network all b at late l (Resting sound)
+              (some_rested n l.front.ahead l.front.left sound) (inl is),
+        )
+
     -- it has come to rest by what the row of this loss says
     rests_by : (sound : ℕ) → sound ≡ sound_by n loss v.paths (row_at v) (gained_at n v)
         → IsSoundSooner n loss v.paths (row_at v) (sound_by n loss v.paths (row_at v) (gained_at n v)) → Rests sound
     rests_by sound told (inl (row, is)) =
         let (rest, fails, flight) = failed n playable.network all b at late well row in
-        inl (rest, alone (Resting sound) (inl (inr (inl (fails, by v.silent refl flight (told ∙ is))))))
+        rests_alone sound rest (inl (inr (inl (fails, by v.silent refl flight (told ∙ is)))))
       where
         gone : ℕ
         gone = gone_by n loss.flight_before
@@ -218,35 +228,31 @@ module _ (d : DocumentState) (playable : IsPlayable d) where
               subst (FlightIsGoneFrom n made (last_change (made ++ now))) (sym same) flight,
             )
     rests_by sound told (inr (inl (row, is))) =
-        let (rest, l) = lowered n playable.network all b at late well row in
-        let same = same_paths n playable.network all b at late is_lowering l.first in
+        let x = lowered n playable.network all b at late well row in
+        let same = late_ways n playable.network all b at late x.down in
         let gone : ℕ = largest_interval (pace_of n) in
         let is_first = told ∙ is ∙ ap (λ (p : SyncPaths). max (echo_span (pace_of n) p) gone) same in
-        inl (rest, behind l.first (Resting sound) (inl (inr (inr (inl (l.lowers, (gone, inr refl, is_first)))))))
+        rests_late sound x.down (inr (inr (inl (x.lowers, (gone, inr refl, is_first)))))
     rests_by sound told (inr (inr (inl (row, is)))) =
         let x = cut_off n playable.network all b at late well row in
-        let same = same_paths n playable.network all b at late is_lowering x.none.first in
+        let same = late_ways n playable.network all b at late x.none.down in
         let gone : ℕ = gone_by n loss.flight in
         let is_first = told ∙ is ∙ ap (λ (p : SyncPaths). max (2 * way_span p) gone) same in
-        inl (x.rested, behind x.none.first (Resting sound) (inl (inl (x.cuts, (gone, x.flight, is_first)))))
+        rests_late sound x.none.down (inl (x.cuts, (gone, x.flight, is_first)))
     rests_by sound told (inr (inr (inr (inl (inr row, is))))) =
         let (rest, tree) = tree_turned n playable.network all b at late well row in
         inr (inr (inl (rest, tree, told ∙ is)))
     rests_by sound told (inr (inr (inr (inl (inl row, is))))) =
-        let (rest, (g, turns)) = turned n playable.network all b at late well row in
-        let same = same_paths n playable.network all b at late is_lowering g in
+        let x = turned n playable.network all b at late well row in
+        let same = late_ways n playable.network all b at late x.down in
         let is_first = told ∙ is ∙ ap (λ (p : SyncPaths). 2 * way_span p + echo_span (pace_of n) p) same in
-        inl (rest, behind g (Resting sound) (inl (inr (inr (inr (inl (turns, is_first)))))))
+        rests_late sound x.down (inr (inr (inr (inl (x.turns, is_first)))))
     rests_by sound told (inr (inr (inr (inr (inl (row, long)))))) =
         let (rest, fails) = heard n playable.network all b at late well row in
-        inl (
-          rest,
-          alone (Resting sound) (inl (inr (inr (inr (inr (
-            fails,
-            by (some_heard n made now fails) v.used refl
-                (subst (λ t. aged_echo_span n loss v.paths ≤ t) (sym told) long),
-          )))))),
-        )
+        rests_alone sound rest (inl (inr (inr (inr (inr (
+          fails,
+          by (some_heard n made now fails) v.used refl (subst (λ t. aged_echo_span n loss v.paths ≤ t) (sym told) long),
+        ))))))
       where
         by : (now ≡ [] → ⊥) → (used : Bool) → v.used ≡ used
             → (if used then max (echo_span (pace_of n) v.paths) v.paths.delay
@@ -260,14 +266,11 @@ module _ (d : DocumentState) (playable : IsPlayable d) where
             inr (largest_interval (pace_of n), inr refl, (aged_by loss, is_aged, late_then))
     rests_by sound told (inr (inr (inr (inr (inr (inl (row, is))))))) =
         let (rest, loses, roles) = losses n playable.network all b at late row in
-        inl (
-          rest,
-          alone (Resting sound) (inr (inl (
-            any_loss_span n loss v.paths,
-            subst (λ t. BoundsAnyLoss n made now (any_loss_span n loss v.paths) t) (sym (told ∙ is))
-                (loses, refl, roles (any_loss_span n loss v.paths)),
-          ))),
-        )
+        rests_alone sound rest (inr (inl (
+          any_loss_span n loss v.paths,
+          subst (λ t. BoundsAnyLoss n made now (any_loss_span n loss v.paths) t) (sym (told ∙ is))
+              (loses, refl, roles (any_loss_span n loss v.paths)),
+        )))
     rests_by sound told (inr (inr (inr (inr (inr (inr (inl (row, is)))))))) =
         let (rest, tree) = tree_falls n playable.network all b at late well (octets_at d playable at) row in
         inr (inl (rest, tree, told ∙ is))
@@ -279,7 +282,7 @@ module _ (d : DocumentState) (playable : IsPlayable d) where
           split_rests n playable.network all b at late well sound echo (some_trees n made now x.fails) (told ∙ is)
               (λ later. inl later),
         )))
-    rests_by sound told (inr (inr (inr (inr (inr (inr (inr (inr (inr (inr (which, cuts, is))))))))))) =
+    rests_by sound told (inr (inr (inr (inr (inr (inr (inr (inr (inr (inr (inr (which, cuts, is)))))))))))) =
         let x = all_cut n playable.network all b at late well which cuts in
         inr (inr (inr (x.trees, by x loss.alone refl (told ∙ is))))
       where
@@ -302,22 +305,30 @@ module _ (d : DocumentState) (playable : IsPlayable d) where
             used
     rests_by sound told (inr (inr (inr (inr (inr (inr (inr (inr (inr (inl (row, is))))))))))) =
         let x = taken_apart n playable.network all b at late well row in
-        inl (
-          x.rested,
-          alone (Resting sound) (inr (inr (apart_rests n playable.network all b at late x sound (told ∙ is)))),
-        )
+        rests_alone sound x.rested (inr (inr (inl (apart_rests n playable.network all b at late x sound (told ∙ is)))))
+    rests_by sound told (inr (inr (inr (inr (inr (inr (inr (inr (inr (inr (inl (row, long)))))))))))) =
+        let (rest, takes) = heard_taken n playable.network all b at late well row in
+        rests_alone sound rest
+        (inr (inr (heard_rests n playable.network all b at late well takes sound
+        (subst (λ t. aged_echo_span n loss v.paths ≤ t) (sym told) long))))
     rests_by sound told (inr (inr (inr (inr (inr (inr (inr (inr (inl (row, is)))))))))) =
         let x = taken n playable.network all b at late well row in
-        inl (x.rested, alone (Resting sound) (inr (by x v.used refl (told ∙ is))))
+        rests_alone sound x.rested (inr (by x v.used refl (told ∙ is)))
       where
         span : ℕ
         span = any_loss_span n loss v.paths
 
         by : TakesSome n playable.network all b at late → (used : Bool) → v.used ≡ used
             → sound ≡ (if used then max (echo_span (pace_of n) v.paths) v.paths.delay else span)
-            → RestsAfterAnyLoss n made now sound ⊎ RestsTaken n made now sound
+            → RestsAfterAnyLoss n made now sound
+            ⊎ (RestsTaken n made now sound ⊎ (TakesHeard n made now × RestsOnceAged n made now sound))
         by x true used same =
-            inr (x.takes, x.moves, x.few, inl (used_up n playable.network (made ++ now) used, omega (arith, same)))
+            inr (inl (
+              x.takes,
+              x.moves,
+              x.few,
+              inl (used_up n playable.network (made ++ now) used, omega (arith, same)),
+            ))
         by x false used same =
             inl (span, (several_lost n playable.network made now x.takes, refl, inl (x.none, same)))
 
@@ -341,7 +352,7 @@ module _ (d : DocumentState) (playable : IsPlayable d) where
     -- What a loss asks for from rest, or a tree that falls off or turns, or a failure that cuts trees off.
     abbrev Asks : ℕ → ℕ → Type 0
     Asks choice roles =
-        (HasComeToRest b at × BeforeRepeats n (Losing choice roles) made now)
+        ((rest : HasComeToRest b at) × (choice ≤ roles) × Stands rest (Losing choice roles))
         ⊎ ((((rest : HasComeToRest b at)
         × (FallsLate n playable.network all b at late rest
         ⊎ ComesLate n playable.network all b at late (TurnsTreeLink n) rest))
@@ -351,20 +362,14 @@ module _ (d : DocumentState) (playable : IsPlayable d) where
     lost : (s : Settling) → IsChoiceBoundAfter n all (b.at ∷ earlier) at settled_by → NothingLapses n.params
         → Asks s.choice s.roles
         → IsLossBoundAfter n all (b.at ∷ earlier) at s.choice s.roles
-    lost s settles off (inl (rest, loses)) =
+    lost s settles off (inl (rest, less, stands)) =
         let (bound, past) = sound_before rest in
         inl (
           late,
           between,
           settles.2.0,
           off,
-          (
-            rest.settling.sound,
-            bound,
-            past,
-            beside n made now (b.at + rest.settling.sound) at (Losing s.choice s.roles)
-                (some_before n made now (Losing s.choice s.roles) (some_lost n made now s.choice s.roles) loses) loses,
-          ),
+          (rest.settling.sound, bound, past, stands (calm_before rest) off),
         )
     lost s settles off (inr (inl ((rest, inl tree), choice, roles))) =
         inr (inl (tree_next (FallsTree n) (BoundsTree n s.choice s.roles) settles.2.0 off rest tree.comes
@@ -384,10 +389,28 @@ module _ (d : DocumentState) (playable : IsPlayable d) where
         )))
 
     asked_later : (choice roles : ℕ) → Asks choice roles → choice ≤ roles
-    asked_later choice roles (inl (rest, (first, others, split, each, loses))) =
-        no_later n made now choice roles first loses
+    asked_later choice roles (inl (rest, less, stands)) = less
     asked_later choice roles (inr (inl (tree, is, same))) = omega (arith, same)
     asked_later choice roles (inr (inr (x, (age, quiet, ages, is, later)))) = greater choice roles quiet later
+
+    -- by all events, or by one link that goes down
+    asks_alone : (choice roles : ℕ) (rest : HasComeToRest b at) → Losing choice roles made now → Asks choice roles
+    asks_alone choice roles rest is =
+        inl (
+          rest,
+          no_later n made now choice roles now is,
+          alone rest (Losing choice roles) (some_lost n made now choice roles) is,
+        )
+
+    asks_late : (choice roles : ℕ) (l : Lowers) → Losing choice roles l.front.ahead (l.first.x.event ∷ [])
+        → Asks choice roles
+    asks_late choice roles l is =
+        inl (
+          l.rested,
+          no_later n l.front.ahead l.front.left choice roles (l.first.x.event ∷ []) is,
+          late_stands n playable.network all b at late l (Losing choice roles)
+              (some_lost n l.front.ahead l.front.left choice roles) is,
+        )
 
     -- what is lost at this time asks for what its row says
     asks_by : (r : Row) → row_at v ≡ r → HasOwnBounds r
@@ -397,33 +420,27 @@ module _ (d : DocumentState) (playable : IsPlayable d) where
     asks_by Unchanged row own = absurd own
     asks_by Gained row own = absurd own
     asks_by Lowered row own =
-        let (rest, l) = lowered n playable.network all b at late well row in
-        inl (rest, behind l.first (Losing 0 0) (inl (l.lowers, refl, inl refl)))
+        let x = lowered n playable.network all b at late well row in
+        asks_late 0 0 x.down (inl (x.lowers, refl, inl refl))
     asks_by CutOff row own =
         let x = cut_off n playable.network all b at late well row in
         let way : ℕ = 2 * way_span v.paths in
-        let same = same_paths n playable.network all b at late is_lowering x.none.first in
-        inl (
-          x.rested,
-          behind x.none.first (Losing way way)
-              (inl (x.none.lowers, refl, inr (x.cuts, ap (λ (p : SyncPaths). 2 * way_span p) same))),
-        )
+        let same = late_ways n playable.network all b at late x.none.down in
+        asks_late way way x.none.down
+        (inl (x.none.lowers, refl, inr (x.cuts, ap (λ (p : SyncPaths). 2 * way_span p) same)))
     asks_by FailedEnd row own =
         let (rest, fails, flight) = failed n playable.network all b at late well row in
-        inl (rest, alone (Losing 0 (quiet_by n loss 0)) (inr (inl (fails, refl, by v.silent refl))))
+        asks_alone 0 (quiet_by n loss 0) rest (inr (inl (fails, refl, by v.silent refl)))
       where
         by : (silent : Bool) → v.silent ≡ silent
             → RolesAfterFailure n made now (if silent then max 0 (silence_span (pace_of n)) else 0)
         by true is = inr (omega arith)
         by false is = inl (none_left n playable.network all b at late is, refl)
     asks_by SystemTurned row own =
-        let (rest, (g, turns)) = turned n playable.network all b at late well row in
+        let x = turned n playable.network all b at late well row in
         let way : ℕ = 2 * way_span v.paths in
-        let same = same_paths n playable.network all b at late is_lowering g in
-        inl (
-          rest,
-          behind g (Losing way way) (inr (inr (inl (turns, ap (λ (p : SyncPaths). 2 * way_span p) same, refl)))),
-        )
+        let same = late_ways n playable.network all b at late x.down in
+        asks_late way way x.down (inr (inr (inl (x.turns, ap (λ (p : SyncPaths). 2 * way_span p) same, refl))))
     asks_by TreeFalls row own =
         let (rest, tree) = tree_falls n playable.network all b at late well (octets_at d playable at) row in
         inr (inl ((rest, inl tree), refl, refl))
@@ -432,33 +449,27 @@ module _ (d : DocumentState) (playable : IsPlayable d) where
         inr (inl ((rest, inr tree), refl, refl))
     asks_by FailedHeard row own =
         let (rest, fails) = heard n playable.network all b at late well (inl row) in
-        inl (
-          rest,
-          alone (Losing (aged_by loss) (quiet_by n loss (aged_by loss))) (inr (inr (inr (inl (
-            fails,
-            (
-              aged_by loss,
-              quiet_by n loss (aged_by loss),
-              aging n playable.network all b at late well (some_heard n made now fails),
-              inl (refl, refl),
-            ),
-          ))))),
-        )
+        asks_alone (aged_by loss) (quiet_by n loss (aged_by loss)) rest (inr (inr (inr (inl (
+          fails,
+          (
+            aged_by loss,
+            quiet_by n loss (aged_by loss),
+            aging n playable.network all b at late well (some_heard n made now fails),
+            inl (refl, refl),
+          ),
+        )))))
     asks_by FailureCutsOff row own =
         let (rest, fails) = heard n playable.network all b at late well (inr row) in
-        inl (
-          rest,
-          alone (Losing (aged_by loss + 2 * way_span v.paths) (quiet_by n loss (aged_by loss + 2 * way_span v.paths)))
-              (inr (inr (inr (inl (
-                fails,
-                (
-                  aged_by loss,
-                  quiet_by n loss (aged_by loss),
-                  aging n playable.network all b at late well (some_heard n made now fails),
-                  inr (refl, quiet_later n playable.network all b at late well (2 * way_span v.paths)),
-                ),
-              ))))),
-        )
+        let way : ℕ = 2 * way_span v.paths in
+        asks_alone (aged_by loss + way) (quiet_by n loss (aged_by loss + way)) rest (inr (inr (inr (inl (
+          fails,
+          (
+            aged_by loss,
+            quiet_by n loss (aged_by loss),
+            aging n playable.network all b at late well (some_heard n made now fails),
+            inr (refl, quiet_later n playable.network all b at late well way),
+          ),
+        )))))
     asks_by FailureMovesTrees row own =
         let x = failure_cuts n playable.network all b at late well row in
         inr (inr (
@@ -473,18 +484,19 @@ module _ (d : DocumentState) (playable : IsPlayable d) where
         ))
     asks_by TakenAway row own =
         let x = taken n playable.network all b at late well row in
-        inl (x.rested, alone (Losing 0 0) (inr (inr (inr (inr (inr (x.takes, x.moves, refl, inl (x.none, refl))))))))
+        asks_alone 0 0 x.rested (inr (inr (inr (inr (inr (inl (x.takes, x.moves, refl, inl (x.none, refl))))))))
     asks_by TakenApart row own =
         let x = taken_apart n playable.network all b at late well row in
-        inl (
-          x.rested,
-          alone (Losing 0 (quiet_by n loss 0))
-              (inr (inr (inr (inr (inr (apart_bounds n playable.network all b at late x)))))),
-        )
+        asks_alone 0 (quiet_by n loss 0) x.rested
+        (inr (inr (inr (inr (inr (inl (apart_bounds n playable.network all b at late x)))))))
+    asks_by TakenHeard row own =
+        let (rest, takes) = heard_taken n playable.network all b at late well row in
+        asks_alone (aged_by loss) (quiet_by n loss (aged_by loss)) rest
+        (inr (inr (inr (inr (inr (heard_bounds n playable.network all b at late well takes))))))
     asks_by AnyLosses row own =
         let (rest, loses, roles) = losses n playable.network all b at late row in
         let span : ℕ = any_loss_span n loss v.paths in
-        inl (rest, alone (Losing span (quiet_by n loss span)) (inr (inr (inr (inr (inl (loses, refl, roles span)))))))
+        asks_alone span (quiet_by n loss span) rest (inr (inr (inr (inr (inl (loses, refl, roles span))))))
 
     sooner_so : (s : Settling) → IsTelling n v s → IsChoiceBoundAfter n all (b.at ∷ earlier) at settled_by → IsSooner s
     sooner_so s it settles = elim (choice_or_own n loss v.paths (row_at v) (gained_at n v)) [

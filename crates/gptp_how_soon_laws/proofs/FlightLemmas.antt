@@ -1,6 +1,7 @@
 -- By when what was in flight at a time is gone, as it is computed.
 use Rattle.std.proofs.Common.{◌≡◌, ◌≤◌, ◌<◌, inl, inr, ◌+◌, ℕ, Bool, true, false, List, [], ◌∷◌, ◌++◌, Some, None, filter, append-nil, refl, sym, ap, subst, ◌∙◌, cond, min, arith}
 use Rattle.std.specs.Prelude.{nat_le, if◌then◌else◌}
+use Rattle.std.proofs.lemmas.Bool.{or_cases}
 use Rattle.std.proofs.lemmas.Bool.Decides.{nat_tests}
 use Rattle.std.proofs.lemmas.List.Elements.{filter-append}
 use Rattle.gptp_lists.specs.Members.{In}
@@ -13,11 +14,11 @@ use Rattle.gptp_scenario.specs.declared.change.Timed.{Timed}
 use Rattle.gptp_topology.specs.After.{standing_then, standings_after}
 use Rattle.gptp_topology.specs.declared.course.Standing.{Standing}
 use Rattle.gptp_how_soon.specs.Far.{up_is_used}
-use Rattle.gptp_how_soon.specs.Flight.{delay_up, flight_over, gone_by, longest_up}
+use Rattle.gptp_how_soon.specs.Flight.{delay_up, flies_in_time, flight_over, gone_by, longest_up}
 use Rattle.gptp_how_soon.specs.Links.{longest_delay}
 use Rattle.gptp_how_soon.specs.Times.{arrived_after}
 use Rattle.gptp_settling_time.specs.Arrivals.{after_set, arrived_by, last_of, last_set, sets_link}
-use Rattle.gptp_settling_time.specs.EventKinds.{FlightIsGoneFrom}
+use Rattle.gptp_settling_time.specs.EventKinds.{FliesInTime, FlightIsGoneFrom}
 use Rattle.gptp_settling_time.specs.Gains.{HasDelaysWithin, Repeats}
 use Rattle.gptp_settling_time.specs.HowSoon.{EachEvent, FailsTreesFirst, IsDownToo}
 use Rattle.gptp_settling_time.specs.Losses.{UpIsWithin}
@@ -25,7 +26,7 @@ use Rattle.gptp_settling_time.specs.Rests.{FlightIsGoneSince}
 use Rattle.gptp_settling_time.proofs.DelayWithinLemmas.{within_before}
 use Rattle.gptp_settling_time.proofs.GoneBeforeLemmas.{idle_sets_none}
 use Rattle.gptp_settling_time.proofs.SamePathsLemmas.{StandSame}
-use Rattle.gptp_how_soon_laws.proofs.ArrivedLemmas.{same_set}
+use Rattle.gptp_how_soon_laws.proofs.ArrivedLemmas.{all_within, same_set}
 use Rattle.gptp_how_soon_laws.proofs.FailedLemmas.{used_up}
 use Rattle.gptp_how_soon_laws.proofs.RepeatLemmas.{paths_seen, standings_seen}
 use Rattle.gptp_how_soon_laws.proofs.RowTestLemmas.{at_most}
@@ -140,6 +141,22 @@ module _ (n : NetworkState) (network : IsNetwork n) (events all : List Timed) (s
       (sym (λ i. flight_over (up_is_used (standings i)) (paths i).delay (longest_up (standings i)) (arrived_after n all)
       time))
       (gone (up_is_used (standings_after n events)) (nat_le (arrived_after n all) (time + longest)) refl refl)
+
+-- what is in flight then is due within the delay of its link, as it is tested
+pub in_time : (n : NetworkState) → IsNetwork n → (events : List Timed) (time : ℕ)
+    → flies_in_time (up_is_used (standings_after n events)) (arrived_after n events) time ≡ true
+    → FliesInTime n events time
+in_time n network events time flies =
+    elim (or_cases (up_is_used (standings_after n events)) (nat_le (arrived_after n events) time) flies) [
+      | inl used ↦ inl (used_up n network events used)
+      | inr arrived ↦
+          inr (
+            longest_delay n events,
+            all_within n events,
+            subst (λ t. t ≤ time) (same_set (longest_delay n events) events)
+                (at_most (arrived_after n events) time arrived),
+          )
+    ]
 
 -- what is gone behind events that set none is gone since before them
 pub gone_since : (n : NetworkState) (made now : List Timed) (gone : ℕ) → EachEvent SetsNone made now

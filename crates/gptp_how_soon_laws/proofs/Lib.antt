@@ -10,6 +10,7 @@ mod GainedLemmas
 mod WorseningLemmas
 mod UnmovedLemmas
 mod RepeatLemmas
+mod WiderLemmas
 mod LoweredLemmas
 mod IdleStandsLemmas
 mod FailedLemmas
@@ -44,8 +45,11 @@ mod RowLemmas
 mod TakenAwayLemmas
 mod AloneLemmas
 mod CutsAllLemmas
+mod LoweredRowLemmas
+mod DownBehindLemmas
 mod RowLossLemmas
 mod RowApartLemmas
+mod RowAgesLemmas
 mod AnyLossLemmas
 mod AgedLemmas
 mod LossBoundLemmas

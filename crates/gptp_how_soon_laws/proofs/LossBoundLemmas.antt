@@ -55,8 +55,10 @@ module _ (n : NetworkState) (made now : List Timed) where
       some_of (FailsHeardFirst n made) (λ none. none) events fails
   some_lost choice roles events (inr (inr (inr (inr (inl (loses, is, later)))))) =
       some_of (LosesEvents n made) (λ none. none) events loses
-  some_lost choice roles events (inr (inr (inr (inr (inr (takes, moves, is, by)))))) =
+  some_lost choice roles events (inr (inr (inr (inr (inr (inl (takes, moves, is, by))))))) =
       some_of (TakesSeveral n made) (λ none. none) events takes
+  some_lost choice roles events (inr (inr (inr (inr (inr (inr (heard, held, is))))))) =
+      some_of (TakesSeveral n made) (λ none. none) events heard.0
 
   pub some_rested : (sound : ℕ) (events : List Timed) → RestsAfterLoss n made events sound → events ≡ [] → ⊥
   some_rested sound events (inl (inl (cuts, gone))) = some_of (CutsOneEnd n made) (λ none. none) events cuts
@@ -70,8 +72,10 @@ module _ (n : NetworkState) (made now : List Timed) where
       some_of (FailsHeardFirst n made) (λ none. none) events fails
   some_rested sound events (inr (inl (choice, bounds))) =
       some_of (LosesEvents n made) (λ none. none) events bounds.0
-  some_rested sound events (inr (inr (takes, moves, few, by))) =
+  some_rested sound events (inr (inr (inl (takes, moves, few, by)))) =
       some_of (TakesSeveral n made) (λ none. none) events takes
+  some_rested sound events (inr (inr (inr (heard, by)))) =
+      some_of (TakesSeveral n made) (λ none. none) events heard.0
 
   -- what ages does no later than ports beside a failed system are off
   ages_first : (aged quiet : ℕ) (events : List Timed) → BoundsAging n made events aged quiet → aged ≤ quiet
@@ -90,4 +94,6 @@ module _ (n : NetworkState) (made now : List Timed) where
   no_later choice roles events (inr (inr (inr (inr (inl (loses, is, inl (quiet, same))))))) = omega (arith, same)
   no_later choice roles events (inr (inr (inr (inr (inl (loses, is, inr later)))))) =
       greater choice roles (silence_span (pace_of n)) later
-  no_later choice roles events (inr (inr (inr (inr (inr (takes, moves, is, by)))))) = omega (arith, is)
+  no_later choice roles events (inr (inr (inr (inr (inr (inl (takes, moves, is, by))))))) = omega (arith, is)
+  no_later choice roles events (inr (inr (inr (inr (inr (inr (heard, (span, within, is), is_roles))))))) =
+      lesser choice roles span (silence_span (pace_of n)) is is_roles

@@ -5,6 +5,7 @@ use Rattle.std.specs.Prelude.{◌&&◌, ◌||◌, ◌==◌, if◌then◌else◌,
 use Rattle.std.proofs.lemmas.Bool.{and_parts, eqb-true, or_cases, or_parts}
 use Rattle.gptp_lists.specs.Members.{In}
 use Rattle.gptp_lists.proofs.SystemSpecLemmas.{In-map}
+use Rattle.gptp_links.specs.declared.bounds.Bounds.{Bounds}
 use Rattle.gptp_setup.specs.Intervals.{interval_of}
 use Rattle.gptp_scenario.specs.Calm.{IsCalm, IsUsed, Rests}
 use Rattle.gptp_scenario.specs.Change.{link_after}
@@ -39,7 +40,7 @@ use Rattle.gptp_settling_time.specs.Measuring.{AreMeasuredBefore, AsksAnew}
 use Rattle.gptp_settling_time.proofs.CutLemmas.{IsBy, all_by}
 use Rattle.gptp_settling_time.proofs.MomentLemmas.{all_at}
 use Rattle.gptp_settling_time.proofs.SamePathsLemmas.{idle_paths, priority_paths, turned_paths}
-use Rattle.gptp_how_soon_laws.proofs.MoreLemmas.{bounds_stay, no_greater, used_is}
+use Rattle.gptp_how_soon_laws.proofs.MoreLemmas.{bounds_stay, longer_delay, used_is}
 use Rattle.gptp_how_soon_laws.proofs.RowBoundLemmas.{IsTelling}
 use Rattle.gptp_how_soon_laws.proofs.RowLemmas.{unchanged, why}
 use Rattle.gptp_how_soon_laws.proofs.RowLossLemmas.{keeps_so, rest_so}
@@ -113,9 +114,10 @@ none_new : (n : NetworkState) (made now : List Timed) → sets_link (told_of n m
     → length (new_links n made (made ++ now) false) ≡ 0
     → (sync_paths n (made ++ now)).delay ≤ (sync_paths n made).delay
 none_new n made now none few =
-    no_greater n (made ++ now) made
+    longer_delay n (made ++ now) made
     (λ w member used. by w member (cable_is_used (standing_then n made w)) refl used)
-    (λ w member. sym (same_bounds n made now (none_set n made now none) w))
+    (λ w member.
+    let same = ap (λ (b : Bounds). b.max) (same_bounds n made now (none_set n made now none) w) in omega (arith, same))
   where
     by : (w : LinkSpec) → In w n.links → (before : Bool) → cable_is_used (standing_then n made w) ≡ before
         → cable_is_used (standing_then n (made ++ now) w) ≡ true → cable_is_used (standing_then n made w) ≡ true

@@ -78,40 +78,41 @@ used_is n events w =
     ends.a ends.b
     ∙ and_moves (link_after events w).up (lives n.systems events w.a.clock) (lives n.systems events w.b.clock)
 
--- each link that is in use is so after other events, with the same bounds
+-- where links in use stay in use, and none gets shorter, it gets no less
 module _ (n : NetworkState) (events more : List Timed)
     (used : (w : LinkSpec) → In w n.links → cable_is_used (standing_then n events w) ≡ true
     → cable_is_used (standing_then n more w) ≡ true)
-    (bounds : (w : LinkSpec) → In w n.links → (link_after more w).bounds ≡ (link_after events w).bounds) where
+    (longer : (w : LinkSpec) → In w n.links → (link_after events w).bounds.max ≤ (link_after more w).bounds.max) where
   delays : (ws : List LinkSpec) → ((w : LinkSpec) → In w ws → In w n.links)
       → greatest_delay n.systems events ws ≤ greatest_delay n.systems more ws
   delays [] among = omega arith
   delays (w ∷ ws) among =
       by (is_used n.systems events (link_after events w)) (is_used n.systems more (link_after more w)) refl refl
-      (ap (λ (b : Bounds). b.max) (bounds w (among w (inl refl))))
-      (delays ws (λ v member. among v (inr member)))
+      (longer w (among w (inl refl))) (delays ws (λ v member. among v (inr member)))
     where
       by : (before now : Bool) → is_used n.systems events (link_after events w) ≡ before
           → is_used n.systems more (link_after more w) ≡ now
-          → (link_after more w).bounds.max ≡ (link_after events w).bounds.max
+          → (link_after events w).bounds.max ≤ (link_after more w).bounds.max
           → greatest_delay n.systems events ws ≤ greatest_delay n.systems more ws
           → cond before (max (link_after events w).bounds.max (greatest_delay n.systems events ws))
           (greatest_delay n.systems events ws)
           ≤ cond now (max (link_after more w).bounds.max (greatest_delay n.systems more ws))
           (greatest_delay n.systems more ws)
-      by true true e f same rest = omega (arith, same, rest)
-      by true false e f same rest =
+      by true true e f less rest = omega (arith, less, rest)
+      by true false e f less rest =
           let on = used w (among w (inl refl)) (sym (used_is n events w) ∙ e) in
           let no : true ≡ false = sym on ∙ sym (used_is n more w) ∙ f in absurd cc
-      by false true e f same rest = omega (arith, rest)
-      by false false e f same rest = rest
+      by false true e f less rest = omega (arith, rest)
+      by false false e f less rest = rest
 
-  pub no_greater : greatest_delay n.systems events n.links ≤ greatest_delay n.systems more n.links
-  no_greater = delays n.links (λ w member. member)
+  pub longer_delay : greatest_delay n.systems events n.links ≤ greatest_delay n.systems more n.links
+  longer_delay = delays n.links (λ w member. member)
 
 pub more_delay : (n : NetworkState) (events more : List Timed) → IsMore n events more
     → greatest_delay n.systems events n.links ≤ greatest_delay n.systems more n.links
-more_delay n events more is = no_greater n events more is.used is.bounds
+more_delay n events more is =
+    longer_delay n events more is.used (λ w member.
+    let same = ap (λ (b : Bounds). b.max) (is.bounds w member) in omega (arith, same))
 
 -- ---- one event
 

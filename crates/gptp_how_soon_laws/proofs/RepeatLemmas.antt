@@ -68,6 +68,16 @@ each_same f g [] same = refl
 each_same f g (x ∷ xs) same =
     ap₂ (λ y ys. y ∷ ys) (same x (inl refl)) (each_same f g xs (λ y member. same y (inr member)))
 
+pub systems_alike : (n : NetworkState) (events more : List Timed)
+    → ((m : SystemSpec) → In m n.systems → system_after more m ≡ system_after events m)
+    → systems_after n more ≡ systems_after n events
+systems_alike n events more same =
+    each_same (system_then more) (system_then events) n.systems (λ m member. λ i. record {
+      clock = clock_of m.identity;
+      identity = (same m member i).identity;
+      lives = (same m member i).live;
+    })
+
 module _ (n : NetworkState) (events more : List Timed) (same : StandSame n events more) where
   live_same : (m : SystemSpec) → In m n.systems → (system_after more m).live ≡ (system_after events m).live
   live_same m member = ap (λ s. s.live) (same.systems m member)
@@ -76,12 +86,7 @@ module _ (n : NetworkState) (events more : List Timed) (same : StandSame n event
   paths_seen = paths_same n events more (same_alike n events more same)
 
   pub systems_seen : systems_after n more ≡ systems_after n events
-  systems_seen =
-      each_same (system_then more) (system_then events) n.systems (λ m member. λ i. record {
-        clock = clock_of m.identity;
-        identity = (same.systems m member i).identity;
-        lives = (same.systems m member i).live;
-      })
+  systems_seen = systems_alike n events more same.systems
 
   pub standings_seen : standings_after n more ≡ standings_after n events
   standings_seen =

@@ -19,7 +19,7 @@ use Rattle.gptp_how_soon.specs.Kinds.{sets_link}
 use Rattle.gptp_how_soon.specs.Times.{View, gained_at, loss_at, row_at, settling_time}
 use Rattle.gptp_how_soon.specs.declared.bounds.Loss.{Loss}
 use Rattle.gptp_how_soon.specs.declared.bounds.Row.{Row}
-use Rattle.gptp_how_soon.specs.declared.bounds.Row.TheVariants.{AnyLosses, AnyPast, CutOff, FailedEnd, FailedHeard, FailureCutsOff, FailureMovesTrees, Gained, Lowered, SystemTurned, TakenApart, TakenAway, TreeTurned, Unchanged, TreeFalls}
+use Rattle.gptp_how_soon.specs.declared.bounds.Row.TheVariants.{AnyLosses, AnyPast, CutOff, FailedEnd, FailedHeard, FailureCutsOff, FailureMovesTrees, Gained, Lowered, SystemTurned, TakenApart, TakenAway, TakenHeard, TreeTurned, Unchanged, TreeFalls}
 use Rattle.gptp_how_soon.specs.declared.bounds.Settling.{Settling}
 use Rattle.gptp_settling_time.specs.HowSoon.{BoundsChoice}
 use Rattle.gptp_topology.proofs.RestLemmas.{calm_from}
@@ -39,6 +39,7 @@ past_row TreeTurned = AnyPast
 past_row FailureMovesTrees = AnyPast
 past_row TakenAway = AnyPast
 past_row TakenApart = AnyPast
+past_row TakenHeard = AnyPast
 past_row AnyLosses = AnyPast
 past_row Gained = Gained
 
@@ -72,6 +73,7 @@ bounds_choice n Sharp loss events row gained calm unchanged is_gained =
     by_row off FailureMovesTrees is = inl refl
     by_row off TakenAway is = inl refl
     by_row off TakenApart is = inl refl
+    by_row off TakenHeard is = inl refl
     by_row off AnyLosses is = inl refl
     by_row off Unchanged is = inr (unchanged is)
     by_row off Gained is = inr (is_gained is off)
@@ -127,6 +129,7 @@ choice_or_own n loss paths row gained = by (n.params.sync_timeout == 0) refl row
     by true is FailureMovesTrees = inr (eqb-true n.params.sync_timeout 0 is, tt, refl, refl)
     by true is TakenAway = inr (eqb-true n.params.sync_timeout 0 is, tt, refl, refl)
     by true is TakenApart = inr (eqb-true n.params.sync_timeout 0 is, tt, refl, refl)
+    by true is TakenHeard = inr (eqb-true n.params.sync_timeout 0 is, tt, refl, refl)
     by true is AnyLosses = inr (eqb-true n.params.sync_timeout 0 is, tt, refl, refl)
 
 -- All is sound by that bound. Or nothing lapses, and it is sooner after a loss.
@@ -144,8 +147,9 @@ IsSoundSooner n loss paths row sound =
     (aged_by loss + 2 * way_span paths + max (echo_span (pace_of n) paths) (largest_interval (pace_of n)))))
     ⊎ (((row ≡ TakenAway) × (sound ≡ taken_echo_span n loss paths))
     ⊎ (((row ≡ TakenApart) × (sound ≡ quiet_by n loss (gone_by n loss.flight_before)))
+    ⊎ (((row ≡ TakenHeard) × (aged_echo_span n loss paths ≤ sound))
     ⊎ (((row ≡ FailureCutsOff) ⊎ (row ≡ FailureMovesTrees)) × (loss.cuts_all ≡ true)
-    × (sound ≡ quiet_by n loss (apart_by n loss paths))))))))))))
+    × (sound ≡ quiet_by n loss (apart_by n loss paths)))))))))))))
 
 pub sound_or_sooner : (n : NetworkState) (loss : Loss) (paths : SyncPaths) (row : Row)
     (gained : ℕ)
@@ -160,7 +164,7 @@ sound_or_sooner n loss paths row gained = by (n.params.sync_timeout == 0) refl r
     -- after a failure it matters whether all that is moved is cut off
     all : (r : Row) → (r ≡ FailureCutsOff) ⊎ (r ≡ FailureMovesTrees) → loss.cuts_all ≡ true
         → IsSoundSooner n loss paths r (quiet_by n loss (apart_by n loss paths))
-    all r which cuts = inr (inr (inr (inr (inr (inr (inr (inr (inr (inr (which, cuts, refl))))))))))
+    all r which cuts = inr (inr (inr (inr (inr (inr (inr (inr (inr (inr (inr (which, cuts, refl)))))))))))
 
     cut : (cuts : Bool) → loss.cuts_all ≡ cuts
         → IsSoundSooner n loss paths FailureCutsOff
@@ -203,6 +207,10 @@ sound_or_sooner n loss paths row gained = by (n.params.sync_timeout == 0) refl r
     by true is TakenApart = inr (
       eqb-true n.params.sync_timeout 0 is,
       inr (inr (inr (inr (inr (inr (inr (inr (inr (inl (refl, refl)))))))))),
+    )
+    by true is TakenHeard = inr (
+      eqb-true n.params.sync_timeout 0 is,
+      inr (inr (inr (inr (inr (inr (inr (inr (inr (inr (inl (refl, omega arith))))))))))),
     )
     by true is TreeFalls =
         inr (eqb-true n.params.sync_timeout 0 is, inr (inr (inr (inr (inr (inr (inl (refl, refl))))))))

@@ -1,5 +1,5 @@
 -- What is told of a time after the first one, by its row, is so by its events.
-use Rattle.std.proofs.Common.{◌≡◌, ◌<◌, ◌⊎◌, inl, inr, ◌+◌, ◌*◌, ℕ, Bool, true, false, cond, List, [], ◌∷◌, ◌++◌, Option, Some, None, refl, sym, ap, subst, ◌∙◌, arith}
+use Rattle.std.proofs.Common.{◌≡◌, ◌<◌, ◌≤◌, ◌⊎◌, inl, inr, ◌+◌, ◌*◌, ℕ, Bool, true, false, cond, List, [], ◌∷◌, ◌++◌, Option, Some, None, refl, sym, ap, subst, ◌∙◌, arith}
 use Rattle.std.specs.Prelude.{◌&&◌, ◌||◌, not, nat_le, nat_lt}
 use Rattle.std.specs.List.{list_all, list_any}
 use Rattle.std.proofs.lemmas.Bool.{and_parts, not-true, or_cases, or_parts}
@@ -13,8 +13,8 @@ use Rattle.gptp_scenario.specs.declared.change.Timed.{Timed}
 use Rattle.gptp_network.specs.Snapshot.{events_by}
 use Rattle.gptp_how_soon.specs.Gains.{is_hard_to_hear}
 use Rattle.gptp_how_soon.specs.Kinds.{brings_nothing, fails_and_recovers, is_gain, is_idle, is_loss, is_other, is_recovery, leaves_links, lowers_unused, makes_nothing, recovers, begins_wider, first_wider_by, is_wider}
-use Rattle.gptp_how_soon.specs.Losses.{takes_one}
-use Rattle.gptp_how_soon.specs.Rest.{are_events_followed, are_losses_followed, are_recoveries_followed, are_turns_followed, is_end_followed, is_failing_followed, is_from_rest, is_lowering_followed, is_taking_followed, is_wider_followed, rested, settles_wider_by, is_worsening_followed}
+use Rattle.gptp_how_soon.specs.Losses.{lowers_behind_wider, lowers_one, takes_one}
+use Rattle.gptp_how_soon.specs.Rest.{are_events_followed, are_losses_followed, are_recoveries_followed, are_turns_followed, is_end_followed, is_failing_followed, is_from_rest, is_link_followed, is_lowering_followed, is_taking_followed, is_wider_followed, rested, settles_later_by, settles_wider_by, is_worsening_followed}
 use Rattle.gptp_how_soon.specs.Times.{View, events_at, gained_at, ready_at, row_at, view_at}
 use Rattle.gptp_how_soon.specs.declared.bounds.Row.{Row}
 use Rattle.gptp_how_soon.specs.declared.bounds.Row.TheVariants.{Gained, Unchanged}
@@ -30,7 +30,7 @@ use Rattle.gptp_how_soon_laws.proofs.GainLemmas.{AreFollowed, AreTurnsFollowed}
 use Rattle.gptp_how_soon_laws.proofs.GainedLemmas.{all_gained, all_heard, all_idle, all_wider}
 use Rattle.gptp_how_soon_laws.proofs.UnmovedLemmas.{AreWell, all_still_unmoved}
 use Rattle.gptp_how_soon_laws.proofs.RowReasonLemmas.{ReasonOf, Tests, reason_of}
-use Rattle.gptp_how_soon_laws.proofs.RowTestLemmas.{HasComeToRest, at_most, counts_all, leaves_all, not_both, over_before, rested_so}
+use Rattle.gptp_how_soon_laws.proofs.RowTestLemmas.{HasComeToRest, at_most, begins_apart, behind_loses, counts_all, leaves_all, not_both, over_before, rested_so}
 
 module _ (n : NetworkState) (network : IsNetwork n) (events : List Timed) (b : SettlingTime) (at : ℕ)
     (late : b.at < at) where
@@ -48,9 +48,9 @@ module _ (n : NetworkState) (network : IsNetwork n) (events : List Timed) (b : S
     rest = is_from_rest v.longest at v.paths_before v.paths v.told (Some b);
     idle = list_all makes_nothing v.told || begins_wider v.told;
     left = are_losses_followed v.paths_before v.told && not v.moves.moved;
-    lowers = is_lowering_followed v.paths_before v.paths v.told && not v.moves.moved;
+    lowers = is_link_followed v.paths_before v.paths v.told && not v.moves.moved;
     cut = v.moves.cut;
-    turns = is_lowering_followed v.paths_before v.paths v.told && v.moves.turned;
+    turns = is_link_followed v.paths_before v.paths v.told && v.moves.turned;
     falls = (is_lowering_followed v.paths_before v.paths v.told && v.moves.falls)
         || (is_worsening_followed v.paths_before v.paths v.told && v.moves.worsens);
     branch = is_lowering_followed v.paths_before v.paths v.told && v.moves.tree_turns;
@@ -61,6 +61,7 @@ module _ (n : NetworkState) (network : IsNetwork n) (events : List Timed) (b : S
     ends = is_end_followed v.paths_before v.paths v.told && (v.moves.far && not v.moves.any_moved);
     apart = is_taking_followed v.paths_before v.paths v.told && v.moves.apart;
     taken = is_taking_followed v.paths_before v.paths v.told && v.moves.taken;
+    ages = is_taking_followed v.paths_before v.paths v.told && v.moves.ages;
     loss = list_any is_loss v.told;
     only = list_all brings_nothing v.told;
   }
@@ -75,7 +76,8 @@ module _ (n : NetworkState) (network : IsNetwork n) (events : List Timed) (b : S
     pub turns : AreTurnsFollowed n network at made now
     pub followed : list_any is_recovery v.told ≡ true
         → are_recoveries_followed v.longest b.at at v.told ≡ true
-    pub wider : list_any is_wider v.told ≡ true → is_wider_followed b at v.paths_before v.paths v.told ≡ true
+    pub wider : list_any is_wider v.told ≡ true
+        → is_wider_followed v.longest b at v.paths_before v.paths v.told ≡ true
 
   turns_so : are_turns_followed v.told ≡ true → AreTurnsFollowed n network at made now
   turns_so is =
@@ -88,7 +90,7 @@ module _ (n : NetworkState) (network : IsNetwork n) (events : List Timed) (b : S
       and_parts
       (rested b at && are_events_followed v.told && are_turns_followed v.told
       && (not (list_any is_recovery v.told) || are_recoveries_followed v.longest b.at at v.told))
-      (not (list_any is_wider v.told) || is_wider_followed b at v.paths_before v.paths v.told) is in
+      (not (list_any is_wider v.told) || is_wider_followed v.longest b at v.paths_before v.paths v.told) is in
       let (three, third) =
       and_parts (rested b at && are_events_followed v.told && are_turns_followed v.told)
       (not (list_any is_recovery v.told) || are_recoveries_followed v.longest b.at at v.told) four in
@@ -108,7 +110,7 @@ module _ (n : NetworkState) (network : IsNetwork n) (events : List Timed) (b : S
               | inr are ↦ are
             ];
         wider = λ some. elim (or_cases (not (list_any is_wider v.told))
-            (is_wider_followed b at v.paths_before v.paths v.told) fourth) [
+            (is_wider_followed v.longest b at v.paths_before v.paths v.told) fourth) [
               | inl none ↦ let no : true ≡ false = sym some ∙ not-true (list_any is_wider v.told) none in absurd cc
               | inr is_followed ↦ is_followed
             ];
@@ -132,6 +134,44 @@ module _ (n : NetworkState) (network : IsNetwork n) (events : List Timed) (b : S
   begins_some (e ∷ es) is =
       let (wider, still) = and_parts (is_wider e) (list_all is_idle es) is in
       ap (λ test. test || list_any is_wider es) wider
+
+  -- It is followed where nothing changes behind it, or a link goes down.
+  abbrev follows_idle : Bool
+  follows_idle =
+      begins_wider v.told && settles_wider_by b at v.paths_before v.paths (first_wider_by v.told) b.settling
+
+  abbrev follows_down : Bool
+  follows_down =
+      lowers_behind_wider v.told && nat_le v.longest v.paths_before.delay
+      && settles_later_by b at (first_wider_by v.told) b.settling
+
+  pub record IsDownFollowed : Type 0 where
+    pub lowers : lowers_behind_wider v.told ≡ true
+    pub short : v.longest ≤ v.paths_before.delay
+    pub settles : settles_later_by b at (first_wider_by v.told) b.settling ≡ true
+
+  down_parts : follows_down ≡ true → IsDownFollowed
+  down_parts is =
+      let short_test : Bool = nat_le v.longest v.paths_before.delay in
+      let (two, settles) = and_parts (lowers_behind_wider v.told && short_test)
+      (settles_later_by b at (first_wider_by v.told) b.settling) is in
+      let (lowers, short) = and_parts (lowers_behind_wider v.told) short_test two in
+      record { lowers = lowers; short = at_most v.longest v.paths_before.delay short; settles = settles }
+
+  -- behind one that gets wider a link goes down
+  widens_some : (es : List Told) → lowers_behind_wider es ≡ true → list_any is_wider es ≡ true
+  widens_some [] is = absurd cc
+  widens_some (e ∷ es) is =
+      let (wider, lowers) = and_parts (is_wider e) (lowers_one es) is in
+      ap (λ test. test || list_any is_wider es) wider
+
+  pub down_so : IsFromRest → lowers_behind_wider v.told ≡ true → IsDownFollowed
+  down_so facts lowers = elim (or_cases follows_idle follows_down (facts.wider (widens_some v.told lowers))) [
+    | inl idle ↦ absurd (begins_apart v.told
+        (and_parts (begins_wider v.told)
+        (settles_wider_by b at v.paths_before v.paths (first_wider_by v.told) b.settling) idle).0 lowers)
+    | inr down ↦ down_parts down
+  ]
 
   settles_so : (s : Settling) (o : Option Settling) → o ≡ Some s
       → settles_wider_by b at v.paths_before v.paths (first_wider_by v.told) o ≡ true
@@ -169,10 +209,12 @@ module _ (n : NetworkState) (network : IsNetwork n) (events : List Timed) (b : S
             | inl idle ↦
                 inl (all_still n made now (all_idle n network at made now facts.turns (all_at at events) idle))
             | inr begins ↦
-                let settles =
-                (and_parts (begins_wider v.told)
-                (settles_wider_by b at v.paths_before v.paths (first_wider_by v.told) b.settling)
-                (facts.wider (begins_some v.told begins))).1 in
+                let settles : settles_wider_by b at v.paths_before v.paths (first_wider_by v.told) b.settling ≡ true =
+                elim (or_cases follows_idle follows_down (facts.wider (begins_some v.told begins))) [
+                  | inl idle ↦ (and_parts (begins_wider v.told)
+                      (settles_wider_by b at v.paths_before v.paths (first_wider_by v.told) b.settling) idle).1
+                  | inr down ↦ absurd (begins_apart v.told begins (down_parts down).lowers)
+                ] in
                 inr (all_wider n network at made now (b.at + facts.rested.settling.sound) made now begins
                 (settles_so facts.rested.settling b.settling facts.rested.is settles))
           ]
@@ -180,18 +222,23 @@ module _ (n : NetworkState) (network : IsNetwork n) (events : List Timed) (b : S
         ],
       )
 
-  -- where that isn't so none gets wider
-  none_wider : IsFromRest → begins_wider v.told ≡ false → list_any is_wider v.told ≡ false
-  none_wider facts none = by (list_any is_wider v.told) refl
+  -- where that isn't so, and nothing is lost, none gets wider
+  none_wider : IsFromRest → list_any is_loss v.told ≡ false → begins_wider v.told ≡ false
+      → list_any is_wider v.told ≡ false
+  none_wider facts no_loss none = by (list_any is_wider v.told) refl
     where
       by : (some : Bool) → list_any is_wider v.told ≡ some → list_any is_wider v.told ≡ false
       by false is = is
-      by true is =
-          let begins =
-          (and_parts (begins_wider v.told)
-          (settles_wider_by b at v.paths_before v.paths (first_wider_by v.told) b.settling) (facts.wider is)).0 in
-          let no : true ≡ false = sym begins ∙ none in
-          absurd cc
+      by true is = elim (or_cases follows_idle follows_down (facts.wider is)) [
+        | inl idle ↦
+            let begins =
+            (and_parts (begins_wider v.told)
+            (settles_wider_by b at v.paths_before v.paths (first_wider_by v.told) b.settling) idle).0 in
+            let no : true ≡ false = sym begins ∙ none in
+            absurd cc
+        | inr down ↦
+            let no : true ≡ false = sym (behind_loses v.told (down_parts down).lowers) ∙ no_loss in absurd cc
+      ]
 
   pub gained : row_at v ≡ Gained → NothingLapses n.params
       → HasComeToRest b at × BoundsGains n made now at (ready_at n v) (gained_at n v)
@@ -200,7 +247,7 @@ module _ (n : NetworkState) (network : IsNetwork n) (events : List Timed) (b : S
       let facts = from_rest from in
       let (some, narrow) = or_parts (list_all makes_nothing v.told) (begins_wider v.told) which in (
         facts.rested,
-        by facts none (none_wider facts narrow) some (list_any (is_hard_to_hear v.told) v.new) refl,
+        by facts none (none_wider facts none narrow) some (list_any (is_hard_to_hear v.told) v.new) refl,
       )
     where
       followed : IsFromRest → list_any is_recovery v.told ≡ true → AreFollowed n network at made now

@@ -1,25 +1,27 @@
 -- What is told of a time after the first one with losses, by its row, is so by its events.
-use Rattle.std.proofs.Common.{◌≡◌, ◌<◌, ◌≤◌, ◌⊎◌, ap, inl, inr, ◌+◌, ℕ, Bool, true, false, List, [], ◌∷◌, ◌++◌, Some, suc, refl, sym, subst, ◌∙◌}
-use Rattle.std.specs.Prelude.{◌&&◌, not, if◌then◌else◌, nat_le, max}
-use Rattle.std.specs.List.{list_all, list_any, AllByRecursion}
+use Rattle.std.proofs.Common.{◌≡◌, ◌<◌, ◌≤◌, ◌⊎◌, ap, inl, inr, ◌+◌, ◌*◌, ℕ, Bool, true, false, List, [], ◌∷◌, ◌++◌, Some, suc, refl, sym, subst, ◌∙◌, arith}
+use Rattle.std.specs.Prelude.{◌&&◌, not, if◌then◌else◌, nat_lt, max}
+use Rattle.std.proofs.lemmas.Bool.Decides.{nat_tests}
+use Rattle.std.specs.List.{list_all, list_any}
 use Rattle.std.proofs.lemmas.Bool.{and_parts, not-true, or_cases}
 use Rattle.gptp_lists.specs.Members.{In}
 use Rattle.gptp_scenario.specs.Network.{IsNetwork, NetworkState, pace_of}
 use Rattle.gptp_scenario.specs.SettlingTime.{silence_span}
 use Rattle.gptp_scenario.specs.SyncWait.{sync_paths}
 use Rattle.gptp_scenario.specs.declared.change.Timed.{Timed}
-use Rattle.gptp_scenario.specs.declared.sync_wait.SyncPaths.{SyncPaths}
-use Rattle.gptp_scenario.specs.Calm.{last_change}
+use Rattle.gptp_scenario.specs.Calm.{IsCalm, NothingLapses, last_change}
 use Rattle.gptp_network.specs.Snapshot.{events_by}
 use Rattle.gptp_invariants.specs.WorldEncodableLaws.{SetsAnOctet}
 use Rattle.gptp_how_soon.specs.Bounds.{quiet_by}
 use Rattle.gptp_how_soon.specs.Chosen.{moves_joined, moves_some}
 use Rattle.gptp_how_soon.specs.Flight.{gone_by}
-use Rattle.gptp_how_soon.specs.Kinds.{brings_nothing, is_loss, is_lowering, is_worsening}
-use Rattle.gptp_how_soon.specs.Losses.{begins_with, fails_beside_idle, fails_first, lowers_one, takes_one, takes_several, worsens_first}
+use Rattle.gptp_how_soon.specs.Kinds.{brings_nothing, first_wider_by, is_loss, is_lowering, is_worsening}
+use Rattle.gptp_how_soon.specs.Far.{cut_far_ends_after}
+use Rattle.gptp_how_soon.specs.Turned.{turns_one_after}
+use Rattle.gptp_how_soon.specs.Losses.{begins_with, fails_beside_idle, fails_first, lowers_behind_wider, lowers_one, takes_link, takes_one, takes_several, worsens_first}
 use Rattle.gptp_how_soon.specs.Alone.{leaves_alone_after}
 use Rattle.gptp_how_soon.specs.MovedTrees.{cuts_all_after, moves_trees_after}
-use Rattle.gptp_how_soon.specs.Rest.{is_end_followed, is_failing_followed, is_from_rest, is_lowering_followed, is_taking_followed, is_worsening_followed, keeps_paths}
+use Rattle.gptp_how_soon.specs.Rest.{is_end_followed, is_failing_followed, is_from_rest, is_link_followed, is_lowering_followed, is_taking_followed, is_worsening_followed, keeps_paths, settles_later_by}
 use Rattle.gptp_how_soon.specs.Times.{View, events_at, has_come_after, loss_at, row_at, told_at, told_of, view_at}
 use Rattle.gptp_how_soon.specs.Tree.{cuts_tree_after, worsens_best_after}
 use Rattle.gptp_how_soon.specs.TurnedTree.{turns_tree_after}
@@ -27,33 +29,31 @@ use Rattle.gptp_how_soon.specs.declared.bounds.Row.{Row}
 use Rattle.gptp_how_soon.specs.declared.bounds.Row.TheVariants.{AnyLosses, CutOff, FailedEnd, FailedHeard, FailureCutsOff, FailureMovesTrees, Lowered, SystemTurned, TakenAway, TreeFalls, TreeTurned}
 use Rattle.gptp_how_soon.specs.declared.bounds.SettlingTime.{SettlingTime}
 use Rattle.gptp_how_soon.specs.declared.kinds.Told.{Told}
-use Rattle.gptp_how_soon.specs.Links.{longest_delay}
-use Rattle.gptp_settling_time.specs.Arrivals.{HasArrivedBy, last_set}
-use Rattle.gptp_settling_time.specs.HowSoon.{BeforeRepeats, FailsEndFirst, FailsHeardFirst, FailsTreesFirst, LosesEvents, OneEvent, RolesAfterLoss, TakesSeveral}
+use Rattle.gptp_settling_time.specs.Arrivals.{HasArrivedBy}
+use Rattle.gptp_settling_time.specs.HowSoon.{BeforeRepeats, BesideIdle, FailsEndFirst, FailsHeardFirst, FailsTreesFirst, LosesEvents, OneEvent, RolesAfterLoss, TakesSeveral}
 use Rattle.gptp_settling_time.specs.EventKinds.{FlightIsGoneFrom}
 use Rattle.gptp_settling_time.specs.Rests.{FlightIsGoneSince}
 use Rattle.gptp_settling_time.specs.Losses.{CutsFarEnd, LowersLink, MovesNoneInAll, NoneSilent, TurnsLink, UpIsUsed}
 use Rattle.gptp_settling_time.specs.TreeLosses.{CutsAllBeyondFrom, FallsTree, LeavesAloneFrom, TurnsTreeLink}
 use Rattle.gptp_settling_time.proofs.SamePathsLemmas.{StandSame, same_itself}
-use Rattle.gptp_settling_time.specs.Gains.{HasDelaysWithin}
 use Rattle.gptp_settling_time.proofs.MomentLemmas.{all_at}
 use Rattle.gptp_how_soon_laws.proofs.AnyLossLemmas.{all_losses}
-use Rattle.gptp_how_soon_laws.proofs.ArrivedLemmas.{all_within, has_come_so, longest_within}
+use Rattle.gptp_how_soon_laws.proofs.ArrivedLemmas.{all_within, has_come_so}
 use Rattle.gptp_how_soon_laws.proofs.FailedLemmas.{fails_beside_first, fails_end_first, fails_heard_first, used_up}
-use Rattle.gptp_how_soon_laws.proofs.CutOffLemmas.{cuts_far}
 use Rattle.gptp_how_soon_laws.proofs.MovedTreesLemmas.{fails_trees_first}
-use Rattle.gptp_how_soon_laws.proofs.LoweredLemmas.{lowers_link}
-use Rattle.gptp_how_soon_laws.proofs.RepeatLemmas.{Begins, before_repeats, begins, cut_seen, falls_seen, first_same, first_well, joined_seen, paths_seen, turned_seen, turns_seen, whole, worsens_seen}
+use Rattle.gptp_how_soon_laws.proofs.RepeatLemmas.{before_repeats, falls_seen, first_well, turns_seen, worsens_seen}
 use Rattle.gptp_how_soon_laws.proofs.TreeEventLemmas.{lowers_one_tree, turns_tree_link}
 use Rattle.gptp_how_soon_laws.proofs.TreeWorsenedLemmas.{worsens_tree}
 use Rattle.gptp_how_soon_laws.proofs.TurnedLemmas.{turns_link}
 use Rattle.gptp_how_soon_laws.proofs.UnmovedLemmas.{AreWell}
 use Rattle.gptp_how_soon_laws.proofs.RowReasonLemmas.{ReasonOf, Tests}
-use Rattle.gptp_how_soon_laws.proofs.SilentLemmas.{last_now, none_silent}
-use Rattle.gptp_how_soon_laws.proofs.RowTestLemmas.{HasComeToRest, at_most, counts_joined, failing_takes, lowering_takes}
+use Rattle.gptp_how_soon_laws.proofs.SilentLemmas.{none_silent}
+use Rattle.gptp_how_soon_laws.proofs.RowTestLemmas.{HasComeToRest, counts_joined, failing_takes, link_takes}
+use Rattle.gptp_how_soon_laws.proofs.DownBehindLemmas.{GoesDown, goes_down, goes_down_behind, stands_beside}
+use Rattle.gptp_how_soon_laws.proofs.LoweredRowLemmas as lowered_row
 use Rattle.gptp_how_soon_laws.proofs.RowLemmas as rows
 use Rattle.gptp_how_soon_laws.proofs.TakenAwayLemmas.{several_taken, several_unmoved}
-use Rattle.gptp_how_soon_laws.proofs.FlightLemmas.{fails_set_none, gone_over, gone_since, repeats_set_none, set_before}
+use Rattle.gptp_how_soon_laws.proofs.FlightLemmas.{fails_set_none, gone_over, gone_since}
 use Rattle.gptp_how_soon_laws.proofs.AloneLemmas.{all_alone}
 use Rattle.gptp_how_soon_laws.proofs.CutsAllLemmas.{all_beyond}
 
@@ -77,24 +77,11 @@ module _ (n : NetworkState) (network : IsNetwork n) (events : List Timed) (b : S
   pub rest_so : is_from_rest v.longest at v.paths_before v.paths v.told (Some b) ≡ true → HasComeToRest b at
   rest_so from = (rows.from_rest n network events b at late from).rested
 
-  -- the greatest delay of a link in use gets no greater, no path gets longer, and none had more than 255 systems
-  pub record KeepsPaths : Type 0 where
-    pub delay : (sync_paths n (made ++ now)).delay ≤ (sync_paths n made).delay
-    pub paths : (sync_paths n (made ++ now)).systems ≤ (sync_paths n made).systems
-    pub few : (sync_paths n made).systems ≤ 255
+  abbrev KeepsPaths : Type 0
+  KeepsPaths = lowered_row.KeepsPaths n network made now
 
   pub keeps_so : keeps_paths v.paths_before v.paths ≡ true → KeepsPaths
-  keeps_so keeps =
-      let few_test : Bool = nat_le v.paths_before.systems 255 in
-      let delay_test : Bool = nat_le v.paths.delay v.paths_before.delay in
-      let paths_test : Bool = nat_le v.paths.systems v.paths_before.systems in
-      let (two, paths) = and_parts (few_test && delay_test) paths_test keeps in
-      let (few, delay) = and_parts few_test delay_test two in
-      record {
-        delay = at_most v.paths.delay v.paths_before.delay delay;
-        paths = at_most v.paths.systems v.paths_before.systems paths;
-        few = at_most v.paths_before.systems 255 few;
-      }
+  keeps_so = lowered_row.keeps_so n network made now
 
   -- a system fails by the first event, by which no system is moved but such as are cut off
   record FailsOne : Type 0 where
@@ -129,78 +116,145 @@ module _ (n : NetworkState) (network : IsNetwork n) (events : List Timed) (b : S
       fails_end_first n network made now well x.unmoved x.keeps.delay x.keeps.paths x.keeps.few x.one far
 
   -- an event of this kind is the first, and paths get no longer by it
-  pub record GoesFirst (is_kind : Told → Bool) : Type 0 where
-    pub x : Begins n is_kind made now
-    pub delay : (sync_paths n (made ++ x.event ∷ [])).delay ≤ (sync_paths n made).delay
-    pub paths : (sync_paths n (made ++ x.event ∷ [])).systems ≤ (sync_paths n made).systems
-    pub few : (sync_paths n made).systems ≤ 255
+  abbrev GoesFirst : (Told → Bool) → Type 0
+  GoesFirst = lowered_row.GoesFirst n network made now
 
-  -- what stands behind it stands behind all
-  pub first_stays : (is_kind : Told → Bool) (g : GoesFirst is_kind)
-      → StandSame n (made ++ g.x.event ∷ []) (made ++ now)
-  first_stays is_kind g = first_same n network is_kind made now g.x
-
-  pub same_paths : (is_kind : Told → Bool) (g : GoesFirst is_kind)
-      → sync_paths n (made ++ now) ≡ sync_paths n (made ++ g.x.event ∷ [])
-  same_paths is_kind g = paths_seen n (made ++ g.x.event ∷ []) (made ++ now) (first_stays is_kind g)
+  first_stays : (is_kind : Told → Bool) (g : GoesFirst is_kind) → StandSame n (made ++ g.x.event ∷ []) (made ++ now)
+  first_stays = lowered_row.first_stays n network made now
 
   goes_first : (is_kind : Told → Bool) → keeps_paths v.paths_before v.paths ≡ true
       → begins_with is_kind v.told ≡ true → GoesFirst is_kind
-  goes_first is_kind keeps one =
-      let x = begins n network is_kind made now one in
-      let k = keeps_so keeps in
-      let same = paths_seen n (made ++ x.event ∷ []) (made ++ now) (first_same n network is_kind made now x) in
-      record {
-        x = x;
-        delay = subst (λ (p : SyncPaths). p.delay ≤ (sync_paths n made).delay) same k.delay;
-        paths = subst (λ (p : SyncPaths). p.systems ≤ (sync_paths n made).systems) same k.paths;
-        few = k.few;
-      }
-
-  -- a link goes down by it, by which no system is moved but such as are cut off
-  pub record LowersNone : Type 0 where
-    pub first : GoesFirst is_lowering
-    pub lowers : LowersLink n made first.x.event
-
-  lowers_none : AreWell n (made ++ now)
-      → (is_lowering_followed v.paths_before v.paths v.told && not v.moves.moved) ≡ true
-      → (g : GoesFirst is_lowering) × (moves_joined n made (made ++ g.x.event ∷ []) ≡ false)
-  lowers_none well is =
-      let (followed, none) =
-      and_parts (keeps_paths v.paths_before v.paths && lowers_one v.told) (not v.moves.moved) is in
-      let (keeps, one) = and_parts (keeps_paths v.paths_before v.paths) (lowers_one v.told) followed in
-      let g = goes_first is_lowering keeps one in (
-        g,
-        sym (joined_seen n made (made ++ g.x.event ∷ []) (made ++ now) (first_stays is_lowering g))
-            ∙ counts_joined (takes_one v.told) n made (made ++ now) (lowering_takes v.told one)
-            (not-true v.moves.moved none),
-      )
-
-  lowers_so : AreWell n (made ++ now) → (is_lowering_followed v.paths_before v.paths v.told && not v.moves.moved) ≡ true
-      → LowersNone
-  lowers_so well is =
-      let (g, unmoved) = lowers_none well is in
-      record {
-        first = g;
-        lowers = lowers_link n network made g.x.event (first_well n network is_lowering made now g.x well) unmoved
-            g.delay g.paths g.few g.x.so;
-      }
-
-  -- and it cuts off a far end
-  cuts_so : AreWell n (made ++ now) → (l : LowersNone) → v.moves.cut ≡ true → CutsFarEnd n made l.first.x.event
-  cuts_so well l cut =
-      let g = l.first in
-      cuts_far n network made g.x.event (first_well n network is_lowering made now g.x well)
-      (sym (cut_seen n made (made ++ g.x.event ∷ []) (made ++ now) (first_stays is_lowering g)) ∙ cut) g.x.so l.lowers
+  goes_first is_kind keeps one = lowered_row.goes_first n network made now is_kind (keeps_so keeps) one
 
   -- the last change is that of the first event then, and that of all
-  moment : (event : Timed) (others : List Timed) → now ≡ event ∷ others
+  pub moment : (event : Timed) (others : List Timed) → now ≡ event ∷ others
       → (last_change (made ++ event ∷ []) ≡ at) × (last_change (made ++ now) ≡ at)
-  moment event others split =
-      let each = subst (AllByRecursion (λ (t : Timed). t.at ≡ at)) split (all_at at events) in (
-        last_now at made event [] (each.0, tt),
-        subst (λ es. last_change (made ++ es) ≡ at) (sym split) (last_now at made event others each),
-      )
+  moment = lowered_row.moment n at made now (all_at at events)
+
+  -- ---- a link goes down, and moves no tree
+
+  -- by which event, and what stands ahead of it
+  pub record LowersLate : Type 0 where
+    pub rested : HasComeToRest b at
+    pub front : GoesDown n made now (b.at + rested.settling.sound) at
+    pub first : lowered_row.GoesFirst n network front.ahead front.left is_lowering
+
+  -- what is so of it stands beside the other events
+  pub late_stands : (l : LowersLate) (Are : List Timed → List Timed → Type 0)
+      → ((es : List Timed) → Are l.front.ahead es → es ≡ [] → ⊥) → Are l.front.ahead (l.first.x.event ∷ [])
+      → IsCalm n made → NothingLapses n.params → BesideIdle n (b.at + l.rested.settling.sound) at Are made now
+  late_stands l Are some is calm off =
+      stands_beside n made now (b.at + l.rested.settling.sound) at l.front calm off Are some
+      (before_repeats n network is_lowering l.front.ahead l.front.left l.first.x Are is)
+
+  -- ways after all take as long as behind it
+  pub late_ways : (l : LowersLate) → v.paths ≡ sync_paths n (l.front.ahead ++ l.first.x.event ∷ [])
+  late_ways l =
+      ap (sync_paths n) (sym l.front.whole)
+      ∙ lowered_row.same_paths n network l.front.ahead l.front.left is_lowering l.first
+
+  down_so : (rest : HasComeToRest b at) → is_from_rest v.longest at v.paths_before v.paths v.told (Some b) ≡ true
+      → takes_link v.told ≡ true → GoesDown n made now (b.at + rest.settling.sound) at
+  down_so rest from takes = elim (or_cases (lowers_one v.told) (lowers_behind_wider v.told) takes) [
+    | inl first ↦ goes_down n made now (b.at + rest.settling.sound) at (all_at at events) first
+    | inr behind ↦
+        let x =
+        rows.down_so n network events b at late (rows.from_rest n network events b at late from) behind in
+        goes_down_behind n network made now (b.at + rest.settling.sound) at (all_at at events) behind x.short
+        (later (b.at + rest.settling.sound + 2 * first_wider_by v.told)
+        (subst (λ o. settles_later_by b at (first_wider_by v.told) o ≡ true) rest.is x.settles))
+  ]
+    where
+      later : (time : ℕ) → nat_lt time at ≡ true → time < at
+      later time test = grind (arith, nat_tests)
+
+  -- whom it moves counts from what stands ahead of it
+  module _ (well : AreWell n (made ++ now)) (rest : HasComeToRest b at)
+      (d : GoesDown n made now (b.at + rest.settling.sound) at) where
+    well_left : AreWell n (d.ahead ++ d.left)
+    well_left = subst (AreWell n) (sym d.whole) well
+
+    keeps_left : keeps_paths v.paths_before v.paths ≡ true → lowered_row.KeepsPaths n network d.ahead d.left
+    keeps_left keeps =
+        lowered_row.keeps_so n network d.ahead d.left
+        ((λ k. keeps_paths (d.ways k) (sync_paths n (d.whole k))) ∙ keeps)
+
+    lowers_left : keeps_paths v.paths_before v.paths ≡ true → moves_joined n made (made ++ now) ≡ false
+        → (g : lowered_row.GoesFirst n network d.ahead d.left is_lowering) × LowersLink n d.ahead g.x.event
+    lowers_left keeps unmoved =
+        lowered_row.lowers_none n network d.ahead d.left well_left (keeps_left keeps) d.lowers
+        (ap (moves_joined n d.ahead) d.whole ∙ d.joined ∙ unmoved)
+
+    turns_left : keeps_paths v.paths_before v.paths ≡ true → turns_one_after n made (made ++ now) ≡ true
+        → (g : lowered_row.GoesFirst n network d.ahead d.left is_lowering) × TurnsLink n d.ahead g.x.event
+    turns_left keeps turns =
+        lowered_row.turns_one n network d.ahead d.left well_left (keeps_left keeps) d.lowers
+        (ap (turns_one_after n d.ahead) d.whole ∙ d.turned ∙ turns)
+
+    cuts_left : (g : lowered_row.GoesFirst n network d.ahead d.left is_lowering) → LowersLink n d.ahead g.x.event
+        → v.moves.cut ≡ true → CutsFarEnd n d.ahead g.x.event
+    cuts_left g lowers cut =
+        lowered_row.cuts_end n network d.ahead d.left well_left g lowers
+        (ap (cut_far_ends_after n d.ahead) d.whole ∙ d.cut ∙ cut)
+
+  -- what stands goes on, as a link goes down and no system is moved
+  pub record LowersNone : Type 0 where
+    pub down : LowersLate
+    pub lowers : LowersLink n down.front.ahead down.first.x.event
+
+  lowers_so : AreWell n (made ++ now) → is_from_rest v.longest at v.paths_before v.paths v.told (Some b) ≡ true
+      → (is_link_followed v.paths_before v.paths v.told && not v.moves.moved) ≡ true → LowersNone
+  lowers_so well from is =
+      let (followed, none) =
+      and_parts (keeps_paths v.paths_before v.paths && takes_link v.told) (not v.moves.moved) is in
+      let (keeps, takes) = and_parts (keeps_paths v.paths_before v.paths) (takes_link v.told) followed in
+      let unmoved = counts_joined (takes_one v.told) n made (made ++ now) (link_takes v.told takes)
+      (not-true v.moves.moved none) in
+      let rest = rest_so from in
+      let d = down_so rest from takes in
+      let (g, lowers) = lowers_left well rest d keeps unmoved in
+      record { down = record { rested = rest; front = d; first = g }; lowers = lowers }
+
+  pub lowered : AreWell n (made ++ now) → row_at v ≡ Lowered → LowersNone
+  lowered well row = let (from, lowers) = why Lowered row in lowers_so well from lowers
+
+  -- or it cuts off its far end
+  pub record CutsEnd : Type 0 where
+    pub none : LowersNone
+    pub cuts : CutsFarEnd n none.down.front.ahead none.down.first.x.event
+    pub flight : FlightIsGoneFrom n (none.down.front.ahead ++ none.down.first.x.event ∷ [])
+        (last_change (none.down.front.ahead ++ none.down.first.x.event ∷ [])) (gone_by n (loss_at v).flight)
+
+  pub cut_off : AreWell n (made ++ now) → row_at v ≡ CutOff → CutsEnd
+  cut_off well row =
+      let (from, lowers, cut) = why CutOff row in
+      let x = lowers_so well from lowers in
+      let l = x.down in
+      let behind : List Timed = l.front.ahead ++ l.first.x.event ∷ [] in
+      record {
+        none = x;
+        cuts = cuts_left well l.rested l.front l.first x.lowers cut;
+        flight = subst (λ es. FlightIsGoneFrom n behind (last_change behind) (lowered_row.flight_then n es at))
+            l.front.whole
+            (lowered_row.flight_behind n network l.front.ahead l.front.left at l.front.at l.first);
+      }
+
+  -- or one system turns
+  pub record TurnsOne : Type 0 where
+    pub down : LowersLate
+    pub turns : TurnsLink n down.front.ahead down.first.x.event
+
+  pub turned : AreWell n (made ++ now) → row_at v ≡ SystemTurned → TurnsOne
+  turned well row =
+      let (from, turns) = why SystemTurned row in
+      let (followed, one) = and_parts (is_link_followed v.paths_before v.paths v.told) v.moves.turned turns in
+      let (keeps, takes) = and_parts (keeps_paths v.paths_before v.paths) (takes_link v.told) followed in
+      let rest = rest_so from in
+      let d = down_so rest from takes in
+      let (g, turns_link) = turns_left well rest d keeps one in
+      record { down = record { rested = rest; front = d; first = g }; turns = turns_link }
+
+  -- ---- what is in flight
 
   -- what was in flight before is gone by then
   pub flight_before : (now ≡ [] → ⊥)
@@ -223,66 +277,6 @@ module _ (n : NetworkState) (network : IsNetwork n) (events : List Timed) (b : S
       (gone_over n network (made ++ now) (made ++ now) (same_itself n (made ++ now))
       (all_within n (made ++ now)) refl at)
 
-  -- or behind a link that goes down
-  flight_behind : (g : GoesFirst is_lowering)
-      → FlightIsGoneFrom n (made ++ g.x.event ∷ []) (last_change (made ++ g.x.event ∷ []))
-      (gone_by n (loss_at v).flight)
-  flight_behind g =
-      subst (λ t. FlightIsGoneFrom n first t (gone_by n (loss_at v).flight))
-      (sym (moment g.x.event g.x.others g.x.split).0)
-      (gone_over n network first (made ++ now) (first_stays is_lowering g) within
-      (set_before first g.x.others (repeats_set_none n first g.x.others g.x.each) ∙ ap last_set all_is) at)
-    where
-      first : List Timed
-      first = made ++ g.x.event ∷ []
-
-      all_is : first ++ g.x.others ≡ made ++ now
-      all_is = whole n network is_lowering made now g.x
-
-      within : HasDelaysWithin n first (longest_delay n (made ++ now))
-      within =
-          subst (λ es. HasDelaysWithin n first (longest_delay n es)) all_is (longest_within n first g.x.others)
-
-  -- what stands goes on, as a link goes down and no system is moved
-  pub lowered : AreWell n (made ++ now) → row_at v ≡ Lowered → HasComeToRest b at × LowersNone
-  lowered well row = let (from, lowers) = why Lowered row in (rest_so from, lowers_so well lowers)
-
-  -- or it cuts off its far end
-  pub record CutsEnd : Type 0 where
-    pub rested : HasComeToRest b at
-    pub none : LowersNone
-    pub cuts : CutsFarEnd n made none.first.x.event
-    pub flight : FlightIsGoneFrom n (made ++ none.first.x.event ∷ []) (last_change (made ++ none.first.x.event ∷ []))
-        (gone_by n (loss_at v).flight)
-
-  pub cut_off : AreWell n (made ++ now) → row_at v ≡ CutOff → CutsEnd
-  cut_off well row =
-      let (from, lowers, cut) = why CutOff row in
-      let l = lowers_so well lowers in
-      record {
-        rested = rest_so from;
-        none = l;
-        cuts = cuts_so well l cut;
-        flight = flight_behind l.first;
-      }
-
-  -- or one system turns
-  pub turned : AreWell n (made ++ now) → row_at v ≡ SystemTurned
-      → HasComeToRest b at × ((g : GoesFirst is_lowering) × TurnsLink n made g.x.event)
-  turned well row =
-      let (from, turns) = why SystemTurned row in
-      let (followed, one) = and_parts (is_lowering_followed v.paths_before v.paths v.told) v.moves.turned turns in
-      let (keeps, lowers) = and_parts (keeps_paths v.paths_before v.paths) (lowers_one v.told) followed in
-      let g = goes_first is_lowering keeps lowers in (
-        rest_so from,
-        (
-          g,
-          turns_link n network made g.x.event (first_well n network is_lowering made now g.x well)
-              (sym (turned_seen n made (made ++ g.x.event ∷ []) (made ++ now) (first_stays is_lowering g)) ∙ one)
-              g.delay g.paths g.few g.x.so,
-        ),
-      )
-
   -- what was in flight as the time before was sound has arrived
   abbrev pub HasCome : HasComeToRest b at → Type 0
   HasCome rest =
@@ -298,25 +292,29 @@ module _ (n : NetworkState) (network : IsNetwork n) (events : List Timed) (b : S
     pub comes : ComesLate (FallsTree n) rest
     pub flight : FlightIsGoneFrom n (made ++ now) (last_change (made ++ now)) (gone_by n (loss_at v).flight)
 
-  -- events of this kind come then, and paths get no longer
-  late_by : (kind : List Told → Bool) (test : Bool) → (keeps_paths v.paths_before v.paths && kind v.told
-      && (has_come_after n made (Some b) at && test)) ≡ true
-      → (keeps_paths v.paths_before v.paths ≡ true) × (kind v.told ≡ true) × (test ≡ true)
-      × ((rest : HasComeToRest b at) → HasCome rest)
-  late_by kind test is =
+  -- what is followed where all has come
+  late_by : (followed test : Bool) → (followed && (has_come_after n made (Some b) at && test)) ≡ true
+      → (followed ≡ true) × (test ≡ true) × ((rest : HasComeToRest b at) → HasCome rest)
+  late_by followed test is =
       let come : Bool = has_come_after n made (Some b) at in
-      let (followed, both) = and_parts (keeps_paths v.paths_before v.paths && kind v.told) (come && test) is in
-      let (keeps, one) = and_parts (keeps_paths v.paths_before v.paths) (kind v.told) followed in
+      let (follows, both) = and_parts followed (come && test) is in
       let (come_is, so) = and_parts come test both in
-      (keeps, one, so, λ rest. has_come_so n made b at rest.settling rest.is come_is)
+      (follows, so, λ rest. has_come_so n made b at rest.settling rest.is come_is)
+
+  lowers_first : is_lowering_followed v.paths_before v.paths v.told ≡ true → GoesFirst is_lowering
+  lowers_first followed =
+      let (link, lowers) = and_parts (is_link_followed v.paths_before v.paths v.told) (lowers_one v.told) followed in
+      let (keeps, takes) = and_parts (keeps_paths v.paths_before v.paths) (takes_link v.told) link in
+      goes_first is_lowering keeps lowers
 
   -- it is cut off
   cut_late : AreWell n (made ++ now)
       → (is_lowering_followed v.paths_before v.paths v.told && v.moves.falls) ≡ true → (rest : HasComeToRest b at)
       → FallsLate rest
   cut_late well falls rest =
-      let (keeps, lowers, tree, come) = late_by lowers_one (cuts_tree_after n made (made ++ now)) falls in
-      let g = goes_first is_lowering keeps lowers in
+      let (followed, tree, come) =
+      late_by (is_lowering_followed v.paths_before v.paths v.told) (cuts_tree_after n made (made ++ now)) falls in
+      let g = lowers_first followed in
       let one = lowers_one_tree n network made g.x.event (first_well n network is_lowering made now g.x well) g.delay
       g.paths g.few g.x.so
       (sym (falls_seen n made (made ++ g.x.event ∷ []) (made ++ now) (first_stays is_lowering g)) ∙ tree) in
@@ -333,8 +331,9 @@ module _ (n : NetworkState) (network : IsNetwork n) (events : List Timed) (b : S
       → (is_worsening_followed v.paths_before v.paths v.told && v.moves.worsens) ≡ true → (rest : HasComeToRest b at)
       → FallsLate rest
   worsened_late well octets worsens rest =
-      let (keeps, one, tree, come) =
-      late_by worsens_first (worsens_best_after n made (made ++ now) (told_of n made now)) worsens in
+      let (followed, tree, come) = late_by (is_worsening_followed v.paths_before v.paths v.told)
+      (worsens_best_after n made (made ++ now) (told_of n made now)) worsens in
+      let (keeps, one) = and_parts (keeps_paths v.paths_before v.paths) (worsens_first v.told) followed in
       let g = goes_first is_worsening keeps one in
       let event : Timed = g.x.event in
       let told : worsens_best_after n made (made ++ event ∷ []) (told_at n made event.act ∷ []) ≡ true =
@@ -369,9 +368,10 @@ module _ (n : NetworkState) (network : IsNetwork n) (events : List Timed) (b : S
       → (rest : HasComeToRest b at) × ComesLate (TurnsTreeLink n) rest
   tree_turned well row =
       let (from, turns) = why TreeTurned row in
-      let (keeps, lowers, tree, come) = late_by lowers_one (turns_tree_after n made (made ++ now)) turns in
+      let (followed, tree, come) =
+      late_by (is_lowering_followed v.paths_before v.paths v.told) (turns_tree_after n made (made ++ now)) turns in
       let rest = rest_so from in
-      let g = goes_first is_lowering keeps lowers in
+      let g = lowers_first followed in
       let seen = turns_seen n made (made ++ g.x.event ∷ []) (made ++ now) (first_stays is_lowering g) in
       let one = turns_tree_link n network made g.x.event (first_well n network is_lowering made now g.x well) g.delay
       g.paths g.few g.x.so (sym seen ∙ tree) in (

@@ -3,7 +3,7 @@ use Rattle.std.proofs.Common.{◌≡◌, ◌⊎◌, inl, inr, Bool, true, false,
 use Rattle.std.specs.Prelude.{⊤, not, if◌then◌else◌}
 use Rattle.gptp_how_soon.specs.Rest.{failed_row}
 use Rattle.gptp_how_soon.specs.declared.bounds.Row.{Row}
-use Rattle.gptp_how_soon.specs.declared.bounds.Row.TheVariants.{AnyLosses, AnyPast, CutOff, FailedEnd, FailedHeard, FailureCutsOff, FailureMovesTrees, Gained, Lowered, SystemTurned, TakenApart, TakenAway, TreeTurned, Unchanged, TreeFalls}
+use Rattle.gptp_how_soon.specs.declared.bounds.Row.TheVariants.{AnyLosses, AnyPast, CutOff, FailedEnd, FailedHeard, FailureCutsOff, FailureMovesTrees, Gained, Lowered, SystemTurned, TakenApart, TakenAway, TakenHeard, TreeTurned, Unchanged, TreeFalls}
 
 pub record Tests : Type 0 where
   -- it is from rest
@@ -25,9 +25,11 @@ pub record Tests : Type 0 where
   pub trees : Bool
   -- or it was a far end, and nobody is moved, beside events that change nothing
   pub ends : Bool
-  -- or several are taken away, and move nobody: none lost its link to a nearer one, or no link is silent
+  -- or several are taken away, and move nobody: none lost its link to a nearer one, or no link is silent; or what was
+  -- in flight is due in time
   pub apart : Bool
   pub taken : Bool
+  pub ages : Bool
   -- an event is a loss, and none brings anything
   pub loss : Bool
   pub only : Bool
@@ -39,6 +41,7 @@ RowBy t =
     else if t.turns then SystemTurned else if t.falls then TreeFalls else if t.branch then TreeTurned
     else if t.fails then failed_row t.far t.moved else if t.trees then FailureMovesTrees
     else if t.ends then FailedEnd else if t.apart then TakenApart else if t.taken then TakenAway
+    else if t.ages then TakenHeard
     else if t.loss then if t.only then AnyLosses else AnyPast
     else Gained
 
@@ -57,12 +60,13 @@ ReasonOf t FailureCutsOff = (t.rest ≡ true) × (t.fails ≡ true)
 ReasonOf t FailureMovesTrees = (t.rest ≡ true) × (t.trees ≡ true)
 ReasonOf t TakenApart = (t.rest ≡ true) × (t.apart ≡ true)
 ReasonOf t TakenAway = (t.rest ≡ true) × (t.taken ≡ true)
+ReasonOf t TakenHeard = (t.rest ≡ true) × (t.ages ≡ true)
 ReasonOf t AnyLosses = (t.rest ≡ true) × (t.loss ≡ true) × (t.only ≡ true)
 ReasonOf t Gained = (t.rest ≡ true) × (t.loss ≡ false) × (t.idle ≡ false)
 
 abbrev tests : Bool → Bool → Bool → Bool → Bool → Bool → Bool → Bool → Bool → Bool → Bool → Bool → Bool → Bool → Bool
-    → Bool → Bool → Tests
-tests rest idle left lowers cut turns falls branch fails far moved trees ends apart taken loss only = record {
+    → Bool → Bool → Bool → Tests
+tests rest idle left lowers cut turns falls branch fails far moved trees ends apart taken ages loss only = record {
   rest = rest;
   idle = idle;
   left = left;
@@ -78,38 +82,47 @@ tests rest idle left lowers cut turns falls branch fails far moved trees ends ap
   ends = ends;
   apart = apart;
   taken = taken;
+  ages = ages;
   loss = loss;
   only = only;
 }
 
-reason : (rest idle left lowers cut turns falls branch fails far moved trees ends apart taken loss only : Bool)
-    → ReasonOf (tests rest idle left lowers cut turns falls branch fails far moved trees ends apart taken loss only)
-    (RowBy (tests rest idle left lowers cut turns falls branch fails far moved trees ends apart taken loss only))
-reason false idle left lowers cut turns falls branch fails far moved trees ends apart taken loss only = tt
-reason true true left lowers cut turns falls branch fails far moved trees ends apart taken loss only = (refl, inl refl)
-reason true false true lowers cut turns falls branch fails far moved trees ends apart taken loss only = (refl, inr refl)
-reason true false false true true turns falls branch fails far moved trees ends apart taken loss only =
+reason : (rest idle left lowers cut turns falls branch fails far moved trees ends apart taken ages loss only : Bool)
+    → ReasonOf
+    (tests rest idle left lowers cut turns falls branch fails far moved trees ends apart taken ages loss only)
+    (RowBy (tests rest idle left lowers cut turns falls branch fails far moved trees ends apart taken ages loss only))
+reason false idle left lowers cut turns falls branch fails far moved trees ends apart taken ages loss only = tt
+reason true true left lowers cut turns falls branch fails far moved trees ends apart taken ages loss only =
+    (refl, inl refl)
+reason true false true lowers cut turns falls branch fails far moved trees ends apart taken ages loss only =
+    (refl, inr refl)
+reason true false false true true turns falls branch fails far moved trees ends apart taken ages loss only =
     (refl, refl, refl)
-reason true false false true false turns falls branch fails far moved trees ends apart taken loss only = (refl, refl)
-reason true false false false cut true falls branch fails far moved trees ends apart taken loss only = (refl, refl)
-reason true false false false cut false true branch fails far moved trees ends apart taken loss only = (refl, refl)
-reason true false false false cut false false true fails far moved trees ends apart taken loss only = (refl, refl)
-reason true false false false cut false false false true true moved trees ends apart taken loss only =
+reason true false false true false turns falls branch fails far moved trees ends apart taken ages loss only =
+    (refl, refl)
+reason true false false false cut true falls branch fails far moved trees ends apart taken ages loss only = (refl, refl)
+reason true false false false cut false true branch fails far moved trees ends apart taken ages loss only = (refl, refl)
+reason true false false false cut false false true fails far moved trees ends apart taken ages loss only = (refl, refl)
+reason true false false false cut false false false true true moved trees ends apart taken ages loss only =
     (refl, inl (refl, refl))
-reason true false false false cut false false false true false true trees ends apart taken loss only = (refl, refl)
-reason true false false false cut false false false true false false trees ends apart taken loss only = (refl, refl)
-reason true false false false cut false false false false far moved true ends apart taken loss only = (refl, refl)
-reason true false false false cut false false false false far moved false true apart taken loss only = (refl, inr refl)
-reason true false false false cut false false false false far moved false false true taken loss only = (refl, refl)
-reason true false false false cut false false false false far moved false false false true loss only = (refl, refl)
-reason true false false false cut false false false false far moved false false false false true true =
+reason true false false false cut false false false true false true trees ends apart taken ages loss only = (refl, refl)
+reason true false false false cut false false false true false false trees ends apart taken ages loss only =
+    (refl, refl)
+reason true false false false cut false false false false far moved true ends apart taken ages loss only = (refl, refl)
+reason true false false false cut false false false false far moved false true apart taken ages loss only =
+    (refl, inr refl)
+reason true false false false cut false false false false far moved false false true taken ages loss only = (refl, refl)
+reason true false false false cut false false false false far moved false false false true ages loss only = (refl, refl)
+reason true false false false cut false false false false far moved false false false false true loss only =
+    (refl, refl)
+reason true false false false cut false false false false far moved false false false false false true true =
     (refl, refl, refl)
-reason true false false false cut false false false false far moved false false false false true false = tt
-reason true false false false cut false false false false far moved false false false false false only =
+reason true false false false cut false false false false far moved false false false false false true false = tt
+reason true false false false cut false false false false far moved false false false false false false only =
     (refl, refl, refl)
 
 pub reason_of : (t : Tests) (row : Row) → RowBy t ≡ row → ReasonOf t row
 reason_of t row is =
     subst (ReasonOf t) is
     (reason t.rest t.idle t.left t.lowers t.cut t.turns t.falls t.branch t.fails t.far t.moved t.trees t.ends
-    t.apart t.taken t.loss t.only)
+    t.apart t.taken t.ages t.loss t.only)

@@ -23,7 +23,7 @@ use Rattle.gptp_how_soon.specs.Losses.{is_down_too, taken_too, takes_any, takes_
 use Rattle.gptp_how_soon.specs.Times.{told_at, told_of}
 use Rattle.gptp_settling_time.specs.HowSoon.{EachEvent, IsLossToo, IsTakenToo, LosesEvents, TakesSeveral, TurnsUnused}
 use Rattle.gptp_settling_time.specs.Leads.{TakesAny}
-use Rattle.gptp_settling_time.specs.Losses.{IsUnmoved, LosesAny, MovesNoneInAll}
+use Rattle.gptp_settling_time.specs.Losses.{IsUnmoved, LosesAny, MovesNoneInAll, NoneIsMoved}
 use Rattle.gptp_settling_time.proofs.SamePathsLemmas.{idle_same}
 use Rattle.gptp_how_soon_laws.proofs.AnyLossLemmas.{loses}
 use Rattle.gptp_how_soon_laws.proofs.FailedLemmas.{is_down_so}
@@ -147,6 +147,13 @@ module _ (n : NetworkState) (network : IsNetwork n) where
       delay = delay;
       paths = paths;
     }
+
+  pub several_still : (made now : List Timed) → AreWell n (made ++ now) → TakesSeveral n made now
+      → moves_some n made (made ++ now) ≡ false → NoneIsMoved n made (made ++ now)
+  several_still made [] well none unmoved = absurd none
+  several_still made (event ∷ []) well none unmoved = absurd none
+  several_still made (event ∷ other ∷ now) well (any, each) unmoved =
+      stays made (event ∷ other ∷ now) well (inl any, each) unmoved
 
   pub several_unmoved : (made now : List Timed) → AreWell n (made ++ now) → TakesSeveral n made now
       → moves_some n made (made ++ now) ≡ false → (sync_paths n (made ++ now)).delay ≤ (sync_paths n made).delay

@@ -75,10 +75,10 @@ pub fn lost_links_settle_soon<F: Fate>()
     told_is_kept::<F>();
 }
 
-/// One system hangs: a far end, also as it gets another priority1 then; one that another hears, also where it cuts off
-/// an end; one that cuts off a line; and the best in the middle of others. One hangs so that another turns and an end is
-/// cut off, or so that a tree with two tops is: it is the best of a ring, or it cuts off an end besides. Or a far end
-/// and the best of a ring lose their power, as both their links go down at once.
+/// One system hangs: a far end, also where it gets another priority1 then; one that another hears, also where it cuts
+/// off an end; one that cuts off a line; the best in the middle of others. One hangs so that another turns and an end is
+/// cut off, and one so that a tree with two tops is, alone or beside an end. Or a far end, or the best of a ring, loses
+/// its power: both its links go down as it fails.
 pub fn lost_systems_settle_soon<F: Fate>()
     ensures far_end { KeepsAfter F.answers ring (Fail 0xc ∷ []) 0 11000000000 5400 }
     ensures far_end_set { KeepsAfter F.answers ring (Fail 0xc ∷ Priority1 0xc 1 ∷ []) 0 11000000000 5400 }

@@ -31,7 +31,7 @@ use Rattle.gptp_settling_time.proofs.SettledPastLemmas.{HasRested, HasSettled, a
 use Rattle.gptp_settling_time.proofs.LosesLeadLemmas.{any_rests}
 use Rattle.gptp_settling_time.proofs.LossLeadLemmas.{tree_leads}
 use Rattle.gptp_settling_time.proofs.LossRestLemmas.{cleared_led, last_at}
-use Rattle.gptp_settling_time.proofs.TakenLeadLemmas.{taken_rests}
+use Rattle.gptp_settling_time.proofs.TakenLeadLemmas.{heard_rests, taken_rests}
 use Rattle.gptp_settling_time.proofs.NamedLemmas.{arrives_later}
 use Rattle.gptp_settling_time.proofs.SplitFollowedLemmas.{split_rests}
 
@@ -51,7 +51,8 @@ none_rests n made rest (inl (inr (inr (inl (none, by))))) = none
 none_rests n made rest (inl (inr (inr (inr (inl (none, by)))))) = none
 none_rests n made rest (inl (inr (inr (inr (inr (none, by)))))) = none
 none_rests n made rest (inr (inl (choice, (none, is_choice, by)))) = none
-none_rests n made rest (inr (inr (none, leaves, few, by))) = none
+none_rests n made rest (inr (inr (inl (none, leaves, few, by)))) = none
+none_rests n made rest (inr (inr (inr (heard, by)))) = heard.0
 
 -- it leads on to where the network has come to rest
 rest_leads : (n : NetworkState) → IsNetwork n → NothingLapses n.params → (time rest : ℕ) (made now : List Timed)
@@ -62,7 +63,9 @@ rest_leads n network off time rest made now past at settled calm calm_now loses 
     by (elim loses [
       | inl one ↦ cleared_led n network off time made now past rest at calm calm_now settled one
       | inr (inl any) ↦ any_rests n time network off made now past at settled calm rest any
-      | inr (inr taken) ↦ taken_rests n time off made now past rest at settled calm calm_now taken
+      | inr (inr (inl taken)) ↦ taken_rests n time off made now past rest at settled calm calm_now taken
+      | inr (inr (inr (heard, rests))) ↦
+          heard_rests n time network off made now past rest at settled calm calm_now heard rests
     ])
   where
     by : IsLed n made now past (suc (time + rest))

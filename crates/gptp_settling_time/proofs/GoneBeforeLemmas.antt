@@ -16,17 +16,21 @@ use Rattle.gptp_scenario.specs.declared.change.Act.TheVariants.{Change as Changi
 use Rattle.gptp_scenario.specs.declared.change.Change.TheVariants.{Fail, Inject, LinkDown, LinkSet, LinkUp, Priority1, Recover}
 use Rattle.gptp_scenario.specs.declared.change.Timed.{Timed}
 use Rattle.gptp_scenario.specs.declared.network.LinkSpec.{LinkSpec}
-use Rattle.gptp_model.specs.World.{WorldState, world_queue}
-use Rattle.gptp_invariants.specs.ChoiceCalm.{delay_in}
+use Rattle.gptp_model.specs.World.{Channel, WorldState, world_queue}
+use Rattle.gptp_bmca_machine.specs.Frame.{Lane}
+use Rattle.gptp_invariants.specs.ChoiceCalm.{HaveQuietLinks, delay_in}
 use Rattle.gptp_invariants.specs.ChoiceSettlesAsMachine.{IsWorld}
 use Rattle.gptp_invariants.specs.ChoiceView.{frame_view, lane_place, lane_view}
+use Rattle.gptp_invariants.proofs.ChoiceCalmFactLemmas.{frame_from}
 use Rattle.gptp_invariants.proofs.ChoiceSeenLaneLemmas.{lane_there}
+use Rattle.gptp_invariants.proofs.WorldWayLemmas.{one_way}
 use Rattle.gptp_theorem.proofs.EventLemmas.{link_behind}
 use Rattle.gptp_settling_time.specs.Arrivals.{HasArrivedSinceSet, sets_link}
 use Rattle.gptp_settling_time.specs.Gains.{ChangesNothing}
 use Rattle.gptp_settling_time.specs.Leads.{TakesAny, TakesMore}
 use Rattle.gptp_settling_time.specs.Losses.{LosesAny, UpIsUsed, UpIsWithin}
-use Rattle.gptp_settling_time.proofs.DueLemmas.{UpIsInUse, flies_soon}
+use Rattle.gptp_settling_time.proofs.AlwaysClaimedLemmas.{AreHeard, IsStanding, due_by_link}
+use Rattle.gptp_settling_time.proofs.DueLemmas.{UpIsInUse, flies_soon, in_use_joins}
 use Rattle.gptp_settling_time.proofs.SamePathsLemmas.{idle_same}
 use Rattle.gptp_settling_time.proofs.SettledSeenLemmas.{IsSettledSeen}
 use Rattle.gptp_settling_time.proofs.SilentSpanLemmas.{greatest_most}
@@ -34,13 +38,13 @@ use Rattle.gptp_settling_time.proofs.SinceSetLemmas.{AreLimitedBy}
 
 -- ---- links that are up were up
 
--- each link that is up after more events was up, with the same bounds
+-- each link that is up after more events was so, with the same bounds
 abbrev pub UpSince : NetworkState → List Timed → List Timed → Type 0
 UpSince n ago events = (place : ℕ) (v : LinkSpec) → slice_get n.links place ≡ Some v → (link_after events v).up ≡ true
-    → ((link_after ago v).up ≡ true) × ((link_after events v).bounds ≡ (link_after ago v).bounds)
+    → link_after events v ≡ link_after ago v
 
 pub up_itself : (n : NetworkState) (made : List Timed) → UpSince n made made
-up_itself n made place v there up = (up, refl)
+up_itself n made place v there up = refl
 
 -- a link that goes down isn't up
 lowered_same : (test : Bool) (w : LinkSpec) → (if test then with_up false w else w).up ≡ true
@@ -95,8 +99,7 @@ module _ (n : NetworkState) (network : IsNetwork n) (made : List Timed) where
         → UpSince n ago more
     up_by same place v there up =
         let one = same v (In-slice_get v n.links place there) up in
-        let (was, bounds) = since place v there (ap (λ (w : LinkSpec). w.up) (sym one) ∙ up) in
-        (was, ap (λ (w : LinkSpec). w.bounds) one ∙ bounds)
+        one ∙ since place v there (ap (λ (w : LinkSpec). w.up) (sym one) ∙ up)
 
     acted_same : ((v : LinkSpec) → (link_acted event.act (link_after made v)).up ≡ true
         → link_acted event.act (link_after made v) ≡ link_after made v) → UpSince n ago more
@@ -164,3 +167,29 @@ used_limited p w is seen used link channel here = record {
         flies_soon p w is seen used (lane_place link direction) (lane_view direction channel) (frame_view f)
         (lane_there w.net.channels link direction channel here)
         (In-map frame_view f (world_queue direction channel) among)
+
+-- and within the delay of its own link, where each that is up is in use and what is told over it is heard
+pub prompt_limited : (p : SettlingParams) (silent : ℕ) (w : WorldState) → IsStanding p silent w
+    → ((start : ℕ) → AreHeard p start w) → HaveQuietLinks p.params w → UpIsInUse w → AreLimitedBy w.time w
+prompt_limited p silent w standing heard quiet used link channel here = record {
+  room = omega arith;
+  from_a = λ f among. let soon = due FromA f among in omega (arith, soon);
+  from_b = λ f among. let soon = due FromB f among in omega (arith, soon);
+}
+  where
+    due : (direction : Direction) (f : Frame) → In f (world_queue direction channel)
+        → f.due ≤ w.time + channel.bounds.max
+    due direction f among =
+        let is = standing.world in
+        let place = lane_place link direction in
+        let lane = lane_view direction channel in
+        let there = lane_there w.net.channels link direction channel here in
+        let member = In-map frame_view f (world_queue direction channel) among in
+        let at = frame_from w place lane (frame_view f) there member in
+        let one = one_way w is.sound is.encodable link at.link direction at.direction channel at.channel here at.here
+        (ap (λ (l : Lane). l.from) at.lane_is) in
+        let most : at.channel.bounds.max ≡ channel.bounds.max =
+        ap (λ (c : Channel). c.bounds.max) (sym one.same_channel) in
+        let soon = due_by_link p silent w standing (heard silent) quiet place lane (frame_view f) there member
+        (in_use_joins w is.sound used place lane (frame_view f) there member) in
+        omega (arith, soon, most)

@@ -75,12 +75,13 @@ module _ (n : NetworkState) (made : List Timed) (w : WorldState) (is : IsWorld (
       absurd (early (omega (arith, over, last)))
 
   -- after that what the port's own interval names is no longer than it says
-  pub named_short : (port : PortId) (span held : ℕ) → StaysNamed (pace_of n) w (port_identity_number port) span
-      → IsHoldSpan n made w.time port held → span ≤ held
-  named_short port span held stays (inl longest) =
+  pub named_short : (ago : List Timed) (time : ℕ) (port : PortId) (span held : ℕ)
+      → StaysNamed (pace_of n) w (port_identity_number port) span
+      → IsHoldSpan n ago time port held → span ≤ held
+  named_short ago time port span held stays (inl longest) =
       let less = span_longest (pace_of n) (log_of w.stations (port_identity_number port)) largest in
       omega (arith, stays, longest, less)
-  named_short port span held stays (inr (over, (log, at, own))) =
+  named_short ago time port span held stays (inr (over, (log, at, own))) =
       let x = named_at port log at in
       let same = ap (stay_of (pace_of n)) x.named in
       let kept = span_same n.params.timeout (largest_of n) log x.within in
@@ -107,6 +108,6 @@ module _ (n : NetworkState) (made : List Timed) (event : Timed) (number : ℕ)
 
   pub ages_over : AgesByLink (pace_of n) w w'
       → WorldAgesBy (pace_of n) (AgesOver n (snapshot_of w) made (made ++ event ∷ []) w.time) w'
-  ages_over (inl named) = by_links (StaysNamed (pace_of n) w) (named_short n made w is stands largest) named
+  ages_over (inl named) = by_links (StaysNamed (pace_of n) w) (named_short n made w is stands largest made w.time) named
   ages_over (inr (early, longest)) =
       by_links (StaysLongest (pace_of n)) (longest_short n made w is stands largest early) longest

@@ -150,8 +150,8 @@ module _ {F : Type 0} (answers : Bounds → ℕ → F → Option ℕ → F → T
         leads_to_cleared d playable made event then k.draws done w' k.acts refl time_now last_now keeps_then after is
         fit.octet past ago since silent right old leads (later past so)
     leads_to past (Aging ago aged silent) leads named so =
-        leads_to_aging d playable made event then k.draws done w' k.acts refl time_now last_now keeps_then after past
-        ago aged silent leads (later past so)
+        leads_to_aging d playable made event then k.draws done w' k.acts refl time_now last_now keeps_then after is
+        fit.octet past ago aged silent leads (later past so)
     leads_to past (Split ago gone silent) leads named so =
         leads_to_split d playable made event then k.draws done w' k.acts refl time_now last_now keeps_then after past
         ago gone silent leads named (later past so)

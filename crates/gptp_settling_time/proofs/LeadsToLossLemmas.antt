@@ -1,5 +1,5 @@
 -- An event leads a world that had rested, or was left, to one that something was taken away from.
-use Rattle.std.proofs.Common.{List, [], arith, inl, inr, subst, sym, true, ℕ, ◌++◌, ◌+◌, ◌∷◌, ◌≡◌, ◌≤◌}
+use Rattle.std.proofs.Common.{◌∙◌, List, [], arith, inl, inr, subst, sym, true, ℕ, ◌++◌, ◌+◌, ◌∷◌, ◌≡◌, ◌≤◌}
 use Rattle.gptp_vector.specs.declared.port.PortId.{PortId}
 use Rattle.gptp_links.specs.Fate.{Draw}
 use Rattle.gptp_setup.specs.SettlingParams.{SettlingParams}
@@ -21,7 +21,7 @@ use Rattle.gptp_theorem.specs.PlayedLaws.{IsMade, IsPlayable}
 use Rattle.gptp_theorem.proofs.CalmLemmas.{quiet_stands}
 use Rattle.gptp_settling_time.specs.Pasts.{Aging, AnyPast, Cleared, Fallen, Fewer, Gained, Heard, Left, Lost, Past, Split, Starting, Turned, TurnedTree}
 use Rattle.gptp_settling_time.specs.EventKinds.{ClearsBy, FailsNow, IsDownNow, LeavesStanding, LowersUnusedCalm}
-use Rattle.gptp_settling_time.specs.Leads.{AgesSooner, AreUsedSince, EventLeads, LosesNow, TakesMore, TakesNow, TurnsNow}
+use Rattle.gptp_settling_time.specs.Leads.{AgesTaken, AgesSooner, AreUsedSince, EventLeads, LosesNow, TakesMore, TakesNow, TurnsNow}
 use Rattle.gptp_settling_time.proofs.AgingDownLemmas.{down_ages}
 use Rattle.gptp_settling_time.proofs.AgesByLemmas.{by_map}
 use Rattle.gptp_settling_time.proofs.AgesByWorldLemmas.{WorldAgesBy, aging_by}
@@ -50,6 +50,7 @@ use Rattle.gptp_settling_time.proofs.LeftClaimedLemmas.{IsLeftAlways}
 use Rattle.gptp_settling_time.proofs.IdleBesideLemmas.{cleared_beside, left_beside}
 use Rattle.gptp_settling_time.proofs.RepeatedLemmas.{aging_repeated, lost_repeated, taken_repeated, turned_repeated}
 use Rattle.gptp_settling_time.proofs.RestedSoLemmas.{rested_any, rested_gained, rested_heard}
+use Rattle.gptp_settling_time.proofs.TakenAgesLemmas.{taken_ages}
 use Rattle.gptp_settling_time.proofs.TakenClearedLemmas.{taken_anew}
 use Rattle.gptp_settling_time.proofs.TakenFartherLemmas.{taken_apart}
 use Rattle.gptp_settling_time.proofs.TakenMadeLemmas.{taken_first, taken_more}
@@ -264,33 +265,6 @@ module _ (d : DocumentState) (playable : IsPlayable d) (made : List Timed) (even
       (aging_so d playable made event then draws done w' acts at_time time last keeps after start rest
       aged silent now)
 
-  pub leads_to_aging : (past : Past) (ago : List Timed) (aged silent : ℕ)
-      → EventLeads n made past event (Aging ago aged silent) → IsAfter d made past then
-      → IsAgingTo d ago more aged silent w'
-  leads_to_aging AnyPast ago aged silent (settled, same, now) so =
-      ages ago (last_change made + capability_span p) aged silent
-      (rested_any d playable made event then at_time keeps settled) same now
-  leads_to_aging Starting ago aged silent none so = absurd none
-  leads_to_aging (Gained start) ago aged silent (settled, same, now) so =
-      ages ago start aged silent (rested_gained d playable made event then at_time keeps start settled so.news) same now
-  leads_to_aging (Heard start) ago aged silent (settled, same, now) so =
-      ages ago start aged silent (rested_heard d playable made event then at_time keeps start settled so.since) same now
-  leads_to_aging (Left was start) ago aged silent none so = absurd none
-  leads_to_aging (Turned start was) ago aged silent none so = absurd none
-  leads_to_aging (Fallen start was) ago aged silent none so = absurd none
-  leads_to_aging (TurnedTree start was) ago aged silent none so = absurd none
-  leads_to_aging (Cleared was since start right old) ago aged silent none so = absurd none
-  leads_to_aging (Aging old gone start) ago aged silent (falls, same_ago, same_silent, sooner) so =
-      subst (λ es. IsAgingTo d es more aged silent w') (sym same_ago)
-      (subst (λ time. IsAgingTo d old more aged time w') (sym same_silent)
-      (elim sooner [
-        | inl same ↦ subst (λ time. IsAgingTo d old more time start w') (sym same) (ages_still old gone start falls so)
-        | inr is ↦ ages_sooner old gone aged start is (ages_still old gone start falls so)
-      ]))
-  leads_to_aging (Split old gone start) ago aged silent none so = absurd none
-  leads_to_aging (Lost old since most start) ago aged silent none so = absurd none
-  leads_to_aging (Fewer old since most start) ago aged silent none so = absurd none
-
   -- ---- anything is taken away
 
   module _ (is : IsMade event) (octet : SetsAnOctet event.act) where
@@ -380,6 +354,47 @@ module _ (d : DocumentState) (playable : IsPlayable d) (made : List Timed) (even
         (subst (λ t. IsTakenTo d old made begun delay t then) (sym same_silent) so)) in
         subst (λ es. IsTakenTo d es more since most silent w') (sym same_ago)
         (taken_on old since most silent which taken)
+
+    -- what came over silent links ages as the last of them is taken away, by which no system is moved in all
+    ages_taken : (old : List Timed) (since most silent : ℕ) → TakesMore n made event since silent → (aged : ℕ)
+        → AgesTaken n old more since aged silent → IsTakenTo d old made since most silent then
+        → IsAgingTo d old more aged silent w'
+    ages_taken old since most silent which aged ages_now so =
+        let taken = taken_on old since most silent which so in
+        taken_ages d old more since most silent w' taken playable aged ages_now (sym last ∙ taken.lost.is.change) last
+
+    pub leads_to_aging : (past : Past) (ago : List Timed) (aged silent : ℕ)
+        → EventLeads n made past event (Aging ago aged silent) → IsAfter d made past then
+        → IsAgingTo d ago more aged silent w'
+    leads_to_aging AnyPast ago aged silent (settled, same, now) so =
+        ages ago (last_change made + capability_span p) aged silent
+        (rested_any d playable made event then at_time keeps settled) same now
+    leads_to_aging Starting ago aged silent none so = absurd none
+    leads_to_aging (Gained start) ago aged silent (settled, same, now) so =
+        ages ago start aged silent (rested_gained d playable made event then at_time keeps start settled so.news) same
+        now
+    leads_to_aging (Heard start) ago aged silent (settled, same, now) so =
+        ages ago start aged silent (rested_heard d playable made event then at_time keeps start settled so.since) same
+        now
+    leads_to_aging (Left was start) ago aged silent none so = absurd none
+    leads_to_aging (Turned start was) ago aged silent none so = absurd none
+    leads_to_aging (Fallen start was) ago aged silent none so = absurd none
+    leads_to_aging (TurnedTree start was) ago aged silent none so = absurd none
+    leads_to_aging (Cleared was since start right old) ago aged silent none so = absurd none
+    leads_to_aging (Aging old gone start) ago aged silent (falls, same_ago, same_silent, sooner) so =
+        subst (λ es. IsAgingTo d es more aged silent w') (sym same_ago)
+        (subst (λ time. IsAgingTo d old more aged time w') (sym same_silent)
+        (elim sooner [
+          | inl same ↦
+              subst (λ time. IsAgingTo d old more time start w') (sym same) (ages_still old gone start falls so)
+          | inr is ↦ ages_sooner old gone aged start is (ages_still old gone start falls so)
+        ]))
+    leads_to_aging (Split old gone start) ago aged silent none so = absurd none
+    leads_to_aging (Lost old since most start) ago aged silent none so = absurd none
+    leads_to_aging (Fewer old since most start) ago aged silent (which, same_ago, same_silent, ages_now) so =
+        subst (λ es. IsAgingTo d es more aged silent w') (sym same_ago)
+        (subst (λ t. IsAgingTo d old more aged t w') (sym same_silent)
+        (ages_taken old since most start which aged ages_now so))
 
     -- ---- it is cleared
 

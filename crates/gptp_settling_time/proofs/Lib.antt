@@ -15,7 +15,9 @@ pub mod TakenFailLossLemmas
 pub mod TakenLeadLemmas
 pub mod TakenMadeLemmas
 pub mod TakenSeenLemmas
+pub mod BeforeLossLemmas
 pub mod TakenToLemmas
+pub mod TakenAgesLemmas
 pub mod WillAskLemmas
 pub mod NewsSoonLemmas
 pub mod AskedInTimeLemmas

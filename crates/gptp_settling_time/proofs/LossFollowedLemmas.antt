@@ -31,7 +31,7 @@ use Rattle.gptp_settling_time.proofs.LossLeadLemmas.{IsLeftBy, dead_lead, heard_
 use Rattle.gptp_settling_time.proofs.LossRestLemmas.{last_at}
 use Rattle.gptp_settling_time.proofs.MomentLemmas.{all_at, last_by, parted}
 use Rattle.gptp_settling_time.proofs.SamePathsLemmas.{StandSame}
-use Rattle.gptp_settling_time.proofs.TakenLeadLemmas.{silent_from, taken_clears, taken_lead, way_before}
+use Rattle.gptp_settling_time.proofs.TakenLeadLemmas.{heard_aging, silent_from, taken_clears, taken_lead, way_before}
 use Rattle.gptp_settling_time.proofs.SilentSpanLemmas.{none_silent}
 
 -- ---- what a loss leads to
@@ -60,7 +60,8 @@ none_lost n made choice roles (inr (inl (fails, is_choice, after))) = fails
 none_lost n made choice roles (inr (inr (inl (turns, is_choice, same)))) = turns
 none_lost n made choice roles (inr (inr (inr (inl (fails, bounds))))) = fails
 none_lost n made choice roles (inr (inr (inr (inr (inl (any, is_choice, after)))))) = any
-none_lost n made choice roles (inr (inr (inr (inr (inr (takes, leaves, is_choice, after)))))) = takes
+none_lost n made choice roles (inr (inr (inr (inr (inr (inl (takes, leaves, is_choice, after))))))) = takes
+none_lost n made choice roles (inr (inr (inr (inr (inr (inr (heard, held, is_roles))))))) = heard.0
 
 module _ (n : NetworkState) (network : IsNetwork n) (off : NothingLapses n.params) (time choice roles : ℕ) where
   abbrev IsLostTo : List Timed → List Timed → Past → Type 0
@@ -197,12 +198,12 @@ module _ (n : NetworkState) (network : IsNetwork n) (off : NothingLapses n.param
           let more = le-max_right choice quiet in
           heard held quiet (omega (arith, is_later)) (omega (arith, roles_later, more)) fails others bounds
       by (inr (inr (inr (inr (inl any))))) = any_lost any
-      by (inr (inr (inr (inr (inr (takes, leaves, is_choice, inl (none, is_roles))))))) = record {
+      by (inr (inr (inr (inr (inr (inl (takes, leaves, is_choice, inl (none, is_roles)))))))) = record {
         last = Fewer earlier time (sync_paths n earlier).delay (silent_from n time);
         lead = taken_lead n time earlier (event ∷ now) seen at has calm_then off takes;
         so = (λ settled late. (off, leaves, none), λ settled late. (off, leaves, none));
       }
-      by (inr (inr (inr (inr (inr (takes, leaves, is_choice, inr (loses, few, is_roles))))))) =
+      by (inr (inr (inr (inr (inr (inl (takes, leaves, is_choice, inr (loses, few, is_roles)))))))) =
           let old : ℕ = time + largest_interval (pace_of n) in
           let (since, before) = way_before n time earlier seen has in
           record {
@@ -214,6 +215,20 @@ module _ (n : NetworkState) (network : IsNetwork n) (off : NothingLapses n.param
               λ settled late. off,
             );
           }
+      by (inr (inr (inr (inr (inr (inr (heard_before, (span, within, is_choice), is_roles))))))) = record {
+        last = Aging earlier (suc (time + span)) (silent_from n time);
+        lead = heard_aging n time earlier (event ∷ now) seen span at has calm_then off heard_before within;
+        so = (
+          λ settled late. (off, inl (omega (arith, is_roles, late))),
+          λ settled late. (
+            off,
+            elim (dec_le span (silence_span (pace_of n))) [
+              | yes first ↦ inl (omega (arith, is_choice, late, first))
+              | no over ↦ inr (inl (omega (arith, is_choice, late, over)))
+            ],
+          ),
+        );
+      }
 
   -- by one that moves trees, once what was sent before the choice stood has arrived
   split_leads : (made now : List Timed) (past : Past) (stood arrived : ℕ)

@@ -46,6 +46,75 @@ module _ (n : NetworkState) (network : IsNetwork n) (off : NothingLapses n.param
     (past : Past) (rest : ℕ)
     (at : AllByRecursion (λ (t : Timed). t.at ≡ time) now) (calm_then : IsCalm n made) (calm : IsCalm n (made ++ now))
     (settled : HasSettled n made past time) where
+  -- what was in flight is gone as right traces are told
+  gone_within : (gone : ℕ) → FlightIsGone n (made ++ now) gone
+      → nearer_echo_span n (made ++ now) + gone ≤ max (echo_span (pace_of n) (sync_paths n (made ++ now))) gone
+  gone_within gone flight =
+      nearer_within (sync_paths n (made ++ now)).systems
+      (largest_interval (pace_of n) + (sync_paths n (made ++ now)).delay) gone (soon flight)
+    where
+      soon : FlightIsGone n (made ++ now) gone
+          → gone ≤ largest_interval (pace_of n) + (sync_paths n (made ++ now)).delay
+      soon (inl (used, delay)) = omega (arith, delay)
+      soon (inr interval) = omega (arith, interval)
+
+  -- the way is part of what they take
+  way_short : way_span (sync_paths n (made ++ now)) ≤ echo_span (pace_of n) (sync_paths n (made ++ now))
+  way_short = mul-le-mul_left (pred (sync_paths n (made ++ now)).systems) (omega arith)
+
+  -- Where something that is held ages it is taken as heard from now on once right traces are told since that has aged,
+  -- or no port beside a failed system is capable.
+  pub aged_led : last_change (made ++ now) ≡ time → (span : ℕ)
+      → LeadOn n made past now (Aging made (suc (time + span)) (suc (time + silence_span (pace_of n))))
+      → (gone : ℕ) → FlightIsGone n (made ++ now) gone
+      → max (silence_span (pace_of n)) (min span (silence_span (pace_of n)) + 1
+      + max (echo_span (pace_of n) (sync_paths n (made ++ now))) gone) ≤ rest
+      → IsLed n made now past (suc (time + rest))
+  aged_led last span lead gone flight long = record {
+    last = Aging made (suc (time + span)) (suc (time + b));
+    lead = lead;
+    settles = (
+      Heard (suc (time + min span b)),
+      inr (
+        suc (time + min span b),
+        refl,
+        record {
+          calm = calm;
+          off = off;
+          by = suc (time + min span b);
+          since = omega (arith, last);
+          gone = elim (dec_le span b) [ yes less ↦ inl (omega (arith, less)) | no over ↦ inr (omega (arith, over)) ];
+          flight = gone;
+          is_gone = flight;
+          told = let within = gone_within gone flight in omega (arith, long, within, told_most);
+          later = omega arith;
+          unlinked = omega (arith, long, silent_most);
+          over = over_way;
+        },
+      ),
+      over_way,
+    );
+  }
+    where
+      b : ℕ
+      b = silence_span (pace_of n)
+
+      more : ℕ
+      more = min span b + 1 + max (echo_span (pace_of n) (sync_paths n (made ++ now))) gone
+
+      silent_most : b ≤ max b more
+      silent_most = le-max_left b more
+
+      told_most : more ≤ max b more
+      told_most = le-max_right b more
+
+      over_way : suc (time + min span b) + way_span (sync_paths n (made ++ now)) ≤ suc (time + rest)
+      over_way =
+          let way = way_short in
+          let echo = le-max_left (echo_span (pace_of n) (sync_paths n (made ++ now))) gone in
+          let most = told_most in
+          omega (arith, way, echo, most, long)
+
   -- the event that loses the end is the first of them
   module _ (event : Timed) (others : List Timed) (same : now ≡ event ∷ others) where
     here : event.at ≡ time
@@ -124,22 +193,6 @@ module _ (n : NetworkState) (network : IsNetwork n) (off : NothingLapses n.param
         (subst (λ es. LeadOn n (made ++ event ∷ []) (Cleared made x.since x.silent 0 (event.at + gone)) es
         (Cleared made x.since x.silent 0 (event.at + gone))) (sym alone) refl) (omega (arith, before, is, gone_most))
         (inl (omega (arith, over, before))) (omega (arith, early, before, less))
-
-    -- what was in flight is gone as right traces are told
-    gone_within : (gone : ℕ) → FlightIsGone n (made ++ now) gone
-        → nearer_echo_span n (made ++ now) + gone ≤ max (echo_span (pace_of n) (sync_paths n (made ++ now))) gone
-    gone_within gone flight =
-        nearer_within (sync_paths n (made ++ now)).systems
-        (largest_interval (pace_of n) + (sync_paths n (made ++ now)).delay) gone (soon flight)
-      where
-        soon : FlightIsGone n (made ++ now) gone
-            → gone ≤ largest_interval (pace_of n) + (sync_paths n (made ++ now)).delay
-        soon (inl (used, delay)) = omega (arith, delay)
-        soon (inr interval) = omega (arith, interval)
-
-    -- the way is part of what they take
-    way_short : way_span (sync_paths n (made ++ now)) ≤ echo_span (pace_of n) (sync_paths n (made ++ now))
-    way_short = mul-le-mul_left (pred (sync_paths n (made ++ now)).systems) (omega arith)
 
     -- another such link goes down
     right_led : LowersLink n made event → others ≡ [] → (gone : ℕ) → FlightIsGone n (made ++ now) gone
@@ -333,70 +386,20 @@ module _ (n : NetworkState) (network : IsNetwork n) (off : NothingLapses n.param
     heard_led : FailsHeard n made event → EachEvent (IsDownToo n) (made ++ event ∷ []) others
         → RestsOnceTold n made now rest → IsLed n made now past (suc (time + rest))
     heard_led fails lowers (inl (used, long)) = power_led fails lowers used long
-    heard_led fails lowers (inr (gone, flight, (held, (span, within, is), long))) = record {
-      last = Aging made aged silent;
-      lead = subst (λ es. LeadOn n made past es (Aging made aged silent)) (sym same)
-          (heard_lead n network off time made event others past span calm_then settled_then here fails others_now lowers
-          (subst (λ es. AgesWithin n made (made ++ es) event.at span) same
-          (subst (λ t. AgesWithin n made (made ++ now) t span) (last ∙ sym before) within)));
-      settles = (
-        Heard (suc (time + min span b)),
-        inr (
-          suc (time + min span b),
-          refl,
-          record {
-            calm = calm;
-            off = off;
-            by = suc (time + min span b);
-            since = omega (arith, last);
-            gone = elim (dec_le span b) [
-              | yes less ↦ inl (omega (arith, before, less))
-              | no over ↦ inr (omega (arith, before, over))
-            ];
-            flight = gone;
-            is_gone = flight;
-            told = let within = gone_within gone flight in omega (arith, long, within, told_most, is);
-            later = omega arith;
-            unlinked = omega (arith, before, long, silent_most);
-            over = over_way;
-          },
-        ),
-        over_way,
-      );
-    }
-      where
-        b : ℕ
-        b = silence_span (pace_of n)
-
-        aged : ℕ
-        aged = suc (event.at + span)
-
-        silent : ℕ
-        silent = suc (event.at + b)
-
-        before : event.at ≡ time
-        before = here
-
-        last : last_change (made ++ now) ≡ time
-        last =
-            ap (λ es. last_change (made ++ es)) same
-            ∙ last_at made event others time (subst (AllByRecursion (λ (t : Timed). t.at ≡ time)) same at)
-
-        more : ℕ
-        more = held + 1 + max (echo_span (pace_of n) (sync_paths n (made ++ now))) gone
-
-        silent_most : b ≤ max b more
-        silent_most = le-max_left b more
-
-        told_most : more ≤ max b more
-        told_most = le-max_right b more
-
-        over_way : suc (time + min span b) + way_span (sync_paths n (made ++ now)) ≤ suc (time + rest)
-        over_way =
-            let way = way_short in
-            let echo = le-max_left (echo_span (pace_of n) (sync_paths n (made ++ now))) gone in
-            let most = told_most in
-            omega (arith, way, echo, most, long, is)
+    heard_led fails lowers (inr (gone, flight, (held, (span, within, is), long))) =
+        let last : last_change (made ++ now) ≡ time =
+        ap (λ es. last_change (made ++ es)) same
+        ∙ last_at made event others time (subst (AllByRecursion (λ (t : Timed). t.at ≡ time)) same at) in
+        let b = silence_span (pace_of n) in
+        let lead : LeadOn n made past now (Aging made (suc (event.at + span)) (suc (event.at + b))) =
+        subst (λ es. LeadOn n made past es (Aging made (suc (event.at + span)) (suc (event.at + b)))) (sym same)
+        (heard_lead n network off time made event others past span calm_then settled_then here fails others_now lowers
+        (subst (λ es. AgesWithin n made (made ++ es) event.at span) same
+        (subst (λ t. AgesWithin n made (made ++ now) t span) (last ∙ sym here) within))) in
+        let echo = max (echo_span (pace_of n) (sync_paths n (made ++ now))) gone in
+        aged_led last span
+        (subst (λ t. LeadOn n made past now (Aging made (suc (t + span)) (suc (t + b)))) here lead) gone flight
+        (subst (λ h. max b (h + 1 + echo) ≤ rest) is long)
 
   lost_led : (es : List Timed) → now ≡ es
       → (CutsOneEnd n made es

@@ -20,6 +20,7 @@ use Rattle.gptp_invariants.specs.WorldStanding.{snapshot_of}
 use Rattle.gptp_theorem.specs.PlayedLaws.{IsPlayable}
 use Rattle.gptp_settling_time.specs.Gains.{ChangesNothing, RepeatsNow}
 use Rattle.gptp_settling_time.specs.Losses.{IsHoldSpan}
+use Rattle.gptp_settling_time.proofs.BeforeLossLemmas.{StaysShort}
 use Rattle.gptp_settling_time.proofs.AgedLemmas.{AgedIsSound}
 use Rattle.gptp_settling_time.proofs.AgesByLemmas.{by_map}
 use Rattle.gptp_settling_time.proofs.AgesByWorldLemmas.{WorldAgesBy}
@@ -173,8 +174,10 @@ module _ (d : DocumentState) (playable : IsPlayable d) (made : List Timed) (even
     asked = subst (HaveAskedBy (way_ago n ago since)) (sym same) so.asked;
     up = up_more n playable.network made ago event so.up since silent (inr now);
     limited = λ gone flight. subst (AreLimitedBy (since + gone)) (sym same) (so.limited gone flight);
+    prompt = λ flies. subst (AreLimitedBy since) (sym same) (so.prompt flies);
+    ways = so.ways;
     later = so.later;
-    is = subst (IsTakenAlways p so.before silent) (sym same) so.is;
+    is = subst (IsTakenAlways p so.before (StaysShort n ago since) silent) (sym same) so.is;
   }
 
   pub aging_repeated : (ago : List Timed) (aged silent : ℕ) → IsAgingTo d ago made aged silent then

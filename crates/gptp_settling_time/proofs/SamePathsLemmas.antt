@@ -135,18 +135,31 @@ stands_before n events more same g stands = record {
       ap (λ (w : LinkSpec). if w.up then Some (v.a, v.b) else None) (same.links v member)));
 }
 
-module _ (n : NetworkState) (events more : List Timed) (same : StandAlike n events more) where
+-- where the same links are in use besides paths have as many systems
+module _ (n : NetworkState) (events more : List Timed)
+    (systems : (m : SystemSpec) → In m n.systems → (system_after more m).live ≡ (system_after events m).live)
+    (used : (v : LinkSpec) → In v n.links
+    → is_used n.systems more (link_after more v) ≡ is_used n.systems events (link_after events v)) where
   neighbour_same : (clock : ℕ) (v : LinkSpec) → In v n.links
       → neighbour n.systems more clock v ≡ neighbour n.systems events clock v
-  neighbour_same clock v member = ap (λ used. if used then far_clock clock v else None) (same.used v member)
+  neighbour_same clock v member = ap (λ used. if used then far_clock clock v else None) (used v member)
 
   between_same : (m : SystemSpec) → In m n.systems
       → lives_between n.systems n.links more m ≡ lives_between n.systems n.links events m
   between_same m member =
-      ap₂ (λ live far. live && any_differ far) (same.systems m member)
+      ap₂ (λ live far. live && any_differ far) (systems m member)
       (map_same (neighbour n.systems more (clock_of m.identity)) (neighbour n.systems events (clock_of m.identity))
       n.links (neighbour_same (clock_of m.identity)))
 
+  pub systems_same : path_systems n.systems n.links more ≡ path_systems n.systems n.links events
+  unfolding path_systems
+  systems_same =
+      ap₂ (λ between live. min (between + 2) live)
+      (count_same (lives_between n.systems n.links more) (lives_between n.systems n.links events) n.systems
+      between_same)
+      (count_same (λ m. (system_after more m).live) (λ m. (system_after events m).live) n.systems systems)
+
+module _ (n : NetworkState) (events more : List Timed) (same : StandAlike n events more) where
   delay_same : (vs : List LinkSpec) → ((v : LinkSpec) → In v vs → In v n.links)
       → greatest_delay n.systems more vs ≡ greatest_delay n.systems events vs
   delay_same [] among = refl
@@ -158,17 +171,10 @@ module _ (n : NetworkState) (events more : List Timed) (same : StandAlike n even
       if is_used n.systems events (link_after events v) then max b.max (greatest_delay n.systems events vs)
       else greatest_delay n.systems events vs) (same.bounds v member)
 
-  systems_same : path_systems n.systems n.links more ≡ path_systems n.systems n.links events
-  unfolding path_systems
-  systems_same =
-      ap₂ (λ between live. min (between + 2) live)
-      (count_same (lives_between n.systems n.links more) (lives_between n.systems n.links events) n.systems
-      between_same)
-      (count_same (λ m. (system_after more m).live) (λ m. (system_after events m).live) n.systems same.systems)
-
   pub paths_same : sync_paths n more ≡ sync_paths n events
   paths_same =
-      ap₂ (λ systems delay. record { systems = systems; delay = delay }) systems_same
+      ap₂ (λ systems delay. record { systems = systems; delay = delay })
+      (systems_same n events more same.systems same.used)
       (delay_same n.links (λ v member. member))
 
 -- ---- what changes nothing

@@ -24,7 +24,7 @@ use Rattle.gptp_settling_time.proofs.SilentLinksLemmas.{AgesOver}
 use Rattle.gptp_settling_time.proofs.UpPortsLemmas.{IsUpAt}
 
 -- a port at the end of a link begins it one way
-begins_way : (end : PortId) (channel : Channel) → IsEnd end (channel_wire channel)
+pub begins_way : (end : PortId) (channel : Channel) → IsEnd end (channel_wire channel)
     → (direction : Direction) × (sender direction channel ≡ end)
 begins_way end channel (inl a) = (FromA, a)
 begins_way end channel (inr b) = (FromB, b)

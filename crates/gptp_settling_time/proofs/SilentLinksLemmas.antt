@@ -62,7 +62,7 @@ begin_end FromA channel = inl refl
 begin_end FromB channel = inr refl
 
 -- so a link in use links its ends
-end_linked : (w : WorldState) (link : ℕ) (channel : Channel) → slice_get w.net.channels link ≡ Some channel
+pub end_linked : (w : WorldState) (link : ℕ) (channel : Channel) → slice_get w.net.channels link ≡ Some channel
     → channel_is_used (live_stations w.stations) channel ≡ true → (end : PortId) → IsEnd end (channel_wire channel)
     → IsLinked (snapshot_of w) (port_identity_number end)
 end_linked w link channel here used end (inl a) =
@@ -71,6 +71,15 @@ end_linked w link channel here used end (inl a) =
 end_linked w link channel here used end (inr b) =
     subst (λ e. IsLinked (snapshot_of w) (port_identity_number e)) b
     (port_identity_number channel.a, used_joins w link FromB channel here used)
+
+-- who lives in a world does so in its network
+pub live_among : (n : NetworkState) (events : List Timed) (w : WorldState) → StandsAsPlanned n events w → IsSound w
+    → (number : ℕ) → In number (clocks (snapshot_of w)) → IsLive n.systems events number
+live_among n events w stands sound number among =
+    let (s, member, same) = system_of (snapshot_of w) number among in
+    let at = live_from w.stations s member in
+    live_named n events w stands sound number at.place at.station
+    (record { here = at.here; named = ap (λ (x : System). x.clock) (sym at.is) ∙ same }) at.live
 
 -- as a system fails
 module _ (n : NetworkState) (made : List Timed) (event : Timed) (number : ℕ)
@@ -85,11 +94,7 @@ module _ (n : NetworkState) (made : List Timed) (event : Timed) (number : ℕ)
 
   -- who lives after it in the world does so in the network
   live_after_it : (number : ℕ) → In number (clocks (snapshot_of w')) → IsLive n.systems more number
-  live_after_it number among =
-      let (s, member, same) = system_of (snapshot_of w') number among in
-      let at = live_from w'.stations s member in
-      live_named n more w' stands' sound' number at.place at.station
-      (record { here = at.here; named = ap (λ (x : System). x.clock) (sym at.is) ∙ same }) at.live
+  live_after_it = live_among n more w' stands' sound'
 
   -- the far end of a link lives that led to a live system from who was nearer
   far_lives : (v : LinkSpec) (failed end : PortId) → IsEnd end (link_after more v)

@@ -14,6 +14,7 @@ use Rattle.gptp_model.specs.World.{WorldState}
 use Rattle.gptp_model.specs.declared.done.Done.{Done}
 use Rattle.gptp_bmca_machine.specs.Acts.{MachineSteps}
 use Rattle.gptp_bmca_machine.specs.Calm.{Calm}
+use Rattle.gptp_bmca_machine.specs.Frame.{Announce}
 use Rattle.gptp_bmca_machine.specs.LossLaws.{IsAfterLoss, IsWhatIsLeft}
 use Rattle.gptp_bmca_machine.specs.Network.{IsSettlingNetwork, Network, settled_from}
 use Rattle.gptp_bmca_machine.specs.Station.{Disabled, Received, Station as SeenStation}
@@ -42,7 +43,7 @@ use Rattle.gptp_settling_time.proofs.FitsLemmas.{IsLeftUnmoved, UnlinkedHoldNoth
 use Rattle.gptp_settling_time.proofs.LeftClaimedLemmas.{heard_calm, left_net, left_network}
 use Rattle.gptp_settling_time.proofs.LostClaimedLemmas.{IsLostAlways, asked_are_heard, lost_acts, lost_later}
 use Rattle.gptp_settling_time.proofs.SeenSettledLemmas.{seen_chooses, seen_settles}
-use Rattle.gptp_settling_time.proofs.TakenSeenLemmas.{IsTakenSeen, taken_kept}
+use Rattle.gptp_settling_time.proofs.TakenSeenLemmas.{IsTakenSeen, TellsSo, taken_kept}
 use Rattle.gptp_settling_time.proofs.UnlinkedLemmas.{IsLeftSeen}
 
 -- ---- the network, where ports without a link aren't capable from a time on
@@ -78,21 +79,22 @@ module _ (p : SettlingParams) (silent : ℕ) (w : WorldState) (standing : IsStan
 -- ---- the claim
 
 -- What is claimed besides of a world since something was taken away: what is left is of the snapshot of before, and
--- what is held and told fits it.
-pub record IsTakenAlways (p : SettlingParams) (g : Snapshot) (silent : ℕ) (w : WorldState) : Type 0 where
+-- what is held and told fits it. Something may be so of each Announce.
+pub record IsTakenAlways (p : SettlingParams) (g : Snapshot) (So : Announce → Type 0) (silent : ℕ) (w : WorldState)
+    : Type 0 where
   pub well : IsWellFormed g
   pub systems : (s : System) → In s (snapshot_of w).systems → In s g.systems
   pub links : (a b : PortIdentity) → Joins (snapshot_of w) a b → Joins g a b
   pub late : delay_in w ≤ w.time
-  pub seen : IsTakenSeen says_announce g (aging_network p silent w) (view w)
+  pub seen : IsTakenSeen says_announce g (aging_network p silent w) So (view w)
 
-pub taken_left : (p : SettlingParams) (g : Snapshot) (silent : ℕ) (w : WorldState) → IsTakenAlways p g silent w
-    → IsWhatIsLeft g (aging_network p silent w)
-taken_left p g silent w is = left_of g (aging_network p silent w) is.well is.systems is.links
+pub taken_left : (p : SettlingParams) (g : Snapshot) (So : Announce → Type 0) (silent : ℕ) (w : WorldState)
+    → IsTakenAlways p g So silent w → IsWhatIsLeft g (aging_network p silent w)
+taken_left p g So silent w is = left_of g (aging_network p silent w) is.well is.systems is.links
 
-module _ (p : SettlingParams) (g : Snapshot) (since most silent : ℕ) (w w' : WorldState)
+module _ (p : SettlingParams) (g : Snapshot) (So : Announce → Type 0) (since most silent : ℕ) (w w' : WorldState)
     (lost : IsLostAlways p since most silent w) (lost' : IsLostAlways p since most silent w')
-    (is : IsTakenAlways p g silent w) (keeps : KeepsNetwork w w')
+    (tells : TellsSo So (view w')) (is : IsTakenAlways p g So silent w) (keeps : KeepsNetwork w w')
     (step : MachineSteps says_announce (view w) (view w')) (on : w.time ≤ w'.time) where
   same_snap : snapshot_of w' ≡ snapshot_of w
   same_snap = same_snapshot w w' keeps
@@ -102,21 +104,21 @@ module _ (p : SettlingParams) (g : Snapshot) (since most silent : ℕ) (w w' : W
       let late = is.late in
       subst (λ delay. delay ≤ w'.time) (sym (delay_kept w w' keeps)) (omega (arith, late, on))
 
-  seen' : IsTakenSeen says_announce g (aging_network p silent w') (view w')
+  seen' : IsTakenSeen says_announce g (aging_network p silent w') So (view w')
   seen' =
       let same = same_aging p silent w w' keeps in
       let n = aging_network p silent w in
       let world = lost.standing.world in
-      subst (λ x. IsTakenSeen says_announce g x (view w')) (sym same)
-      (taken_kept says_announce g n (view w) (view w') (stands_well w world.sound world.between world.encodable)
-      (taken_left p g silent w is) is.systems
+      subst (λ x. IsTakenSeen says_announce g x So (view w')) (sym same)
+      (taken_kept says_announce g n So (view w) (view w') (stands_well w world.sound world.between world.encodable)
+      (taken_left p g So silent w is) is.systems
       (taken_after p silent w lost.standing (λ start. asked_are_heard p since start w lost.asked) lost.quiet lost.off
       is.late)
       (subst (λ x. IsAfterLoss x (view w')) same
       (taken_after p silent w' lost'.standing (λ start. asked_are_heard p since start w' lost'.asked) lost'.quiet
-      lost'.off late')) step is.seen)
+      lost'.off late')) tells step is.seen)
 
-  taken_step : IsTakenAlways p g silent w'
+  taken_step : IsTakenAlways p g So silent w'
   taken_step = record {
     well = is.well;
     systems = λ s. subst (λ (h : Snapshot). In s h.systems → In s g.systems) (sym same_snap) (is.systems s);
@@ -125,27 +127,32 @@ module _ (p : SettlingParams) (g : Snapshot) (since most silent : ℕ) (w w' : W
     seen = seen';
   }
 
-pub taken_later : (p : SettlingParams) (g : Snapshot) (since most silent time : ℕ) (w : WorldState) → w.time ≤ time
-    → NothingBefore time w.net.pending → IsLostAlways p since most silent w → IsTakenAlways p g silent w
-    → IsTakenAlways p g silent (at_time time w)
-taken_later p g since most silent time w later first lost is =
-    taken_step p g since most silent w (at_time time w) lost (lost_later p since most silent time w later first lost) is
+pub taken_later : (p : SettlingParams) (g : Snapshot) (So : Announce → Type 0) (since most silent time : ℕ)
+    (w : WorldState) → w.time ≤ time → NothingBefore time w.net.pending → IsLostAlways p since most silent w
+    → TellsSo So (view (at_time time w)) → IsTakenAlways p g So silent w
+    → IsTakenAlways p g So silent (at_time time w)
+taken_later p g So since most silent time w later first lost tells is =
+    taken_step p g So since most silent w (at_time time w) lost
+    (lost_later p since most silent time w later first lost) tells is
     (later_keeps time w) (inl (record { time = time; later = later; is = refl })) later
 
-pub taken_acts : (p : SettlingParams) (g : Snapshot) (since most silent : ℕ) (act : Act) (w : WorldState)
+pub taken_acts : (p : SettlingParams) (g : Snapshot) (So : Announce → Type 0) (since most silent : ℕ) (act : Act)
+    (w : WorldState)
     (draws : List Draw) (done : Done) (w' : WorldState) → IsNoChange act → SetsAnOctet act → Acts act w draws done w'
-    → IsLostAlways p since most silent w → IsTakenAlways p g silent w → IsTakenAlways p g silent w'
-taken_acts p g since most silent act w draws done w' none octet acts lost is =
+    → IsLostAlways p since most silent w → TellsSo So (view w') → IsTakenAlways p g So silent w
+    → IsTakenAlways p g So silent w'
+taken_acts p g So since most silent act w draws done w' none octet acts lost tells is =
     let world = lost.standing.world in
     let time = acts_time act w draws done w' acts in
-    taken_step p g since most silent w w' lost (lost_acts p since most silent act w draws done w' none octet acts lost)
-    is (acts_keep act w draws done w' none acts)
+    taken_step p g So since most silent w w' lost
+    (lost_acts p since most silent act w draws done w' none octet acts lost) tells is
+    (acts_keep act w draws done w' none acts)
     (inr (acts_seen act w draws done w' none world.sound world.encodable acts)) (omega (arith, time))
 
 -- ---- where no system is moved in all, and no port is unanswered
 
-module _ (p : SettlingParams) (g : Snapshot) (since most silent : ℕ) (w : WorldState)
-    (lost : IsLostAlways p since most silent w) (is : IsTakenAlways p g silent w)
+module _ (p : SettlingParams) (g : Snapshot) (So : Announce → Type 0) (since most silent : ℕ) (w : WorldState)
+    (lost : IsLostAlways p since most silent w) (is : IsTakenAlways p g So silent w)
     (left : IsLeftUnmoved g (snapshot_of w)) (way : pred (path_bound (snapshot_of w)) * delay_in w ≤ w.time)
     (none : AreSilentBy p w.time w) where
   abbrev n_now : Network
@@ -164,7 +171,7 @@ module _ (p : SettlingParams) (g : Snapshot) (since most silent : ℕ) (w : Worl
   heard_now : (start : ℕ) → AreHeard p start w
   heard_now start = asked_are_heard p since start w lost.asked
 
-  seen_now : IsTakenSeen says_announce g n_now (view w)
+  seen_now : IsTakenSeen says_announce g n_now So (view w)
   seen_now = record {
     fits = record { lanes = is.seen.fits.lanes; stations = is.seen.fits.stations };
     still = λ d best v a u q close on. is.seen.still d best v a u q close (record {
@@ -178,6 +185,7 @@ module _ (p : SettlingParams) (g : Snapshot) (since most silent : ℕ) (w : Worl
     });
     itself = record { lanes = is.seen.itself.lanes; stations = is.seen.itself.stations };
     were = record { lanes = is.seen.were.lanes; stations = is.seen.were.stations };
+    each = record { lanes = is.seen.each.lanes; stations = is.seen.each.stations };
   }
 
   none_now : UnlinkedHoldNothing (snapshot_of w) (view w)

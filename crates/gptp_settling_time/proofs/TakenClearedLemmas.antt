@@ -9,6 +9,7 @@ use Rattle.gptp_scenario.specs.declared.change.Timed.{Timed}
 use Rattle.gptp_scenario.specs.declared.sync_wait.SyncPaths.{SyncPaths}
 use Rattle.gptp_setup.specs.SettlingParams.{SettlingParams}
 use Rattle.gptp_model.specs.World.{WorldState}
+use Rattle.gptp_bmca_machine.specs.Frame.{Announce}
 use Rattle.gptp_bmca_machine.specs.LossLaws.{EverythingFits}
 use Rattle.gptp_bmca_machine.specs.SoundLaws.{AllAreNear}
 use Rattle.gptp_network.specs.Document.{DocumentState}
@@ -27,6 +28,7 @@ use Rattle.gptp_settling_time.proofs.DueLemmas.{UpIsInUse, in_use_joins}
 use Rattle.gptp_settling_time.proofs.FitsLemmas.{IsLeftUnmoved, flight_still}
 use Rattle.gptp_settling_time.proofs.GoesToLemmas.{echo_to, paths_to}
 use Rattle.gptp_settling_time.proofs.LeftClaimedLemmas.{HaveAskedBy, HaveAskedLong, IsLeftAlways, left_itself, left_network}
+use Rattle.gptp_settling_time.proofs.BeforeLossLemmas.{StaysShort}
 use Rattle.gptp_settling_time.proofs.LeftToLemmas.{answered_in_use, up_in_use}
 use Rattle.gptp_settling_time.proofs.LostClaimedLemmas.{IsLostAlways}
 use Rattle.gptp_settling_time.proofs.NamesItselfLemmas.{AllNameItself}
@@ -35,8 +37,8 @@ use Rattle.gptp_settling_time.proofs.TakenToLemmas.{IsTakenTo, taken_to_left, ta
 use Rattle.gptp_settling_time.proofs.UnlinkedLemmas.{IsLeftSeen}
 use Rattle.gptp_settling_time.proofs.WorldMovesLemmas.{near_so}
 
-module _ (p : SettlingParams) (g : Snapshot) (since most silent : ℕ) (w : WorldState)
-    (lost : IsLostAlways p since most silent w) (is : IsTakenAlways p g silent w)
+module _ (p : SettlingParams) (g : Snapshot) (So : Announce → Type 0) (since most silent : ℕ) (w : WorldState)
+    (lost : IsLostAlways p since most silent w) (is : IsTakenAlways p g So silent w)
     (left : IsLeftUnmoved g (snapshot_of w)) (way : pred (path_bound (snapshot_of w)) * delay_in w ≤ w.time)
     (near : AllAreNear (snapshot_of w)) (used : UpIsInUse w) where
   abbrev world : IsWorld p w
@@ -47,7 +49,7 @@ module _ (p : SettlingParams) (g : Snapshot) (since most silent : ℕ) (w : Worl
 
   -- ports without a link aren't capable now
   claims : IsLeftSeen says_announce g (left_network p w.time w) (view w)
-  claims = taken_left_seen p g since most silent w lost is left way (answered_in_use p w world used w.time)
+  claims = taken_left_seen p g So since most silent w lost is left way (answered_in_use p w world used w.time)
 
   fits : EverythingFits says_announce (snapshot_of w) (left_network p silent w) (view w)
   fits = record {
@@ -101,10 +103,12 @@ module _ (d : DocumentState) (ago events : List Timed) (since most silent : ℕ)
     keeps = so.lost.keeps;
     before = snapshot_of w;
     is = rights p (snapshot_of w) w.time silent (delay_in w) w
-        (taken_left p so.before since most silent w so.lost.is so.is left way near in_use)
+        (taken_left p so.before (StaysShort d.network ago since) since most silent w so.lost.is so.is left way near
+        in_use)
         (subst (λ t. HaveAskedBy t w) (sym so.lost.is.change ∙ now) so.lost.is.asked) (inl (in_use, refl)) so.before
         (was_best so.before (snapshot_of w) so.is.well
-        (taken_well p so.before since most silent w so.lost.is so.is left way near in_use) left)
+        (taken_well p so.before (StaysShort d.network ago since) since most silent w so.lost.is so.is left way near
+        in_use) left)
         (λ quiet off. itself);
     were = so.lost.were;
   }

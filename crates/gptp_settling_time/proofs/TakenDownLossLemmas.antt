@@ -29,7 +29,7 @@ use Rattle.gptp_model.proofs.EndLemmas.{HasPort, among_has, stays_has_port}
 use Rattle.gptp_model.proofs.StayLemmas.{Stays, calls_if_live_stay, stays_apart, stays_setups, taken_down_stays}
 use Rattle.gptp_bmca_machine.specs.Acts.{MachineSteps}
 use Rattle.gptp_bmca_machine.specs.Calm.{HasStation}
-use Rattle.gptp_bmca_machine.specs.Frame.{Lane}
+use Rattle.gptp_bmca_machine.specs.Frame.{Announce, Lane}
 use Rattle.gptp_bmca_machine.specs.LossLaws.{IsAfterLoss, IsWhatIsLeft}
 use Rattle.gptp_bmca_machine.specs.Network.{Network}
 use Rattle.gptp_bmca_machine.specs.RestLaws.{SameWiring}
@@ -54,16 +54,18 @@ use Rattle.gptp_settling_time.proofs.OneCallLemmas.{call_steps, emptier_itself, 
 use Rattle.gptp_settling_time.proofs.ReducedLemmas.{IsLess}
 use Rattle.gptp_settling_time.proofs.TakenClaimedLemmas.{IsTakenAlways, taken_after}
 use Rattle.gptp_settling_time.proofs.TakenDownLemmas.{told_keeps}
-use Rattle.gptp_settling_time.proofs.TakenSeenLemmas.{IsTakenSeen, taken_emptied, taken_kept}
+use Rattle.gptp_settling_time.proofs.TakenSeenLemmas.{IsTakenSeen, TellsSo, taken_emptied, taken_kept}
 use Rattle.gptp_bmca_machine.proofs.RestLemmas.{left_of}
 
-module _ (p : SettlingParams) (g : Snapshot) (silent owner port : ℕ) (w : WorldState) (draws : List Draw) (done : Done)
+module _ (p : SettlingParams) (g : Snapshot) (So : Announce → Type 0) (silent owner port : ℕ) (w : WorldState)
+    (draws : List Draw) (done : Done)
     (w' : WorldState) (is : IsWorld p w) (is' : IsWorld p w')
     (acts : Acts (Changing (LinkDown owner port)) w draws done w') (up : acts.1.channel.up ≡ true)
     (standing : IsStanding p silent w) (heard : (start : ℕ) → AreHeard p start w) (quiet : HaveQuietLinks p.params w)
     (standing' : IsStanding p silent w') (heard' : (start : ℕ) → AreHeard p start w')
     (quiet' : HaveQuietLinks p.params w') (off : NothingLapses p.params) (shorter : delay_in w' ≤ delay_in w)
-    (later : w.time < silent) (taken : IsTakenAlways p g silent w) where
+    (later : w.time < silent) (tells_then : TellsSo So (view w)) (tells_now : TellsSo So (view w'))
+    (taken : IsTakenAlways p g So silent w) where
   abbrev k : AtLink (port_id owner port) w.net (λ place channel.
       GoesDownIf channel.up place channel (record w { last_change = w.time }) draws w')
   k = acts.1
@@ -232,14 +234,15 @@ module _ (p : SettlingParams) (g : Snapshot) (silent owner port : ℕ) (w : Worl
     after_cut : IsAfterLoss n' (view cut)
     after_cut = between_after n n' (view w) (view cut) (view w') lesser was after' between_cut
 
-    seen_cut : IsTakenSeen says_announce g n' (view cut)
+    seen_cut : IsTakenSeen says_announce g n' So (view cut)
     seen_cut =
-        taken_emptied says_announce g n n' well' wiring taken.well taken.systems taken.links less.systems less.links
+        taken_emptied says_announce g n n' So well' wiring taken.well taken.systems taken.links less.systems less.links
         (view w) (view cut) emptied taken.late after_cut taken.seen
 
-    by_step : MachineSteps says_announce (view cut) (view w') → IsTakenSeen says_announce g n' (view w')
+    by_step : MachineSteps says_announce (view cut) (view w') → IsTakenSeen says_announce g n' So (view w')
     by_step step =
-        taken_kept says_announce g n' (view cut) (view w') well' left' stood' after_cut after' step seen_cut
+        taken_kept says_announce g n' So (view cut) (view w') well' left' stood' after_cut after' tells_now step
+        seen_cut
 
   -- both ends answer
   module _ (one other : Answer) (c : Calls tells.place_a (PortDown k.channel.a.port) cut tells.first one tells.between)
@@ -338,25 +341,31 @@ module _ (p : SettlingParams) (g : Snapshot) (silent owner port : ℕ) (w : Worl
       ahead = back_mid;
     }
 
+    tells_mid : TellsSo So (view mid)
+    tells_mid i s place q at = elim (between_mid.stations i s at) [
+      | inl before ↦ tells_then i s place q before
+      | inr after ↦ tells_now i s place q after
+    ]
+
     after_mid : IsAfterLoss n' (view mid)
     after_mid = between_after n n' (view w) (view mid) (view w') lesser was after' between_mid
 
-    by_both : IsTakenSeen says_announce g n' (view w')
+    by_both : IsTakenSeen says_announce g n' So (view w')
     by_both =
-        taken_kept says_announce g n' (view mid) (view w') well' left' stood' after_mid after'
+        taken_kept says_announce g n' So (view mid) (view w') well' left' stood' after_mid after' tells_now
         (call_steps tells.place_b k.channel.b mid tells.second other w' e answering_mid apart_mid has_mid)
-        (taken_kept says_announce g n' (view cut) (view mid) well' left' stood' (after_cut ahead_on back_on) after_mid
-        (call_steps tells.place_a k.channel.a cut tells.first one mid c answering apart has_a)
+        (taken_kept says_announce g n' So (view cut) (view mid) well' left' stood' (after_cut ahead_on back_on)
+        after_mid tells_mid (call_steps tells.place_a k.channel.a cut tells.first one mid c answering apart has_a)
         (seen_cut ahead_on back_on))
 
-  seen' : IsTakenSeen says_announce g n' (view w')
+  seen' : IsTakenSeen says_announce g n' So (view w')
   seen' = by tells.at_a tells.at_b
     where
       -- one end answers alone
       by_one : (direction : Direction) (place : ℕ) (ds : List Draw) (answer : Answer) (u : WorldState) → w' ≡ u
           → HasPort place (sender direction k.channel) cut
           → Calls place (PortDown (sender direction k.channel).port) cut ds answer u
-          → IsTakenSeen says_announce g n' (view w')
+          → IsTakenSeen says_announce g n' So (view w')
       by_one direction place ds answer u same has c =
           let d : Calls place (PortDown (sender direction k.channel).port) cut ds answer w' =
           subst (λ v. Calls place (PortDown (sender direction k.channel).port) cut ds answer v) (sym same) c in
@@ -367,7 +376,7 @@ module _ (p : SettlingParams) (g : Snapshot) (silent owner port : ℕ) (w : Worl
 
       by : CallsIfLive tells.place_a (PortDown k.channel.a.port) cut tells.first tells.between
           → CallsIfLive tells.place_b (PortDown k.channel.b.port) tells.between tells.second w'
-          → IsTakenSeen says_announce g n' (view w')
+          → IsTakenSeen says_announce g n' So (view w')
       by (inl (one, c)) (inl (other, e)) = by_both one other c e
       by (inl (one, c)) (inr (failed, none, same)) =
           by_one FromA tells.place_a tells.first one tells.between same has_a c
@@ -376,12 +385,12 @@ module _ (p : SettlingParams) (g : Snapshot) (silent owner port : ℕ) (w : Worl
           (subst (λ v. Calls tells.place_b (PortDown k.channel.b.port) v tells.second other w') same e)
       by (inr (failed, none, same)) (inr (failed_too, none_too, same_too)) =
           let whole : w' ≡ cut = same_too ∙ same in
-          subst (λ v. IsTakenSeen says_announce g n' (view v)) (sym whole)
+          subst (λ v. IsTakenSeen says_announce g n' So (view v)) (sym whole)
           (seen_cut
           (λ j l there. (l, subst (λ v. slice_get (view v).lanes j ≡ Some l) (sym whole) there, emptier_itself l))
           (λ j l there. (l, subst (λ v. slice_get (view v).lanes j ≡ Some l) whole there, emptier_itself l)))
 
-  pub down_taken : IsTakenAlways p g silent w'
+  pub down_taken : IsTakenAlways p g So silent w'
   down_taken = record {
     well = taken.well;
     systems = λ s member. taken.systems s (less.systems s member);

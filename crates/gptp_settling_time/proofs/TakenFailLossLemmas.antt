@@ -10,6 +10,7 @@ use Rattle.gptp_setup.specs.SettlingParams.{SettlingParams}
 use Rattle.gptp_model.specs.Acts.{Acts}
 use Rattle.gptp_model.specs.World.{WorldState}
 use Rattle.gptp_model.specs.declared.done.Done.{Done}
+use Rattle.gptp_bmca_machine.specs.Frame.{Announce}
 use Rattle.gptp_bmca_machine.specs.Network.{Network}
 use Rattle.gptp_bmca_machine.specs.RestLaws.{SameWiring}
 use Rattle.gptp_invariants.specs.ChoiceCalm.{HaveQuietLinks, delay_in}
@@ -23,11 +24,12 @@ use Rattle.gptp_settling_time.proofs.FailedAloneLemmas as alone
 use Rattle.gptp_settling_time.proofs.TakenClaimedLemmas.{IsTakenAlways, taken_after}
 use Rattle.gptp_settling_time.proofs.TakenSeenLemmas.{taken_emptied}
 
-module _ (p : SettlingParams) (g : Snapshot) (silent number : ℕ) (w : WorldState) (draws : List Draw) (done : Done)
+module _ (p : SettlingParams) (g : Snapshot) (So : Announce → Type 0) (silent number : ℕ) (w : WorldState)
+    (draws : List Draw) (done : Done)
     (w' : WorldState) (is : IsWorld p w) (is' : IsWorld p w') (acts : Acts (Changing (Fail number)) w draws done w')
     (lives : acts.1.station.live ≡ true) (standing' : IsStanding p silent w')
     (heard' : (start : ℕ) → AreHeard p start w') (quiet' : HaveQuietLinks p.params w') (off : NothingLapses p.params)
-    (shorter : delay_in w' ≤ delay_in w) (taken : IsTakenAlways p g silent w) where
+    (shorter : delay_in w' ≤ delay_in w) (taken : IsTakenAlways p g So silent w) where
   abbrev n : Network
   n = aging_network p silent w
 
@@ -56,14 +58,14 @@ module _ (p : SettlingParams) (g : Snapshot) (silent number : ℕ) (w : WorldSta
       let time = alone.time_now p number w draws done w' is is' acts lives in
       omega (arith, late, shorter, time)
 
-  pub fail_taken : IsTakenAlways p g silent w'
+  pub fail_taken : IsTakenAlways p g So silent w'
   fail_taken = record {
     well = taken.well;
     systems = λ s member.
         taken.systems s (alone.systems_before p number w draws done w' is is' acts lives s member);
     links = λ a b joins. taken.links a b (alone.links_before p number w draws done w' is is' acts lives a b joins);
     late = late';
-    seen = taken_emptied says_announce g n n' well' wiring taken.well taken.systems taken.links
+    seen = taken_emptied says_announce g n n' So well' wiring taken.well taken.systems taken.links
         (alone.systems_before p number w draws done w' is is' acts lives)
         (alone.links_before p number w draws done w' is is' acts lives) (view w) (view w') emptied taken.late
         (taken_after p silent w' standing' heard' quiet' off late') taken.seen;

@@ -9,11 +9,11 @@ use Rattle.gptp_graph.specs.Snapshot.{IsLinked, IsWellFormed, Joins, PortIdentit
 use Rattle.gptp_graph.proofs.LinkDecisions.{IsLinked-dec, Joins-dec}
 use Rattle.gptp_graph.proofs.LinkLemmas.{Joins-clock, Joins-sym}
 use Rattle.gptp_graph.proofs.SystemLemmas.{In-clocks}
-use Rattle.gptp_links.specs.declared.bounds.Bounds.{Bounds}
 use Rattle.gptp_setup.specs.SettlingParams.{SettlingParams}
 use Rattle.gptp_scenario.specs.Network.{pace_of}
 use Rattle.gptp_scenario.specs.SyncWait.{sync_paths}
 use Rattle.gptp_scenario.specs.declared.change.Timed.{Timed}
+use Rattle.gptp_scenario.specs.declared.network.LinkSpec.{LinkSpec}
 use Rattle.gptp_model.specs.World.{WorldState}
 use Rattle.gptp_network.specs.Document.{DocumentState}
 use Rattle.gptp_network.proofs.ExistenceLemmas.{stands_after}
@@ -38,6 +38,7 @@ use Rattle.gptp_settling_time.specs.Losses.{MovesNoneInAll}
 use Rattle.gptp_settling_time.specs.TreeLosses.{CutsAllBeyond, LosesFarther, LosesFartherFrom}
 use Rattle.gptp_settling_time.proofs.AgingClaimedLemmas.{aging_network}
 use Rattle.gptp_settling_time.proofs.AgingStillLemmas.{aging_over}
+use Rattle.gptp_settling_time.proofs.BeforeLossLemmas.{StaysShort}
 use Rattle.gptp_settling_time.proofs.AtRestLemmas.{LinksAreAtRest, TellsSettled, either, flight_settled, held_settled}
 use Rattle.gptp_settling_time.proofs.ClearedLemmas.{IsCleared}
 use Rattle.gptp_settling_time.proofs.ClearedToLemmas.{IsClearedTo}
@@ -56,8 +57,8 @@ use Rattle.gptp_settling_time.proofs.TakenToLemmas.{IsTakenTo, taken_to_way, way
 use Rattle.gptp_settling_time.proofs.UnlinkedLemmas.{IsFarther, IsLeftSeen, LostAreFarther}
 use Rattle.gptp_settling_time.proofs.WorldMovesLemmas.{alike_so, farther_alike, near_so}
 
-module _ (p : SettlingParams) (g : Snapshot) (since most silent : ℕ) (w : WorldState)
-    (lost : IsLostAlways p since most silent w) (is : IsTakenAlways p g silent w)
+module _ (p : SettlingParams) (g : Snapshot) (So : Announce → Type 0) (since most silent : ℕ) (w : WorldState)
+    (lost : IsLostAlways p since most silent w) (is : IsTakenAlways p g So silent w)
     (loses : LosesFarther g (snapshot_of w)) (near : AllAreNear (snapshot_of w))
     (way : pred (path_bound (snapshot_of w)) * delay_in w ≤ w.time) where
   abbrev h : Snapshot
@@ -76,7 +77,7 @@ module _ (p : SettlingParams) (g : Snapshot) (since most silent : ℕ) (w : Worl
   well' = stands_well w world.sound world.between world.encodable
 
   what_is_left : IsWhatIsLeft g n
-  what_is_left = taken_left p g silent w is
+  what_is_left = taken_left p g So silent w is
 
   left : IsLeftUnmoved g h
   left = record { systems = is.systems; links = is.links; unmoved = λ v known. inl (loses.each v known) }
@@ -268,9 +269,10 @@ module _ (d : DocumentState) (ago events : List Timed) (since most silent : ℕ)
       by_delay goes =
           due_within gone (since + gone) (since + gone) w so.lost.keeps.claim.world.sound
           (within_to d playable events w so.lost.keeps gone (λ place v there up.
-          let (was, bounds) = so.up place v there up in
-          let short = up_within d.network ago since gone goes place v there was in
-          let one = ap (λ (b : Bounds). b.max) bounds in
+          let was = so.up place v there up in
+          let short = up_within d.network ago since gone goes place v there
+          (ap (λ (x : LinkSpec). x.up) (sym was) ∙ up) in
+          let one = ap (λ (x : LinkSpec). x.bounds.max) was in
           omega (arith, short, one))) (so.limited gone goes) (omega arith) (omega (arith, now))
 
       by : FlightIsGoneFrom d.network ago since gone → AreDueBy (since + gone) w
@@ -286,7 +288,8 @@ module _ (d : DocumentState) (ago events : List Timed) (since most silent : ℕ)
   taken_farther loses now old gone = record {
     keeps = so.lost.keeps;
     before = so.before;
-    is = farther_cleared p_of so.before since most silent w so.lost.is so.is (loses_so loses) near_then
+    is = farther_cleared p_of so.before (StaysShort d.network ago since) since most silent w so.lost.is so.is
+        (loses_so loses) near_then
         (taken_to_way d ago events since most silent w so playable leaves) (way_ago d.network ago since) old so.asked
         (taken_due old now gone);
     were = so.lost.were;

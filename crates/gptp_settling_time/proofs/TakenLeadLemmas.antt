@@ -6,22 +6,22 @@ use Rattle.std.proofs.Math.Nat.{le-max_left, mul-le-mul_left}
 use Rattle.std.specs.List.{AllByRecursion}
 use Rattle.gptp_setup.specs.SettlingParams.{largest_interval}
 use Rattle.gptp_scenario.specs.Calm.{IsCalm, NothingLapses, last_change}
-use Rattle.gptp_scenario.specs.Network.{NetworkState, pace_of}
+use Rattle.gptp_scenario.specs.Network.{IsNetwork, NetworkState, pace_of}
 use Rattle.gptp_scenario.specs.SettlingTime.{echo_span, silence_span, way_span}
 use Rattle.gptp_scenario.specs.SyncWait.{sync_paths}
 use Rattle.gptp_scenario.specs.declared.change.Timed.{Timed}
 use Rattle.gptp_theorem.proofs.EventLemmas.{last_behind}
-use Rattle.gptp_settling_time.specs.HowSoon.{EachEvent, IsTakenToo, RestsTaken, TakesSeveral}
+use Rattle.gptp_settling_time.specs.HowSoon.{EachEvent, IsTakenToo, RestsOnceAged, RestsTaken, TakesHeard, TakesSeveral}
 use Rattle.gptp_settling_time.specs.Pasts.{Aging, AnyPast, Cleared, Fallen, Fewer, Gained, Heard, Left, Lost, Past, Split, Starting, Turned, TurnedTree}
-use Rattle.gptp_settling_time.specs.EventKinds.{FlightIsGoneFrom, TellsAnew, nearer_echo_span}
-use Rattle.gptp_settling_time.specs.Leads.{EventLeads, LosesFartherNow, TakesAny, TakesMore, TakesNow}
+use Rattle.gptp_settling_time.specs.EventKinds.{FliesInTime, FlightIsGoneFrom, TellsAnew, nearer_echo_span}
+use Rattle.gptp_settling_time.specs.Leads.{AgesTaken, EventLeads, LosesFartherNow, TakesAny, TakesMore, TakesNow}
 use Rattle.gptp_settling_time.specs.InTurn.{LeadOn}
-use Rattle.gptp_settling_time.specs.Losses.{AreSilentAfter, MovesNoneInAll, NoneSilent}
+use Rattle.gptp_settling_time.specs.Losses.{AgesWithin, AreSilentAfter, MovesNoneInAll, NoneSilent}
 use Rattle.gptp_settling_time.proofs.LeadOnLemmas.{IsLed}
 use Rattle.gptp_settling_time.proofs.LeftToLemmas.{less_way}
 use Rattle.gptp_settling_time.proofs.SettledPastLemmas.{HasSettled}
 use Rattle.gptp_settling_time.proofs.LosesLeadLemmas.{long_silent}
-use Rattle.gptp_settling_time.proofs.LossRestLemmas.{last_at, nearer_within}
+use Rattle.gptp_settling_time.proofs.LossRestLemmas.{aged_led, last_at, nearer_within}
 use Rattle.gptp_settling_time.proofs.SilentSpanLemmas.{up_none_silent}
 
 fewer_leads : (n : NetworkState) (made : List Timed) (event : Timed) (since most silent : ℕ) (past : Past)
@@ -133,56 +133,97 @@ module _ (n : NetworkState) (time : ℕ) where
   Clears ago events since right old =
       TellsAnew n events time since right old ⊎ LosesFartherNow n ago events time since right old
 
-  clear_taken : (ago made now : List Timed) (other : Timed) (most since right old : ℕ) → last_change made ≡ time
-      → AllNow (other ∷ now) → EachEvent (IsTakenToo n) made (other ∷ now)
-      → MovesNoneInAll n ago (made ++ other ∷ now) → (sync_paths n ago).systems ≤ 255
-      → Clears ago (made ++ other ∷ now) since right old
-      → LeadOn n made (Fewer ago time most silent_from) (other ∷ now) (Cleared ago since silent_from right old)
-  clear_taken ago made [] other most since right old last (here, at) (which, each) leaves few clears =
-      let es = made ++ other ∷ [] in (
-        Fewer ago time most silent_from,
-        inl refl,
-        Cleared ago since silent_from right old,
-        (
-          takes_more made other last here which,
-          refl,
-          refl,
-          leaves,
-          few,
-          subst (λ t. TellsAnew n es t since right old ⊎ LosesFartherNow n ago es t since right old) (sym here) clears,
-        ),
-        refl,
-      )
-  clear_taken ago made (event ∷ now) other most since right old last (here, at) (which, each) leaves few clears =
-      let all : (made ++ other ∷ []) ++ event ∷ now ≡ made ++ other ∷ event ∷ now =
-      append_assoc made (other ∷ []) (event ∷ now) in (
-        Fewer ago time most silent_from,
-        inl refl,
-        Fewer ago time most silent_from,
-        (takes_more made other last here which, refl, refl, refl, refl),
-        clear_taken ago (made ++ other ∷ []) now event most since right old (last_behind made other ∙ here) at each
-            (subst (MovesNoneInAll n ago) (sym all) leaves) few
-            (subst (λ es. Clears ago es since right old) (sym all) clears),
-      )
+  -- the last of them ends where it leads
+  ends_taken : (ago : List Timed) (to : Past) (made now : List Timed) (other : Timed) (most : ℕ)
+      → last_change made ≡ time → AllNow (other ∷ now) → EachEvent (IsTakenToo n) made (other ∷ now)
+      → ((before : List Timed) (event : Timed) → before ++ event ∷ [] ≡ made ++ other ∷ now → event.at ≡ time
+      → TakesMore n before event time silent_from → EventLeads n before (Fewer ago time most silent_from) event to)
+      → LeadOn n made (Fewer ago time most silent_from) (other ∷ now) to
+  ends_taken ago to made [] other most last (here, at) (which, each) ends = (
+    Fewer ago time most silent_from,
+    inl refl,
+    to,
+    ends made other refl here (takes_more made other last here which),
+    refl,
+  )
+  ends_taken ago to made (event ∷ now) other most last (here, at) (which, each) ends = (
+    Fewer ago time most silent_from,
+    inl refl,
+    Fewer ago time most silent_from,
+    (takes_more made other last here which, refl, refl, refl, refl),
+    ends_taken ago to (made ++ other ∷ []) now event most (last_behind made other ∙ here) at each
+        (λ before one same. ends before one (same ∙ append_assoc made (other ∷ []) (event ∷ now))),
+  )
+
+  taken_ends : (made now : List Timed) (past to : Past) → AllNow now → HasSettled n made past time → IsCalm n made
+      → NothingLapses n.params → TakesSeveral n made now
+      → ((before : List Timed) (event : Timed) → before ++ event ∷ [] ≡ made ++ now → event.at ≡ time
+      → TakesMore n before event time silent_from
+      → EventLeads n before (Fewer made time (sync_paths n made).delay silent_from) event to)
+      → LeadOn n made past now to
+  taken_ends made [] past to at settled calm off none ends = absurd none
+  taken_ends made (event ∷ []) past to at settled calm off none ends = absurd none
+  taken_ends made (event ∷ other ∷ now) past to (here, at) settled calm off (any, others) ends = (
+    past,
+    inl refl,
+    Fewer made time (sync_paths n made).delay silent_from,
+    first_taken made event past here (subst (HasSettled n made past) (sym here) settled) calm off any,
+    ends_taken made to (made ++ event ∷ []) now other (sync_paths n made).delay (last_behind made event ∙ here) at
+        others (λ before one same. ends before one (same ∙ append_assoc made (event ∷ []) (other ∷ now))),
+  )
 
   pub taken_clears : (made now : List Timed) (past : Past) (since right old : ℕ) → AllNow now
       → HasSettled n made past time → IsCalm n made → NothingLapses n.params → TakesSeveral n made now
       → MovesNoneInAll n made (made ++ now) → (sync_paths n made).systems ≤ 255
       → Clears made (made ++ now) since right old → LeadOn n made past now (Cleared made since silent_from right old)
-  taken_clears made [] past since right old at settled calm off none leaves few clears = absurd none
-  taken_clears made (event ∷ []) past since right old at settled calm off none leaves few clears = absurd none
-  taken_clears made (event ∷ other ∷ now) past since right old (here, at) settled calm off (any, others) leaves few
-      clears =
-      let all : (made ++ event ∷ []) ++ other ∷ now ≡ made ++ event ∷ other ∷ now =
-      append_assoc made (event ∷ []) (other ∷ now) in (
-        past,
-        inl refl,
-        Fewer made time (sync_paths n made).delay silent_from,
-        first_taken made event past here (subst (HasSettled n made past) (sym here) settled) calm off any,
-        clear_taken made (made ++ event ∷ []) now other (sync_paths n made).delay since right old
-            (last_behind made event ∙ here) at others (subst (MovesNoneInAll n made) (sym all) leaves) few
-            (subst (λ es. Clears made es since right old) (sym all) clears),
-      )
+  taken_clears made now past since right old at settled calm off takes leaves few clears =
+      taken_ends made now past (Cleared made since silent_from right old) at settled calm off takes
+      (λ before event same here more. (
+        more,
+        refl,
+        refl,
+        subst (MovesNoneInAll n made) (sym same) leaves,
+        few,
+        subst (λ t. TellsAnew n (before ++ event ∷ []) t since right old
+            ⊎ LosesFartherNow n made (before ++ event ∷ []) t since right old) (sym here)
+            (subst (λ es. Clears made es since right old) (sym same) clears),
+      ))
+
+  -- and it ages where no system is moved at all
+  pub taken_aging : (made now : List Timed) (past : Past) (aged : ℕ) → AllNow now → HasSettled n made past time
+      → IsCalm n made → NothingLapses n.params → TakesSeveral n made now
+      → AgesTaken n made (made ++ now) time aged silent_from → LeadOn n made past now (Aging made aged silent_from)
+  taken_aging made now past aged at settled calm off takes ages =
+      taken_ends made now past (Aging made aged silent_from) at settled calm off takes
+      (λ before event same here more. (
+        more,
+        refl,
+        refl,
+        subst (λ es. AgesTaken n made es time aged silent_from) (sym same) ages,
+      ))
+
+  -- the last of them comes then
+  last_taken : (made now : List Timed) → AllNow now → TakesSeveral n made now → last_change (made ++ now) ≡ time
+  last_taken made [] at none = absurd none
+  last_taken made (event ∷ now) at takes = last_at made event now time at
+
+  -- so it does as long as what came over silent links is held
+  pub heard_aging : (made now : List Timed) (past : Past) (span : ℕ) → AllNow now → HasSettled n made past time
+      → IsCalm n made → NothingLapses n.params → TakesHeard n made now
+      → AgesWithin n made (made ++ now) (last_change (made ++ now)) span
+      → LeadOn n made past now (Aging made (suc (time + span)) silent_from)
+  heard_aging made now past span at settled calm off (takes, leaves, none, few, flies) within =
+      let last = last_taken made now at takes in
+      taken_aging made now past (suc (time + span)) at settled calm off takes (record {
+        leaves = leaves;
+        none = none;
+        few = few;
+        flight = subst (FliesInTime n made) last flies;
+        span = span;
+        within = subst (λ t. AgesWithin n made (made ++ now) t span) last within;
+        gone = refl;
+        unanswered = refl;
+      })
 
   -- once what is old is gone, and a way is over, it has come to rest
   rests_cleared : NothingLapses n.params → (made now : List Timed) (past : Past) (rest since right old : ℕ) → AllNow now
@@ -213,11 +254,6 @@ module _ (n : NetworkState) (time : ℕ) where
         );
       }
 
-  -- the last of them comes then
-  last_taken : (made now : List Timed) → AllNow now → TakesSeveral n made now → last_change (made ++ now) ≡ time
-  last_taken made [] at none = absurd none
-  last_taken made (event ∷ now) at takes = last_at made event now time at
-
   -- so it does once right traces have been told, or what was in flight is gone
   pub taken_rests : NothingLapses n.params → (made now : List Timed) (past : Past) (rest : ℕ) → AllNow now
       → HasSettled n made past time → IsCalm n made → IsCalm n (made ++ now) → RestsTaken n made now rest
@@ -243,3 +279,15 @@ module _ (n : NetworkState) (time : ℕ) where
       let goes = subst (λ t. FlightIsGoneFrom n made t gone) (last_taken made now at takes) is_gone in
       rests_cleared off made now past rest since 0 (time + gone) at settled calm calm_now takes leaves few
       (inr (loses, before, refl, (gone, goes, refl))) (omega (arith, long)) (omega (arith, before, less)) dark
+
+  -- and so it does once right traces have been told since what came over silent links has aged
+  pub heard_rests : IsNetwork n → NothingLapses n.params → (made now : List Timed) (past : Past) (rest : ℕ) → AllNow now
+      → HasSettled n made past time → IsCalm n made → IsCalm n (made ++ now) → TakesHeard n made now
+      → RestsOnceAged n made now rest → IsLed n made now past (suc (time + rest))
+  heard_rests network off made now past rest at settled calm calm_now heard
+      (gone, flight, (held, (span, within, is), long)) =
+      let b = silence_span (pace_of n) in
+      let echo = max (echo_span (pace_of n) (sync_paths n (made ++ now))) gone in
+      aged_led n network off time made now past rest at calm calm_now settled (last_taken made now at heard.0) span
+      (heard_aging made now past span at settled calm off heard within) gone flight
+      (subst (λ h. max b (h + 1 + echo) ≤ rest) is long)

@@ -19,6 +19,7 @@ use Rattle.gptp_model.specs.Acts.{Acts}
 use Rattle.gptp_model.specs.declared.done.Done.{Done}
 use Rattle.gptp_model.specs.World.{WorldState, port_id}
 use Rattle.gptp_network.specs.Document.{DocumentState}
+use Rattle.gptp_bmca_machine.specs.Frame.{Announce}
 use Rattle.gptp_bmca_machine.specs.LossLaws.{EverythingFits, Unmoved}
 use Rattle.gptp_bmca_machine.specs.Network.{Network}
 use Rattle.gptp_bmca_machine.proofs.StillLemmas.{StillSettles}
@@ -33,15 +34,16 @@ use Rattle.gptp_invariants.proofs.WorldStandsLemmas.{stands_well}
 use Rattle.gptp_theorem.specs.PlayedLaws.{IsMade, IsPlayable}
 use Rattle.gptp_theorem.proofs.SyncPathLemmas.{paths_stand}
 use Rattle.gptp_settling_time.specs.Arrivals.{arrived_by}
-use Rattle.gptp_settling_time.specs.EventKinds.{MakesNothing, TurnsInVain}
+use Rattle.gptp_settling_time.specs.EventKinds.{FliesInTime, MakesNothing, TurnsInVain}
 use Rattle.gptp_settling_time.specs.Leads.{LosesNow, TakesAny, TakesMore}
 use Rattle.gptp_settling_time.specs.Losses.{AreSilentAfter, LosesAny, LowersUnused}
 use Rattle.gptp_settling_time.proofs.AgingClaimedLemmas.{aging_network}
 use Rattle.gptp_settling_time.proofs.AgingStillLemmas.{IsEmptied, still_emptied, still_settled}
+use Rattle.gptp_settling_time.proofs.BeforeLossLemmas.{StaysShort, each_begins, used_ways}
 use Rattle.gptp_settling_time.proofs.ClearsLemmas.{ready_asked}
 use Rattle.gptp_settling_time.proofs.FailedHeardLemmas.{delay_within}
 use Rattle.gptp_settling_time.proofs.GainLemmas.{lives_so, up_so}
-use Rattle.gptp_settling_time.proofs.GoneBeforeLemmas.{IsGoneByDelay, limited_weaker, loses_sets_none, more_sets_none, up_any, up_itself, up_more, used_limited}
+use Rattle.gptp_settling_time.proofs.GoneBeforeLemmas.{IsGoneByDelay, limited_weaker, loses_sets_none, more_sets_none, prompt_limited, up_any, up_itself, up_more, used_limited}
 use Rattle.gptp_settling_time.proofs.KeptToLemmas.{KeepsTo}
 use Rattle.gptp_settling_time.proofs.LeftClaimedLemmas.{HaveAskedBy}
 use Rattle.gptp_settling_time.proofs.LeftToLemmas.{up_in_use}
@@ -56,16 +58,18 @@ use Rattle.gptp_settling_time.proofs.SinceSetLemmas.{AreLimitedBy, limited_unset
 use Rattle.gptp_settling_time.proofs.TakenClaimedLemmas.{IsTakenAlways, taken_after}
 use Rattle.gptp_settling_time.proofs.TakenDownLossLemmas.{down_taken}
 use Rattle.gptp_settling_time.proofs.TakenFailLossLemmas.{fail_taken}
-use Rattle.gptp_settling_time.proofs.TakenToLemmas.{IsTakenTo, way_ago}
+use Rattle.gptp_settling_time.proofs.TakenSeenLemmas.{EachIsSo}
+use Rattle.gptp_settling_time.proofs.TakenToLemmas.{IsTakenTo, says_short, way_ago}
 use Rattle.gptp_settling_time.proofs.WereSoundLemmas.{were_sound_begins}
 use Rattle.gptp_settling_time.proofs.WorldMovesLemmas.{alike_so}
 
 -- ---- it begins
 
 -- What is claimed of a world that has settled, by its own snapshot.
-module _ (p : SettlingParams) (start since most silent : ℕ) (w : WorldState)
+module _ (p : SettlingParams) (So : Announce → Type 0) (start since most silent : ℕ) (w : WorldState)
     (losing : IsLosing p start since most silent w) (seen : IsSettledSeen p w) (sound : IsSoundWorld w)
-    (over : pred (path_bound (snapshot_of w)) * delay_in w ≤ w.time) where
+    (over : pred (path_bound (snapshot_of w)) * delay_in w ≤ w.time)
+    (each : EachIsSo says_announce (aging_network p silent w) So (view w)) where
   abbrev g : Snapshot
   g = snapshot_of w
 
@@ -105,7 +109,7 @@ module _ (p : SettlingParams) (start since most silent : ℕ) (w : WorldState)
       subst (λ h. StillSettles says_announce h seen.n d (view w)) seen.graph
       (still_settled says_announce seen.n (view w) seen.net seen.calm seen.invariant seen.late d)
 
-  pub taken_begins : IsTakenAlways p g silent w
+  pub taken_begins : IsTakenAlways p g So silent w
   taken_begins = record {
     well = well;
     systems = λ s member. member;
@@ -115,6 +119,7 @@ module _ (p : SettlingParams) (start since most silent : ℕ) (w : WorldState)
       fits = fits;
       itself = itself_begins says_announce n g (view w) sound;
       were = were_sound_begins says_announce g n (view w) well sound fits;
+      each = each;
       still = still_emptied says_announce g seen.n n well
           (record {
             place = seen.same.place;
@@ -153,28 +158,33 @@ module _ (d : DocumentState) (playable : IsPlayable d) (made : List Timed) (even
   came_so : (change : Change) → is.change ≡ change → Acts (Changing change) then draws done w'
   came_so change same = subst (λ act. Acts act then draws done w') (is.act ∙ ap Changing same) acts
 
-  module _ (before : Snapshot) (start since most silent : ℕ) (losing : IsLosing p start since most silent then)
+  module _ (before : Snapshot) (ago : List Timed) (start since most silent : ℕ)
+      (losing : IsLosing p start since most silent then)
       (away : TakesAway p start silent then w') (lost' : IsLostAlways p since most silent w') (later : since < silent)
-      (taken : IsTakenAlways p before silent then) where
+      (taken : IsTakenAlways p before (StaysShort n_of ago since) silent then) where
+    abbrev short : Announce → Type 0
+    short = StaysShort n_of ago since
+
     shorter : delay_in w' ≤ delay_in then
     shorter = takes_shorter p start silent then w' away
 
     -- a link goes down that is up
     lowered : (number port : ℕ) → (k : Acts (Changing (LinkDown number port)) then draws done w')
-        → k.1.channel.up ≡ true → IsTakenAlways p before silent w'
+        → k.1.channel.up ≡ true → IsTakenAlways p before short silent w'
     lowered number port k up =
         let now = losing.now in
-        down_taken p before silent number port then draws done w' world_then after.claim.world k up losing.standing
+        down_taken p before short silent number port then draws done w' world_then after.claim.world k up
+        losing.standing
         (λ by. asked_are_heard p start by then losing.asked) losing.quiet lost'.standing
         (λ by. asked_are_heard p since by w' lost'.asked) lost'.quiet losing.off shorter (omega (arith, now, later))
-        taken
+        (says_short d ago made since then keeps) (says_short d ago more since w' after) taken
 
     -- a system or a link in use is taken away
-    taken_by : TakesAny n_of made event → IsTakenAlways p before silent w'
+    taken_by : TakesAny n_of made event → IsTakenAlways p before short silent w'
     taken_by (loses, other) = by is.change refl (subst (LosesAny n_of made) is.act loses)
       where
         by : (change : Change) → is.change ≡ change → LosesAny n_of made (Changing change)
-            → IsTakenAlways p before silent w'
+            → IsTakenAlways p before short silent w'
         by (LinkDown number port) same used =
             let came = came_so (LinkDown number port) same in
             lowered number port came
@@ -182,7 +192,7 @@ module _ (d : DocumentState) (playable : IsPlayable d) (made : List Timed) (even
             came.1.place came.1.channel came.1.is)
         by (Fail number) same lives =
             let came = came_so (Fail number) same in
-            fail_taken p before silent number then draws done w' world_then after.claim.world came
+            fail_taken p before short silent number then draws done w' world_then after.claim.world came
             (lives_so n_of made then keeps.stands world_then.sound number lives came.1.place came.1.station
             (record { here = came.1.is.here; named = came.1.is.named })) lost'.standing
             (λ by. asked_are_heard p since by w' lost'.asked) lost'.quiet losing.off shorter taken
@@ -193,7 +203,7 @@ module _ (d : DocumentState) (playable : IsPlayable d) (made : List Timed) (even
         by (Inject number port octets) same none = absurd none
 
     -- a link of which an end has failed goes down
-    lowered_by : LowersUnused n_of made event → IsTakenAlways p before silent w'
+    lowered_by : LowersUnused n_of made event → IsTakenAlways p before short silent w'
     lowered_by x =
         let came : Acts (Changing (LinkDown x.clock x.port)) then draws done w' =
         subst (λ act. Acts act then draws done w') x.act acts in
@@ -212,6 +222,16 @@ module _ (d : DocumentState) (playable : IsPlayable d) (made : List Timed) (even
       (used_limited p then world_then seen (up_in_use d made then keeps used))
   flies_limited gone since now (inr (within, (most, bounded, arrived))) seen =
       limited_weaker (arrived_by most made) (since + gone) then arrived (keeps.limited most bounded)
+
+  -- so is all by its own link, where each that is up is in use or what was in flight as one was set has arrived
+  flies_prompt : (start since most silent : ℕ) → IsLosing p start since most silent then → then.time ≡ since
+      → FliesInTime n_of made since → AreLimitedBy since then
+  flies_prompt start since most silent losing now (inl used) =
+      limited_weaker then.time since then (omega (arith, now))
+      (prompt_limited p silent then losing.standing (λ by. asked_are_heard p start by then losing.asked) losing.quiet
+      (up_in_use d made then keeps used))
+  flies_prompt start since most silent losing now (inr (most_set, within, arrived)) =
+      limited_weaker (arrived_by most_set made) since then arrived (keeps.limited most_set within)
 
   -- ports that asked by a time before did so still
   asks_still : (start silent : ℕ) → start ≤ event.at → TakesAway p start silent then w' → HaveAskedBy start w'
@@ -250,8 +270,18 @@ module _ (d : DocumentState) (playable : IsPlayable d) (made : List Timed) (even
             (loses_sets_none n_of playable.network made event.act any.0) acts
             (flies_limited gone since (at_time ∙ sym here) flight seen);
         later = later;
-        is = taken_by (snapshot_of then) start since most silent losing away lost.is later
-            (taken_begins p start since most silent then losing seen rest.sound (omega (arith, over, at_time))) any;
+        prompt = λ flies.
+            limited_unset since event.act then draws done w'
+            (loses_sets_none n_of playable.network made event.act any.0) acts
+            (flies_prompt start since most silent losing (at_time ∙ sym here) flies);
+        ways = used_ways n_of made then keeps.stands world_then.sound;
+        is = taken_by (snapshot_of then) made start since most silent losing away lost.is later
+            (taken_begins p (StaysShort n_of made since) start since most silent then losing seen rest.sound
+            (omega (arith, over, at_time))
+            (each_begins n_of made then world_then keeps.stands keeps.claim.pace.largest keeps.named since
+            (at_time ∙ sym here) (aging_network p silent then) refl
+            (taken_after p silent then losing.standing (λ by. asked_are_heard p start by then losing.asked) losing.quiet
+            losing.off (delay_within p then then.time world_then (omega (arith, over, at_time)))).calm)) any;
       }
 
   -- and more at that time
@@ -268,10 +298,14 @@ module _ (d : DocumentState) (playable : IsPlayable d) (made : List Timed) (even
     limited = λ gone flight.
         limited_unset (since + gone) event.act then draws done w'
         (more_sets_none n_of playable.network made ago event so.up since silent more_now) acts (so.limited gone flight);
+    prompt = λ flies.
+        limited_unset since event.act then draws done w'
+        (more_sets_none n_of playable.network made ago event so.up since silent more_now) acts (so.prompt flies);
+    ways = so.ways;
     later = so.later;
     is = elim which [
-      | inl (any, unanswered) ↦ taken_by so.before start since most silent losing away lost.is so.later so.is any
-      | inr lowers ↦ lowered_by so.before start since most silent losing away lost.is so.later so.is lowers
+      | inl (any, unanswered) ↦ taken_by so.before ago start since most silent losing away lost.is so.later so.is any
+      | inr lowers ↦ lowered_by so.before ago start since most silent losing away lost.is so.later so.is lowers
     ];
   }
     where

@@ -1,7 +1,7 @@
 -- Worlds of documents since links or systems were taken away at a time, whoever was moved between.
 use Rattle.std.proofs.Common.{◌≡◌, ◌<◌, ◌≤◌, ◌+◌, ◌-◌, ◌*◌, ℕ, pred, Option, List, subst, inl, inr, arith}
 use Rattle.gptp_graph.specs.PathBound.{path_bound}
-use Rattle.gptp_graph.specs.Snapshot.{Snapshot}
+use Rattle.gptp_graph.specs.Snapshot.{Joins, PortIdentity, Snapshot}
 use Rattle.gptp_links.specs.declared.bounds.Bounds.{Bounds}
 use Rattle.gptp_scenario.specs.Network.{NetworkState, pace_of}
 use Rattle.gptp_scenario.specs.SettlingTime.{way_span}
@@ -18,6 +18,8 @@ use Rattle.gptp_network.specs.Snapshot.{StandsAfter}
 use Rattle.gptp_network.proofs.ExistenceLemmas.{stands_after}
 use Rattle.gptp_world.specs.Transitions.{ActTrace}
 use Rattle.gptp_world.proofs.SettlingInvariantLemmas.{next_octet}
+use Rattle.gptp_bmca_machine.specs.Frame.{Announce}
+use Rattle.gptp_invariants.specs.ChoiceView.{view}
 use Rattle.gptp_invariants.specs.ChoiceCalm.{delay_in, sync_paths_of}
 use Rattle.gptp_invariants.specs.ChoiceSettled.{ChoiceStands, Settled}
 use Rattle.gptp_invariants.specs.WorldBounded.{IsBoundedWorld}
@@ -28,14 +30,18 @@ use Rattle.gptp_theorem.specs.PlayedLaws.{IsPlayable}
 use Rattle.gptp_theorem.proofs.AlikeLemmas.{clock_among}
 use Rattle.gptp_theorem.proofs.CalmKeptLemmas.{no_change}
 use Rattle.gptp_theorem.proofs.SyncPathLemmas.{paths_stand}
+use Rattle.gptp_settling_time.specs.EventKinds.{FliesInTime}
 use Rattle.gptp_settling_time.specs.Losses.{MovesNoneInAll, NoneSilent}
+use Rattle.gptp_settling_time.proofs.BeforeLossLemmas.{IsUsedWay, StaysShort, tells_short}
 use Rattle.gptp_settling_time.proofs.FitsLemmas.{IsLeftUnmoved}
 use Rattle.gptp_settling_time.proofs.GoneBeforeLemmas.{IsGoneByDelay, UpSince}
+use Rattle.gptp_settling_time.proofs.KeptToLemmas.{KeepsTo}
 use Rattle.gptp_settling_time.proofs.LeftClaimedLemmas.{HaveAskedBy, asked_acts, asked_later}
 use Rattle.gptp_settling_time.proofs.LeftToLemmas.{less_way}
 use Rattle.gptp_settling_time.proofs.LostClaimedLemmas.{lost_later}
 use Rattle.gptp_settling_time.proofs.LostToLemmas.{IsLostTo, lost_to_act, lost_to_later}
 use Rattle.gptp_settling_time.proofs.SinceSetLemmas.{AreLimitedBy, limited_acts, limited_later}
+use Rattle.gptp_settling_time.proofs.TakenSeenLemmas.{TellsSo}
 use Rattle.gptp_settling_time.proofs.TakenClaimedLemmas.{IsTakenAlways, taken_acts, taken_chooses, taken_later, taken_settles}
 use Rattle.gptp_settling_time.proofs.WereSilentLemmas.{none_silent_from}
 use Rattle.gptp_settling_time.proofs.WorldMovesLemmas.{adjacent_alike, alike_so, unmoved_alike}
@@ -45,8 +51,9 @@ abbrev pub way_ago : NetworkState → List Timed → ℕ → ℕ
 way_ago n ago since = since - way_span (sync_paths n ago)
 
 -- A world of a document after these events, the last of which came at that time and took something away. What it holds
--- fits the snapshot after those before, from which the network had settled. Ports at links asked a way before. Links
--- that are up were so with the same bounds, by which what was in flight is due.
+-- fits the snapshot after those before, from which the network had settled, and is held no longer than what was told
+-- then. Ports at links asked a way before. Links that are up were so with the same bounds, by which what was in flight
+-- is due.
 pub record IsTakenTo (d : DocumentState) (ago events : List Timed) (since most silent : ℕ) (w : WorldState)
     : Type 0 where
   pub lost : IsLostTo d ago events since most silent w
@@ -56,14 +63,22 @@ pub record IsTakenTo (d : DocumentState) (ago events : List Timed) (since most s
   pub asked : HaveAskedBy (way_ago d.network ago since) w
   pub up : UpSince d.network ago events
   pub limited : (gone : ℕ) → IsGoneByDelay d.network ago since gone → AreLimitedBy (since + gone) w
+  pub prompt : FliesInTime d.network ago since → AreLimitedBy since w
+  pub ways : (from to : PortIdentity) → Joins before from to → IsUsedWay d.network ago from to
   pub later : since < silent
-  pub is : IsTakenAlways (pace_of d.network) before silent w
+  pub is : IsTakenAlways (pace_of d.network) before (StaysShort d.network ago since) silent w
+
+-- what a world's ports announce is held no longer
+pub says_short : (d : DocumentState) (ago events : List Timed) (since : ℕ) (w : WorldState) → KeepsTo d events w
+    → TellsSo (StaysShort d.network ago since) (view w)
+says_short d ago events since w keeps =
+    tells_short d.network events w keeps.claim.world keeps.stands keeps.claim.pace.largest ago since
 
 module _ (d : DocumentState) (ago events : List Timed) (since most silent : ℕ) where
   pub taken_to_later : (w : WorldState) (time : ℕ) → w.time ≤ time → NothingBefore time w.net.pending
       → IsTakenTo d ago events since most silent w → IsTakenTo d ago events since most silent (at time w)
   taken_to_later w time later first so = record {
-    lost = lost_to_later d ago events since most silent w time later first so.lost;
+    lost = lost_later_to;
     before = so.before;
     alike = so.alike;
     way = so.way;
@@ -71,9 +86,15 @@ module _ (d : DocumentState) (ago events : List Timed) (since most silent : ℕ)
         so.asked;
     up = so.up;
     limited = λ gone flight. limited_later (since + gone) w time later (so.limited gone flight);
+    prompt = λ flies. limited_later since w time later (so.prompt flies);
+    ways = so.ways;
     later = so.later;
-    is = taken_later (pace_of d.network) so.before since most silent time w later first so.lost.is so.is;
+    is = taken_later (pace_of d.network) so.before (StaysShort d.network ago since) since most silent time w later first
+        so.lost.is (says_short d ago events since (at time w) lost_later_to.keeps) so.is;
   }
+    where
+      lost_later_to : IsLostTo d ago events since most silent (at time w)
+      lost_later_to = lost_to_later d ago events since most silent w time later first so.lost
 
   pub taken_to_act : {F : Type 0} (answers : Bounds → ℕ → F → Option ℕ → F → Type 0) (t : ActTrace) (fate drawn : F)
       (w : WorldState) → IsNextAct w t.told.timed → WasDone answers t.told.timed fate drawn w t.after t.told.done
@@ -99,11 +120,25 @@ module _ (d : DocumentState) (ago events : List Timed) (since most silent : ℕ)
         limited = λ gone flight.
             limited_acts (since + gone) timed.act (at timed.at w) was.draws t.told.done t.after none was.acts
             (limited_later (since + gone) w timed.at now (so.limited gone flight));
+        prompt = λ flies.
+            limited_acts since timed.act (at timed.at w) was.draws t.told.done t.after none was.acts
+            (limited_later since w timed.at now (so.prompt flies));
+        ways = so.ways;
         later = so.later;
-        is = taken_acts p so.before since most silent timed.act (at timed.at w) was.draws t.told.done t.after none
+        is = taken_acts p so.before short since most silent timed.act (at timed.at w) was.draws t.told.done t.after none
             (next_octet next.item timed.act w next.act) was.acts then
-            (taken_later p so.before since most silent timed.at w now first so.lost.is so.is);
+            (says_short d ago events since t.after lost.keeps)
+            (taken_later p so.before short since most silent timed.at w now first so.lost.is
+            (says_short d ago events since (at timed.at w) lost_then.keeps) so.is);
       }
+    where
+      short : Announce → Type 0
+      short = StaysShort d.network ago since
+
+      lost_then : IsLostTo d ago events since most silent (at t.told.timed.at w)
+      lost_then =
+          lost_to_later d ago events since most silent w t.told.timed.at was.ready.timely.now was.ready.timely.first
+          so.lost
 
   -- where no system is moved in all
   module _ (w : WorldState) (so : IsTakenTo d ago events since most silent w) (playable : IsPlayable d)
@@ -143,11 +178,13 @@ module _ (d : DocumentState) (ago events : List Timed) (since most silent : ℕ)
       -- its choice stands
       pub taken_to_chooses : ChoiceStands w
       taken_to_chooses =
-          taken_chooses (pace_of d.network) so.before since most silent w so.lost.is so.is taken_to_left taken_to_way
+          taken_chooses (pace_of d.network) so.before (StaysShort d.network ago since) since most silent w so.lost.is
+          so.is taken_to_left taken_to_way
           quiet
 
       -- it has settled
       pub taken_to_settled : Settled w × IsBoundedWorld w
       taken_to_settled =
-          taken_settles (pace_of d.network) so.before since most silent w so.lost.is so.is taken_to_left taken_to_way
+          taken_settles (pace_of d.network) so.before (StaysShort d.network ago since) since most silent w so.lost.is
+          so.is taken_to_left taken_to_way
           quiet

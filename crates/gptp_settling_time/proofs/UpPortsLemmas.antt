@@ -50,7 +50,7 @@ module _ (p : SettlingParams) (w : WorldState) (is : IsWorld p w) where
           let up : IsUp station.system (suc place) = rw (there, runs) refl in
           is.known.links i station here live (suc place) up
 
-  held_up : (i : ℕ) (s : SeenStation) (place : ℕ) (r : SeenReception) → slice_get (view w).stations i ≡ Some s
+  pub held_up : (i : ℕ) (s : SeenStation) (place : ℕ) (r : SeenReception) → slice_get (view w).stations i ≡ Some s
       → s.live ≡ true → HoldsAt s place r → IsUpAt w (port_of s.clock (suc place))
   held_up i s place r at live holds =
       let x = station_from w.stations i s at in

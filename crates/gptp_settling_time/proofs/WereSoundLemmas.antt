@@ -81,11 +81,12 @@ module _ (says : Spelling) (g : Snapshot) (n : Network) (well : IsWellFormed g)
                 }) (holds_sound s held) is_own,
           )
 
--- so it is where systems fail and lanes are emptied
-pub were_sound_emptied : (says : Spelling) (g : Snapshot) (n n' : Network) (w w' : MachineState)
-    → ((v : ℕ) → In v (clocks n'.graph) → In v (clocks n.graph)) → IsEmptied w w' → AllWereSound says g n w
-    → AllWereSound says g n' w'
-were_sound_emptied says g n n' w w' lived emptied all = record {
+-- what is so of all that is held and in flight is so where systems fail and lanes are emptied
+pub each_at_emptied : (says : Spelling) (n n' : Network) (Q : PortIdentity → PortIdentity → Announce → Type 0)
+    (P : PortIdentity → Announce → Type 0) (w w' : MachineState)
+    → ((v : ℕ) → In v (clocks n'.graph) → In v (clocks n.graph)) → IsEmptied w w' → EachAt says n Q P w
+    → EachAt says n' Q P w'
+each_at_emptied says n n' Q P w w' lived emptied all = record {
   lanes = λ j l f a at among said known. elim (emptied.lanes j l at) [
     | inl stood ↦ all.lanes j l f a stood among said (lived l.to.clock known)
     | inr (none, down) ↦ absurd (subst (In f) none among)

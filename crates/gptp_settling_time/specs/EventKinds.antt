@@ -209,6 +209,11 @@ abbrev pub FlightIsGoneFrom : NetworkState → List Timed → ℕ → ℕ → Ty
 FlightIsGoneFrom n events time gone =
     FlightIsGone n events gone ⊎ (UpIsWithin n events gone × HasArrivedSinceSet n events (time + gone))
 
+-- What is in flight at this time is due within the greatest delay of its link: each link that is up is in use, or what
+-- was in flight as a link was last set has arrived.
+abbrev pub FliesInTime : NetworkState → List Timed → ℕ → Type 0
+FliesInTime n events time = UpIsUsed n events ⊎ HasArrivedSinceSet n events time
+
 -- what is in flight at this time is gone by another
 abbrev pub FlightIsGoneBy : NetworkState → List Timed → ℕ → ℕ → Type 0
 FlightIsGoneBy n events time old = (gone : ℕ) × FlightIsGoneFrom n events time gone × (old ≡ time + gone)

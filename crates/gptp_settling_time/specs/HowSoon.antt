@@ -24,7 +24,8 @@
 --   The choice asks for what others hold of it to age, and then for twice the greatest delay for each system of a path
 --   but one. Roles stand then too, once no port beside it is capable.
 -- - By several events systems and links are taken away, and no system is moved in all but such as are cut off. It is 0
---   where no lost link is silent.
+--   where no lost link is silent. Else, where none is moved at all, the choice stands once what came over silent links
+--   has aged, as after one failure, and roles do once no port beside a failed system is capable.
 -- - By the events anything is taken away, whatever is moved. The choice asks for the longest receipt timeout and the
 --   greatest delay for each system of a path, and then for an announce interval and the greatest delay for each but
 --   one. Roles stand then too, once the ports beside a system that failed aren't capable any more.
@@ -56,10 +57,10 @@ use Rattle.gptp_network.specs.Document.{DocumentState}
 use Rattle.gptp_network.specs.Snapshot.{events_by}
 use Rattle.gptp_settling_time.specs.Arrivals.{HasArrivedBy}
 use Rattle.gptp_settling_time.specs.Gains.{ChangesNothing, EndHasFailed, LeavesCapable, Repeats, TakesNothing}
-use Rattle.gptp_settling_time.specs.EventKinds.{AddsHeard, FlightIsGone, FlightIsGoneFrom, MakesNothing, NoneUsed, TellsNothing, UsedVaryLittle, WidensLink}
+use Rattle.gptp_settling_time.specs.EventKinds.{AddsHeard, FliesInTime, FlightIsGone, FlightIsGoneFrom, MakesNothing, NoneUsed, TellsNothing, UsedVaryLittle, WidensLink}
 use Rattle.gptp_settling_time.specs.Leads.{TakesAny}
 use Rattle.gptp_settling_time.specs.Rests.{FlightIsGoneSince, turned_echo_span}
-use Rattle.gptp_settling_time.specs.Losses.{AgesWithin, CutsFarEnd, FailsFarEnd, FailsHeard, LeavesChoice, LosesAny, LowersLink, LowersUnused, MovesNoneInAll, NoneSilent, TurnsLink, UpIsUsed}
+use Rattle.gptp_settling_time.specs.Losses.{AgesWithin, CutsFarEnd, FailsFarEnd, FailsHeard, LeavesChoice, LosesAny, LowersLink, LowersUnused, MovesNoneInAll, NoneIsMoved, NoneSilent, TurnsLink, UpIsUsed}
 use Rattle.gptp_settling_time.specs.TreeLosses.{CutsAllBeyondFrom, FailsTrees, FallsTree, LeavesAloneFrom, LosesFartherFrom, TurnsTreeLink}
 
 -- ---- times
@@ -372,6 +373,19 @@ BoundsTaken n made now choice roles =
     ⊎ (LosesFartherFrom n made (made ++ now) × ((sync_paths n made).systems ≤ 255)
     × (roles ≡ silence_span (pace_of n))))
 
+-- several systems and links are taken away, and no system is moved in all; what was in flight was due in time
+abbrev pub TakesHeard : NetworkState → List Timed → List Timed → Type 0
+TakesHeard n made now =
+    TakesSeveral n made now × MovesNoneInAll n made (made ++ now) × NoneIsMoved n made (made ++ now)
+    × ((sync_paths n made).systems ≤ 255)
+    × FliesInTime n made (last_change (made ++ now))
+
+-- Then the choice stands once nothing is held that came over a silent link to a far end that lives. Roles do once no
+-- port beside a failed system is capable.
+abbrev pub BoundsTakenHeard : NetworkState → List Timed → List Timed → ℕ → ℕ → Type 0
+BoundsTakenHeard n made now choice roles =
+    TakesHeard n made now × HeldFor n made now choice × (roles ≡ silence_span (pace_of n))
+
 -- What the events of a time take away asks for so much: of the choice, and of the roles.
 abbrev pub BoundsLoss : NetworkState → List Timed → List Timed → ℕ → ℕ → Type 0
 BoundsLoss n made now choice roles =
@@ -379,7 +393,8 @@ BoundsLoss n made now choice roles =
     ⊎ (BoundsFailed n made now choice roles
     ⊎ (BoundsTurned n made now choice roles
     ⊎ (BoundsHeard n made now choice roles
-    ⊎ (BoundsAnyLoss n made now choice roles ⊎ BoundsTaken n made now choice roles))))
+    ⊎ (BoundsAnyLoss n made now choice roles
+    ⊎ (BoundsTaken n made now choice roles ⊎ BoundsTakenHeard n made now choice roles)))))
 
 -- The events of a time take something away, and ask for what `Asks` says. Nothing lapses for want of Sync. The network
 -- is calm, and the events come once the time before has come to rest, by one of its bounds.
@@ -447,17 +462,22 @@ BoundsSplit n choice roles made now =
 
 -- ---- rest
 
--- How much later a network has come to rest after a system failed that others hear. At once right traces are told where
--- each link that is up is in use. Else they are 1 ns later than what they hold of it has aged, or no port beside it is
--- capable; and roles have to stand.
+-- How much later a network has come to rest where something is held of what is gone: 1 ns later than that has aged, or
+-- no port beside a failed system is capable, right traces are told. Roles have to stand too.
+abbrev pub RestsOnceAged : NetworkState → List Timed → List Timed → ℕ → Type 0
+RestsOnceAged n made now rest =
+    (gone : ℕ) × FlightIsGone n (made ++ now) gone
+    × ((held : ℕ) × HeldFor n made now held
+    × (max (silence_span (pace_of n)) (held + 1 + max (echo_span (pace_of n) (sync_paths n (made ++ now))) gone)
+    ≤ rest))
+
+-- How much later it has after a system failed that others hear. At once right traces are told where each link that is
+-- up is in use.
 abbrev pub RestsOnceTold : NetworkState → List Timed → List Timed → ℕ → Type 0
 RestsOnceTold n made now rest =
     (UpIsUsed n (made ++ now)
     × (max (echo_span (pace_of n) (sync_paths n (made ++ now))) (sync_paths n (made ++ now)).delay ≤ rest))
-    ⊎ ((gone : ℕ) × FlightIsGone n (made ++ now) gone
-    × ((held : ℕ) × HeldFor n made now held
-    × (max (silence_span (pace_of n)) (held + 1 + max (echo_span (pace_of n) (sync_paths n (made ++ now))) gone)
-    ≤ rest)))
+    ⊎ RestsOnceAged n made now rest
 
 -- How much later a network has come to rest after a loss by which one system is moved at most, but for such as are cut
 -- off. After the loss of a far end what was in flight has to be gone. Where it fails and a lost link is silent, roles
@@ -499,7 +519,9 @@ RestsTaken n made now rest =
 
 abbrev pub RestsAfterLoss : NetworkState → List Timed → List Timed → ℕ → Type 0
 RestsAfterLoss n made now rest =
-    RestsAfterOneLoss n made now rest ⊎ (RestsAfterAnyLoss n made now rest ⊎ RestsTaken n made now rest)
+    RestsAfterOneLoss n made now rest
+    ⊎ (RestsAfterAnyLoss n made now rest
+    ⊎ (RestsTaken n made now rest ⊎ (TakesHeard n made now × RestsOnceAged n made now rest)))
 
 -- After a tree fell back it has come to rest once the tree has settled and what was in flight is gone.
 abbrev pub RestsTree : NetworkState → ℕ → List Timed → Type 0

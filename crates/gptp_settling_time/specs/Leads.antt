@@ -29,10 +29,10 @@ use Rattle.gptp_scenario.specs.declared.change.Timed.{Timed}
 use Rattle.gptp_scenario.specs.declared.network.LinkSpec.{LinkSpec}
 use Rattle.gptp_settling_time.specs.Arrivals.{HasArrivedBy}
 use Rattle.gptp_settling_time.specs.Gains.{AreCapableAnyway, AreCapableNext, AreCapableStill, HasRested, IdleNow, RepeatsNow, TakesNothing}
-use Rattle.gptp_settling_time.specs.Losses.{AgesWithin, AreSilentAfter, LosesAny, LowersUnused, MovesNoneInAll}
+use Rattle.gptp_settling_time.specs.Losses.{AgesWithin, AreSilentAfter, LosesAny, LowersUnused, MovesNoneInAll, NoneIsMoved}
 use Rattle.gptp_settling_time.specs.TreeLosses.{FailsTrees, LosesFartherFrom}
 use Rattle.gptp_settling_time.specs.Pasts.{Aging, AnyPast, Cleared, Fallen, Fewer, Gained, Heard, Left, Lost, Past, Split, Starting, Turned, TurnedTree}
-use Rattle.gptp_settling_time.specs.EventKinds.{AddsHeard, ClearsBy, FailsNow, FallsCalm, FlightIsGoneBy, HasSettledAnyhow, HasSettledHeard, HasSettledSince, IsDownNow, IsDownOrIdle, LeavesSettled, LeavesStanding, LowersUnusedCalm, MakesNothing, StartsWith, TellsAnew, TellsNothing, TurnsCalm, TurnsTreeCalm, UsedVaryLittle, WidensFrom}
+use Rattle.gptp_settling_time.specs.EventKinds.{AddsHeard, ClearsBy, FailsNow, FallsCalm, FliesInTime, FlightIsGoneBy, HasSettledAnyhow, HasSettledHeard, HasSettledSince, IsDownNow, IsDownOrIdle, LeavesSettled, LeavesStanding, LowersUnusedCalm, MakesNothing, StartsWith, TellsAnew, TellsNothing, TurnsCalm, TurnsTreeCalm, UsedVaryLittle, WidensFrom}
 
 -- From any past the network has rested, and its ports are capable whatever came before. From a gain, and from what is
 -- heard, they were capable from another start on.
@@ -201,7 +201,20 @@ AgesSooner n ago events aged silent = (failed : ℕ) × (span : ℕ)
     × AgesWithin n ago events failed span
     × (aged ≡ suc (failed + span))
 
--- It goes on to age where a link goes down of which an end has failed.
+-- Systems and links were taken away at a time, and no system is moved in all. What came over the links that are left
+-- silent has aged by one time, and ports beside failed systems are off by another.
+pub record AgesTaken (n : NetworkState) (ago events : List Timed) (since aged silent : ℕ) : Type 0 where
+  pub leaves : MovesNoneInAll n ago events
+  pub none : NoneIsMoved n ago events
+  pub few : (sync_paths n ago).systems ≤ 255
+  pub flight : FliesInTime n ago since
+  pub span : ℕ
+  pub within : AgesWithin n ago events since span
+  pub gone : aged ≡ suc (since + span)
+  pub unanswered : silent ≡ suc (since + silence_span (pace_of n))
+
+-- It goes on to age where a link goes down of which an end has failed. It ages, too, as the last of several systems and
+-- links is taken away, by which no system is moved in all.
 abbrev pub LeadsToAging : NetworkState → List Timed → Past → Timed → List Timed → ℕ → ℕ → Type 0
 LeadsToAging n before AnyPast event ago aged silent =
     HasSettledAnyhow n before event.at × (ago ≡ before) × FailsNow n before event aged silent
@@ -220,7 +233,9 @@ LeadsToAging n before (Aging old gone start) event ago aged silent =
     × ((aged ≡ gone) ⊎ AgesSooner n old (before ++ event ∷ []) aged start)
 LeadsToAging n before (Split old gone start) event ago aged silent = ⊥
 LeadsToAging n before (Lost old since most start) event ago aged silent = ⊥
-LeadsToAging n before (Fewer old since most start) event ago aged silent = ⊥
+LeadsToAging n before (Fewer old since most start) event ago aged silent =
+    TakesMore n before event since start × (ago ≡ old) × (silent ≡ start)
+    × AgesTaken n old (before ++ event ∷ []) since aged start
 
 -- a link in use after these events was in use after those
 abbrev pub AreUsedSince : NetworkState → List Timed → List Timed → Type 0

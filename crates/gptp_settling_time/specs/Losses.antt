@@ -61,6 +61,11 @@ pub record MovesNoneInAll (n : NetworkState) (ago events : List Timed) : Type 0 
   pub delay : (sync_paths n events).delay ≤ (sync_paths n ago).delay
   pub paths : (sync_paths n events).systems ≤ (sync_paths n ago).systems
 
+-- after more events no system that lives then is moved in all
+abbrev pub NoneIsMoved : NetworkState → List Timed → List Timed → Type 0
+NoneIsMoved n ago events = (g g' : Snapshot) (v : ℕ) → StandsAfter n ago g → StandsAfter n events g' → In v (clocks g')
+    → IsUnmoved g g' v
+
 -- After these events this one sets the priority1 of a system that lives, and the settled choice stays: no system is
 -- moved. So that system is nobody's best, before and after, or keeps its identity. No path has more than 255 systems.
 pub record LeavesChoice (n : NetworkState) (before : List Timed) (event : Timed) : Type 0 where
