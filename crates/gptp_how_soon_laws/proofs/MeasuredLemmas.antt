@@ -27,11 +27,11 @@ use Rattle.gptp_how_soon.specs.Bounds.{asked_again, choice_of_row, set_span, two
 use Rattle.gptp_how_soon.specs.Gains.{is_again}
 use Rattle.gptp_how_soon.specs.Kinds.{sets_bounds, sets_link}
 use Rattle.gptp_how_soon.specs.Links.{is_new, new_links}
-use Rattle.gptp_how_soon.specs.Losses.{fails_beside_idle, fails_first, lowers_one, takes_several, worsens_first}
+use Rattle.gptp_how_soon.specs.Losses.{fails_beside_idle, fails_first, lowers_one, takes_link, takes_several, worsens_first}
 use Rattle.gptp_how_soon.specs.Rest.{is_lowering_followed, is_worsening_followed, keeps_paths}
 use Rattle.gptp_how_soon.specs.Times.{View, events_at, gained_at, loss_at, ready_at, row_at, told_of, view_at}
 use Rattle.gptp_how_soon.specs.declared.bounds.Row.{Row}
-use Rattle.gptp_how_soon.specs.declared.bounds.Row.TheVariants.{AnyLosses, AnyPast, CutOff, FailedEnd, FailedHeard, FailureCutsOff, FailureMovesTrees, Gained, Lowered, SystemTurned, TakenApart, TakenAway, TreeFalls, TreeTurned, Unchanged}
+use Rattle.gptp_how_soon.specs.declared.bounds.Row.TheVariants.{AnyLosses, AnyPast, CutOff, FailedEnd, FailedHeard, FailureCutsOff, FailureMovesTrees, Gained, Lowered, SystemTurned, TakenApart, TakenAway, TakenHeard, TreeFalls, TreeTurned, Unchanged}
 use Rattle.gptp_how_soon.specs.declared.bounds.Settling.{Settling}
 use Rattle.gptp_how_soon.specs.declared.bounds.SettlingTime.{SettlingTime}
 use Rattle.gptp_settling_time.specs.Gains.{exchanged_from}
@@ -257,6 +257,12 @@ module _ (n : NetworkState) (network : IsNetwork n) (events : List Timed) (b : S
             ready_by true same = omega (arith, same)
             ready_by false same = omega (arith, same)
 
+    lowering_keeps : (test : Bool) → (is_lowering_followed v.paths_before v.paths v.told && test) ≡ true
+        → keeps_paths v.paths_before v.paths ≡ true
+    lowering_keeps test is =
+        first_holds (keeps_paths v.paths_before v.paths) (takes_link v.told) (lowers_one v.told)
+        (and_parts (is_lowering_followed v.paths_before v.paths v.told) test is).0
+
     -- by the row
     row_grows : (row : Row) → row_at v ≡ row → Grows (choice_of_row n (loss_at v) v.paths row (gained_at n v))
     row_grows AnyPast is = inr (let requests = (keeps_pace n network).requests in omega (arith, requests))
@@ -272,31 +278,31 @@ module _ (n : NetworkState) (network : IsNetwork n) (events : List Timed) (b : S
     row_grows Lowered is =
         let (from, lowers) = why n network events b at late Lowered is in
         kept_grows 0 (rest_so n network events b at late from)
-        (first_holds (keeps_paths v.paths_before v.paths) (lowers_one v.told) (not v.moves.moved) lowers)
+        (first_holds (keeps_paths v.paths_before v.paths) (takes_link v.told) (not v.moves.moved) lowers)
     row_grows CutOff is =
         let (from, lowers, cut) = why n network events b at late CutOff is in
         kept_grows (choice_of_row n (loss_at v) v.paths CutOff (gained_at n v))
         (rest_so n network events b at late from)
-        (first_holds (keeps_paths v.paths_before v.paths) (lowers_one v.told) (not v.moves.moved) lowers)
+        (first_holds (keeps_paths v.paths_before v.paths) (takes_link v.told) (not v.moves.moved) lowers)
     row_grows SystemTurned is =
         let (from, turns) = why n network events b at late SystemTurned is in
         kept_grows (choice_of_row n (loss_at v) v.paths SystemTurned (gained_at n v))
         (rest_so n network events b at late from)
-        (first_holds (keeps_paths v.paths_before v.paths) (lowers_one v.told) v.moves.turned turns)
+        (first_holds (keeps_paths v.paths_before v.paths) (takes_link v.told) v.moves.turned turns)
     row_grows TreeFalls is =
         let (from, falls) = why n network events b at late TreeFalls is in
         kept_grows (choice_of_row n (loss_at v) v.paths TreeFalls (gained_at n v))
         (rest_so n network events b at late from)
         (elim (or_cases (is_lowering_followed v.paths_before v.paths v.told && v.moves.falls)
         (is_worsening_followed v.paths_before v.paths v.told && v.moves.worsens) falls) [
-          | inl cut ↦ first_holds (keeps_paths v.paths_before v.paths) (lowers_one v.told) v.moves.falls cut
+          | inl cut ↦ lowering_keeps v.moves.falls cut
           | inr worse ↦ first_holds (keeps_paths v.paths_before v.paths) (worsens_first v.told) v.moves.worsens worse
         ])
     row_grows TreeTurned is =
         let (from, turns) = why n network events b at late TreeTurned is in
         kept_grows (choice_of_row n (loss_at v) v.paths TreeTurned (gained_at n v))
         (rest_so n network events b at late from)
-        (first_holds (keeps_paths v.paths_before v.paths) (lowers_one v.told) v.moves.tree_turns turns)
+        (lowering_keeps v.moves.tree_turns turns)
     row_grows FailedEnd is =
         let (from, which) = why n network events b at late FailedEnd is in
         kept_grows 0 (rest_so n network events b at late from)
@@ -325,6 +331,11 @@ module _ (n : NetworkState) (network : IsNetwork n) (events : List Timed) (b : S
         let (from, apart) = why n network events b at late TakenApart is in
         kept_grows 0 (rest_so n network events b at late from)
         (first_holds (keeps_paths v.paths_before v.paths) (takes_several v.told) v.moves.apart apart)
+    row_grows TakenHeard is =
+        let (from, ages) = why n network events b at late TakenHeard is in
+        kept_grows (choice_of_row n (loss_at v) v.paths TakenHeard (gained_at n v))
+        (rest_so n network events b at late from)
+        (first_holds (keeps_paths v.paths_before v.paths) (takes_several v.told) v.moves.ages ages)
     row_grows TakenAway is =
         let (from, taken) = why n network events b at late TakenAway is in
         kept_grows 0 (rest_so n network events b at late from)

@@ -416,7 +416,10 @@ module _ (n : NetworkState) (pace : KeepPace (pace_of n)) (made : List Timed) (e
   aging_so (Cleared ago' since' start' right' old') ago aged silent so none = absurd none
   aging_so (Split ago' gone' start') ago aged silent so none = absurd none
   aging_so (Lost ago' since' most' start') ago aged silent so none = absurd none
-  aging_so (Fewer ago' since' most' start') ago aged silent so none = absurd none
+  aging_so (Fewer ago' since' most' start') ago aged silent (from, m, earlier) (takes, same, is_silent, ages) =
+      let last = last_behind made event in
+      loss_so from (last_change more) m (omega (arith, earlier, ordered)) (omega (arith, earlier, ordered, last))
+      (takes_more from since' start' takes)
 
   -- trees are moved as a system fails
   splits_so : (start stood gone silent : ℕ) → AreMeasuredTo n made start → start ≤ stood
