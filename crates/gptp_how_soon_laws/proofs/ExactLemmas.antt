@@ -129,7 +129,8 @@ module _ {F : Type 0} (answers : Bounds → ℕ → F → Option ℕ → F → T
 
   pub kept_then : IsKept d (events_by time d.events) t
   kept_then =
-      kept_alone answers d time bound.choice next until fate first w ts t playable k member bound.bound none behind early
+      kept_alone answers d time bound.choice next until fate first w ts t playable k member bound.bound none
+      behind early
 
   module _ (steps number error : ℕ) (way : IsWayError d.network.params t.before number (suc steps) error) where
     few : suc steps < (sync_paths d.network (events_by time d.events)).systems

@@ -495,7 +495,8 @@ module _ (k : Setting) (least : ℕ) (asks : List ℕ → Request → Type 0) (r
       window_full gone first m facts inv (omega (arith, until, late))
 
   pub has_measured_by : (gone first by : ℕ) (m : Meter) → Facts k gone m.pair
-      → MeasuresBy k least asks replies first by m → by + k.window * k.period + exchange_span k < m.pair.time → HasMeasured k least m.kept.last
+      → MeasuresBy k least asks replies first by m
+      → by + k.window * k.period + exchange_span k < m.pair.time → HasMeasured k least m.kept.last
   has_measured_by gone first by m facts (inl due) late =
       let timer = facts.request_timer in absurd (omega (arith, timer, due, late))
   has_measured_by gone first by m facts (inr (since, from, until, exact)) late =

@@ -185,7 +185,8 @@ module _ (p : SettlingParams) (start next owner port : ℕ) (w : WorldState) (dr
         order = λ little. Untold (λ f member told.
             let way = other_direction at.direction in
             let (frame, among, same) = from_map link_frame_view f (world_queue way first.is.link.channel) member in
-            is_raised.untold way (lane_place at.link way) (lane_view way first.is.link.channel) (frame_view frame) told.0
+            is_raised.untold way (lane_place at.link way) (lane_view way first.is.link.channel) (frame_view frame)
+            told.0
             (lane_there w'.net.channels at.link way first.is.link.channel first.is.link.here)
             (ap port_identity_number (ends_now way))
             (In-map frame_view frame (world_queue way first.is.link.channel) among)

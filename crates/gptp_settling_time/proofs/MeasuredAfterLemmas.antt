@@ -340,7 +340,8 @@ module _ (n : NetworkState) (pace : KeepPace (pace_of n)) (made : List Timed) (e
       → Leaves n made event Anew start start
   far_leaves start from silent right old (none, inl (x, dark, flight)) =
       goes_down n made event start start x.cuts.lowers.clock x.cuts.lowers.port x.cuts.lowers.act
-  far_leaves start from silent right old (none, inr (x, dark, flight)) = fails n made event start start x.fails.clock x.fails.act
+  far_leaves start from silent right old (none, inr (x, dark, flight)) =
+      fails n made event start start x.fails.clock x.fails.act
 
   clears_so : (start since silent right old : ℕ) → AreMeasuredTo n made start → start ≤ event.at
       → ClearsBy n made event start since silent right old → AreMeasuredSince n more since
@@ -367,13 +368,15 @@ module _ (n : NetworkState) (pace : KeepPace (pace_of n)) (made : List Timed) (e
       clears_so start since silent right old so (omega (arith, settled)) clears
   cleared_so (Heard start) ago since silent right old so (settled, same, clears) =
       clears_so start since silent right old so (omega (arith, settled)) clears
-  cleared_so (Cleared made' start dark clean last) ago since silent right old so (down, same, (is_since, dark_is, right_is, old_is)) =
+  cleared_so (Cleared made' start dark clean last) ago since silent right old so
+      (down, same, (is_since, dark_is, right_is, old_is)) =
       since_so start since (omega (arith, is_since)) so
       (λ from. elim down [
         | inl (x, late) ↦ unused_down n made event from from x.lowers
         | inr idle ↦ inl idle.0
       ])
-  cleared_so (Aging made' aged dark) ago since silent right old so (down, same, is_silent, (used, is_since, right_is, old_is)) =
+  cleared_so (Aging made' aged dark) ago since silent right old so
+      (down, same, is_silent, (used, is_since, right_is, old_is)) =
       since_so (last_change made) since (omega (arith, ordered, is_since)) so
       (λ from. down_now n made event from from down)
   cleared_so (Fewer made' start most dark) ago since silent right old (from, m, earlier)
@@ -505,7 +508,8 @@ module _ (n : NetworkState) (pace : KeepPace (pace_of n)) (made : List Timed) (e
       takes_now start ago so same (omega (arith, settled)) (loses_on n made event start start x.loses)
   fewer_so (Heard start) ago since most silent so (settled, (same, x, takes, some)) =
       takes_now start ago so same settled (loses_on n made event start start x.loses)
-  fewer_so (Fewer old begun delay start) ago since most silent (from, m, earlier) (takes, same, since_is, most_is, silent_is) =
+  fewer_so (Fewer old begun delay start) ago since most silent (from, m, earlier)
+      (takes, same, since_is, most_is, silent_is) =
       let last = last_behind made event in
       let way : way_span (sync_paths n ago) ≡ way_span (sync_paths n old) =
       ap (λ es. way_span (sync_paths n es)) same in (
