@@ -47,19 +47,19 @@ kind_of_priority1 value (Some o) =
     if not o.lives || (identity_with value o == o.identity) then Idle
     else if nat_lt (identity_with value o) o.identity then Gain else Loss
 
--- Delays that are set widen a link in use where the former lie between them, and it loses nothing. Others aren't
+-- Delays that are set widen a link in use where the greatest gets no smaller, and it loses nothing. Others aren't
 -- followed yet.
-abbrev pub kind_of_link_set : ℕ → ℕ → ℕ → Option Standing → Kind
-kind_of_link_set least greatest loss None = Other
-kind_of_link_set least greatest loss (Some s) =
-    if cable_is_used s && (loss == 0) && nat_le least s.cable.bounds.min && nat_le s.cable.bounds.max greatest
+abbrev pub kind_of_link_set : ℕ → ℕ → Option Standing → Kind
+kind_of_link_set greatest loss None = Other
+kind_of_link_set greatest loss (Some s) =
+    if cable_is_used s && (loss == 0) && nat_le s.cable.bounds.max greatest
     then Wider (greatest - s.cable.bounds.max) else Other
 
 -- What a change does to the link and the system that it names. Octets that are put onto a link aren't followed yet.
 abbrev pub kind_of_change : Change → Option Standing → Option System → Kind
 kind_of_change (changes.LinkDown clock port) s o = kind_of_link_down s
 kind_of_change (changes.LinkUp clock port) s o = kind_of_link_up s
-kind_of_change (changes.LinkSet clock port least greatest loss) s o = kind_of_link_set least greatest loss s
+kind_of_change (changes.LinkSet clock port least greatest loss) s o = kind_of_link_set greatest loss s
 kind_of_change (changes.Fail clock) s o = kind_of_failure o
 kind_of_change (changes.Recover clock) s o = kind_of_recovery o
 kind_of_change (changes.Priority1 clock value) s o = kind_of_priority1 value o

@@ -130,6 +130,12 @@ fn a_link_that_gets_wider_costs_nothing(rt: HostRuntime) -> Result<(), Fail> {
         soon(&times, 60_000_000_000),
         Some((15_000_002_870, 75_000_010_070))
     );
+    // Its least delay gets larger.
+    let larger = ring(
+        rt.alloc(),
+        "[[event]]\nat = 30000000000\nkind = \"link_set\"\nclock = \"000000000000000a\"\nport = 1\nmin = 400\nmax = 500\nloss = 0\n",
+    )?;
+    assert_eq!(rt; soon(&larger, 30_000_000_000), Some((0, 32_000_009_200)));
     Ok(())
 }
 

@@ -84,14 +84,14 @@ fn kind_of_link_up(link: Option<Standing>) -> Kind
     }
 }
 
-/// What a `link_set` of these delays and this loss does to the link as it stands.
-fn kind_of_link_set(min: u64, max: u64, loss: u16, link: Option<Standing>) -> Kind
-    ensures { result ≡ kind_of_link_set min max loss link }
+/// What a `link_set` of this greatest delay and this loss does to the link as it stands, whatever its least delay.
+fn kind_of_link_set(max: u64, loss: u16, link: Option<Standing>) -> Kind
+    ensures { result ≡ kind_of_link_set max loss link }
 {
     match link {
         Some(link) => {
             let bounds = link.cable.bounds;
-            if is_used(&link) && loss == 0 && min <= bounds.min && bounds.max <= max {
+            if is_used(&link) && loss == 0 && bounds.max <= max {
                 Kind::Wider {
                     by: max.saturating_sub(bounds.max),
                 }
@@ -152,10 +152,10 @@ fn kind_of_change(change: &Change, link: Option<Standing>, system: Option<System
         Change::LinkSet {
             clock: _,
             port: _,
-            min,
+            min: _,
             max,
             loss,
-        } => kind_of_link_set(min, max, loss, link),
+        } => kind_of_link_set(max, loss, link),
         Change::Fail { clock: _ } => kind_of_failure(system),
         Change::Recover { clock: _ } => kind_of_recovery(system),
         Change::Priority1 { clock: _, value } => kind_of_priority1(value, system),

@@ -34,8 +34,8 @@ module _ (n : NetworkState) (network : IsNetwork n) where
         absurd none
     loses (acts.Change (changes.LinkSet clock port least greatest loss)) is =
         let found = link_at n network made (acts.Change (changes.LinkSet clock port least greatest loss)) in
-        let (s, found_is, none) = loss_found (IsSet least greatest loss) clock whats.LinkSet found
-        (kind_of_link_set least greatest loss found) (set_found least greatest loss found) is in
+        let (s, found_is, none) = loss_found (IsSet greatest loss) clock whats.LinkSet found
+        (kind_of_link_set greatest loss found) (set_found greatest loss found) is in
         absurd none
     loses (acts.Change (changes.Recover number)) is =
         let found = system_at n network made number in

@@ -1,6 +1,6 @@
 -- What is told of each time of a document is so: its choice and roles are choice bounds or loss bounds. The network has
 -- come to rest by a rest bound.
-use Rattle.std.proofs.Common.{◌≡◌, ◌<◌, ◌≤◌, ◌⊎◌, inl, inr, ◌+◌, ◌*◌, max, ℕ, Bool, true, false, List, [], ◌∷◌, ◌++◌, Some, None, refl, sym, ap, subst, ◌∙◌, arith}
+use Rattle.std.proofs.Common.{◌≡◌, ◌<◌, ◌≤◌, ◌⊎◌, inl, inr, ◌+◌, ◌*◌, max, suc, ℕ, Bool, true, false, List, [], ◌∷◌, ◌++◌, Some, None, refl, sym, ap, subst, ◌∙◌, arith}
 use Rattle.std.specs.Prelude.{◌==◌, if◌then◌else◌, nat_le}
 use Rattle.gptp_lists.specs.Members.{In}
 use Rattle.gptp_lists.proofs.SystemSpecLemmas.{In-left, In-parts}
@@ -15,8 +15,9 @@ use Rattle.gptp_network.specs.Document.{DocumentState}
 use Rattle.gptp_network.specs.Snapshot.{events_by}
 use Rattle.gptp_network.proofs.SnapshotLemmas.{from_filter}
 use Rattle.gptp_theorem.specs.PlayedLaws.{IsPlayable}
-use Rattle.gptp_how_soon.specs.Bounds.{aged_by, aged_echo_span, any_loss_span, arrived_by, choice_by, choice_of_row, quiet_by, roles_of_row, sound_by}
+use Rattle.gptp_how_soon.specs.Bounds.{aged_by, aged_echo_span, any_loss_span, arrived_by, choice_by, choice_of_row, quiet_by, roles_of_row, set_span, sound_by}
 use Rattle.gptp_how_soon.specs.Flight.{gone_by}
+use Rattle.gptp_how_soon.specs.Kinds.{sets_link}
 use Rattle.gptp_how_soon.specs.Links.{longest_delay}
 use Rattle.gptp_how_soon.specs.Times.{View, events_at, gained_at, last_set, loss_at, ready_at, row_at, settling_time, settling_times, settling_times_from, time_at, view_at}
 use Rattle.gptp_how_soon.specs.declared.bounds.Loss.{Loss}
@@ -26,6 +27,8 @@ use Rattle.gptp_how_soon.specs.declared.bounds.Settling.{Settling}
 use Rattle.gptp_how_soon.specs.declared.bounds.SettlingTime.{SettlingTime}
 use Rattle.gptp_settling_time.specs.HowSoon.{BesideIdle, BoundsAnyLoss, BoundsChoice, BoundsEvents, BoundsLoss, BoundsSplit, BoundsTree, FailsTreesFirst, IsChoiceBoundAfter, IsLossBoundAfter, IsRestBoundAfter, NoneBetween, RestsAfterAnyLoss, RestsAfterLoss, RestsAfterOneLoss, RestsOnceAged, RestsOnceTold, RestsSplit, RestsTaken, RestsTree, RolesAfterFailure, TakesHeard, TreeNext}
 use Rattle.gptp_settling_time.specs.EventKinds.{FlightIsGoneFrom}
+use Rattle.gptp_settling_time.specs.Measuring.{AreMeasuredBefore}
+use Rattle.gptp_topology.proofs.RestLemmas.{calm_from}
 use Rattle.gptp_settling_time.specs.Rests.{turned_echo_span}
 use Rattle.gptp_settling_time.specs.Losses.{NoneSilent}
 use Rattle.gptp_settling_time.specs.TreeLosses.{FallsTree, TurnsTreeLink}
@@ -41,6 +44,7 @@ use Rattle.gptp_how_soon_laws.proofs.RowApartLemmas.{apart_bounds, apart_rests, 
 use Rattle.gptp_how_soon_laws.proofs.RowLossLemmas.{ComesLate, CutsAll, FailsLate, FallsLate, LowersLate, TakesSome, all_cut, cut_off, failed, failure_cuts, flight_since, heard, late_stands, late_ways, left_alone, losses, lowered, none_left, taken, tree_falls, tree_turned, turned}
 use Rattle.gptp_how_soon_laws.proofs.AgedLemmas.{aged, aging, alone_rests, quiet_later, split_rests}
 use Rattle.gptp_how_soon_laws.proofs.LossBoundLemmas.{beside, greater, no_later, some_before, some_heard, some_lost, some_rested, some_trees}
+use Rattle.gptp_how_soon_laws.proofs.MeasuredLemmas.{measured_later}
 use Rattle.gptp_how_soon_laws.proofs.DownBehindLemmas.{rest_calm}
 use Rattle.gptp_how_soon_laws.proofs.RowTestLemmas.{HasComeToRest}
 use Rattle.gptp_how_soon_laws.proofs.UnmovedLemmas.{AreWell}
@@ -518,6 +522,10 @@ module _ (d : DocumentState) (playable : IsPlayable d) where
           }
     ]
 
+    -- links that are set are measured anew
+    abbrev asked : ℕ
+    asked = set_span n.params v.paths (sets_link v.told)
+
     later_so : TellsSo d playable (b.at ∷ earlier) (time_at d (Some b) at)
     later_so s is =
         let it = tells n v s is in
@@ -529,7 +537,14 @@ module _ (d : DocumentState) (playable : IsPlayable d) where
           sooner = x.sooner;
           sound = rest_so s it settles;
           rest = it.rest;
-          exact = subst (λ es. max (at + s.choice) (arrived_by (longest_delay n es) (last_set es))
+          asked = asked;
+          measured = subst (λ es. AreMeasuredBefore n es (suc (at + max s.choice asked)))
+              (sym (parted all b.at at playable.events.in_order late between))
+              (measured_later n playable.network all b at late well (calm_from n (made ++ now) it.calm) s it
+              (λ rest.
+              let told = so rest.settling rest.is in (told.asked, told.measured, told.over)));
+          over = it.over;
+          exact = subst (λ es. max (at + max s.choice asked) (arrived_by (longest_delay n es) (last_set es))
               + window_span n.params + (sync_paths n es).systems * (n.params.threshold + n.params.residence)
               ≤ s.exact_from) (sym (parted all b.at at playable.events.in_order late between)) it.exact;
         }

@@ -147,43 +147,38 @@ up_found None = refl
 up_found (Some s) = up_by s.cable.up s.a_lives s.b_lives
 
 -- a link is set, and so gets wider or isn't followed
-pub record IsWiderBy (least greatest loss by : ℕ) (s : Standing) : Type 0 where
+pub record IsWiderBy (greatest loss by : ℕ) (s : Standing) : Type 0 where
   pub used : cable_is_used s ≡ true
   pub lossless : loss ≡ 0
-  pub least_is : least ≤ s.cable.bounds.min
   pub greatest_is : s.cable.bounds.max ≤ greatest
   pub by_is : by ≡ greatest - s.cable.bounds.max
 
-abbrev pub IsSet : ℕ → ℕ → ℕ → Standing → Kind → Type 0
-IsSet least greatest loss s Idle = ⊥
-IsSet least greatest loss s Unused = ⊥
-IsSet least greatest loss s Loss = ⊥
-IsSet least greatest loss s Gain = ⊥
-IsSet least greatest loss s (Wider by) = IsWiderBy least greatest loss by s
-IsSet least greatest loss s Other = ⊤
+abbrev pub IsSet : ℕ → ℕ → Standing → Kind → Type 0
+IsSet greatest loss s Idle = ⊥
+IsSet greatest loss s Unused = ⊥
+IsSet greatest loss s Loss = ⊥
+IsSet greatest loss s Gain = ⊥
+IsSet greatest loss s (Wider by) = IsWiderBy greatest loss by s
+IsSet greatest loss s Other = ⊤
 
-pub set_found : (least greatest loss : ℕ) (o : Option Standing)
-    → Found (IsSet least greatest loss) o (kind_of_link_set least greatest loss o)
-set_found least greatest loss None = refl
-set_found least greatest loss (Some s) =
-    by (cable_is_used s) (loss == 0) (nat_le least s.cable.bounds.min) (nat_le s.cable.bounds.max greatest) refl refl
-    refl refl
+pub set_found : (greatest loss : ℕ) (o : Option Standing)
+    → Found (IsSet greatest loss) o (kind_of_link_set greatest loss o)
+set_found greatest loss None = refl
+set_found greatest loss (Some s) =
+    by (cable_is_used s) (loss == 0) (nat_le s.cable.bounds.max greatest) refl refl refl
   where
-    by : (used none below above : Bool) → cable_is_used s ≡ used → (loss == 0) ≡ none
-        → nat_le least s.cable.bounds.min ≡ below → nat_le s.cable.bounds.max greatest ≡ above
-        → IsSet least greatest loss s
-        (if used && none && below && above then Wider (greatest - s.cable.bounds.max) else Other)
-    by true true true true on none below above = record {
+    by : (used none above : Bool) → cable_is_used s ≡ used → (loss == 0) ≡ none
+        → nat_le s.cable.bounds.max greatest ≡ above
+        → IsSet greatest loss s (if used && none && above then Wider (greatest - s.cable.bounds.max) else Other)
+    by true true true on none above = record {
       used = on;
       lossless = eqb-true loss 0 none;
-      least_is = grind (arith, nat_tests);
       greatest_is = grind (arith, nat_tests);
       by_is = refl;
     }
-    by true true true false on none below above = tt
-    by true true false most on none below above = tt
-    by true false least_is most on none below above = tt
-    by false zero_is least_is most on none below above = tt
+    by true true false on none above = tt
+    by true false most on none above = tt
+    by false zero_is most on none above = tt
 
 -- a system fails
 abbrev pub FailureBy : Bool → Kind → Type 0

@@ -3,6 +3,7 @@ mod NamedLemmas
 mod KindLemmas
 mod ToldLemmas
 mod MoreLemmas
+mod MeasuredLemmas
 mod ReadyLemmas
 mod GainLemmas
 mod GainedLemmas

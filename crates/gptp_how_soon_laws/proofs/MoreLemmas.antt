@@ -20,6 +20,7 @@ use Rattle.gptp_scenario.specs.declared.network.SystemSpec.{SystemSpec}
 use Rattle.gptp_scenario.proofs.AfterLemmas.{after_keeps}
 use Rattle.gptp_model.specs.World.{port_id}
 use Rattle.gptp_theorem.proofs.EventLemmas.{link_behind, system_behind}
+use Rattle.gptp_how_soon.specs.Kinds.{sets_bounds}
 use Rattle.gptp_topology.specs.After.{standing_then}
 use Rattle.gptp_topology.specs.Course.{cable_is_used}
 use Rattle.gptp_topology.proofs.RestLemmas.{lives_from, lives_to, three_from, three_parts}
@@ -162,11 +163,23 @@ module _ (n : NetworkState) (made : List Timed) where
   stays_up (acts.Change (changes.Priority1 number value)) leaves w member a b up = up
   stays_up (acts.Change (changes.Inject clock port octets)) leaves w member a b up = up
 
+  -- nor does an act that sets none change bounds
   turned : (test up : Bool) (w : LinkSpec) → (cond test (with_up up w) w).bounds ≡ w.bounds
   turned true up w = refl
   turned false up w = refl
 
-  bounds_stay : (act : Act) → Leaves n made act → (w : LinkSpec)
+  sets_none : (act : Act) → Leaves n made act → sets_bounds act ≡ false
+  sets_none (acts.Deliver link direction) leaves = refl
+  sets_none (acts.Expire clock timer) leaves = refl
+  sets_none (acts.Change (changes.LinkDown clock port)) leaves = refl
+  sets_none (acts.Change (changes.LinkUp clock port)) leaves = refl
+  sets_none (acts.Change (changes.LinkSet clock port least greatest loss)) leaves = absurd leaves
+  sets_none (acts.Change (changes.Fail number)) leaves = refl
+  sets_none (acts.Change (changes.Recover number)) leaves = refl
+  sets_none (acts.Change (changes.Priority1 number value)) leaves = refl
+  sets_none (acts.Change (changes.Inject clock port octets)) leaves = refl
+
+  pub bounds_stay : (act : Act) → sets_bounds act ≡ false → (w : LinkSpec)
       → (link_acted act (link_after made w)).bounds ≡ (link_after made w).bounds
   bounds_stay (acts.Deliver link direction) leaves w = refl
   bounds_stay (acts.Expire clock timer) leaves w = refl
@@ -174,7 +187,7 @@ module _ (n : NetworkState) (made : List Timed) where
       turned (is_at clock port (link_after made w)) false (link_after made w)
   bounds_stay (acts.Change (changes.LinkUp clock port)) leaves w =
       turned (is_at clock port (link_after made w)) true (link_after made w)
-  bounds_stay (acts.Change (changes.LinkSet clock port least greatest loss)) leaves w = absurd leaves
+  bounds_stay (acts.Change (changes.LinkSet clock port least greatest loss)) sets w = absurd cc
   bounds_stay (acts.Change (changes.Fail number)) leaves w = refl
   bounds_stay (acts.Change (changes.Recover number)) leaves w = refl
   bounds_stay (acts.Change (changes.Priority1 number value)) leaves w = refl
@@ -243,6 +256,6 @@ module _ (n : NetworkState) (made : List Timed) where
           (ap (λ (v : LinkSpec). v.up) (link_behind made event w) ∙ stays_up event.act leaves w member a b up)
           (still_lives w.a.clock a) (still_lives w.b.clock b);
       bounds = λ w member. ap (λ (v : LinkSpec). v.bounds) (link_behind made event w)
-          ∙ bounds_stay event.act leaves w;
+          ∙ bounds_stay event.act (sets_none event.act leaves) w;
       lives = still_live;
     }

@@ -13,7 +13,7 @@ use Rattle.gptp_scenario.specs.SyncWait.{sync_paths}
 use Rattle.gptp_scenario.specs.declared.change.Timed.{Timed}
 use Rattle.gptp_scenario.specs.declared.sync_wait.SyncPaths.{SyncPaths}
 use Rattle.gptp_topology.specs.After.{is_calm}
-use Rattle.gptp_how_soon.specs.Bounds.{aged_by, aged_echo_span, any_loss_span, apart_by, arrived_by, choice_by, choice_of_row, quiet_by, roles_by, roles_of_row, settled, sound_by, sound_of_row, taken_echo_span}
+use Rattle.gptp_how_soon.specs.Bounds.{aged_by, aged_echo_span, any_loss_span, apart_by, arrived_by, choice_by, choice_of_row, quiet_by, roles_by, roles_of_row, set_span, settled, sound_by, sound_of_row, taken_echo_span}
 use Rattle.gptp_how_soon.specs.Flight.{gone_by}
 use Rattle.gptp_how_soon.specs.Kinds.{sets_link}
 use Rattle.gptp_how_soon.specs.Times.{View, gained_at, loss_at, row_at, settling_time}
@@ -222,7 +222,9 @@ pub record IsTelling (n : NetworkState) (v : View) (s : Settling) : Type 0 where
   pub sound : s.sound ≡ sound_by n (loss_at v) v.paths (row_at v) (gained_at n v)
   pub roles : s.roles ≡ roles_by n (loss_at v) v.paths (row_at v) (gained_at n v)
   pub rest : s.sound ≤ s.rest
-  pub exact : max (v.at + s.choice) (arrived_by v.longest v.last_set) + window_span n.params
+  pub over : max s.choice (set_span n.params v.paths (sets_link v.told)) ≤ s.rest
+  pub exact : max (v.at + max s.choice (set_span n.params v.paths (sets_link v.told)))
+      (arrived_by v.longest v.last_set) + window_span n.params
       + v.paths.systems * (n.params.threshold + n.params.residence)
       ≤ s.exact_from
 
@@ -243,8 +245,11 @@ tells n v s is = by v.calm refl is
           sound = ap (λ (x : Settling). x.sound) (sym same);
           roles = ap (λ (x : Settling). x.roles) (sym same);
           rest = subst (λ (x : Settling). x.sound ≤ x.rest) same (omega arith);
-          exact = subst (λ (x : Settling). max (v.at + x.choice) (arrived_by v.longest v.last_set)
-              + window_span n.params + v.paths.systems * (n.params.threshold + n.params.residence)
+          over = subst (λ (x : Settling). max x.choice (set_span n.params v.paths (sets_link v.told)) ≤ x.rest) same
+              (omega arith);
+          exact = subst (λ (x : Settling). max (v.at + max x.choice (set_span n.params v.paths (sets_link v.told)))
+              (arrived_by v.longest v.last_set) + window_span n.params
+              + v.paths.systems * (n.params.threshold + n.params.residence)
               ≤ x.exact_from) same (omega arith);
         }
     by false calm told = absurd cc

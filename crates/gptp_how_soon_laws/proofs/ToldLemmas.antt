@@ -126,8 +126,8 @@ module _ (n : NetworkState) (network : IsNetwork n) (made : List Timed) where
       ∙ ap (λ (x : Standing). x.cable.up) one.is ∙ up
   idle_changes (acts.Change (changes.LinkSet clock port least greatest loss)) is =
       let act = acts.Change (changes.LinkSet clock port least greatest loss) in
-      let (s, found_is, none) = idle_found (IsSet least greatest loss) clock (what_of act) (link_at act)
-      (kind_of_link_set least greatest loss (link_at act)) (set_found least greatest loss (link_at act)) is in
+      let (s, found_is, none) = idle_found (IsSet greatest loss) clock (what_of act) (link_at act)
+      (kind_of_link_set greatest loss (link_at act)) (set_found greatest loss (link_at act)) is in
       absurd none
   idle_changes (acts.Change (changes.Fail number)) is =
       let (x, found_is, failed) = idle_found IsFailure number (what_of (failing number))
@@ -180,8 +180,8 @@ module _ (n : NetworkState) (network : IsNetwork n) (made : List Timed) where
       }
   gain_gains (acts.Change (changes.LinkSet clock port least greatest loss)) is =
       let act = acts.Change (changes.LinkSet clock port least greatest loss) in
-      let (s, found_is, none) = gain_found (IsSet least greatest loss) clock (what_of act) (link_at act)
-      (kind_of_link_set least greatest loss (link_at act)) (set_found least greatest loss (link_at act)) is in
+      let (s, found_is, none) = gain_found (IsSet greatest loss) clock (what_of act) (link_at act)
+      (kind_of_link_set greatest loss (link_at act)) (set_found greatest loss (link_at act)) is in
       absurd none
   gain_gains (acts.Change (changes.Fail number)) is =
       let (x, found_is, none) = gain_found IsFailure number (what_of (failing number))
@@ -303,8 +303,8 @@ module _ (n : NetworkState) (network : IsNetwork n) (made : List Timed) where
       end_failed clock port s (named_link n network made clock port act (λ x passed. passed) s found_is) failed
   unused_turns (acts.Change (changes.LinkSet clock port least greatest loss)) is =
       let act = acts.Change (changes.LinkSet clock port least greatest loss) in
-      let (s, found_is, none) = unused_found (IsSet least greatest loss) clock (what_of act) (link_at act)
-      (kind_of_link_set least greatest loss (link_at act)) (set_found least greatest loss (link_at act)) is in
+      let (s, found_is, none) = unused_found (IsSet greatest loss) clock (what_of act) (link_at act)
+      (kind_of_link_set greatest loss (link_at act)) (set_found greatest loss (link_at act)) is in
       absurd none
   unused_turns (acts.Change (changes.Fail number)) is =
       let (x, found_is, none) = unused_found IsFailure number (what_of (failing number))
@@ -348,17 +348,14 @@ module _ (n : NetworkState) (network : IsNetwork n) (made : List Timed) where
     wider_set : (clock port least greatest loss by : ℕ)
         → event.act ≡ acts.Change (changes.LinkSet clock port least greatest loss) → (s : Standing)
         → link_at (acts.Change (changes.LinkSet clock port least greatest loss)) ≡ Some s
-        → IsWiderBy least greatest loss by s → WidensLink n made event by
+        → IsWiderBy greatest loss by s → WidensLink n made event by
     wider_set clock port least greatest loss by same s found_is x =
         let act = acts.Change (changes.LinkSet clock port least greatest loss) in
         let one = named_link n network made clock port act (λ y passed. passed) s found_is in
         let bounds : (link_after made one.link).bounds ≡ s.cable.bounds =
         ap (λ (y : Standing). y.cable.bounds) one.is in
-        let below = x.least_is in
         let above = x.greatest_is in
         let by_is = x.by_is in
-        let min_is : (link_after made one.link).bounds.min ≡ s.cable.bounds.min =
-        ap (λ (b : Bounds). b.min) bounds in
         let max_is : (link_after made one.link).bounds.max ≡ s.cable.bounds.max =
         ap (λ (b : Bounds). b.max) bounds in
         record {
@@ -367,11 +364,10 @@ module _ (n : NetworkState) (network : IsNetwork n) (made : List Timed) where
           min = least;
           max = greatest;
           act = same ∙ ap (λ l. acts.Change (changes.LinkSet clock port least greatest l)) x.lossless;
-          within = λ place v there end. subst (λ (w : LinkSpec). IsWithin n made least greatest by (link_after made w))
+          within = λ place v there end. subst (λ (w : LinkSpec). IsWithin n made greatest by (link_after made w))
               (sym (one.only place v there (end_first made (port_id clock port) v end)))
               (record {
                 used = cable_used n made one.link (ap cable_is_used one.is ∙ x.used);
-                least = omega (arith, below, min_is);
                 most = omega (arith, above, max_is);
                 more = omega (arith, above, by_is, max_is);
               });
@@ -393,8 +389,8 @@ module _ (n : NetworkState) (network : IsNetwork n) (made : List Timed) where
         absurd none
     wider_so (acts.Change (changes.LinkSet clock port least greatest loss)) same is =
         let act = acts.Change (changes.LinkSet clock port least greatest loss) in
-        let (s, found_is, x) = wider_found (IsSet least greatest loss) clock (what_of act) (link_at act)
-        (kind_of_link_set least greatest loss (link_at act)) (set_found least greatest loss (link_at act)) is in
+        let (s, found_is, x) = wider_found (IsSet greatest loss) clock (what_of act) (link_at act)
+        (kind_of_link_set greatest loss (link_at act)) (set_found greatest loss (link_at act)) is in
         wider_set clock port least greatest loss (wider_by (told_at n made act)) same s found_is x
     wider_so (acts.Change (changes.Fail number)) same is =
         let (x, found_is, none) = wider_found IsFailure number (what_of (failing number))

@@ -81,7 +81,17 @@ ready_timed at time port place station w is = record {
 pub came_timed : (at : LinkPlace) (time port place : ℕ) (station : Station) (w : WorldState) → Came at time port w
     → Came at time port (timed place station w)
 came_timed at time port place station w is = record {
-  first = record { link = is.first.link; short = is.first.short; facts = is.first.facts; inv = is.first.inv };
+  first = record {
+    is = record {
+      link = is.first.is.link;
+      short = is.first.is.short;
+      facts = is.first.is.facts;
+      less = is.first.is.less;
+      within = is.first.is.within;
+      inv = is.first.is.inv;
+    };
+    measures = is.first.measures;
+  };
   orderly = orderly_timed place station w is.orderly;
   now = is.now;
   port_is = is.port_is;

@@ -29,18 +29,18 @@ use Rattle.gptp_model.specs.World.{WorldState, receiver, sender}
 use Rattle.gptp_model.proofs.StayLemmas.{sender_same}
 use Rattle.gptp_model.proofs.SteadyLemmas.{same_clock}
 use Rattle.gptp_pdelay_machine.specs.Asker.{Asker, asks_now}
-use Rattle.gptp_pdelay_machine.specs.Facts.{Facts, IsDueInTime}
-use Rattle.gptp_pdelay_machine.specs.First.{InvFirst}
+use Rattle.gptp_pdelay_machine.specs.Facts.{Facts, IsDueInTime, IsSentLate}
+use Rattle.gptp_pdelay_machine.specs.First.{InvFirst, MeasuresBy}
 use Rattle.gptp_pdelay_machine.specs.FirstLaws.{exchange_span}
 use Rattle.gptp_pdelay_machine.specs.Lanes.{LaneFrame as SeenFrame, AreMute, FirstIs}
 use Rattle.gptp_pdelay_machine.specs.Messages.{Request}
 use Rattle.gptp_pdelay_machine.specs.Meter.{Meter, act_of}
 use Rattle.gptp_pdelay_machine.specs.Setting.{Setting}
 use Rattle.gptp_pdelay_machine.proofs.FactLemmas.{facts_kept, facts_later}
-use Rattle.gptp_pdelay_machine.proofs.FirstLemmas.{asked_first, exchange_full, first_kept, first_later, window_full}
+use Rattle.gptp_pdelay_machine.proofs.FirstLemmas.{asked_first, exchange_full, first_kept, first_later, has_measured_by, measures_by_kept, measures_by_later}
 use Rattle.gptp_pdelay_machine.proofs.LaneLemmas.{mute_append}
 use Rattle.gptp_invariants.specs.DelayElsewhereLaws.{LeavesAlone}
-use Rattle.gptp_invariants.specs.DelayFirstAt.{IsFirstAt, IsFirstBy}
+use Rattle.gptp_invariants.specs.DelayFirstAt.{IsFirstAt, IsFirstBy, IsMeasuringAt, IsMeasuringBefore}
 use Rattle.gptp_invariants.specs.DelayFirstAtLaws.{FirstGoesOn, FirstGoesThrough, FirstIsFull, FirstIsMeasured}
 use Rattle.gptp_invariants.specs.DelayLinkActs.{IsOneAct}
 use Rattle.gptp_invariants.specs.DelayLinkView.{IsLinkOf, LinkPlace, RequestFits, asker_view, reads_as_request, link_frame_view, least_delay, meter, other_direction, pair, reads_as_reply, request_from, link_setting, waits_view, setup_stamps}
@@ -58,6 +58,14 @@ use Rattle.gptp_invariants.proofs.DelaySentLemmas.{next_of, sends_request}
 
 -- ---- it is kept
 
+-- a frame that takes the least delay or more takes what is less
+sent_later : (least less time : ℕ) (was now : List SeenFrame) → less ≤ least → IsSentLate least time was now
+    → IsSentLate less time was now
+sent_later least less time was now within late f member = elim (late f member) [
+  | inl there ↦ inl there
+  | inr after ↦ inr (omega (arith, within, after))
+]
+
 module _ (at : LinkPlace) (first : ℕ) where
   pub first_acted : (w w' : WorldState) (is : IsFirstAt first at w) → IsOneAct at w w' is.link → IsFirstAt first at w'
   first_acted w w' is seen =
@@ -70,17 +78,18 @@ module _ (at : LinkPlace) (first : ℕ) where
       (act_of k reads_as_request reads_as_reply m m' one.acts) one.out one.back
       is.facts in
       let same_least : least ≡ least_delay at w' seen.after = ap (λ (b : Bounds). b.min) (sym seen.bounds) in
-      let inv = first_kept k least reads_as_request reads_as_reply first first m m' is.short
-      (omega arith) is.facts facts one.out_late
-      one.back_late one.acts is.inv in
+      let inv = first_kept k is.less reads_as_request reads_as_reply first first m m' is.short (omega arith) is.facts
+      facts
+      (sent_later least is.less w.time m.pair.out m'.pair.out is.within one.out_late)
+      (sent_later least is.less w.time m.pair.back m'.pair.back is.within one.back_late) one.acts is.inv in
       record {
         link = seen.after;
         short = subst (λ (x : Setting). exchange_span x < x.period) (sym seen.settled) is.short;
         facts = subst (λ (x : Setting). Facts x first m'.pair) (sym seen.settled) facts;
-        inv = subst (λ (x : Setting). InvFirst x
-            (least_delay at w' seen.after) reads_as_request reads_as_reply first m')
-            (sym seen.settled) (subst (λ (n : ℕ). InvFirst k n reads_as_request reads_as_reply first m')
-            same_least inv);
+        less = is.less;
+        within = subst (λ n. is.less ≤ n) same_least is.within;
+        inv = subst (λ (x : Setting). InvFirst x is.less reads_as_request reads_as_reply first m') (sym seen.settled)
+            inv;
       }
 
   first_like : (w w' : WorldState) (is : IsFirstAt first at w) (l : IsLinkOf at w')
@@ -91,14 +100,66 @@ module _ (at : LinkPlace) (first : ℕ) where
     short = subst (λ (x : Setting). exchange_span x < x.period) (sym set) is.short;
     facts = subst (λ (x : Setting). Facts x first (pair at w' l)) (sym set)
         (subst (λ (m : Meter). Facts (link_setting at w is.link) first m.pair) (sym seen) is.facts);
-    inv = subst (λ (x : Setting). InvFirst x (least_delay at w' l) reads_as_request reads_as_reply first
-        (meter at w' l)) (sym set)
-        (subst (λ (n : ℕ). InvFirst (link_setting at w is.link) n reads_as_request reads_as_reply first (meter at w' l))
-        (sym least)
-        (subst (λ (m : Meter). InvFirst (link_setting at w is.link)
-        (least_delay at w is.link) reads_as_request reads_as_reply first m)
-        (sym seen) is.inv));
+    less = is.less;
+    within = subst (λ n. is.less ≤ n) (sym least) is.within;
+    inv = subst (λ (x : Setting). InvFirst x is.less reads_as_request reads_as_reply first (meter at w' l)) (sym set)
+        (subst (λ (m : Meter). InvFirst (link_setting at w is.link) is.less reads_as_request reads_as_reply first m)
+        (sym seen) is.inv);
   }
+
+  pub first_on : (time : ℕ) (w : WorldState) → IsSound w → w.time ≤ time → NothingBefore time w.net.pending
+      → IsFirstAt first at w → IsFirstAt first at (at_time time w)
+  first_on time w sound later nothing is =
+      let k = link_setting at w is.link in
+      let p = pair at w is.link in
+      record {
+        link = is.link;
+        short = is.short;
+        facts = facts_later k first time p later (nothing_late at time w is.link sound nothing) is.facts;
+        less = is.less;
+        within = is.within;
+        inv = first_later k is.less reads_as_request reads_as_reply first (meter at w is.link) _ (time, later, refl)
+            is.inv;
+      }
+
+-- so is by when it measures by the least delay in force
+module _ (at : LinkPlace) (first by : ℕ) where
+  pub measuring_acted : (w w' : WorldState) (x : IsMeasuringAt first by at w) → IsOneAct at w w' x.is.link
+      → IsMeasuringAt first by at w'
+  unfolding first_acted
+  measuring_acted w w' x seen =
+      let is = x.is in
+      let k = link_setting at w is.link in
+      let least = least_delay at w is.link in
+      let m = meter at w is.link in
+      let m' = meter at w' seen.after in
+      let one = seen.so in
+      let facts = facts_kept k first reads_as_request reads_as_reply m.pair m'.pair
+      (act_of k reads_as_request reads_as_reply m m' one.acts) one.out one.back is.facts in
+      let same_least : least ≡ least_delay at w' seen.after = ap (λ (b : Bounds). b.min) (sym seen.bounds) in
+      let kept = measures_by_kept k least reads_as_request reads_as_reply is.less first first by m m' is.short
+      (omega arith) is.facts facts one.out_late one.back_late one.acts is.inv x.measures in
+      record {
+        is = first_acted at first w w' is seen;
+        measures = subst (λ (s : Setting). MeasuresBy s (least_delay at w' seen.after) reads_as_request reads_as_reply
+            first by m') (sym seen.settled)
+            (subst (λ (n : ℕ). MeasuresBy k n reads_as_request reads_as_reply first by m') same_least kept);
+      }
+
+  measuring_like : (w w' : WorldState) (x : IsMeasuringAt first by at w) (l : IsLinkOf at w')
+      → link_setting at w' l ≡ link_setting at w x.is.link → meter at w' l ≡ meter at w x.is.link
+      → least_delay at w' l ≡ least_delay at w x.is.link → IsMeasuringAt first by at w'
+  unfolding first_like
+  measuring_like w w' x l set seen least =
+      let k = link_setting at w x.is.link in
+      record {
+        is = first_like at first w w' x.is l set seen least;
+        measures = subst (λ (s : Setting). MeasuresBy s (least_delay at w' l) reads_as_request reads_as_reply first by
+            (meter at w' l)) (sym set)
+            (subst (λ (n : ℕ). MeasuresBy k n reads_as_request reads_as_reply first by (meter at w' l)) (sym least)
+            (subst (λ (m : Meter). MeasuresBy k (least_delay at w x.is.link) reads_as_request reads_as_reply first by
+            m) (sym seen) x.measures));
+      }
 
 module _ (at : LinkPlace) (first start : ℕ) where
   abbrev Before : Setting → Type 0
@@ -130,45 +191,95 @@ module _ (at : LinkPlace) (first start : ℕ) where
       measured alone acts is
 
 pub first_goes_through : FirstGoesThrough
-first_goes_through at first (Deliver link direction) w w' draws done sound measured alone acts is =
-    first_acted at first w w' is
-    (acts_seen at (Deliver link direction) w w' draws done is.link sound (λ change same. absurd cc) acts)
-first_goes_through at first (Expire number timer) w w' draws done sound measured alone acts is =
-    first_acted at first w w' is
-    (acts_seen at (Expire number timer) w w' draws done is.link sound (λ change same. absurd cc) acts)
-first_goes_through at first (Changing change) w w' draws done sound measured alone acts is =
-    goes_through at (IsFirstAt first at) (λ v h. h.link) (first_acted at first) (first_like at first) change w w' draws
-    done sound measured alone acts is
+first_goes_through at first by (Deliver link direction) w w' draws done sound measured alone acts x =
+    measuring_acted at first by w w' x
+    (acts_seen at (Deliver link direction) w w' draws done x.is.link sound (λ change same. absurd cc) acts)
+first_goes_through at first by (Expire number timer) w w' draws done sound measured alone acts x =
+    measuring_acted at first by w w' x
+    (acts_seen at (Expire number timer) w w' draws done x.is.link sound (λ change same. absurd cc) acts)
+first_goes_through at first by (Changing change) w w' draws done sound measured alone acts x =
+    goes_through at (IsMeasuringAt first by at) (λ v h. h.is.link) (measuring_acted at first by)
+    (measuring_like at first by) change w w' draws done sound measured alone acts x
 
 pub first_goes_on : FirstGoesOn
-first_goes_on at first time w sound later nothing is =
-    let k = link_setting at w is.link in
-    let p = pair at w is.link in
-    record {
-      link = is.link;
-      short = is.short;
-      facts = facts_later k first time p later (nothing_late at time w is.link sound nothing) is.facts;
-      inv = first_later k (least_delay at w is.link) reads_as_request reads_as_reply first (meter at w is.link) _
-          (time, later, refl)
-          is.inv;
-    }
+unfolding first_on
+first_goes_on at first by time w sound later nothing x = record {
+  is = first_on at first time w sound later nothing x.is;
+  measures = measures_by_later (link_setting at w x.is.link) (least_delay at w x.is.link) reads_as_request
+      reads_as_reply first by (meter at w x.is.link) _ (time, later, refl) x.measures;
+}
 
 pub by_goes_on : (at : LinkPlace) (first start time : ℕ) (w : WorldState) → IsSound w → w.time ≤ time
     → NothingBefore time w.net.pending → IsFirstBy first start at w → IsFirstBy first start at (at_time time w)
-unfolding first_goes_on
+unfolding first_on
 by_goes_on at first start time w sound later nothing (l, by) =
-    (first_goes_on at first time w sound later nothing l, by)
+    (first_on at first time w sound later nothing l, by)
+
+-- so is when an interval and an exchange after that request are over
+module _ (at : LinkPlace) (first by start : ℕ) where
+  abbrev Over : Setting → Type 0
+  Over k = by + k.period + exchange_span k < start
+
+  over_acted : (w w' : WorldState) (x : IsMeasuringBefore first by start at w) → IsOneAct at w w' x.0.is.link
+      → IsMeasuringBefore first by start at w'
+  unfolding first_acted measuring_acted
+  over_acted w w' (x, over) seen =
+      (measuring_acted at first by w w' x seen, subst Over (sym seen.settled) over)
+
+  over_like : (w w' : WorldState) (x : IsMeasuringBefore first by start at w) (l : IsLinkOf at w')
+      → link_setting at w' l ≡ link_setting at w x.0.is.link → meter at w' l ≡ meter at w x.0.is.link
+      → least_delay at w' l ≡ least_delay at w x.0.is.link → IsMeasuringBefore first by start at w'
+  unfolding first_like measuring_like
+  over_like w w' (x, over) l set seen least =
+      (measuring_like at first by w w' x l set seen least, subst Over (sym set) over)
+
+  pub over_goes_through : (act : Act) (w w' : WorldState) (draws : List Draw) (done : Done)
+      → IsSound w → LinkIsMeasured w → LeavesAlone at act w → Acts act w draws done w'
+      → IsMeasuringBefore first by start at w → IsMeasuringBefore first by start at w'
+  over_goes_through (Deliver link direction) w w' draws done sound measured alone acts x =
+      over_acted w w' x
+      (acts_seen at (Deliver link direction) w w' draws done x.0.is.link sound (λ change same. absurd cc) acts)
+  over_goes_through (Expire number timer) w w' draws done sound measured alone acts x =
+      over_acted w w' x
+      (acts_seen at (Expire number timer) w w' draws done x.0.is.link sound (λ change same. absurd cc) acts)
+  over_goes_through (Changing change) w w' draws done sound measured alone acts x =
+      goes_through at (IsMeasuringBefore first by start at) (λ v h. h.0.is.link) over_acted over_like change w w' draws
+      done sound measured alone acts x
+
+  pub over_goes_on : (time : ℕ) (w : WorldState) → IsSound w → w.time ≤ time → NothingBefore time w.net.pending
+      → IsMeasuringBefore first by start at w → IsMeasuringBefore first by start at (at_time time w)
+  unfolding first_on first_goes_on
+  over_goes_on time w sound later nothing (x, over) = (first_goes_on at first by time w sound later nothing x, over)
 
 pub first_full : FirstIsFull
 first_full at first w l late =
-    exchange_full (link_setting at w l.link) (least_delay at w l.link) reads_as_request reads_as_reply first first
-    (meter at w l.link) l.facts
-    l.inv late
+    exchange_full (link_setting at w l.link) l.less reads_as_request reads_as_reply first first (meter at w l.link)
+    l.facts l.inv late
 
 pub first_measured : FirstIsMeasured
-first_measured at first w l late =
-    window_full (link_setting at w l.link) (least_delay at w l.link) reads_as_request reads_as_reply first first
-    (meter at w l.link) l.facts l.inv late
+first_measured at first by w l late =
+    has_measured_by (link_setting at w l.is.link) (least_delay at w l.is.link) reads_as_request reads_as_reply first
+    first by (meter at w l.is.link) l.is.facts l.measures late
+
+-- where it measures so from its first request on, that is the least delay of each exchange since
+pub first_exactly : (at : LinkPlace) (first : ℕ) (w : WorldState) (x : IsMeasuringAt first first at w)
+    → InvFirst (link_setting at w x.is.link) (least_delay at w x.is.link) reads_as_request reads_as_reply first
+    (meter at w x.is.link)
+first_exactly at first w x = by x.measures
+  where
+    k : Setting
+    k = link_setting at w x.is.link
+
+    least : ℕ
+    least = least_delay at w x.is.link
+
+    by : MeasuresBy k least reads_as_request reads_as_reply first first (meter at w x.is.link)
+        → InvFirst k least reads_as_request reads_as_reply first (meter at w x.is.link)
+    by (inl due) =
+        let (n, asked) = x.is.inv.since in let short = x.is.short in absurd (omega (arith, due, asked, short))
+    by (inr (since, from, until, exact)) =
+        let same : since ≡ first = omega (arith, from, until) in
+        subst (λ t. InvFirst k least reads_as_request reads_as_reply t (meter at w x.is.link)) same exact
 
 -- ---- a port comes up
 
@@ -317,14 +428,17 @@ module _ (at : LinkPlace) (place p : ℕ) (w : WorldState) (draws : List Draw) (
         → ((f : SeenFrame) → In f (pair at w l).out → IsDueInTime (link_setting at w l) now now f)
         → (pair at w l).waits ≡ None → AreMute reads_as_reply (pair at w l).back
         → ((f : SeenFrame) → In f (pair at w l).back → IsDueInTime (link_setting at w l) now now f)
-        → IsFirstAt now at w'
+        → IsMeasuringAt now now at w'
     up_first short silent sent none mute dues = record {
-      link = up_step.after;
-      short = subst (λ (y : Setting). exchange_span y < y.period) (sym up_step.settled) short;
-      facts = subst (λ (y : Setting). Facts y now m'.pair) (sym up_step.settled) facts;
-      inv = subst (λ (y : Setting). InvFirst y (least_delay at w' up_step.after) reads_as_request reads_as_reply now m')
-          (sym up_step.settled) (subst (λ (n : ℕ). InvFirst set n reads_as_request reads_as_reply now m')
-          same_least inv);
+      is = record {
+        link = up_step.after;
+        short = subst (λ (y : Setting). exchange_span y < y.period) (sym up_step.settled) short;
+        facts = subst (λ (y : Setting). Facts y now m'.pair) (sym up_step.settled) facts;
+        less = least_delay at w' up_step.after;
+        within = omega arith;
+        inv = inv_then;
+      };
+      measures = inr (now, omega arith, omega arith, inv_then);
     }
       where
         set : Setting
@@ -376,6 +490,13 @@ module _ (at : LinkPlace) (place p : ℕ) (w : WorldState) (draws : List Draw) (
               waits = none;
               back = mute;
             })
+
+        inv_then : InvFirst (link_setting at w' up_step.after) (least_delay at w' up_step.after) reads_as_request
+            reads_as_reply now m'
+        inv_then =
+            subst (λ (y : Setting). InvFirst y (least_delay at w' up_step.after) reads_as_request reads_as_reply now m')
+            (sym up_step.settled)
+            (subst (λ (n : ℕ). InvFirst set n reads_as_request reads_as_reply now m') same_least inv)
 
 -- ---- other ports come up
 
@@ -445,10 +566,10 @@ ready_beside at time port place p w draws answer w' k of other is =
 
 -- so it came up, and nothing else of it is asked at this time
 pub record Came (at : LinkPlace) (time port : ℕ) (w : WorldState) : Type 0 where
-  pub first : IsFirstAt time at w
+  pub first : IsMeasuringAt time time at w
   pub orderly : IsOrderly w
   pub now : w.time ≡ time
-  pub port_is : (sender at.direction first.link.channel).port ≡ port
+  pub port_is : (sender at.direction first.is.link.channel).port ≡ port
 
 -- the own port comes up
 pub ready_first : (at : LinkPlace) (time place p : ℕ) (w : WorldState) (draws : List Draw) (answer : Answer)
@@ -459,17 +580,23 @@ unfolding up_first
 ready_first at time place p w draws answer w' k of here is =
     let l = is.link in
     let step = up_step at place p w draws answer w' k of is.orderly l in
-    let first : IsFirstAt w.time at w' =
+    let first : IsMeasuringAt w.time w.time at w' =
     up_first at place p w draws answer w' k of is.orderly l here is.port_is is.short is.silent is.sent is.waits is.mute
     is.dues in
     record {
       first = record {
-        link = first.link;
-        short = first.short;
-        facts = subst (λ t. Facts (link_setting at w' first.link) t (pair at w' first.link)) is.now first.facts;
-        inv = subst (λ t. InvFirst (link_setting at w' first.link)
-            (least_delay at w' first.link) reads_as_request reads_as_reply t
-            (meter at w' first.link)) is.now first.inv;
+        is = record {
+          link = first.is.link;
+          short = first.is.short;
+          facts = subst (λ t. Facts (link_setting at w' first.is.link) t (pair at w' first.is.link)) is.now
+              first.is.facts;
+          less = first.is.less;
+          within = first.is.within;
+          inv = subst (λ t. InvFirst (link_setting at w' first.is.link) first.is.less reads_as_request reads_as_reply t
+              (meter at w' first.is.link)) is.now first.is.inv;
+        };
+        measures = subst (λ t. MeasuresBy (link_setting at w' first.is.link) (least_delay at w' first.is.link)
+            reads_as_request reads_as_reply t t (meter at w' first.is.link)) is.now first.measures;
       };
       orderly = calls_orderly place (PortUp p) w draws answer w' is.orderly k;
       now = step.time ∙ is.now;
@@ -482,14 +609,15 @@ ready_first at time place p w draws answer w' k of here is =
 pub came_beside : (at : LinkPlace) (time port place p : ℕ) (w : WorldState) (draws : List Draw) (answer : Answer)
     (w' : WorldState) (k : Calls place (PortUp p) w draws answer w') → HasPortNumber k.station.system p
     → (at.asking ≡ place → port ≢ p) → Came at time port w → Came at time port w'
-unfolding first_acted up_beside
+unfolding first_acted measuring_acted up_beside
 came_beside at time port place p w draws answer w' k of other is =
-    let l = is.first.link in
+    let l = is.first.is.link in
     let step = up_step at place p w draws answer w' k of is.orderly l in
     let beside : at.asking ≡ place → (sender at.direction l.channel).port ≢ p =
     λ same. subst (λ n. n ≢ p) (sym is.port_is) (other same) in
     record {
-      first = first_acted at time w w' is.first (up_beside at place p w draws answer w' k of is.orderly l beside);
+      first = measuring_acted at time time w w' is.first
+          (up_beside at place p w draws answer w' k of is.orderly l beside);
       orderly = calls_orderly place (PortUp p) w draws answer w' is.orderly k;
       now = step.time ∙ is.now;
       port_is = ap (λ (q : PortId). q.port)

@@ -24,7 +24,7 @@ use Rattle.gptp_model.specs.World.{Channel, Net, WorldState, port_id, world_queu
 use Rattle.gptp_model.proofs.StayLemmas.{Stays, calls_if_live_stay, set_join}
 use Rattle.gptp_pdelay_machine.specs.Lanes.{AreMute}
 use Rattle.gptp_pdelay_machine.proofs.LaneLemmas.{no_frames_mute}
-use Rattle.gptp_invariants.specs.DelayFirstAt.{IsFirstAt, StandsDown}
+use Rattle.gptp_invariants.specs.DelayFirstAt.{IsMeasuringAt, StandsDown}
 use Rattle.gptp_invariants.specs.DelayFirstAtLaws.{LinkUpIsFirst}
 use Rattle.gptp_invariants.specs.WorldKnown.{IsKnown}
 use Rattle.gptp_invariants.specs.DelayLinkView.{IsEndOf, IsLinkOf, LinkPlace, RequestSaysWhatFits, reads_as_request, link_frame_view, other_direction, reads_as_reply, waits_by}
@@ -252,7 +252,7 @@ module _ (p : SettlingParams) (at : LinkPlace) (w : WorldState) (sound : IsSound
     ready_port port is = subst (λ n. IsReady at w.time n brought) is ready
 
     -- the end a asks
-    from_a : at.direction ≡ FromA → IsFirstAt w.time at w'
+    from_a : at.direction ≡ FromA → IsMeasuringAt w.time w.time at w'
     from_a is = second k.at_b
       where
         places : (at.asking ≡ k.place_a) × (at.answering ≡ k.place_b)
@@ -267,14 +267,15 @@ module _ (p : SettlingParams) (at : LinkPlace) (w : WorldState) (sound : IsSound
             (of_a call.1.station call.1.here) places.0
             (ready_port s.channel.a.port (ap (λ d. (sender d s.channel).port) is))
 
-        second : CallsIfLive k.place_b (PortUp s.channel.b.port) k.between k.second w' → IsFirstAt w.time at w'
+        second : CallsIfLive k.place_b (PortUp s.channel.b.port) k.between k.second w'
+            → IsMeasuringAt w.time w.time at w'
         second (inl (answer, c)) =
             (came_beside at w.time s.channel.a.port k.place_b s.channel.b.port k.between k.second answer w' c
             (of_b c.station c.here) (λ same. absurd (s.apart (same ∙ sym places.1))) first).first
-        second (inr (failed, none, same)) = subst (IsFirstAt w.time at) (sym same) first.first
+        second (inr (failed, none, same)) = subst (IsMeasuringAt w.time w.time at) (sym same) first.first
 
     -- the end b asks
-    from_b : at.direction ≡ FromB → IsFirstAt w.time at w'
+    from_b : at.direction ≡ FromB → IsMeasuringAt w.time w.time at w'
     from_b is = second k.at_b
       where
         places : (at.asking ≡ k.place_b) × (at.answering ≡ k.place_a)
@@ -290,7 +291,8 @@ module _ (p : SettlingParams) (at : LinkPlace) (w : WorldState) (sound : IsSound
             (of_a c.station c.here) (λ same. absurd (s.apart (same ∙ sym places.1))) b_ready
         first (inr (failed, none, same)) = subst (IsReady at w.time s.channel.b.port) (sym same) b_ready
 
-        second : CallsIfLive k.place_b (PortUp s.channel.b.port) k.between k.second w' → IsFirstAt w.time at w'
+        second : CallsIfLive k.place_b (PortUp s.channel.b.port) k.between k.second w'
+            → IsMeasuringAt w.time w.time at w'
         second calls =
             let begun = first k.at_a in
             let call = live_call k.place_b (PortUp s.channel.b.port) k.between k.second w' begun.link.asking.station
@@ -298,10 +300,10 @@ module _ (p : SettlingParams) (at : LinkPlace) (w : WorldState) (sound : IsSound
             (ready_first at w.time k.place_b s.channel.b.port k.between k.second call.0 w' call.1
             (of_b call.1.station call.1.here) places.0 begun).first
 
-    told_first : IsFirstAt w.time at w'
+    told_first : IsMeasuringAt w.time w.time at w'
     told_first = by at.direction refl
       where
-        by : (d : Direction) → at.direction ≡ d → IsFirstAt w.time at w'
+        by : (d : Direction) → at.direction ≡ d → IsMeasuringAt w.time w.time at w'
         by FromA is = from_a is
         by FromB is = from_b is
 

@@ -34,7 +34,7 @@ use Rattle.gptp_model.proofs.StayLemmas.{starts_all_stay}
 use Rattle.gptp_model.proofs.UpLemmas.{brings_port, brought_ports}
 use Rattle.gptp_pdelay_machine.specs.Lanes.{AreMute}
 use Rattle.gptp_pdelay_machine.proofs.LaneLemmas.{no_frames_mute}
-use Rattle.gptp_invariants.specs.DelayFirstAt.{IsFirstAt}
+use Rattle.gptp_invariants.specs.DelayFirstAt.{IsMeasuringAt}
 use Rattle.gptp_invariants.specs.DelayFirstAtLaws.{StartIsFirst}
 use Rattle.gptp_invariants.specs.ChoiceSettlesAsMachine.{IsWorld}
 use Rattle.gptp_invariants.specs.DelayLinkView.{IsEndOf, IsLinkOf, LinkPlace, reads_as_request, link_frame_view, other_direction, reads_as_reply, waits_by}
@@ -559,9 +559,9 @@ module _ {F : Type 0} (answers : Bounds → ℕ → F → Option ℕ → F → T
         let below = within n.systems at.asking m there in
         in_range 0 (length n.systems) at.asking (omega arith) (omega (arith, below))
 
-    started_first : IsFirstAt 0 at w
+    started_first : IsMeasuringAt 0 0 at w
     started_first =
-        subst (IsFirstAt 0 at) woken_is
+        subst (IsMeasuringAt 0 0 at) woken_is
         (starts_reach at 0 port places (initial n) k.draws w asking_there (range_different 0 (length n.systems)) unborn
         ready k.starts).first
 

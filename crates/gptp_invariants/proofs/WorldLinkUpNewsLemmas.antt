@@ -18,7 +18,7 @@ use Rattle.gptp_invariants.specs.ChoiceCalm.{delay_in}
 use Rattle.gptp_invariants.specs.DelayElsewhere.{IsOtherLink}
 use Rattle.gptp_invariants.specs.FailedUnanswered.{StandsUnanswered}
 use Rattle.gptp_invariants.proofs.FailedSilentElsewhereLemmas.{changed_silent, stood_elsewhere, up_silences}
-use Rattle.gptp_invariants.specs.DelayFirstAt.{IsFirstAt, StandsDown}
+use Rattle.gptp_invariants.specs.DelayFirstAt.{IsMeasuringAt, StandsDown}
 use Rattle.gptp_invariants.specs.ChoiceSettlesAsMachine.{IsWorld}
 use Rattle.gptp_invariants.specs.DelayLinkView.{LinkPlace, link_setting}
 use Rattle.gptp_invariants.specs.DelayMeasured.{LinkIsMeasured, LinkStandsAt}
@@ -177,7 +177,7 @@ module _ (p : SettlingParams) (start number port : ℕ) (w : WorldState) (draws 
             short = rw (asking, answering) pace.params.answered;
           }
 
-      first : IsFirstAt w.time at w'
+      first : IsMeasuringAt w.time w.time at w'
       unfolding stood_down k
       first =
           link_up_first p at number port w w' draws done is.sound measured is.known stood_down
@@ -185,7 +185,7 @@ module _ (p : SettlingParams) (start number port : ℕ) (w : WorldState) (draws 
 
       comes_ready : IsReadyBy p start at w'
       comes_ready =
-          let l = first.link in
+          let l = first.is.link in
           let asks = (is'.known.set at.asking l.asking.station l.asking.here).starts.params in
           let answers = (is'.known.set at.answering l.answering.station l.answering.here).starts.params in
           let period : (link_setting at w' l).period ≡ interval_of p.params.pdelay =
@@ -195,7 +195,7 @@ module _ (p : SettlingParams) (start number port : ℕ) (w : WorldState) (draws 
           let most : (link_setting at w' l).most ≤ delay_in w' =
           delay_of_used (live_stations w'.stations) w'.net.channels at.link l.channel l.here
           (link_used at w' l) in
-          inl (w.time, (first, omega (arith, period, turnaround, most, soon)))
+          inl (w.time, (first.is, omega (arith, period, turnaround, most, soon)))
 
     down_ready : AreReadyBy p start w'
     down_ready at stands = elim (same_place at.link k.place) [

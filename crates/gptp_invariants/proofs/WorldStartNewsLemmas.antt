@@ -47,5 +47,5 @@ start_news answers n fate fate_after w start network sound k is soon =
     (sound_begins answers n fate fate_after w network sound k)
     (λ at stands.
     first_ready p start 0 w is at (omega (arith, soon))
-    (start_first answers n fate fate_after w network sound k is at stands))
+    (start_first answers n fate fate_after w network sound k is at stands).is)
     (omega (arith, soon, time))

@@ -12,7 +12,8 @@ pub fn first_goes_on()
 {}
 
 /// One interval between requests and one exchange after that request the port is capable. As many intervals as the
-/// window has exchanges, and one exchange, after it the port has measured the link over a whole window.
+/// window has exchanges, and one exchange, after the time by which it measures by the least delay in force, it has
+/// measured the link over a whole window.
 pub fn first_is_full()
     ensures capable { FirstIsFull }
     ensures measured { FirstIsMeasured }

@@ -17,7 +17,7 @@ use Rattle.gptp_pdelay_machine.specs.Invariant.{IsClean}
 use Rattle.gptp_pdelay_machine.specs.Meter.{Kept, Meter, MeterActs, MeterPasses}
 use Rattle.gptp_pdelay_machine.specs.Meter.{meter_asks, meter_hears, meter_heard, meter_answered, meter_rests}
 use Rattle.gptp_pdelay_machine.specs.Measured.{Chain, HasMeasured, MeasuredSince}
-use Rattle.gptp_pdelay_machine.specs.First.{AsksBy, HasAsked, InvFirst, NothingIsPending, HasJustAsked}
+use Rattle.gptp_pdelay_machine.specs.First.{AsksBy, HasAsked, InvFirst, MeasuresBy, NothingIsPending, HasJustAsked}
 use Rattle.gptp_pdelay_machine.specs.FirstLaws.{exchange_span}
 use Rattle.gptp_pdelay_machine.proofs.LaneLemmas.{first_is_there, mute_append, mute_rest, new_is_there}
 use Rattle.gptp_pdelay_machine.proofs.CountLemmas.{counts_asked}
@@ -376,6 +376,70 @@ module _ (k : Setting) (least : ℕ) (asks : List ℕ → Request → Type 0) (r
       go (inr (first, since, until, inv)) =
           inr (first, since, until, first_later first m _ (time, on, refl) inv)
 
+  -- ---- by a least delay that is in force since
+
+  -- an act by which no request is sent leaves the next one due
+  still_due : (by : ℕ) (m m' : Meter) → m'.pair.asker.asked ≡ m.pair.asker.asked → m.pair.asker.asked + k.period ≤ by
+      → m'.pair.asker.asked + k.period ≤ by
+  still_due by m m' same due = omega (arith, same, due)
+
+  -- one that is sent finds nothing pending
+  asks_over : (less gone first by : ℕ) (m m' : Meter) → exchange_span k < k.period → gone ≤ first → Facts k gone m.pair
+      → Facts k gone m'.pair → IsSentLate least m.pair.time m.pair.out m'.pair.out
+      → RequestTimerExpires k asks replies m.pair m'.pair → InvFirst k less asks replies first m
+      → m.pair.asker.asked + k.period ≤ by → MeasuresBy k least asks replies first by m'
+  asks_over less gone first by m m' short old facts facts' there act inv due =
+      let p = m.pair in
+      let now = act.now in
+      let sent = sent_by k less asks replies gone first p.asker.asked inv.since in
+      let before = facts.asked in
+      let ended = over k less asks replies gone p facts (omega (arith, short, now)) inv.clean.phase in
+      inr (
+        p.time,
+        omega (arith, sent, before),
+        omega (arith, now, due),
+        asked_first gone p m'.pair m'.kept act.sequence
+            (asker_after_interval k.allowed p.asker.progress p.asker) act.news
+            (omega (arith, short)) (omega (arith, old, sent, before)) act.time facts' there act.asker act.waits act.back
+            act.out act.sent ended.clear,
+      )
+
+  pub measures_by_kept : (less gone first by : ℕ) (m m' : Meter) → exchange_span k < k.period → gone ≤ first
+      → Facts k gone m.pair → Facts k gone m'.pair → IsSentLate least m.pair.time m.pair.out m'.pair.out
+      → IsSentLate least m.pair.time m.pair.back m'.pair.back → MeterActs k asks replies m m'
+      → InvFirst k less asks replies first m → MeasuresBy k least asks replies first by m
+      → MeasuresBy k least asks replies first by m'
+  measures_by_kept less gone first by m m' short old facts facts' there home acts inv
+      (inr (since, from, until, exact)) =
+      inr (
+        since,
+        from,
+        until,
+        first_kept k least asks replies gone since m m' short (omega (arith, old, from)) facts facts' there home acts
+            exact,
+      )
+  measures_by_kept less gone first by m m' short old facts facts' there home (meter_asks act kept) inv (inl due) =
+      asks_over less gone first by m m' short old facts facts' there act inv due
+  measures_by_kept less gone first by m m' short old facts facts' there home (meter_hears act takes) inv (inl due) =
+      inl (still_due by m m' act.asker.asked due)
+  measures_by_kept less gone first by m m' short old facts facts' there home (meter_heard act kept) inv (inl due) =
+      inl (still_due by m m' (ap (λ (b : Asker). b.asked) act.asker) due)
+  measures_by_kept less gone first by m m' short old facts facts' there home (meter_answered act kept) inv (inl due) =
+      inl (still_due by m m' (ap (λ (b : Asker). b.asked) act.asker) due)
+  measures_by_kept less gone first by m m' short old facts facts' there home (meter_rests act kept) inv (inl due) =
+      inl (still_due by m m' (ap (λ (b : Asker). b.asked) act.asker) due)
+
+  pub measures_by_later : (first by : ℕ) (m m' : Meter) → MeterPasses m m' → MeasuresBy k least asks replies first by m
+      → MeasuresBy k least asks replies first by m'
+  measures_by_later first by m m' (time, on, is) measures =
+      subst (λ (n : Meter). MeasuresBy k least asks replies first by n) (sym is) (go measures)
+    where
+      go : MeasuresBy k least asks replies first by m
+          → MeasuresBy k least asks replies first by (record { pair = pair_at_time m.pair time; kept = m.kept })
+      go (inl due) = inl due
+      go (inr (since, from, until, exact)) =
+          inr (since, from, until, first_later since m _ (time, on, refl) exact)
+
   -- ---- the port is capable, and has measured
 
   pub exchange_full : (gone first : ℕ) (m : Meter) → Facts k gone m.pair → InvFirst k least asks replies first m
@@ -429,6 +493,14 @@ module _ (k : Setting) (least : ℕ) (asks : List ℕ → Request → Type 0) (r
       absurd (omega (arith, timer, due, one, late))
   measured_by gone by m some facts (inr (first, since, until, inv)) late =
       window_full gone first m facts inv (omega (arith, until, late))
+
+  pub has_measured_by : (gone first by : ℕ) (m : Meter) → Facts k gone m.pair
+      → MeasuresBy k least asks replies first by m
+      → by + k.window * k.period + exchange_span k < m.pair.time → HasMeasured k least m.kept.last
+  has_measured_by gone first by m facts (inl due) late =
+      let timer = facts.request_timer in absurd (omega (arith, timer, due, late))
+  has_measured_by gone first by m facts (inr (since, from, until, exact)) late =
+      window_full gone since m facts exact (omega (arith, until, late))
 
   pub stays_capable : (first : ℕ) (m : Meter) → InvFirst k least asks replies first m
       → first + 2 * k.period ≤ m.pair.asker.asked → m.pair.asker.capable ≡ true

@@ -36,6 +36,14 @@ module _ (k : Setting) (least : ℕ) (asks : List ℕ → Request → Type 0) (r
       (NothingIsPending asks replies m.pair × (m.pair.asker.asked + k.period ≤ by))
       ⊎ ((first : ℕ) × (gone ≤ first) × (first ≤ by) × InvFirst first m)
 
+  -- The port measures by this least delay from a request on that is sent by this time: the next request is due by then,
+  -- or it was sent, once old frames were gone. So it is of a link whose least delay has risen, where exchanges that
+  -- began before may have taken less.
+  abbrev pub MeasuresBy : ℕ → ℕ → Meter → Type 0
+  MeasuresBy gone by m =
+      (m.pair.asker.asked + k.period ≤ by)
+      ⊎ ((since : ℕ) × (gone ≤ since) × (since ≤ by) × InvFirst since m)
+
   -- The port has just sent its first request, and nothing else is in flight or waits. So it is where the two systems
   -- start (starts_are_first of gptp_invariants), and where a link between two live systems comes up (links_come_up):
   -- both lanes were empty, and the Respond timer of what was noted was stopped.

@@ -6,7 +6,7 @@ use Rattle.gptp_pdelay_machine.specs.Setting.{Setting}
 use Rattle.gptp_pdelay_machine.specs.Facts.{Facts, IsSentLate}
 use Rattle.gptp_pdelay_machine.specs.Meter.{Meter, MeterActs, MeterPasses}
 use Rattle.gptp_pdelay_machine.specs.Measured.{HasMeasured}
-use Rattle.gptp_pdelay_machine.specs.First.{AsksBy, InvFirst, HasJustAsked}
+use Rattle.gptp_pdelay_machine.specs.First.{AsksBy, InvFirst, HasJustAsked, MeasuresBy}
 
 -- How long an exchange over the link takes at most. It is less than the period by the limits of TimingIsEnough, since
 -- the greatest delay of a good link is at most the threshold.
@@ -49,6 +49,21 @@ module _ (asks : List ℕ → Request → Type 0) (replies : List ℕ → Reply 
       → MeterPasses m m' → AsksBy k least asks replies gone by m
       → AsksBy k least asks replies gone by m'
 
+  -- Since a first request an exchange is over before the next request, which finds nothing old in flight, however
+  -- little the messages took. So every act keeps by when the port measures by the least delay in force.
+  abbrev pub MeasuresByIsKept : Type 0
+  MeasuresByIsKept = (k : Setting) (less least gone first by : ℕ) (m m' : Meter)
+      → exchange_span k < k.period → gone ≤ first → Facts k gone m.pair → Facts k gone m'.pair
+      → IsSentLate least m.pair.time m.pair.out m'.pair.out → IsSentLate least m.pair.time m.pair.back m'.pair.back
+      → MeterActs k asks replies m m' → InvFirst k less asks replies first m
+      → MeasuresBy k least asks replies first by m
+      → MeasuresBy k least asks replies first by m'
+
+  abbrev pub MeasuresByHoldsLater : Type 0
+  MeasuresByHoldsLater = (k : Setting) (least first by : ℕ) (m m' : Meter)
+      → MeterPasses m m' → MeasuresBy k least asks replies first by m
+      → MeasuresBy k least asks replies first by m'
+
   -- one period and one exchange after the first request the port is capable
   abbrev pub ExchangeIsFull : Type 0
   ExchangeIsFull = (k : Setting) (least gone first : ℕ) (m : Meter)
@@ -76,6 +91,13 @@ module _ (asks : List ℕ → Request → Type 0) (replies : List ℕ → Reply 
   abbrev pub MeasuredBy : Type 0
   MeasuredBy = (k : Setting) (least gone by : ℕ) (m : Meter)
       → 0 < k.window → Facts k gone m.pair → AsksBy k least asks replies gone by m
+      → by + k.window * k.period + exchange_span k < m.pair.time
+      → HasMeasured k least m.kept.last
+
+  -- so it has where it measures by the least delay in force from a request on that is sent by that time
+  abbrev pub HasMeasuredBy : Type 0
+  HasMeasuredBy = (k : Setting) (least gone first by : ℕ) (m : Meter)
+      → Facts k gone m.pair → MeasuresBy k least asks replies first by m
       → by + k.window * k.period + exchange_span k < m.pair.time
       → HasMeasured k least m.kept.last
 

@@ -2,6 +2,7 @@
 
 ghost use Rattle.gptp_pdelay_machine.specs.FirstLaws.{FirstBegins, FirstIsKept, FirstHoldsLater};
 ghost use Rattle.gptp_pdelay_machine.specs.FirstLaws.{AsksByIsKept, AsksByHoldsLater};
+ghost use Rattle.gptp_pdelay_machine.specs.FirstLaws.{HasMeasuredBy, MeasuresByIsKept, MeasuresByHoldsLater};
 ghost use Rattle.gptp_pdelay_machine.specs.FirstLaws.{ExchangeIsFull, CapableBy, MeasuredBy, StaysCapable, StaysMeasured, WindowIsFull};
 
 use crate::coding::Coding;
@@ -32,6 +33,17 @@ pub fn asks_by_holds_later<C: Coding>()
     ensures { AsksByHoldsLater C.asks C.replies }
 {}
 
+/// Every act keeps that a port measures by the least delay in force from a request on that is sent by a time, where
+/// exchanges are in their phases by a smaller one.
+pub fn measures_by_kept<C: Coding>()
+    ensures { MeasuresByIsKept C.asks C.replies }
+{}
+
+/// That it does so still holds as time passes.
+pub fn measures_by_holds_later<C: Coding>()
+    ensures { MeasuresByHoldsLater C.asks C.replies }
+{}
+
 /// One interval between requests and one exchange after the first request the port is capable.
 pub fn exchange_is_full<C: Coding>()
     ensures { ExchangeIsFull C.asks C.replies }
@@ -52,6 +64,12 @@ pub fn capable_by<C: Coding>()
 /// whole window.
 pub fn measured_by<C: Coding>()
     ensures { MeasuredBy C.asks C.replies }
+{}
+
+/// As many intervals as the window has exchanges, and one exchange, after the time by which that request is sent it has
+/// measured the link over a whole window by the least delay in force.
+pub fn has_measured_by<C: Coding>()
+    ensures { HasMeasuredBy C.asks C.replies }
 {}
 
 /// From the third request on the port is capable at every time.

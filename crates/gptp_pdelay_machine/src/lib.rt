@@ -49,7 +49,8 @@ pub use exchange::{exchanges_are_good, exchanges_show_neighbor};
 pub use facts::{facts_hold_later, facts_kept, timing_is_enough};
 pub use first::{
     asks_by_holds_later, asks_by_kept, capable_by, exchange_is_full, first_begins,
-    first_holds_later, first_kept, stays_capable,
+    first_holds_later, first_kept, has_measured_by, measures_by_holds_later, measures_by_kept,
+    stays_capable,
 };
 pub use measured::{
     measured_from_calm, measuring_settles, meter_begins, meter_holds_later, meter_is_invariant,

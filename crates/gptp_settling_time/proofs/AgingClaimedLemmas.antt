@@ -1,12 +1,11 @@
 -- A world since a system failed that others hear, where no system is moved but such as are cut off: what is held of it
 -- ages. It goes on as one since news does; its choice stands once that is gone, and it settles once ports without a
 -- link aren't capable either.
-use Rattle.std.proofs.Common.{◌≡◌, ◌⊎◌, ◌≤◌, ◌+◌, ◌*◌, ℕ, ℤ, pred, List, Some, None, refl, sym, ap, subst, ◌∙◌, inl, inr, arith}
+use Rattle.std.proofs.Common.{◌≡◌, ◌⊎◌, ◌≤◌, ◌*◌, ℕ, ℤ, pred, List, Some, None, refl, sym, ap, subst, ◌∙◌, inl, inr, arith}
 use Rattle.gptp_graph.specs.PathBound.{path_bound}
 use Rattle.gptp_graph.specs.Snapshot.{IsWellFormed, Snapshot}
 use Rattle.gptp_links.specs.Fate.{Draw}
 use Rattle.gptp_scenario.specs.Calm.{NothingLapses}
-use Rattle.gptp_scenario.specs.SettlingTime.{window_span}
 use Rattle.gptp_scenario.specs.declared.change.Act.{Act}
 use Rattle.gptp_setup.specs.SettlingParams.{SettlingParams, span_by}
 use Rattle.gptp_model.specs.Acts.{Acts, at as at_time}
@@ -26,7 +25,6 @@ use Rattle.gptp_invariants.specs.ChoiceSeenLaws.{IsNoChange}
 use Rattle.gptp_invariants.specs.ChoiceSettled.{ChoiceStands, Settled}
 use Rattle.gptp_invariants.specs.ChoiceSettlesAsMachine.{IsWorld}
 use Rattle.gptp_invariants.specs.ChoiceView.{says_announce, span_at, station_view, view}
-use Rattle.gptp_invariants.specs.DelayMeasuredLinks.{HaveMeasuredLinks}
 use Rattle.gptp_invariants.specs.WorldBounded.{IsBoundedWorld}
 use Rattle.gptp_invariants.specs.WorldEncodableLaws.{SetsAnOctet}
 use Rattle.gptp_invariants.specs.WorldNews.{AreSilentBy}
@@ -42,9 +40,8 @@ use Rattle.gptp_settling_time.proofs.AgingStillLemmas.{IsAgingSeen, aging_kept, 
 use Rattle.gptp_settling_time.proofs.AlwaysClaimedLemmas.{IsStanding, start_calm, start_network}
 use Rattle.gptp_settling_time.proofs.FitsLemmas.{IsLeftUnmoved, UnlinkedHoldNothing}
 use Rattle.gptp_settling_time.proofs.GoesOnLemmas.{GoesOn, goes_acts, goes_later, late_on, quiet_before}
-use Rattle.gptp_settling_time.proofs.LeftClaimedLemmas.{HaveAskedLong, asked_heard, asked_ready, bare_calm, left_calm, left_net, left_network, same_left, way_later}
+use Rattle.gptp_settling_time.proofs.LeftClaimedLemmas.{HaveAskedLong, asked_heard, bare_calm, left_calm, left_net, left_network, same_left, way_later}
 use Rattle.gptp_settling_time.proofs.NearEndLemmas.{NearEndsStay, near_ends_hold_none, near_now}
-use Rattle.gptp_settling_time.proofs.NewsMeasuredLemmas.{ready_measures}
 use Rattle.gptp_settling_time.proofs.SeenSettledLemmas.{seen_chooses, seen_settles}
 use Rattle.gptp_settling_time.proofs.UnlinkedLemmas.{IsLeftSeen}
 
@@ -279,10 +276,3 @@ module _ (p : SettlingParams) (g : Snapshot) (aged silent : ℕ) (w : WorldState
             aging_left.invariant
             (station_there w.stations place station here) live is_best (omega arith)),
       )
-
--- its ports have measured their links
-pub aging_measured : (p : SettlingParams) (g : Snapshot) (aged silent : ℕ) (w : WorldState)
-    → IsAgingAlways p g aged silent w → HaveQuietLinks p.params w → w.last_change + window_span p.params ≤ w.time
-    → HaveMeasuredLinks w
-aging_measured p g aged silent w is quiet =
-    ready_measures p w.last_change w is.standing.world (asked_ready p w is.asked) quiet

@@ -1,8 +1,9 @@
 -- The world of a document begins, or has rested.
-use Rattle.std.proofs.Common.{◌≡◌, ◌≤◌, ◌+◌, ◌*◌, ℕ, false, List, [], length, Option, Some, slice_get, refl, sym, ap, subst, ◌∙◌, inl, arith}
+use Rattle.std.proofs.Common.{◌≡◌, ◌⊎◌, ◌≤◌, ◌+◌, ◌*◌, ℕ, false, List, [], length, Option, Some, slice_get, refl, sym, ap, subst, ◌∙◌, inl, inr, arith}
 use Rattle.std.specs.List.{range_with_len}
 use Rattle.gptp_graph.specs.PathBound.{path_bound}
 use Rattle.gptp_links.specs.declared.bounds.Bounds.{Bounds}
+use Rattle.gptp_setup.specs.Intervals.{interval_of}
 use Rattle.gptp_setup.specs.SettlingParams.{SettlingParams, largest_interval, longest_span}
 use Rattle.gptp_scenario.specs.Calm.{last_change}
 use Rattle.gptp_scenario.specs.Network.{NetworkState, pace_of}
@@ -21,7 +22,7 @@ use Rattle.gptp_invariants.specs.ChoiceCalm.{delay_in}
 use Rattle.gptp_invariants.specs.WorldSettlingInvariant.{KeepsAll}
 use Rattle.gptp_invariants.specs.WorldSound.{IsSoundWorld}
 use Rattle.gptp_invariants.specs.WorldStanding.{snapshot_of}
-use Rattle.gptp_invariants.proofs.DelayStartFirstLemmas.{start_lives}
+use Rattle.gptp_invariants.proofs.DelayStartFirstLemmas.{start_first, start_lives, start_time}
 use Rattle.gptp_invariants.proofs.WorldClaimLemmas.{claim_begins}
 use Rattle.gptp_invariants.proofs.ChoiceSettlesAsMachineLemmas.{paths_bound}
 use Rattle.gptp_invariants.proofs.WorldOutlineLemmas.{starts_are_last}
@@ -35,6 +36,8 @@ use Rattle.gptp_theorem.proofs.CalmLemmas.{quiet_stands}
 use Rattle.gptp_theorem.proofs.SyncPathLemmas.{paths_stand}
 use Rattle.gptp_settling_time.specs.Gains.{HasRested, exchanged_from}
 use Rattle.gptp_settling_time.proofs.KeptToLemmas.{KeepsTo}
+use Rattle.gptp_settling_time.proofs.MeasureToLemmas.{AsksAt, AtFirst, HowAsked, MeasureTo}
+use Rattle.gptp_settling_time.proofs.MeasuringLemmas.{AreMeasuredOr, measured_anew}
 use Rattle.gptp_settling_time.proofs.NamedWorldLemmas.{named_begins}
 use Rattle.gptp_settling_time.proofs.NewsSoonLemmas.{IsNewsFrom}
 use Rattle.gptp_settling_time.proofs.SinceSetLemmas.{limited_begins}
@@ -67,11 +70,32 @@ module _ {F : Type 0} (answers : Bounds → ℕ → F → Option ℕ → F → T
     stands : StandsAsPlanned n [] w
     stands = begun_stands answers n fate fate_after w k
 
+    -- links in use are first asked over now; and each is watched
+    measures_begin : (how : HowAsked) (start : ℕ) → MeasureTo n [] how start
+        → AreMeasuredOr p start (AsksAt n [] how) w
+    measures_begin how start (first, begun, begins, (same, until)) = by begins
+      where
+        by : (first ≡ AtFirst)
+            ⊎ (2 * largest_interval p + 3 * interval_of p.params.pdelay ≤ begun)
+            → AreMeasuredOr p start (AsksAt n [] how) w
+        by (inl at_first) = λ at stands.
+            inr (
+              0,
+              inl (same ∙ at_first, refl),
+              0,
+              start_first answers n fate fate_after w playable.network sound k claim.world at stands,
+            )
+        by (inr late) =
+            let last = starts_are_last _ (initial n) k.draws w refl k.starts in
+            let now = start_time answers n fate fate_after w playable.network sound k in
+            measured_anew p start (AsksAt n [] how) w claim.watched (omega (arith, late, until, last, now))
+
     pub begun_keeps : KeepsTo d [] w
     begun_keeps = record {
       claim = claim;
       stands = stands;
       limited = λ most within. limited_begins answers n fate fate_after w k;
+      measures = measures_begin;
       named = named_begins p w claim.world claim.pace.largest
           (starts_are_last _ (initial n) k.draws w refl k.starts);
       slow = begun_none_faster answers n fate fate_after w sound.wired.setups k;

@@ -9,6 +9,7 @@ use Rattle.gptp_network.specs.Document.{DocumentState}
 use Rattle.gptp_network.specs.Snapshot.{events_by}
 use Rattle.gptp_report.specs.Transitions.{ActTrace, Unfolds}
 use Rattle.gptp_theorem.specs.PlayedLaws.{IsPlayable}
+use Rattle.gptp_settling_time.specs.Measuring.{AreMeasuredBefore}
 use Rattle.gptp_settling_time.specs.ChoiceBounds.{ChoiceAloneBoundsHold, ChoiceBoundsAreExact, ChoiceBoundsHold}
 use Rattle.gptp_settling_time.specs.Arrivals.{arrived_by}
 use Rattle.gptp_settling_time.specs.Gains.{HasDelaysWithin}
@@ -47,7 +48,7 @@ choice_alone_bounds_hold answers d time choice next until fate first w ts t play
 pub choice_bounds_are_exact : {F : Type 0} (answers : Bounds → ℕ → F → Option ℕ → F → Type 0)
     → ChoiceBoundsAreExact answers
 choice_bounds_are_exact answers d time choice next settled most until fate first w ts t playable k member shown bound
-    none late within old early steps number error offset ahead come leaves near way is_ahead =
+    none late within old again early steps number error offset ahead come leaves near way is_ahead =
     let at = t.told.timed.at in
     let same = none_later d.events time at next (omega (arith, late, come)) early none in
     let last = last_by time d.events in
@@ -56,6 +57,7 @@ choice_bounds_are_exact answers d time choice next settled most until fate first
     (subst (λ es. last_change es < settled) (sym same) (omega (arith, last, late)))
     (subst (λ es. HasDelaysWithin d.network es most) (sym same) within)
     (subst (λ es. arrived_by most es ≤ settled) (sym same) old)
+    (subst (λ es. AreMeasuredBefore d.network es settled) (sym same) again)
     steps number error offset ahead come leaves near way is_ahead
 
 -- and time is carried right from then on
@@ -65,10 +67,11 @@ pub choice_bounds_carry : {F : Type 0} (answers : Bounds → ℕ → F → Optio
     → IsChoiceAloneBound d time choice → NoneBetween d.events time next
     → time + choice < settled
     → HasDelaysWithin d.network (events_by time d.events) most → arrived_by most (events_by time d.events) ≤ settled
+    → AreMeasuredBefore d.network (events_by time d.events) settled
     → settled ≤ t.told.timed.at → t.told.timed.at < next
     → IsCarried answers (pace_of d.network) settled t
 choice_bounds_carry answers d time choice next settled most until fate first w ts t playable k member shown bound
-    none late within old on early =
+    none late within old again on early =
     let at = t.told.timed.at in
     let same = none_later d.events time at next (omega (arith, late, on)) early none in
     let last = last_by time d.events in
@@ -76,4 +79,5 @@ choice_bounds_carry answers d time choice next settled most until fate first w t
     (bound_chooses d playable.network playable.events.in_order time choice at settled same late bound)
     (subst (λ es. last_change es < settled) (sym same) (omega (arith, last, late)))
     (subst (λ es. HasDelaysWithin d.network es most) (sym same) within)
-    (subst (λ es. arrived_by most es ≤ settled) (sym same) old) on
+    (subst (λ es. arrived_by most es ≤ settled) (sym same) old)
+    (subst (λ es. AreMeasuredBefore d.network es settled) (sym same) again) on

@@ -32,6 +32,7 @@ use Rattle.gptp_settling_time.specs.Gains.{GainsFromRest, GainsFromStart}
 use Rattle.gptp_settling_time.proofs.SoonOffsetLemmas.{act_exact}
 use Rattle.gptp_settling_time.proofs.TimedNewsLemmas.{CanSettle, has_settled}
 use Rattle.gptp_settling_time.proofs.KeptToLemmas.{IsLastTo, KeepsTo}
+use Rattle.gptp_settling_time.proofs.MeasureLeadLemmas.{begins_never}
 use Rattle.gptp_settling_time.proofs.BegunLemmas.{begun_keeps, begun_last, begun_news}
 use Rattle.gptp_settling_time.proofs.CutLemmas.{acts_by, runs_begin_so}
 use Rattle.gptp_settling_time.proofs.NewsSoonLemmas.{from_sound}
@@ -66,7 +67,8 @@ module _ {F : Type 0} (answers : Bounds → ℕ → F → Option ℕ → F → T
           let news = begun_news answers d playable fate k.started first k.begun gains.begun gains.first in
           finds_gains answers d playable all m start settled until [] gains.begun all ts k.started k.drawn first w refl
           (events_made d until playable.network playable.events) (events_fit d until playable) gains.nothing
-          gains.capable k.courses (record { keeps = keeps_first; news = news })
+          gains.capable k.courses (begins_never n gains.begun (inl gains.first))
+          (record { keeps = keeps_first; news = news })
           (begun_last answers d playable fate k.started first k.begun)
       by (inr gains) =
           finds_rested answers d playable all m start settled until gains.before gains.others gains.first gains.rest

@@ -1,13 +1,15 @@
 -- Offsets are exact from when a Sync has come down since a document settled, event by event.
-use Rattle.std.proofs.Common.{◌≡◌, ◌⊎◌, inl, inr, ◌<◌, ◌≤◌, ◌+◌, ◌*◌, ◌^◌, ℕ, List, [], Option, refl, arith}
+use Rattle.std.proofs.Common.{◌≡◌, ◌⊎◌, inl, inr, ◌<◌, ◌≤◌, ◌+◌, ◌^◌, ℕ, List, [], Option, refl, ap, arith}
 use Rattle.std.proofs.lemmas.Bool.{cases_lt}
 use Rattle.gptp_lists.specs.Members.{In}
 use Rattle.gptp_links.specs.declared.bounds.Bounds.{Bounds}
-use Rattle.gptp_setup.specs.SettlingParams.{SettlingParams, largest_interval}
+use Rattle.gptp_setup.specs.SettlingParams.{SettlingParams}
 use Rattle.gptp_scenario.specs.SettlingTime.{window_span}
 use Rattle.gptp_scenario.specs.Calm.{IsCalm, last_change}
 use Rattle.gptp_scenario.specs.Network.{pace_of}
+use Rattle.gptp_scenario.specs.SyncWait.{sync_paths}
 use Rattle.gptp_scenario.specs.declared.change.Timed.{Timed}
+use Rattle.gptp_scenario.specs.declared.sync_wait.SyncPaths.{SyncPaths}
 use Rattle.gptp_model.specs.Acts.{at}
 use Rattle.gptp_model.specs.Course.{WasDone}
 use Rattle.gptp_model.specs.Pending.{NothingBefore}
@@ -17,12 +19,11 @@ use Rattle.gptp_world.specs.Transitions.{ActTrace}
 use Rattle.gptp_network.specs.Document.{DocumentState}
 use Rattle.gptp_network.specs.Snapshot.{events_by}
 use Rattle.gptp_report.specs.Transitions.{Unfolds}
-use Rattle.gptp_invariants.specs.ChoiceCalm.{HaveQuietLinks}
+use Rattle.gptp_invariants.specs.ChoiceCalm.{HaveQuietLinks, delay_in}
 use Rattle.gptp_invariants.specs.DelayMeasuredLinks.{HaveMeasuredLinks}
 use Rattle.gptp_invariants.specs.SyncTimed.{AllMeasureRight, ArriveBy, CarriesTime, IsSettledFrom}
 use Rattle.gptp_invariants.specs.WorldKnown.{IsKnown}
 use Rattle.gptp_invariants.specs.WorldStanding.{live_stations}
-use Rattle.gptp_invariants.proofs.DelayMeasuredLinkLemmas.{used_measured}
 use Rattle.gptp_invariants.proofs.WorldOutlineLemmas.{acts_time}
 use Rattle.gptp_invariants.proofs.SyncFollowLaterLemmas.{time_begins, time_carries}
 use Rattle.gptp_invariants.proofs.SyncFollowMeasureLemmas.{measured_right}
@@ -31,35 +32,31 @@ use Rattle.gptp_theorem.specs.PlayedLaws.{IsPlayable}
 use Rattle.gptp_theorem.proofs.CalmLemmas.{quiet_stands}
 use Rattle.gptp_theorem.proofs.SettlingInvariantLemmas.{events_fit, events_made}
 use Rattle.gptp_theorem.proofs.CalmKeptLemmas.{no_change}
+use Rattle.gptp_theorem.proofs.SyncPathLemmas.{paths_stand}
 use Rattle.gptp_settling_time.specs.Arrivals.{arrived_by}
 use Rattle.gptp_settling_time.specs.ExactInTurn.{ActsAreExactInTurn}
 use Rattle.gptp_settling_time.specs.Exactly.{AreExactFrom}
 use Rattle.gptp_settling_time.specs.Gains.{HasDelaysWithin}
-use Rattle.gptp_settling_time.specs.Pasts.{Aging, AnyPast, Cleared, Fallen, Gained, Heard, Left, Fewer, Lost, Past, Split, Starting, Turned, TurnedTree}
+use Rattle.gptp_settling_time.specs.Measuring.{AreMeasuredBefore}
+use Rattle.gptp_settling_time.specs.Pasts.{Past}
 use Rattle.gptp_settling_time.specs.InTurn.{ChoosesAfter, ChoosesByEvents}
-use Rattle.gptp_settling_time.proofs.AgingClaimedLemmas.{aging_measured}
-use Rattle.gptp_settling_time.proofs.SplitSettlesLemmas.{split_measured}
-use Rattle.gptp_settling_time.proofs.ArrivalsLemmas.{SetLimits}
-use Rattle.gptp_settling_time.proofs.SplitToLemmas.{GoesOver, WereUsed}
-use Rattle.gptp_settling_time.proofs.LostClaimedLemmas.{lost_measured}
 use Rattle.gptp_settling_time.proofs.BegunLemmas.{begun_last}
 use Rattle.gptp_settling_time.proofs.DocumentLemmas.{run_to}
 use Rattle.gptp_settling_time.proofs.AfterLemmas.{IsAfter, after_act, after_chooses, after_keeps, after_later, begins_after}
 use Rattle.gptp_settling_time.proofs.InTurnLemmas.{in_turn}
 use Rattle.gptp_settling_time.proofs.LaterLemmas.{AreSteps}
-use Rattle.gptp_settling_time.proofs.LeftClaimedLemmas.{left_measured}
-use Rattle.gptp_settling_time.proofs.FallAlwaysLemmas.{fallen_measured}
-use Rattle.gptp_settling_time.proofs.TurnedTreeLemmas.{turned_tree_measured}
-use Rattle.gptp_settling_time.proofs.MovedAlwaysLemmas.{moved_measured}
-use Rattle.gptp_settling_time.proofs.NewsMeasuredLemmas.{news_measured}
-use Rattle.gptp_settling_time.proofs.NewsSoonLemmas.{news_now}
+use Rattle.gptp_settling_time.proofs.MeasureToLemmas.{AreMeasuredTo, AsksLater}
+use Rattle.gptp_settling_time.proofs.MeasuredEventLemmas.{measured_so}
+use Rattle.gptp_settling_time.proofs.MeasuredInTurnLemmas.{measured_in_turn}
+use Rattle.gptp_settling_time.proofs.MeasuringLemmas.{asked_over, measured_links}
 use Rattle.gptp_settling_time.proofs.SinceSetLemmas.{limited_arrive}
 use Rattle.gptp_settling_time.proofs.SoonOffsetLemmas.{CarriesRight, carried_exact}
 
 module _ (d : DocumentState) (playable : IsPlayable d) (all : List Timed) (calm : IsCalm d.network all) (last : Past)
     (settled : ℕ) (settles : ChoosesAfter d.network all last settled)
     (behind : last_change all < settled) (most : ℕ) (within : HasDelaysWithin d.network all most)
-    (old : arrived_by most all ≤ settled) where
+    (old : arrived_by most all ≤ settled) (measured : AreMeasuredTo d.network all settled)
+    (again : AreMeasuredBefore d.network all settled) where
   abbrev p : SettlingParams
   p = pace_of d.network
 
@@ -75,56 +72,17 @@ module _ (d : DocumentState) (playable : IsPlayable d) (all : List Timed) (calm 
       (quiet_stands d.network all w playable.network keeps.stands keeps.claim.world.sound calm).links
 
   -- its ports have measured their links
-  have_measured : (past : Past) (w : WorldState) → IsAfter d all past w → ChoosesAfter d.network all past settled
-      → HaveQuietLinks p.params w → whole ≤ w.time → HaveMeasuredLinks w
-  have_measured AnyPast w keeps so links on =
-      let change = keeps.stands.last in
-      used_measured p w keeps.claim.pace keeps.claim.world links keeps.claim.watched (by so change)
-    where
-      by : ChoosesAfter d.network all AnyPast settled → w.last_change ≡ last_change all
-          → w.last_change + 5 * largest_interval p + window_span p.params ≤ w.time
-      by (inl (off, passed)) change = omega (arith, passed, on, change)
-      by (inr passed) change = omega (arith, passed, on, change)
-  have_measured Starting w so none links on = absurd none
-  have_measured (Gained start) w so settles links on =
-      let late = by settles in
-      news_measured p start w (news_now p start w (omega (arith, late)) so.news) links late
-    where
-      by : ChoosesAfter d.network all (Gained start) settled → start + window_span p.params ≤ w.time
-      by (inl (off, late)) = omega (arith, late, on)
-      by (inr (short, late)) = omega (arith, late, on)
-  have_measured (Heard start) w so (off, late) links on =
-      news_measured p start w so.since.news links (omega (arith, late, on))
-  have_measured (Left ago silent) w so settles links on =
-      let change = (after_keeps d all (Left ago silent) w so).stands.last in
-      left_measured p so.before silent w so.since links (omega (arith, behind, on, change))
-  have_measured (Cleared ago since silent right old) w so settles links on =
-      let change = (after_keeps d all (Cleared ago since silent right old) w so).stands.last in
-      left_measured p so.before silent w so.is.left links (omega (arith, behind, on, change))
-  have_measured (Turned silent time) w so settles links on =
-      let change = (after_keeps d all (Turned silent time) w so).stands.last in
-      moved_measured p so.before silent time w so.since.moved links (omega (arith, behind, on, change))
-  have_measured (Fallen silent time) w so settles links on =
-      let change = (after_keeps d all (Fallen silent time) w so).stands.last in
-      fallen_measured p so.before (SetLimits d.network so.ago) silent time w so.since links
-      (omega (arith, behind, on, change))
-  have_measured (TurnedTree silent time) w so settles links on =
-      let change = (after_keeps d all (TurnedTree silent time) w so).stands.last in
-      turned_tree_measured p so.before silent time w so.since.tree links (omega (arith, behind, on, change))
-  have_measured (Aging ago aged silent) w so settles links on =
-      let change = (after_keeps d all (Aging ago aged silent) w so).stands.last in
-      aging_measured p so.before aged silent w so.since links (omega (arith, behind, on, change))
-  have_measured (Split ago gone silent) w so settles links on =
-      let change = (after_keeps d all (Split ago gone silent) w so).stands.last in
-      split_measured p so.before (GoesOver d.network so.before ago all so.failed gone silent) (SetLimits d.network ago)
-      (WereUsed d.network ago so.failed) so.failed gone silent w so.since.split links
-      (omega (arith, behind, on, change))
-  have_measured (Lost ago since most silent) w so settles links on =
-      let change = (after_keeps d all (Lost ago since most silent) w so).stands.last in
-      lost_measured p since most silent w so.is (omega (arith, behind, on, change))
-  have_measured (Fewer ago since most silent) w so settles links on =
-      let change = (after_keeps d all (Fewer ago since most silent) w so).stands.last in
-      lost_measured p since most silent w so.lost.is (omega (arith, behind, on, change))
+  have_measured : (w : WorldState) → IsAfter d all last w → whole ≤ w.time → HaveMeasuredLinks w
+  have_measured w so on =
+      let keeps = after_keeps d all last w so in
+      let delay : (sync_paths d.network all).delay ≡ delay_in w =
+      ap (λ (x : SyncPaths). x.delay)
+      (paths_stand d.network all w playable.network keeps.stands keeps.claim.world.sound) in
+      measured_links p settled w keeps.claim.world
+      (asked_over p settled (AsksLater d.network all measured.how) w keeps.claim.world
+      (λ time (anew, asks). (let over = again time asks in omega (arith, over, delay)))
+      (measured_so d playable all settled w keeps measured))
+      (quiet w so) on
 
   -- what was in flight before has arrived
   arrive : (w : WorldState) → IsAfter d all last w → ArriveBy whole w
@@ -155,7 +113,7 @@ module _ (d : DocumentState) (playable : IsPlayable d) (all : List Timed) (calm 
       → AllMeasureRight p.params w
   right w so on shown =
       measured_right p whole p.params.threshold w (settled_from w so on shown)
-      (have_measured last w so settles (quiet w so) on)
+      (have_measured w so on)
 
   known : (w : WorldState) → IsAfter d all last w → IsKnown p w
   known w so = (after_keeps d all last w so).claim.world.known
@@ -236,7 +194,8 @@ module _ {F : Type 0} (answers : Bounds → ℕ → F → Option ℕ → F → T
     (is : ChoosesByEvents d t.told.timed.at settled)
     (behind : last_change (events_by t.told.timed.at d.events) < settled)
     (within : HasDelaysWithin d.network (events_by t.told.timed.at d.events) most)
-    (old : arrived_by most (events_by t.told.timed.at d.events) ≤ settled) where
+    (old : arrived_by most (events_by t.told.timed.at d.events) ≤ settled)
+    (again : AreMeasuredBefore d.network (events_by t.told.timed.at d.events) settled) where
   abbrev now : ℕ
   now = t.told.timed.at
 
@@ -246,17 +205,21 @@ module _ {F : Type 0} (answers : Bounds → ℕ → F → Option ℕ → F → T
   begun : IsAfter d [] is.first first
   begun = begins_after answers d playable fate now first w ts k is.first is.begins
 
+  measured : AreMeasuredTo d.network events settled
+  measured =
+      measured_in_turn d now settled playable (after_keeps d [] is.first first begun).claim.pace is behind
+
   abbrev Exact : WorldState → Type 0
-  Exact = IsExactTo d playable events is.calm is.last settled is.settles behind most within old
+  Exact = IsExactTo d playable events is.calm is.last settled is.settles behind most within old measured again
 
   steps : AreSteps answers Exact events ts first
   steps =
       in_turn answers d playable events is.last now Exact
-      (exact_begins d playable events is.calm is.last settled is.settles behind most within old)
-      (exact_later d playable events is.calm is.last settled is.settles behind most within old)
+      (exact_begins d playable events is.calm is.last settled is.settles behind most within old measured again)
+      (exact_later d playable events is.calm is.last settled is.settles behind most within old measured again)
       (λ u one drawn v next was v_is.
-      exact_act d playable events is.calm is.last settled is.settles behind most within old answers u one drawn v next
-      was v_is)
+      exact_act d playable events is.calm is.last settled is.settles behind most within old measured again answers u one
+      drawn v next was v_is)
       [] is.first events ts k.started k.drawn first w refl (events_made d now playable.network playable.events)
       (events_fit d now playable) is.lead k.courses begun (begun_last answers d playable fate k.started first k.begun)
 
@@ -268,9 +231,10 @@ module _ {F : Type 0} (answers : Bounds → ℕ → F → Option ℕ → F → T
         drawn = step.drawn;
         was = step.was;
         right = λ on.
-            carries_right d playable events is.calm is.last settled is.settles behind most within old (at now t.before)
-            (exact_later d playable events is.calm is.last settled is.settles behind most within old t.before now
-            step.was.ready.timely.now step.was.ready.timely.first step.before)
+            carries_right d playable events is.calm is.last settled is.settles behind most within old measured again
+            (at now t.before)
+            (exact_later d playable events is.calm is.last settled is.settles behind most within old measured again
+            t.before now step.was.ready.timely.now step.was.ready.timely.first step.before)
             on shown;
       }
 
@@ -282,10 +246,11 @@ module _ {F : Type 0} (answers : Bounds → ℕ → F → Option ℕ → F → T
 
 pub acts_are_exact_in_turn : {F : Type 0} (answers : Bounds → ℕ → F → Option ℕ → F → Type 0)
     → ActsAreExactInTurn answers
-acts_are_exact_in_turn answers d until settled most fate first w ts t playable k member shown is behind within old =
+acts_are_exact_in_turn answers d until settled most fate first w ts t playable k member shown is behind within old
+    again =
     let run = run_to answers d until fate first w ts t playable k member in
     exact_then answers d settled most fate first run.w run.ts t playable run.unfolds run.member shown is behind within
-    old
+    old again
 
 -- so it is of each act of a run from then on
 pub acts_are_carried_in_turn : {F : Type 0} (answers : Bounds → ℕ → F → Option ℕ → F → Type 0) (d : DocumentState)
@@ -295,8 +260,11 @@ pub acts_are_carried_in_turn : {F : Type 0} (answers : Bounds → ℕ → F → 
     → last_change (events_by t.told.timed.at d.events) < settled
     → HasDelaysWithin d.network (events_by t.told.timed.at d.events) most
     → arrived_by most (events_by t.told.timed.at d.events) ≤ settled
+    → AreMeasuredBefore d.network (events_by t.told.timed.at d.events) settled
     → settled ≤ t.told.timed.at
     → IsCarried answers (pace_of d.network) settled t
-acts_are_carried_in_turn answers d until settled most fate first w ts t playable k member shown is behind within old =
+acts_are_carried_in_turn answers d until settled most fate first w ts t playable k member shown is behind within old
+    again =
     let run = run_to answers d until fate first w ts t playable k member in
     carried answers d settled most fate first run.w run.ts t playable run.unfolds run.member shown is behind within old
+    again

@@ -1,5 +1,5 @@
 -- From when a document has settled each act of its run finds it so.
-use Rattle.std.proofs.Common.{◌≡◌, ◌<◌, ◌≤◌, ℕ, List, [], ◌∷◌, ◌++◌, Option, sym, ap, subst, ◌∙◌, append_assoc, append-nil, arith}
+use Rattle.std.proofs.Common.{◌≡◌, ◌<◌, ◌≤◌, ℕ, List, [], ◌∷◌, ◌++◌, Option, sym, ap, subst, ◌∙◌, append_assoc, append-nil, inl, inr, arith}
 use Rattle.std.specs.List.{AllByRecursion}
 use Rattle.gptp_lists.specs.Members.{In}
 use Rattle.gptp_links.specs.declared.bounds.Bounds.{Bounds}
@@ -15,6 +15,9 @@ use Rattle.gptp_theorem.specs.PlayedLaws.{IsMade, IsPlayable}
 use Rattle.gptp_theorem.proofs.SettlingInvariantLemmas.{IsFitEvent, least_of}
 use Rattle.gptp_settling_time.specs.Gains.{AllTakeNothing, AreCapableAnyway, AreCapableFrom, AreCapableNext, HasRested}
 use Rattle.gptp_settling_time.proofs.BegunLemmas.{rested_sound}
+use Rattle.gptp_settling_time.proofs.MeasureLeadLemmas.{IsNeverAnew, anyway_never, next_never, still_never}
+use Rattle.gptp_settling_time.proofs.MeasuredEventLemmas.{measured_so}
+use Rattle.gptp_settling_time.proofs.MeasuringLemmas.{AreMeasuredSoon}
 use Rattle.gptp_settling_time.proofs.KeptToLemmas.{IsLastTo, IsNewsTo, KeepsTo, keeps_act, keeps_later, last_act_to, last_later_to, news_act_to, news_later_to}
 use Rattle.gptp_settling_time.proofs.LaterLemmas.{acts_behind}
 use Rattle.gptp_settling_time.proofs.MadeLemmas.{made_keeps, made_last, made_time, news_news, rest_news}
@@ -39,17 +42,22 @@ module _ {F : Type 0} (answers : Bounds → ℕ → F → Option ℕ → F → T
 
   -- what passes after all events
   finds_last : (ts : List ActTrace) (fate fate_after : F) (w w' : WorldState)
-      → PassesTo answers until ts fate fate_after w w' → IsNewsTo d start all w → w.last_change ≡ w.time
-      → Finds ts w w'
-  finds_last ts fate fate_after w w' k so now =
+      → PassesTo answers until ts fate fate_after w w' → IsNeverAnew n all start → IsNewsTo d start all w
+      → w.last_change ≡ w.time → Finds ts w w'
+  finds_last ts fate fate_after w w' k (measured, never) so now =
       let last = so.keeps.stands.last in
       let some = interval_positive (pace_of n).largest so.keeps.claim.pace.largest in
       let early : w.time ≤ last_change all = omega (arith, last, now) in
+      let measures : AreMeasuredSoon (pace_of n) start w =
+      λ at stands. elim (measured_so d playable all start w so.keeps measured at stands) [
+        | inl x ↦ x
+        | inr (time, (anew, asks), first, x) ↦ absurd (never anew)
+      ] in
       let first : IsLast w = record {
         keeps = so.keeps;
         news = so.news;
         timed = λ old.
-            timed_begins (pace_of n) m start settled w so.news (omega (arith, old, last, now, some));
+            timed_begins (pace_of n) m start settled w so.news measures (omega (arith, old, last, now, some));
       } in
       let passed = passes_to answers IsLast (last_later_to d all m start settled)
       (λ t one drawn v next was v_is. last_act_to d all answers t one drawn v next was m start settled v_is)
@@ -84,13 +92,14 @@ module _ {F : Type 0} (answers : Bounds → ℕ → F → Option ℕ → F → T
       (w w' : WorldState) → made ++ events ≡ all → AllByRecursion IsMade events
       → AllByRecursion (IsFitEvent (least_of d)) events → AllTakeNothing n made events
       → AreCapableFrom n made from events start → Courses answers until events ts fate fate_after w w'
-      → IsNewsTo d from made w → w.last_change ≡ w.time → Finds ts w w'
-  finds_gains made from [] ts fate fate_after w w' are is fit nothing capable k so now =
+      → IsNeverAnew n made from → IsNewsTo d from made w → w.last_change ≡ w.time → Finds ts w w'
+  finds_gains made from [] ts fate fate_after w w' are is fit nothing capable k never so now =
       let same : made ≡ all = sym (append-nil made) ∙ are in
       finds_last ts fate fate_after w w' k
+      (subst (λ es. IsNeverAnew n es start) same (subst (IsNeverAnew n made) (sym capable) never))
       (subst (λ es. IsNewsTo d start es w) same (subst (λ time. IsNewsTo d time made w) (sym capable) so)) now
   finds_gains made from (event ∷ events) ts fate fate_after w w' are is fit nothing (next, capable, others)
-      (first, rest, drawn, between, k, on, split) so now =
+      (first, rest, drawn, between, k, on, split) never so now =
       let passed = passes_to answers (IsNewsTo d from made) (news_later_to d made from)
       (λ t one other v next_is was v_is. news_act_to d made answers t one other v next_is was from v_is)
       event.at k.first fate k.drawn w k.between k.passes so in
@@ -104,6 +113,7 @@ module _ {F : Type 0} (answers : Bounds → ℕ → F → Option ℕ → F → T
       (made_time answers d playable made event k.drawn drawn k.between between k.done is.0 fit.0 k.made) split
       (finds_gains (made ++ event ∷ []) next events rest drawn fate_after between w'
       (append_assoc made (event ∷ []) events ∙ are) is.1 fit.1 nothing.1 others on
+      (still_never n so.keeps.claim.pace made event from next never capable)
       (record { keeps = keeps; news = news })
       (made_last answers d playable made event k.drawn drawn k.between between k.done is.0 fit.0 k.made))
 
@@ -133,6 +143,8 @@ module _ {F : Type 0} (answers : Bounds → ℕ → F → Option ℕ → F → T
         (made_time answers d playable earlier one k.drawn drawn k.between between k.done is.0 fit.0 k.made) split
         (finds_gains (earlier ++ one ∷ []) next others rest drawn fate_after between w'
         (append_assoc earlier (one ∷ []) others ∙ are) is.1 fit.1 nothing.1 capable on
+        (next_never n keeps.claim.pace earlier one from next
+        (anyway_never n keeps.claim.pace earlier from anyway) gain)
         (record { keeps = after; news = news })
         (made_last answers d playable earlier one k.drawn drawn k.between between k.done is.0 fit.0 k.made))
     finds_rested made (event ∷ left) ts fate fate_after w w' so are is fit

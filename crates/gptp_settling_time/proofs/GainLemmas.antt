@@ -1,10 +1,11 @@
 -- What takes nothing away from a network takes nothing away from a world that stands so.
-use Rattle.std.proofs.Common.{◌≡◌, ◌∙◌, ◌<◌, ◌≤◌, ◌⊎◌, ◌+◌, ◌*◌, ◌^◌, ◌%◌, ℕ, Bool, true, false, List, Some, slice_get, refl, sym, ap, subst, inl, inr}
+use Rattle.std.proofs.Common.{◌≡◌, ◌≢◌, ◌∙◌, ◌<◌, ◌≤◌, ◌⊎◌, ◌+◌, ◌*◌, ◌^◌, ◌%◌, ℕ, Bool, true, false, List, Some, slice_get, refl, sym, ap, subst, inl, inr}
 use Rattle.std.specs.Prelude.{◌&&◌, if◌then◌else◌}
 use Rattle.gptp_lists.proofs.MappedLemmas.{alike, same_there}
 use Rattle.gptp_vector.specs.declared.port.PortId.{PortId}
 use Rattle.gptp_roles.specs.Selection.{clock_of}
 use Rattle.gptp_links.specs.declared.bounds.Bounds.{Bounds}
+use Rattle.gptp_links.specs.declared.link.Direction.{Direction}
 use Rattle.gptp_links.specs.declared.link.Direction.TheVariants.{FromA, FromB}
 use Rattle.gptp_scenario.specs.Calm.{IsLive, IsUsed}
 use Rattle.gptp_scenario.specs.Change.{link_after, system_after}
@@ -17,7 +18,7 @@ use Rattle.gptp_system.specs.State.{clock}
 use Rattle.gptp_model.specs.declared.station.Station.{Station}
 use Rattle.gptp_model.specs.Changing.{IsChannel, IsStation}
 use Rattle.gptp_model.specs.Sound.{IsItsSetup, IsSound}
-use Rattle.gptp_model.specs.World.{Channel, WorldState, port_id}
+use Rattle.gptp_model.specs.World.{Channel, WorldState, port_id, sender}
 use Rattle.gptp_network.proofs.SnapshotLemmas.{clock_after}
 use Rattle.gptp_graph.specs.Snapshot.{System}
 use Rattle.gptp_invariants.specs.WorldNews.{AllLive}
@@ -27,7 +28,7 @@ use Rattle.gptp_invariants.proofs.WorldStandsLemmas.{sender_lives, used_up}
 use Rattle.gptp_invariants.proofs.WorldSystemLemmas.{clock_lives, live_from}
 use Rattle.gptp_theorem.specs.Reached.{Shape, StandsAsPlanned, shape, shape_after, channel_wire}
 use Rattle.gptp_theorem.proofs.CalmLemmas.{IsMemberAt}
-use Rattle.gptp_settling_time.specs.Gains.{AllLiveAfter, EndHasFailed, IsDownAfter, IsGainAfter, IsIdleAfter, IsNoWorse, IsUpAfter, KeepsIdentity}
+use Rattle.gptp_settling_time.specs.Gains.{AllLiveAfter, EndHasFailed, IsDownAfter, IsGainAfter, IsIdleAfter, IsNoWorse, IsUpAfter, KeepsIdentity, UsesNoLink}
 use Rattle.gptp_settling_time.specs.EventKinds.{VariesLittleAfter, IsWithin}
 use Rattle.gptp_settling_time.specs.Idle.{IsIdle, IsUpAt, KeepsPriority, Lives}
 use Rattle.gptp_invariants.proofs.DelayClaimedCapableLemmas.{clock_has}
@@ -44,6 +45,12 @@ clock_shape station setup = by station.live
         ≡ clock station.system
     by true = refl
     by false = setup.named
+
+-- where a link begins is one of its ends
+end_is : (number : ℕ) (direction : Direction) (channel : Channel) → (sender direction channel).clock ≡ number
+    → (channel.a.clock ≡ number) ⊎ (channel.b.clock ≡ number)
+end_is number FromA channel same = inl same
+end_is number FromB channel same = inr same
 
 module _ (n : NetworkState) (events : List Timed) (w : WorldState) (so : StandsAsPlanned n events w) where
   pub member_at : (place : ℕ) (station : Station) → slice_get w.stations place ≡ Some station
@@ -236,17 +243,29 @@ module _ (n : NetworkState) (events : List Timed) (w : WorldState) (so : StandsA
         let b = found_so channel.b.clock used.b in
         rw (up, a, b) refl
 
+    -- no link in use ends at a system that uses none in the network
+    pub none_uses : (number : ℕ) → UsesNoLink n events number → (link : ℕ) (channel : Channel)
+        → slice_get w.net.channels link ≡ Some channel
+        → channel_is_used (live_stations w.stations) channel ≡ true → (direction : Direction)
+        → (sender direction channel).clock ≢ number
+    none_uses number unused link channel here used direction same =
+        let (v, there, wire) = alike (link_after events) channel_wire n.links w.net.channels (sym so.links) link channel
+        here in
+        unused link v there (subst (IsUsed n.systems events) (sym wire) (used_as channel used))
+        (subst (λ (x : LinkSpec). (x.a.clock ≡ number) ⊎ (x.b.clock ≡ number)) (sym wire)
+        (end_is number direction channel same))
+
     -- a link whose delays get wider in the network is such a one in the world
-    pub within_so : (port : PortId) (min max by : ℕ)
+    pub within_so : (port : PortId) (max by : ℕ)
         → ((place : ℕ) (v : LinkSpec) → slice_get n.links place ≡ Some v → IsEnd port (link_after events v)
-        → IsWithin n events min max by (link_after events v))
+        → IsWithin n events max by (link_after events v))
         → (place : ℕ) (channel : Channel) → IsChannel port place w.net channel
-        → IsWithin n events min max by (channel_wire channel)
-    within_so port min max by within place channel is =
+        → IsWithin n events max by (channel_wire channel)
+    within_so port max by within place channel is =
         let (v, there, same) = alike (link_after events) channel_wire n.links w.net.channels (sym so.links) place
         channel is.here in
         let end : IsEnd port (channel_wire channel) = is.joined in
-        subst (IsWithin n events min max by) same (within place v there (subst (IsEnd port) (sym same) end))
+        subst (IsWithin n events max by) same (within place v there (subst (IsEnd port) (sym same) end))
 
     -- and so is a priority1 that of a failed system, or the one that the system has
     keeps_so : (number value : ℕ) → KeepsIdentity n events number value → KeepsPriority number value w

@@ -31,6 +31,8 @@ use Rattle.gptp_settling_time.specs.Gains.{AreSparedBy, HasDelaysWithin}
 use Rattle.gptp_settling_time.proofs.AskedInTimeLemmas.{AreAskedInTime, are_asked_acts, are_asked_later}
 use Rattle.gptp_settling_time.proofs.BetweenFailedLemmas.{AreGoneBetween, gone_acts, gone_later}
 use Rattle.gptp_settling_time.proofs.DelayWithinLemmas.{itself_fits}
+use Rattle.gptp_settling_time.proofs.MeasureToLemmas.{AsksAt, HowAsked, MeasureTo}
+use Rattle.gptp_settling_time.proofs.MeasuringLemmas.{AreMeasuredOr, measured_acts, measured_time}
 use Rattle.gptp_settling_time.proofs.NamedWorldLemmas.{IsNamedWorld, named_acts, named_later}
 use Rattle.gptp_settling_time.proofs.NewsSoonLemmas.{IsNewsFrom, from_done, from_later}
 use Rattle.gptp_settling_time.proofs.SinceSetLemmas.{AreLimitedBy, limited_acts, limited_later}
@@ -48,6 +50,8 @@ pub record KeepsTo (d : DocumentState) (events : List Timed) (w : WorldState) : 
   pub short : (most : ℕ) → HasDelaysWithin d.network events most → IsShort most w
   pub asked : (time : ℕ) → AreSparedBy d.network [] events time → WereAskedInTime time w
   pub limited : (most : ℕ) → HasDelaysWithin d.network events most → AreLimitedBy (arrived_by most events) w
+  pub measures : (how : HowAsked) (start : ℕ) → MeasureTo d.network events how start
+      → AreMeasuredOr (pace_of d.network) start (AsksAt d.network events how) w
   pub named : IsNamedWorld (pace_of d.network) w
 
 -- and it is one since news, whose ports are capable from a start on
@@ -74,6 +78,9 @@ module _ (d : DocumentState) (events : List Timed) where
         let (gone, past, asked, all) = keeps.asked by spared in
         (gone, past, are_asked_later gone time w later asked, gone_later gone time w all);
     limited = λ most within. limited_later (arrived_by most events) w time later (keeps.limited most within);
+    measures = λ how start led.
+        measured_time (pace_of d.network) start (AsksAt d.network events how) time w keeps.claim.world.sound later
+        first (keeps.measures how start led);
     named = named_later (pace_of d.network) time w keeps.claim.world
         (claim_later (pace_of d.network) w time later first keeps.claim).world later first keeps.named;
   }
@@ -133,6 +140,15 @@ module _ (d : DocumentState) (events : List Timed) where
               limited_acts (arrived_by most events) timed.act (at timed.at w) was.draws t.told.done t.after
               (no_change next.item timed.act w next.act) was.acts
               (limited_later (arrived_by most events) w timed.at was.ready.timely.now (keeps.limited most within));
+          measures = λ how start led.
+              let p = pace_of d.network in
+              let then = claim_later p w timed.at was.ready.timely.now was.ready.timely.first keeps.claim in
+              let after = claim_kept answers p timed fate drawn w t.after t.told.done (next_fits w timed next)
+              (next_prompt w timed next) (next_octet next.item timed.act w next.act) was keeps.claim in
+              measured_acts p start (AsksAt d.network events how) timed.act (at timed.at w) was.draws t.told.done
+              t.after (no_change next.item timed.act w next.act) was.acts then.world after.world then.measured
+              (measured_time p start (AsksAt d.network events how) timed.at w keeps.claim.world.sound
+              was.ready.timely.now was.ready.timely.first (keeps.measures how start led));
           named = named_acts (pace_of d.network) timed.act (at timed.at w) was.draws t.told.done t.after
               (no_change next.item timed.act w next.act) was.acts
               (claim_later (pace_of d.network) w timed.at was.ready.timely.now was.ready.timely.first keeps.claim).world

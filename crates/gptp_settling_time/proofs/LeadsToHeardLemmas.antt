@@ -280,15 +280,14 @@ module _ {F : Type 0} (answers : Bounds → ℕ → F → Option ℕ → F → T
       subst (λ act. Acts act then k.draws done w') x.act k.acts in
       let quiet =
       (quiet_stands n made then playable.network keeps_then.stands keeps_then.claim.world.sound wide.calm).links in
-      let within = within_so n made then keeps_then.stands keeps_then.claim.world.sound (port_id x.clock x.port) x.min
-      x.max wide.by x.within came.1.place came.1.channel came.1.is in
+      let within = within_so n made then keeps_then.stands keeps_then.claim.world.sound (port_id x.clock x.port) x.max
+      wide.by x.within came.1.place came.1.channel came.1.is in
       let used = used_so n made then keeps_then.stands keeps_then.claim.world.sound came.1.channel within.used in
       record {
         keeps = after;
         since = widened_claimed p start next wide.by x.clock x.port x.min x.max then k.draws done w' keeps.claim.pace
             keeps_then.claim.world after.claim.world after.claim.measured wide.off quiet came used
             (record {
-              least = within.least;
               most = within.most;
               more = within.more;
               lossless_before = (quiet came.1.place came.1.channel came.1.is.here used).lossless;

@@ -1,12 +1,11 @@
 -- A world since a loss that moved no system: what it holds fits the snapshot of before. It goes on as one since news
 -- does; its choice stands, and it settles once ports without a link aren't capable.
-use Rattle.std.proofs.Common.{◌≡◌, ◌≤◌, ◌+◌, ◌*◌, ℕ, pred, List, refl, sym, ap, subst, ◌∙◌, inl, inr, arith}
+use Rattle.std.proofs.Common.{◌≡◌, ◌≤◌, ◌*◌, ℕ, pred, List, refl, sym, ap, subst, ◌∙◌, inl, inr, arith}
 use Rattle.gptp_graph.specs.PathBound.{path_bound}
 use Rattle.gptp_graph.specs.Snapshot.{IsWellFormed, Snapshot}
 use Rattle.gptp_graph.proofs.LinkLemmas.{Joins-clock}
 use Rattle.gptp_links.specs.Fate.{Draw}
 use Rattle.gptp_scenario.specs.Calm.{NothingLapses}
-use Rattle.gptp_scenario.specs.SettlingTime.{window_span}
 use Rattle.gptp_scenario.specs.declared.change.Act.{Act}
 use Rattle.gptp_setup.specs.SettlingParams.{SettlingParams}
 use Rattle.gptp_model.specs.Acts.{Acts, at as at_time}
@@ -27,10 +26,9 @@ use Rattle.gptp_invariants.specs.ChoiceSeenLaws.{IsNoChange}
 use Rattle.gptp_invariants.specs.ChoiceView.{says_announce, station_view, view}
 use Rattle.gptp_invariants.specs.DelayLinkView.{LinkPlace}
 use Rattle.gptp_invariants.specs.DelayMeasured.{LinkStandsAt}
-use Rattle.gptp_invariants.specs.DelayMeasuredLinks.{HaveMeasuredLinks}
 use Rattle.gptp_invariants.specs.WorldBounded.{IsBoundedWorld}
 use Rattle.gptp_invariants.specs.WorldEncodableLaws.{SetsAnOctet}
-use Rattle.gptp_invariants.specs.WorldNews.{AreReadyBy, AreSilentBy}
+use Rattle.gptp_invariants.specs.WorldNews.{AreSilentBy}
 use Rattle.gptp_invariants.specs.WorldStanding.{snapshot_of}
 use Rattle.gptp_invariants.proofs.ChoiceCalmKeptLemmas.{KeepsNetwork, acts_keep, delay_kept, links_quiet, same_snapshot}
 use Rattle.gptp_invariants.proofs.ChoiceCalmLemmas.{nothing_lapses}
@@ -49,7 +47,6 @@ use Rattle.gptp_settling_time.proofs.AlwaysClaimedLemmas.{AreHeard, IsStanding, 
 use Rattle.gptp_settling_time.proofs.FitsLemmas.{IsLeftUnmoved, UnlinkedHoldNothing}
 use Rattle.gptp_settling_time.proofs.HeardLemmas.{IsFirstLong, first_acted, first_later}
 use Rattle.gptp_settling_time.proofs.LinkStoodLemmas.{stood_in}
-use Rattle.gptp_settling_time.proofs.NewsMeasuredLemmas.{ready_measures}
 use Rattle.gptp_settling_time.proofs.SeenSettledLemmas.{seen_chooses, seen_settles}
 use Rattle.gptp_settling_time.proofs.SettledSeenLemmas.{IsSettledSeen, settled_in}
 use Rattle.gptp_settling_time.proofs.UnlinkedLemmas.{IsLeftSeen, LostAreFarther, left_kept}
@@ -103,16 +100,10 @@ asked_acts p since silent act w draws done w' none acts standing world' asked at
       first_acted p silent act w draws done w' none acts standing.world world' standing.measured at one by x,
     )
 
--- so what is told to it is heard, and it has measured the link
+-- so what is told to it is heard
 pub asked_heard : (p : SettlingParams) (start : ℕ) (w : WorldState) → HaveAskedLong w → AreHeard p start w
 asked_heard p start w asked at stands =
     let (first, by, before, x) = asked at stands in inr (inr (inr (first, by, x)))
-
-pub asked_ready : (p : SettlingParams) (w : WorldState) → HaveAskedLong w → AreReadyBy p w.last_change w
-asked_ready p w asked at stands =
-    let (first, by, before, x) = asked at stands in
-    let soon = x.is.1 in
-    inl (first, (x.is.0, omega (arith, before, soon)))
 
 -- ---- a loss that moved none but such as it cut off
 
@@ -359,9 +350,3 @@ module _ (p : SettlingParams) (g : Snapshot) (silent : ℕ) (w : WorldState) (is
             systems_bounded says_announce n (view w) place (station_view station) best net calm seen.invariant
             (station_there w.stations place station here) live is_best (omega arith)),
       )
-
--- its ports have measured their links
-pub left_measured : (p : SettlingParams) (g : Snapshot) (silent : ℕ) (w : WorldState) → IsLeftAlways p g silent w
-    → HaveQuietLinks p.params w → w.last_change + window_span p.params ≤ w.time → HaveMeasuredLinks w
-left_measured p g silent w is quiet =
-    ready_measures p w.last_change w is.standing.world (asked_ready p w is.asked) quiet

@@ -1,6 +1,12 @@
 pub mod BetweenCalmLemmas
 pub mod BetweenUnmovedLemmas
-pub mod NewsMeasuredLemmas
+pub mod MeasuringLemmas
+pub mod MeasureToLemmas
+pub mod MeasuredEventLemmas
+pub mod MeasureLeadLemmas
+pub mod MeasuredAfterLemmas
+pub mod MeasuredInTurnLemmas
+pub mod StoodEventLemmas
 pub mod OneCallLemmas
 pub mod TakenClaimedLemmas
 pub mod TakenClearedLemmas
@@ -70,6 +76,7 @@ pub mod TakenDownLemmas
 pub mod FailedDownLemmas
 pub mod RestClaimedLemmas
 pub mod WiderLinkLemmas
+pub mod SetBoundsLemmas
 pub mod WidenedLemmas
 pub mod SameLinkLemmas
 pub mod StandsLikeLemmas

@@ -29,7 +29,7 @@ use Rattle.gptp_model.specs.Acts.{Acts, AtLink}
 use Rattle.gptp_pdelay_machine.specs.FirstLaws.{exchange_span}
 use Rattle.gptp_invariants.specs.ChoiceCalm.{delay_in}
 use Rattle.gptp_invariants.specs.ChoiceSettlesAsMachine.{IsWorld}
-use Rattle.gptp_invariants.specs.DelayFirstAt.{IsFirstAt, StandsDown}
+use Rattle.gptp_invariants.specs.DelayFirstAt.{IsMeasuringAt, StandsDown}
 use Rattle.gptp_invariants.proofs.ChoiceCalmKeptLemmas.{KeepsNetwork}
 use Rattle.gptp_invariants.proofs.DelayCapableKeptLemmas.{known_params, stood_among}
 use Rattle.gptp_invariants.proofs.DelayFirstUpLemmas.{link_up_first, receiver_up, sender_up}
@@ -196,7 +196,7 @@ module _ (p : SettlingParams) (owner port : ℕ) (w : WorldState) (draws : List 
         }
 
     -- the port that asks over it first asks then
-    pub up_first : IsFirstAt w.time at w'
+    pub up_first : IsMeasuringAt w.time w.time at w'
     unfolding stood_down
     up_first =
         link_up_first p at owner port w w' draws done is.sound measured is.known stood_down

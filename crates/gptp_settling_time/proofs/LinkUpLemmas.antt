@@ -27,13 +27,14 @@ use Rattle.gptp_pdelay_machine.specs.Order.{Untold}
 use Rattle.gptp_invariants.specs.ChoiceCalm.{HaveQuietLinks, delay_in}
 use Rattle.gptp_invariants.specs.ChoiceSettlesAsMachine.{IsWorld}
 use Rattle.gptp_invariants.specs.ChoiceView.{frame_view, lane_place, lane_view, port_identity_number, says_announce, view}
-use Rattle.gptp_invariants.specs.DelayFirstAt.{IsFirstAt}
+use Rattle.gptp_invariants.specs.DelayFirstAt.{IsMeasuringAt}
 use Rattle.gptp_invariants.specs.DelayLinkView.{LinkPlace, link_frame_view, other_direction}
 use Rattle.gptp_invariants.specs.DelayMeasured.{LinkStandsAt}
 use Rattle.gptp_invariants.specs.WorldNews.{IsNews}
 use Rattle.gptp_invariants.specs.WorldStanding.{live_stations, snapshot_of}
 use Rattle.gptp_invariants.proofs.ChoiceCalmKeptLemmas.{KeepsNetwork}
 use Rattle.gptp_invariants.proofs.ChoiceSeenLaneLemmas.{lane_there}
+use Rattle.gptp_invariants.proofs.DelayFirstAtLemmas.{first_exactly}
 use Rattle.gptp_invariants.proofs.DelayFirstUpLemmas.{sender_up}
 use Rattle.gptp_invariants.proofs.WorldGreatestDelayLemmas.{delay_of_used}
 use Rattle.gptp_invariants.proofs.WorldSoundCallLemmas.{tells_keep}
@@ -131,44 +132,44 @@ module _ (p : SettlingParams) (start next owner port : ℕ) (w : WorldState) (dr
 
     -- the link itself as it was before
     module _ (at : LinkPlace) (place_is : at.link ≡ k.place) (old : LinkStandsAt at brought) where
-      first : IsFirstAt w.time at w'
+      first : IsMeasuringAt w.time w.time at w'
       first =
           up_first p owner port w draws done w' is.news.pace world is.news.measured acts down at place_is old
 
       -- its channel now has the ends that it had
-      ends_now : (direction : Direction) → sender direction first.link.channel ≡ sender direction k.channel
+      ends_now : (direction : Direction) → sender direction first.is.link.channel ≡ sender direction k.channel
       ends_now =
-          raised_ends w k.place k.channel w' k.is.here keeps at.link place_is first.link.channel first.link.here
+          raised_ends w k.place k.channel w' k.is.here keeps at.link place_is first.is.link.channel first.is.link.here
 
       -- its port that asks has measured nothing
-      unmeasured : IsUnmeasured first.link.asking.state.peer
-      unmeasured = by (sender at.direction first.link.channel).port refl e.there
+      unmeasured : IsUnmeasured first.is.link.asking.state.peer
+      unmeasured = by (sender at.direction first.is.link.channel).port refl e.there
         where
-          e : IsEndOf at.asking (sender at.direction first.link.channel) w'
-          e = first.link.asking
+          e : IsEndOf at.asking (sender at.direction first.is.link.channel) w'
+          e = first.is.link.asking
 
-          by : (n : ℕ) → (sender at.direction first.link.channel).port ≡ n
-              → number first.link.asking.station.system.ports n ≡ Some first.link.asking.state
-              → IsUnmeasured first.link.asking.state.peer
-          by zero numbered there = absurd (none-some first.link.asking.state there)
+          by : (n : ℕ) → (sender at.direction first.is.link.channel).port ≡ n
+              → number first.is.link.asking.station.system.ports n ≡ Some first.is.link.asking.state
+              → IsUnmeasured first.is.link.asking.state.peer
+          by zero numbered there = absurd (none-some first.is.link.asking.state there)
           by (suc i) numbered there =
               unmeasured_then p w world k.place k.channel k.is.here down draws w' told world'.sound.wired.clocks
-              at.direction at.asking first.link.asking.station first.link.asking.here first.link.asking.live
-              (first.link.asking.named ∙ ap (λ (q : PortId). q.clock) (ends_now at.direction)) i
-              first.link.asking.state (ap (λ (q : PortId). q.port) (sym (ends_now at.direction)) ∙ numbered) there
+              at.direction at.asking first.is.link.asking.station first.is.link.asking.here first.is.link.asking.live
+              (first.is.link.asking.named ∙ ap (λ (q : PortId). q.clock) (ends_now at.direction)) i
+              first.is.link.asking.state (ap (λ (q : PortId). q.port) (sym (ends_now at.direction)) ∙ numbered) there
 
       new_timely : IsTimelyAt w.time at w'
       new_timely =
-          let off = unmeasured_off first.link.asking.state.peer unmeasured in
-          let measured : is_some first.link.asking.state.peer.last ≡ false = ap is_some unmeasured.0 in
+          let off = unmeasured_off first.is.link.asking.state.peer unmeasured in
+          let measured : is_some first.is.link.asking.state.peer.last ≡ false = ap is_some unmeasured.0 in
           record {
-            link = first.link;
-            short = first.short;
-            facts = first.facts;
-            inv = first.inv;
+            link = first.is.link;
+            short = first.is.short;
+            facts = first.is.facts;
+            inv = first_exactly at w.time w' first;
             before = record {
               answered = λ sequence source t1 t2 t4 progress.
-                  absurd (not_answered first.link.asking.state.peer.progress sequence source t1 t2 t4 unmeasured.1
+                  absurd (not_answered first.is.link.asking.state.peer.progress sequence source t1 t2 t4 unmeasured.1
                   progress);
               fresh = λ again. off;
               none = λ again opened. measured;
@@ -183,11 +184,12 @@ module _ (p : SettlingParams) (start next owner port : ℕ) (w : WorldState) (dr
         timely = new_timely;
         order = λ little. Untold (λ f member told.
             let way = other_direction at.direction in
-            let (frame, among, same) = from_map link_frame_view f (world_queue way first.link.channel) member in
-            is_raised.untold way (lane_place at.link way) (lane_view way first.link.channel) (frame_view frame) told.0
-            (lane_there w'.net.channels at.link way first.link.channel first.link.here)
+            let (frame, among, same) = from_map link_frame_view f (world_queue way first.is.link.channel) member in
+            is_raised.untold way (lane_place at.link way) (lane_view way first.is.link.channel) (frame_view frame)
+            told.0
+            (lane_there w'.net.channels at.link way first.is.link.channel first.is.link.here)
             (ap port_identity_number (ends_now way))
-            (In-map frame_view frame (world_queue way first.link.channel) among)
+            (In-map frame_view frame (world_queue way first.is.link.channel) among)
             (subst (λ (o : List ℕ). says_announce o told.0) (ap (λ (g : LaneFrame). g.octets) (sym same)) told.1));
       }
 

@@ -7,7 +7,6 @@ use Rattle.gptp_graph.specs.Snapshot.{Snapshot, port_of}
 use Rattle.gptp_graph.proofs.LinkLemmas.{Joins-sym}
 use Rattle.gptp_links.specs.Fate.{Draw}
 use Rattle.gptp_scenario.specs.Calm.{NothingLapses}
-use Rattle.gptp_scenario.specs.SettlingTime.{window_span}
 use Rattle.gptp_scenario.specs.declared.change.Act.{Act}
 use Rattle.gptp_setup.specs.SettlingParams.{SettlingParams, largest_interval, longest_span}
 use Rattle.gptp_model.specs.Acts.{Acts, at as at_time}
@@ -30,7 +29,6 @@ use Rattle.gptp_invariants.specs.ChoiceSeenLaws.{IsNoChange}
 use Rattle.gptp_invariants.specs.ChoiceSettled.{ChoiceStands, Settled}
 use Rattle.gptp_invariants.specs.ChoiceSettlesAsMachine.{IsWorld}
 use Rattle.gptp_invariants.specs.ChoiceView.{says_announce, station_view, view}
-use Rattle.gptp_invariants.specs.DelayMeasuredLinks.{HaveMeasuredLinks}
 use Rattle.gptp_invariants.specs.WorldBounded.{IsBoundedWorld}
 use Rattle.gptp_invariants.specs.WorldEncodableLaws.{SetsAnOctet}
 use Rattle.gptp_invariants.specs.WorldNews.{AreReadyBy, AreSilentBy}
@@ -48,7 +46,6 @@ use Rattle.gptp_invariants.proofs.WorldStandsLemmas.{stands_well}
 use Rattle.gptp_settling_time.proofs.AlwaysClaimedLemmas.{AreHeard, IsClaimedAlways, IsStanding, linked_on, same_start, start_calm, start_network}
 use Rattle.gptp_settling_time.proofs.LeftClaimedLemmas.{HaveAskedBy, asked_acts, asked_later, standing_acts, standing_later}
 use Rattle.gptp_settling_time.proofs.LiveTracesLemmas.{TellersLive, ToldIsClean, told_begins, told_kept, told_whole}
-use Rattle.gptp_settling_time.proofs.NewsMeasuredLemmas.{ready_measures}
 use Rattle.gptp_settling_time.proofs.SeenSettledLemmas.{seen_chooses, seen_settles}
 use Rattle.gptp_settling_time.proofs.SettledSeenLemmas.{IsSettledSeen, always_seen, news_seen, settled_in}
 use Rattle.gptp_settling_time.proofs.StandsLikeLemmas.{none_short}
@@ -438,11 +435,3 @@ module _ (p : SettlingParams) (since most silent : ℕ) (w : WorldState) (is : I
     heard = asked_are_heard p since start w is.asked;
     settling = λ m bounded quiet off. always_seen p m start w world sound seen bounded;
   }
-
--- its ports have measured their links
-pub lost_measured : (p : SettlingParams) (since most silent : ℕ) (w : WorldState)
-    → IsLostAlways p since most silent w → w.last_change + window_span p.params ≤ w.time → HaveMeasuredLinks w
-lost_measured p since most silent w is late =
-    let change = is.change in
-    ready_measures p since w is.standing.world (asked_are_ready p since w is.asked) is.quiet
-    (omega (arith, change, late))

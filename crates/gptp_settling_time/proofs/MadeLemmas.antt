@@ -1,5 +1,5 @@
 -- An event of a document is made: what the world keeps, and from when on it is one since news.
-use Rattle.std.proofs.Common.{◌≡◌, ◌≢◌, ◌⊎◌, ◌∙◌, ◌<◌, ◌≤◌, ◌+◌, ◌*◌, max, ℕ, false, List, [], ◌∷◌, ◌++◌, append_assoc, append-nil, Option, Some, slice_get, refl, inl, inr, sym, ap, subst, arith}
+use Rattle.std.proofs.Common.{◌≡◌, ◌≢◌, ◌∙◌, ◌<◌, ◌≤◌, ◌+◌, ◌*◌, max, ℕ, false, List, [], ◌∷◌, ◌++◌, append_assoc, append-nil, Option, Some, slice_get, refl, inl, inr, sym, ap, subst, arith}
 use Rattle.gptp_lists.proofs.MappedLemmas.{alike, same_there}
 use Rattle.gptp_links.specs.declared.bounds.Bounds.{Bounds}
 use Rattle.gptp_links.specs.declared.link.Direction.{Direction}
@@ -7,7 +7,7 @@ use Rattle.gptp_links.specs.declared.link.Direction.TheVariants.{FromA, FromB}
 use Rattle.gptp_setup.specs.Intervals.{interval_of}
 use Rattle.gptp_setup.specs.SettlingParams.{SettlingParams, largest_interval}
 use Rattle.gptp_setup.proofs.IntervalLemmas.{interval_positive}
-use Rattle.gptp_scenario.specs.Calm.{IsLive, IsUsed, last_change}
+use Rattle.gptp_scenario.specs.Calm.{IsLive, last_change}
 use Rattle.gptp_scenario.specs.Change.{link_after}
 use Rattle.gptp_scenario.specs.Network.{IsEnd, NetworkState, pace_of}
 use Rattle.gptp_scenario.specs.SyncWait.{sync_paths}
@@ -21,7 +21,7 @@ use Rattle.gptp_model.specs.Acts.{Acts, at}
 use Rattle.gptp_model.specs.Changing.{IsChannel}
 use Rattle.gptp_model.specs.Course.{WasDone}
 use Rattle.gptp_model.specs.declared.done.Done.{Done}
-use Rattle.gptp_model.specs.World.{Channel, WorldState, port_id, receiver, sender}
+use Rattle.gptp_model.specs.World.{Channel, WorldState, port_id, receiver}
 use Rattle.gptp_model.proofs.PromptLemmas.{prompt_within, stays_none_faster}
 use Rattle.gptp_model.proofs.StayLemmas.{acts_stay, done_stays}
 use Rattle.gptp_network.specs.Document.{DocumentState}
@@ -50,13 +50,16 @@ use Rattle.gptp_settling_time.specs.Arrivals.{arrived_by}
 use Rattle.gptp_settling_time.specs.Gains.{AreCapableAnyway, AreCapableNext, AreCapableStill, AreSparedBy, ChangesNothing, HasDelaysWithin, IsGainAfter, IsIdleAfter, IsSparedBy, JoinsLive, LeavesCapable, SparesFailed, TakesNothing, UsesNoLink}
 use Rattle.gptp_settling_time.specs.Idle.{Lives}
 use Rattle.gptp_settling_time.specs.EventKinds.{AddsHeard}
-use Rattle.gptp_settling_time.proofs.GainLemmas.{all_live, better_lives, failed_so, gain_so, idle_so, lives_so, used_as}
+use Rattle.gptp_settling_time.proofs.GainLemmas.{all_live, better_lives, failed_so, gain_so, idle_so, lives_so, none_uses}
 use Rattle.gptp_settling_time.proofs.IdleLemmas.{idle_still}
 use Rattle.gptp_settling_time.proofs.AskedElsewhereLemmas.{up_gone_still, up_in_time_still}
 use Rattle.gptp_settling_time.proofs.AskedInTimeLemmas.{AreAskedInTime, are_asked_begin, are_asked_later}
 use Rattle.gptp_settling_time.proofs.BetweenFailedLemmas.{AreGoneBetween, gone_begins, gone_later}
 use Rattle.gptp_settling_time.proofs.DelayWithinLemmas.{within_before, within_last}
 use Rattle.gptp_settling_time.proofs.KeptToLemmas.{IsNewsTo, KeepsTo, WereAskedInTime, keeps_later}
+use Rattle.gptp_settling_time.proofs.MeasureToLemmas.{AsksAt, HowAsked, MeasureTo, one_more_measured}
+use Rattle.gptp_settling_time.proofs.MeasuredEventLemmas.{measured_event}
+use Rattle.gptp_settling_time.proofs.MeasuringLemmas.{AreMeasuredOr}
 use Rattle.gptp_settling_time.proofs.NamedWorldLemmas.{named_begins}
 use Rattle.gptp_settling_time.proofs.NewsSoonLemmas.{AreComing, HowComing, IsNewsFrom, IsNewsSoon, coming_later, from_coming, from_later, from_sound}
 use Rattle.gptp_settling_time.proofs.PriorityNewsLemmas.{priority_soon, priority_stays_news}
@@ -72,12 +75,6 @@ end_so : (So : ℕ → Type 0) (direction : Direction) (channel : Channel) → S
     → So (receiver direction channel).clock
 end_so So FromA channel a b = b
 end_so So FromB channel a b = a
-
--- and where it begins is one of its ends
-end_is : (number : ℕ) (direction : Direction) (channel : Channel) → (sender direction channel).clock ≡ number
-    → (channel.a.clock ≡ number) ⊎ (channel.b.clock ≡ number)
-end_is number FromA channel same = inl same
-end_is number FromB channel same = inr same
 
 -- ports are capable later than an event comes that leaves others so
 pub leaves_later : (n : NetworkState) (before : List Timed) (event : Timed) (next : ℕ) (change : Change)
@@ -195,14 +192,7 @@ module _ {F : Type 0} (answers : Bounds → ℕ → F → Option ℕ → F → T
 
     -- no link in use ends at a system that uses none
     pub uses_none : (number : ℕ) → UsesNoLink n more number → UsesNone number w'
-    uses_none number unused link channel here used direction same =
-        let (v, there, wire) = alike (link_after more) channel_wire n.links w'.net.channels (sym stands_after.links)
-        link channel here in
-        unused link v there
-        (subst (IsUsed n.systems more) (sym wire)
-        (used_as n more w' stands_after claim_after.world.sound channel used))
-        (subst (λ (x : LinkSpec). (x.a.clock ≡ number) ⊎ (x.b.clock ≡ number)) (sym wire)
-        (end_is number direction channel same))
+    uses_none number unused = none_uses n more w' stands_after claim_after.world.sound number unused
 
     -- a link between live systems isn't one that leads to a failed one
     apart : (number port : ℕ) → JoinsLive n more (port_id number port) → (place : LinkPlace)
@@ -302,6 +292,17 @@ module _ {F : Type 0} (answers : Bounds → ℕ → F → Option ℕ → F → T
               (gone, past, both.0, both.1)
         ]
 
+    -- from when ports measure by the least delays in force
+    measures_after : (how : HowAsked) (start : ℕ) → MeasureTo n more how start
+        → AreMeasuredOr p start (AsksAt n more how) w'
+    measures_after how start led =
+        let (then_how, now, before, last) = one_more_measured n made event how start led in
+        let keeps_then = keeps_later d made w event.at k.ready.timely.now k.ready.timely.first keeps in
+        let changed = made_last in
+        let time = made_time in
+        measured_event d playable made event then w' k.draws done keeps_then refl claim_after stands_after
+        (changed ∙ time) k.acts is.change is.act then_how how now start last (keeps_then.measures then_how now before)
+
     pub made_keeps : KeepsTo d more w'
     made_keeps = record {
       claim = claim_after;
@@ -314,6 +315,7 @@ module _ {F : Type 0} (answers : Bounds → ℕ → F → Option ℕ → F → T
           limited_made most made event is.change then k.draws w' is.act acts.1 made_time (short_after most within)
           (limited_later (arrived_by most made) w event.at k.ready.timely.now
           (keeps.limited most (within_before n made (event ∷ []) most within)));
+      measures = measures_after;
       named = named_begins p w' claim_after.world claim_after.pace.largest made_last;
     }
 

@@ -7,7 +7,6 @@ use Rattle.gptp_graph.specs.Snapshot.{Snapshot, System}
 use Rattle.gptp_graph.proofs.PathBoundLemmas.{IsDistance-within}
 use Rattle.gptp_links.specs.Fate.{Draw}
 use Rattle.gptp_scenario.specs.Calm.{NothingLapses}
-use Rattle.gptp_scenario.specs.SettlingTime.{window_span}
 use Rattle.gptp_scenario.specs.declared.change.Act.{Act}
 use Rattle.gptp_setup.specs.SettlingParams.{SettlingParams}
 use Rattle.gptp_model.specs.Acts.{Acts, at as at_time}
@@ -24,7 +23,6 @@ use Rattle.gptp_invariants.specs.ChoiceSeenLaws.{IsNoChange}
 use Rattle.gptp_invariants.specs.ChoiceSettled.{Settled}
 use Rattle.gptp_invariants.specs.ChoiceSettlesAsMachine.{IsWorld}
 use Rattle.gptp_invariants.specs.ChoiceView.{says_announce, station_view, view}
-use Rattle.gptp_invariants.specs.DelayMeasuredLinks.{HaveMeasuredLinks}
 use Rattle.gptp_invariants.specs.WorldBounded.{IsBoundedWorld}
 use Rattle.gptp_invariants.specs.WorldEncodableLaws.{SetsAnOctet}
 use Rattle.gptp_invariants.specs.WorldStanding.{snapshot_of}
@@ -35,9 +33,8 @@ use Rattle.gptp_invariants.proofs.WorldStandsLemmas.{stands_well}
 use Rattle.gptp_settling_time.proofs.AlwaysClaimedLemmas.{IsStanding, calm_timed}
 use Rattle.gptp_settling_time.proofs.BesideLemmas.{IsMoving}
 use Rattle.gptp_settling_time.proofs.GoesOnLemmas.{GoesOn, after_on, calm_now, dark_on, goes_acts, goes_later, late_on, past_on, quiet_before, same_on}
-use Rattle.gptp_settling_time.proofs.LeftClaimedLemmas.{HaveAskedLong, asked_ready, left_network}
+use Rattle.gptp_settling_time.proofs.LeftClaimedLemmas.{HaveAskedLong, left_network}
 use Rattle.gptp_settling_time.proofs.MovedLemmas.{EachTurns, each_turns, invariant_then, moving_kept}
-use Rattle.gptp_settling_time.proofs.NewsMeasuredLemmas.{ready_measures}
 use Rattle.gptp_settling_time.proofs.SeenSettledLemmas.{seen_settles}
 use Rattle.gptp_settling_time.proofs.SettledSeenLemmas.{IsSettledSeen, settled_in}
 use Rattle.gptp_settling_time.proofs.TurnLemmas.{TurnsOne, starts_far}
@@ -202,10 +199,3 @@ module _ (p : SettlingParams) (g : Snapshot) (silent start : ℕ) (w : WorldStat
             systems_bounded says_announce timed (view w) place (station_view station) best net calm invariant
             (station_there w.stations place station here) live is_best (omega arith)),
       )
-
--- its ports have measured their links
-pub moved_measured : (p : SettlingParams) (g : Snapshot) (silent start : ℕ) (w : WorldState)
-    → IsMovedAlways p g silent start w → HaveQuietLinks p.params w
-    → w.last_change + window_span p.params ≤ w.time → HaveMeasuredLinks w
-moved_measured p g silent start w is quiet =
-    ready_measures p w.last_change w is.standing.world (asked_ready p w is.asked) quiet

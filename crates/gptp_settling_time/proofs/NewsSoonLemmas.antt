@@ -120,6 +120,10 @@ module _ (p : SettlingParams) (start : ℕ) (w : WorldState) where
   from_world (inl news) = news.world
   from_world (inr is) = is.world
 
+  pub from_measured : IsNewsFrom p start w → LinkIsMeasured w
+  from_measured (inl news) = news.measured
+  from_measured (inr is) = is.measured
+
   -- by when its ports ask
   pub record HowComing : Type 0 where
     pub by : ℕ

@@ -55,6 +55,7 @@ use Rattle.gptp_settling_time.proofs.AskedInTimeLemmas.{AreAskedInTime, IsAskedI
 use Rattle.gptp_settling_time.proofs.AsksSoonLemmas.{alone_asks, asked_before, both_ways, due_now, now_asks, seen_due, soon_after}
 use Rattle.gptp_settling_time.proofs.BetweenFailedLemmas.{AreGoneBetween, IsGoneBetween, gone_still, gone_up}
 use Rattle.gptp_settling_time.proofs.FreshWorldLemmas.{fresh_gone, fresh_measured, fresh_orderly, fresh_params, fresh_port, fresh_stays, fresh_world, had_failed, is_new, lived, others_in_time, others_silent, own_in_time, own_off}
+use Rattle.gptp_settling_time.proofs.MeasuringLemmas.{AreMeasuredOr, IsMeasuredOr, measured_for, measured_goes_through}
 use Rattle.gptp_settling_time.proofs.NewsSoonLemmas.{AreComing, IsComing, IsNewsSoon, coming_goes_through}
 use Rattle.gptp_settling_time.proofs.OrderedLemmas.{opposite, turned}
 use Rattle.gptp_settling_time.proofs.RestartLemmas.{AskedAlone, AsksIn, HasAskedNow, IsPrompt, alone_up, asks_in}
@@ -357,33 +358,30 @@ module _ (p : SettlingParams) (by next number : ℕ) (w : WorldState) (draws : L
     module _ (gone : ℕ) (past : gone < w.time) (asked : AreAskedInTime gone w)
         (reach : w.time + interval_of p.params.pdelay ≤ by)
         (soon : w.time + 2 * interval_of p.params.pdelay + (delay_in w' + p.params.turnaround + delay_in w') < next)
-        (coming : AreComing p by next w) where
+        (So : LinkPlace → Type 0) (on : (at : LinkPlace) → LinkStandsAt at w → So at)
+        (asks_by : (at : LinkPlace) (old calm : ℕ) → calm ≤ by → WillAsk old calm next at w' → So at) where
       soon_then : w'.time + 2 * interval_of p.params.pdelay + (delay_in w' + p.params.turnaround + delay_in w') < next
       soon_then = let time = same_time in omega (arith, soon, time)
 
       -- what will ask does so by then
       will_come : (at : LinkPlace) (gone n : ℕ) (one : IsPrompt at w'.time n w')
           → WillAsk gone ((pair at w' one.link).asker.asked + (link_setting at w' one.link).period) next at w'
-          → IsComing p by next at w'
+          → So at
       will_come at gone n one will =
           let before_now = asked_before p next n at w' pace is' measured' one soon_then in
           let less = soon_after p next n at w' pace is' measured' one soon_then (pair at w' one.link).asker.asked
           before_now in
           let time = same_time in
-          inr (
-            gone,
-            (pair at w' one.link).asker.asked + (link_setting at w' one.link).period,
-            omega (arith, less, time, reach),
-            will,
-          )
+          asks_by at gone ((pair at w' one.link).asker.asked + (link_setting at w' one.link).period)
+          (omega (arith, less, time, reach)) will
 
-      asks_come : (at : LinkPlace) (n : ℕ) → HasAskedNow at w.time n w' → IsComing p by next at w'
+      asks_come : (at : LinkPlace) (n : ℕ) → HasAskedNow at w.time n w' → So at
       asks_come at n one =
           let then : HasAskedNow at w'.time n w' = subst (λ t. HasAskedNow at t n w') (sym same_time) one in
           will_come at (w'.time + (link_setting at w' then.prompt.link).most) n then.prompt
           (now_asks p next n at w' pace is' measured' then.prompt soon_then then.asked)
 
-      alone_come : (at : LinkPlace) (n asked_then : ℕ) → AskedAlone at w.time n asked_then w' → IsComing p by next at w'
+      alone_come : (at : LinkPlace) (n asked_then : ℕ) → AskedAlone at w.time n asked_then w' → So at
       alone_come at n asked_then one =
           let then : AskedAlone at w'.time n asked_then w' =
           subst (λ t. AskedAlone at t n asked_then w') (sym same_time) one in
@@ -405,14 +403,14 @@ module _ (p : SettlingParams) (by next number : ℕ) (w : WorldState) (draws : L
           (dues (opposite at) turn here gone past asked direction f
           (subst (λ (c : Channel). In f (world_queue direction c)) same member))
 
-      recovers_coming : AreComing p by next w'
-      recovers_coming at stands = elim (same_place at.asking k.place) [
+      -- what is so of the links that stood, and of those whose next request is sent by then, is so of each
+      recovers_so : (at : LinkPlace) → LinkStandsAt at w' → So at
+      recovers_so at stands = elim (same_place at.asking k.place) [
         | inl here ↦ asks_come at (port at (before at stands))
             (asks at (before at stands) (own_dues at stands here) here)
         | inr asking ↦ elim (same_place at.answering k.place) [
           | inl here ↦ alone_come at (port at (before at stands)) _ (alone at (before at stands) here gone past asked)
-          | inr answering ↦ coming_goes_through p by next at (Changing (Recover number)) w w' draws done is.sound
-              measured tt acts (coming at (stood_there at asking answering (before at stands)))
+          | inr answering ↦ on at (stood_there at asking answering (before at stands))
         ]
       ]
 
@@ -477,10 +475,34 @@ module _ (p : SettlingParams) (by next number : ℕ) (w : WorldState) (draws : L
         silent = recovers_silent dead gone past all silent;
         sound = sound_gains p (Recover number) w draws done w' tt tt acts is is' sound;
         coming = elim how [
-          | inl (reach, soon) ↦ recovers_coming dead gone past asked reach soon coming
+          | inl (reach, soon) ↦ recovers_so dead gone past asked reach soon (λ at. IsComing p by next at w')
+              (λ at stands.
+              coming_goes_through p by next at (Changing (Recover number)) w w' draws done is.sound measured tt acts
+              (coming at stands))
+              (λ at old calm less will. inr (old, calm, less, will))
           | inr unused ↦ others_coming dead unused coming
         ];
       }
+
+  -- From when ports measure by the least delays in force: those that ask soon are in time, or it uses no link.
+  module _ (dead : k.station.live ≡ false) (start : ℕ) (Asks Others : ℕ → Type 0) (longer : start ≤ next)
+      (others : (time : ℕ) → Asks time → Others time) (measures : AreMeasuredOr p start Asks w) where
+    measured_on : (at : LinkPlace) → LinkStandsAt at w → IsMeasuredOr p next Others at w'
+    measured_on at stands =
+        measured_for p start Asks at next Others w' longer others
+        (measured_goes_through p start Asks at (Changing (Recover number)) w w' draws done is.sound measured tt acts
+        (measures at stands))
+
+    pub recover_measures : (gone : ℕ) → gone < w.time → AreAskedInTime gone w
+        → w.time + interval_of p.params.pdelay ≤ by
+        → w.time + 2 * interval_of p.params.pdelay + (delay_in w' + p.params.turnaround + delay_in w') < next
+        → AreMeasuredOr p next Others w'
+    recover_measures gone past asked reach soon =
+        recovers_so dead gone past asked reach soon (λ at. IsMeasuredOr p next Others at w') measured_on
+        (λ at old calm less will. inl (inr (old, calm, will)))
+
+    pub alone_measures : UsesNone → AreMeasuredOr p next Others w'
+    alone_measures unused at stands = measured_on at (stood_alone dead unused at stands)
 
   -- where it uses no link the others are capable as before
   pub recover_alone : k.station.live ≡ false → IsSoundWorld w → (gone : ℕ) → gone < w.time → AreGoneBetween gone w

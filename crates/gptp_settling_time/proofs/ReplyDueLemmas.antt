@@ -16,7 +16,7 @@ use Rattle.gptp_pdelay_machine.specs.Silence.{Unanswered}
 use Rattle.gptp_pdelay_machine.proofs.SilenceLemmas.{unanswered_begins}
 use Rattle.gptp_invariants.specs.ChoiceSettlesAsMachine.{IsWorld}
 use Rattle.gptp_invariants.specs.DelayFirstAt.{IsFirstAt}
-use Rattle.gptp_invariants.specs.DelayLinkView.{LinkPlace, least_delay, link_frame_view, link_setting, other_direction, pair, reads_as_reply, reads_as_request}
+use Rattle.gptp_invariants.specs.DelayLinkView.{LinkPlace, link_frame_view, link_setting, other_direction, pair, reads_as_reply, reads_as_request}
 use Rattle.gptp_invariants.specs.FailedUnanswered.{IsFailedAmong, IsLastAnswered, IsUnansweredAt, silent_setting, silent_view}
 use Rattle.gptp_invariants.proofs.FailedLastAnsweredLemmas.{one_setting, one_view}
 use Rattle.gptp_invariants.proofs.FailedSilentLemmas.{silence_begins}
@@ -108,7 +108,7 @@ module _ (p : SettlingParams) (w w' : WorldState) (is' : IsWorld p w') (changed 
     link = link;
     replies = λ f member r says.
         let due : f.due ≤ last_sent + exchange_span (link_setting at w x.link) =
-        reply_due (link_setting at w x.link) (least_delay at w x.link) reads_as_request reads_as_reply
+        reply_due (link_setting at w x.link) x.less reads_as_request reads_as_reply
         (pair at w x.link).asker (pair at w x.link).waits (pair at w x.link).out (pair at w x.link).back
         x.inv.clean.phase (link_frame_view f)
         (In-map link_frame_view f (world_queue (other_direction at.direction) x.link.channel) member) r says in

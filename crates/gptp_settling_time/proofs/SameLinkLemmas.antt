@@ -4,17 +4,18 @@ use Rattle.gptp_links.specs.declared.bounds.Bounds.{Bounds}
 use Rattle.gptp_setup.specs.SettlingParams.{SettlingParams}
 use Rattle.gptp_model.specs.World.{WorldState}
 use Rattle.gptp_pdelay_machine.specs.Facts.{Facts, IsGood}
-use Rattle.gptp_pdelay_machine.specs.First.{InvFirst}
+use Rattle.gptp_pdelay_machine.specs.First.{InvFirst, MeasuresBy}
 use Rattle.gptp_pdelay_machine.specs.FirstLaws.{exchange_span}
 use Rattle.gptp_pdelay_machine.specs.Measured.{MeterInv}
 use Rattle.gptp_pdelay_machine.specs.Meter.{Meter}
 use Rattle.gptp_pdelay_machine.specs.Order.{IsNotBefore, IsOrdered}
 use Rattle.gptp_pdelay_machine.specs.Setting.{Setting}
-use Rattle.gptp_invariants.specs.DelayFirstAt.{IsFirstBy}
+use Rattle.gptp_invariants.specs.DelayFirstAt.{IsFirstAt, IsFirstBy, IsMeasuringAt}
 use Rattle.gptp_invariants.specs.DelayLinkView.{IsLinkOf, LinkPlace, least_delay, link_setting, meter, reads_as_reply, reads_as_request}
 use Rattle.gptp_invariants.specs.DelayWatched.{IsWatched}
 use Rattle.gptp_invariants.specs.WorldNews.{IsReadyBy}
 use Rattle.gptp_settling_time.proofs.HeardLemmas.{IsHeardAt, IsToldAt}
+use Rattle.gptp_settling_time.proofs.MeasuringLemmas.{IsMeasuredOr}
 use Rattle.gptp_settling_time.proofs.OrderedLemmas.{IsTimelyAt, opposite, tells}
 use Rattle.gptp_settling_time.proofs.WillAskLemmas.{IsBeforeOrAsked, WillAsk}
 
@@ -47,15 +48,22 @@ watched_same gone calm at w w' x s = record {
   inv = goes_over at w w' x.link s (λ k least m. MeterInv k least reads_as_request reads_as_reply gone calm m) x.inv;
 }
 
+first_at_same : (first : ℕ) (at : LinkPlace) (w w' : WorldState) (x : IsFirstAt first at w)
+    → IsSameLink at w w' x.link → IsFirstAt first at w'
+first_at_same first at w w' x s = record {
+  link = s.after;
+  short = goes_over at w w' x.link s (λ k least m. exchange_span k < k.period) x.short;
+  facts = goes_over at w w' x.link s (λ k least m. Facts k first m.pair) x.facts;
+  less = x.less;
+  within = goes_over at w w' x.link s (λ k least m. x.less ≤ least) x.within;
+  inv = goes_over at w w' x.link s (λ k least m. InvFirst k x.less reads_as_request reads_as_reply first m) x.inv;
+}
+
 pub first_same : (first by : ℕ) (at : LinkPlace) (w w' : WorldState) (x : IsFirstBy first by at w)
     → IsSameLink at w w' x.0.link → IsFirstBy first by at w'
+unfolding first_at_same
 first_same first by at w w' (x, soon) s = (
-  record {
-    link = s.after;
-    short = goes_over at w w' x.link s (λ k least m. exchange_span k < k.period) x.short;
-    facts = goes_over at w w' x.link s (λ k least m. Facts k first m.pair) x.facts;
-    inv = goes_over at w w' x.link s (λ k least m. InvFirst k least reads_as_request reads_as_reply first m) x.inv;
-  },
+  first_at_same first at w w' x s,
   goes_over at w w' x.link s (λ k least m. first + k.period + exchange_span k < by) soon,
 )
 
@@ -79,6 +87,36 @@ will_same gone calm start at w w' x s =
       asks = goes_over at w w' l s (λ k least m. IsBeforeOrAsked k calm m.pair.asker.asked) x.asks;
       by = goes_over at w w' l s (λ k least m. calm + k.period + exchange_span k < start) x.by;
     }
+
+measuring_at_same : (first by : ℕ) (at : LinkPlace) (w w' : WorldState) (x : IsMeasuringAt first by at w)
+    → IsSameLink at w w' x.is.link → IsMeasuringAt first by at w'
+unfolding first_at_same
+measuring_at_same first by at w w' x s = record {
+  is = first_at_same first at w w' x.is s;
+  measures = goes_over at w w' x.is.link s
+      (λ k least m. MeasuresBy k least reads_as_request reads_as_reply first by m) x.measures;
+}
+
+-- from when its ports measure by the least delay in force
+pub measured_same : (p : SettlingParams) (start : ℕ) (Asks : ℕ → Type 0) (at : LinkPlace) (w w' : WorldState)
+    → StaysSameLink at w w' → IsMeasuredOr p start Asks at w → IsMeasuredOr p start Asks at w'
+unfolding first_at_same measuring_at_same
+measured_same p start Asks at w w' same (inl (inl (inl (first, by, (x, over))))) =
+    let s = same x.is.link in
+    inl (inl (inl (
+      first,
+      by,
+      (
+        measuring_at_same first by at w w' x s,
+        goes_over at w w' x.is.link s (λ k least m. by + k.period + exchange_span k < start) over,
+      ),
+    )))
+measured_same p start Asks at w w' same (inl (inl (inr (gone, calm, x, soon)))) =
+    inl (inl (inr (gone, calm, watched_same gone calm at w w' x (same x.link), soon)))
+measured_same p start Asks at w w' same (inl (inr (gone, calm, x))) =
+    inl (inr (gone, calm, will_same gone calm start at w w' x (same x.watched.link)))
+measured_same p start Asks at w w' same (inr (time, asks, first, x)) =
+    inr (time, asks, first, measuring_at_same first time at w w' x (same x.is.link))
 
 -- when its ports are capable
 pub ready_same : (p : SettlingParams) (start : ℕ) (at : LinkPlace) (w w' : WorldState) → StaysSameLink at w w'

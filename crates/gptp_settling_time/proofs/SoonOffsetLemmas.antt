@@ -177,7 +177,7 @@ module _ {F : Type 0} (answers : Bounds → ℕ → F → Option ℕ → F → T
       carried_exact answers timed fate fate_after w w' p settled
       (λ on. record {
         is = settled_from p m start settled (at timed.at w) now.news can_then old on early;
-        right = right_from p m start settled (at timed.at w) now.news can_then old on early;
+        right = right_from p m start settled (at timed.at w) now.news now.measures can_then old on early;
         carries = now.carries can_then old on early;
       })
       done k

@@ -6,7 +6,6 @@ use Rattle.gptp_graph.specs.Distance.{IsNear}
 use Rattle.gptp_graph.specs.PathBound.{path_bound}
 use Rattle.gptp_graph.specs.Snapshot.{IsLinked, IsWellFormed, PortIdentity, Snapshot, port_of}
 use Rattle.gptp_scenario.specs.Calm.{NothingLapses}
-use Rattle.gptp_scenario.specs.SettlingTime.{window_span}
 use Rattle.gptp_setup.specs.SettlingParams.{SettlingParams}
 use Rattle.gptp_model.specs.World.{WorldState}
 use Rattle.gptp_bmca_machine.specs.Clean.{CameOverLink}
@@ -20,7 +19,6 @@ use Rattle.gptp_invariants.specs.ChoiceCalm.{HaveQuietLinks, delay_in}
 use Rattle.gptp_invariants.specs.ChoiceSettled.{ChoiceStands, Settled}
 use Rattle.gptp_invariants.specs.ChoiceSettlesAsMachine.{IsWorld}
 use Rattle.gptp_invariants.specs.ChoiceView.{says_announce, station_view, view}
-use Rattle.gptp_invariants.specs.DelayMeasuredLinks.{HaveMeasuredLinks}
 use Rattle.gptp_invariants.specs.WorldBounded.{IsBoundedWorld}
 use Rattle.gptp_invariants.specs.WorldNews.{AreSilentBy}
 use Rattle.gptp_invariants.specs.WorldStanding.{snapshot_of}
@@ -31,8 +29,7 @@ use Rattle.gptp_settling_time.proofs.AlwaysClaimedLemmas.{IsStanding}
 use Rattle.gptp_settling_time.proofs.AtRestLemmas.{LinksAreAtRest}
 use Rattle.gptp_settling_time.proofs.EmptiedLemmas.{older_calm}
 use Rattle.gptp_settling_time.proofs.FallAlwaysLemmas.{fallen_by, settles_by}
-use Rattle.gptp_settling_time.proofs.LeftClaimedLemmas.{asked_ready, left_calm, left_network}
-use Rattle.gptp_settling_time.proofs.NewsMeasuredLemmas.{ready_measures}
+use Rattle.gptp_settling_time.proofs.LeftClaimedLemmas.{left_calm, left_network}
 use Rattle.gptp_settling_time.proofs.SeenSettledLemmas.{near_choose, near_settle}
 use Rattle.gptp_settling_time.proofs.SplitAlwaysLemmas.{IsSplitAlways, none_now, split_after, split_network}
 use Rattle.gptp_settling_time.proofs.SplitLemmas.{IsCut, IsTurned, IsTwice, SplitSettles, SplitsBack, cut_times, tops_times, turned_times}
@@ -155,12 +152,3 @@ module _ (p : SettlingParams) (g : Snapshot) (By : PortIdentity → ℕ → Type
       near_settle p (dark_from from) w world refl well (dark_after from standing_now).calm (has from standing_now) came
       (omega arith) now in
       (settled, bounded_by p w world settled above)
-
--- its ports have measured their links
-pub split_measured : (p : SettlingParams) (g : Snapshot) (By : PortIdentity → ℕ → Type 0) (Limits Were : ℕ → Type 0)
-    (failed gone silent : ℕ)
-    (w : WorldState) → IsSplitAlways p g By Limits Were failed gone silent w → HaveQuietLinks p.params w
-    → w.last_change + window_span p.params ≤ w.time
-    → HaveMeasuredLinks w
-split_measured p g By Limits Were failed gone silent w is quiet =
-    ready_measures p w.last_change w is.standing.world (asked_ready p w is.asked) quiet

@@ -1,49 +1,38 @@
 -- Events at time 0, as a network starts, leave it so that nothing is told; and what happens by itself then does.
-use Rattle.std.proofs.Common.{◌≡◌, ◌<◌, inl, inr, ◌≤◌, ℕ, Bool, true, false, List, [], ◌∷◌, ◌++◌, Option, Some, slice_get, refl, sym, ap, subst, ◌∙◌, arith}
-use Rattle.std.specs.Prelude.{◌==◌}
-use Rattle.std.proofs.lemmas.Bool.{eq-eqb}
+use Rattle.std.proofs.Common.{◌≡◌, ◌<◌, inl, inr, ◌≤◌, ℕ, Bool, true, false, List, [], ◌∷◌, ◌++◌, Option, slice_get, refl, sym, ap, subst, ◌∙◌, arith}
 use Rattle.gptp_lists.specs.Members.{In}
-use Rattle.gptp_lists.proofs.MappedLemmas.{alike, same_there}
+use Rattle.gptp_lists.proofs.MappedLemmas.{alike}
 use Rattle.gptp_lists.proofs.PlaceLemmas.{get-set_other, same_place}
 use Rattle.gptp_links.specs.declared.bounds.Bounds.{Bounds}
-use Rattle.gptp_links.specs.declared.link.Direction.{Direction}
-use Rattle.gptp_links.specs.declared.link.Direction.TheVariants.{FromA, FromB}
 use Rattle.gptp_links.specs.Fate.{Draw}
 use Rattle.gptp_links.specs.Queue.{frame}
-use Rattle.gptp_roles.specs.Selection.{clock_of}
-use Rattle.gptp_setup.specs.declared.setup.Params.{Params}
 use Rattle.gptp_setup.specs.SettlingParams.{SettlingParams}
 use Rattle.gptp_scenario.specs.Calm.{IsUsed}
-use Rattle.gptp_scenario.specs.Change.{link_acted, link_after, link_changed, standing, system_acted, system_after, system_changed}
-use Rattle.gptp_scenario.specs.Network.{IsEnd, NetworkState, pace_of}
+use Rattle.gptp_scenario.specs.Change.{link_after}
+use Rattle.gptp_scenario.specs.Network.{NetworkState, pace_of}
 use Rattle.gptp_scenario.specs.SyncWait.{sync_paths}
 use Rattle.gptp_scenario.specs.declared.change.Act.{Act}
 use Rattle.gptp_scenario.specs.declared.change.Act.TheVariants.{Deliver, Expire, Change as Changing}
 use Rattle.gptp_scenario.specs.declared.change.Change.{Change}
 use Rattle.gptp_scenario.specs.declared.change.Change.TheVariants.{LinkDown, LinkUp, LinkSet, Fail, Recover, Priority1, Inject}
 use Rattle.gptp_scenario.specs.declared.change.Timed.{Timed}
-use Rattle.gptp_scenario.specs.declared.network.LinkSpec.{LinkSpec}
-use Rattle.gptp_scenario.specs.declared.network.SystemSpec.{SystemSpec}
 use Rattle.gptp_scenario.specs.declared.sync_wait.SyncPaths.{SyncPaths}
 use Rattle.gptp_model.specs.Acts.{Acts, at as at_time}
-use Rattle.gptp_model.specs.Changing.{ComesUpIf, IsStation, brought_up}
+use Rattle.gptp_model.specs.Changing.{ComesUpIf, brought_up}
 use Rattle.gptp_model.specs.Course.{Begun, WasDone}
 use Rattle.gptp_model.specs.declared.done.Done.{Done}
-use Rattle.gptp_model.specs.declared.station.Station.{Station}
 use Rattle.gptp_model.specs.Pending.{NothingBefore}
 use Rattle.gptp_model.specs.Views.{IsNextAct}
-use Rattle.gptp_model.specs.World.{Channel, WorldState, port_id, receiver, sender}
-use Rattle.gptp_model.proofs.StayLemmas.{acts_stay}
+use Rattle.gptp_model.specs.World.{WorldState}
 use Rattle.gptp_world.specs.Transitions.{ActTrace}
 use Rattle.gptp_world.proofs.InitialLemmas.{initial_sound}
 use Rattle.gptp_network.specs.Document.{DocumentState}
 use Rattle.gptp_invariants.specs.ChoiceCalm.{delay_in}
 use Rattle.gptp_invariants.specs.ChoiceSeenLaws.{IsNoChange}
 use Rattle.gptp_invariants.specs.ChoiceSettlesAsMachine.{IsWorld}
-use Rattle.gptp_invariants.specs.DelayFirstAt.{IsFirstAt}
-use Rattle.gptp_invariants.specs.DelayElsewhere.{IsOtherLink}
-use Rattle.gptp_invariants.specs.DelayLinkView.{IsGoodBetween, LinkPlace}
-use Rattle.gptp_invariants.specs.DelayMeasured.{LinkIsMeasured, LinkStandsAt, StationIsLiveAt}
+use Rattle.gptp_invariants.specs.DelayFirstAt.{IsMeasuringAt}
+use Rattle.gptp_invariants.specs.DelayLinkView.{LinkPlace}
+use Rattle.gptp_invariants.specs.DelayMeasured.{LinkIsMeasured, LinkStandsAt}
 use Rattle.gptp_invariants.specs.WorldEncodableLaws.{SetsAnOctet}
 use Rattle.gptp_invariants.specs.WorldNews.{AreSilentBy, IsNews}
 use Rattle.gptp_invariants.proofs.ChoiceCalmKeptLemmas.{acts_keep}
@@ -55,7 +44,6 @@ use Rattle.gptp_invariants.proofs.WorldNewsLemmas.{link_used, none_silent}
 use Rattle.gptp_invariants.proofs.WorldSoundCallLemmas.{tells_keep}
 use Rattle.gptp_theorem.specs.PlayedLaws.{IsMade, IsPlayable}
 use Rattle.gptp_theorem.specs.Reached.{channel_wire}
-use Rattle.gptp_theorem.proofs.EventLemmas.{link_behind, system_behind}
 use Rattle.gptp_theorem.proofs.SettlingInvariantLemmas.{IsFitEvent, least_of}
 use Rattle.gptp_theorem.proofs.SyncPathLemmas.{paths_stand}
 use Rattle.gptp_theorem.proofs.CalmKeptLemmas.{no_change}
@@ -63,12 +51,12 @@ use Rattle.gptp_settling_time.specs.EventKinds.{AreCapableSoon, StartsWith, Tell
 use Rattle.gptp_settling_time.proofs.AlwaysClaimedLemmas.{IsClaimedAlways}
 use Rattle.gptp_settling_time.proofs.BegunLemmas.{begun_keeps}
 use Rattle.gptp_settling_time.proofs.ClaimedToLemmas.{varies_little}
-use Rattle.gptp_settling_time.proofs.EventStillLemmas.{at_end, down_still, fail_still, set_still}
-use Rattle.gptp_settling_time.proofs.GainLemmas.{lives_as, member_at, named_as, used_as}
+use Rattle.gptp_settling_time.proofs.GainLemmas.{used_as}
 use Rattle.gptp_settling_time.proofs.KeptToLemmas.{KeepsTo, keeps_act, keeps_later}
 use Rattle.gptp_settling_time.proofs.LinkStoodLemmas.{stood_in, stood_untold, up_first}
 use Rattle.gptp_settling_time.proofs.MadeLemmas.{made_keeps, made_time}
 use Rattle.gptp_settling_time.proofs.StartCallLemmas.{IsQuietYet, begun_quiet, quiet_acts, starting_off}
+use Rattle.gptp_settling_time.proofs.StoodEventLemmas.{stood_down, stood_fail, stood_set}
 use Rattle.gptp_settling_time.proofs.StartLemmas.{ExchangesAreOver, untold_news, untold_since}
 
 -- ---- as a network starts
@@ -76,7 +64,7 @@ use Rattle.gptp_settling_time.proofs.StartLemmas.{ExchangesAreOver, untold_news,
 -- Nothing is told yet, nothing in flight is due, and each link in use was first asked over at time 0.
 pub record IsStarting (w : WorldState) : Type 0 where
   pub quiet : IsQuietYet w
-  pub first : (at : LinkPlace) → LinkStandsAt at w → IsFirstAt 0 at w
+  pub first : (at : LinkPlace) → LinkStandsAt at w → IsMeasuringAt 0 0 at w
 
 -- A world of a document after these events: at time 0 it starts.
 pub record IsStartingTo (d : DocumentState) (events : List Timed) (w : WorldState) : Type 0 where
@@ -111,7 +99,7 @@ module _ (p : SettlingParams) where
       ahead = yet.quiet.ahead;
     };
     first = λ at stands.
-        first_goes_on at 0 time w is.sound later nothing
+        first_goes_on at 0 0 time w is.sound later nothing
         (yet.first at (stood_in at (at_time time w) w stands refl stands.here));
   }
 
@@ -128,7 +116,7 @@ module _ (p : SettlingParams) where
       record {
         quiet = quiet_acts p (Expire number timer) w draws done w' now tt (told, k) is yet.quiet;
         first = λ at stands.
-            first_goes_through at 0 (Expire number timer) w w' draws done is.sound measured tt (told, k)
+            first_goes_through at 0 0 (Expire number timer) w w' draws done is.sound measured tt (told, k)
             (yet.first at
             (stood p w w' is is' (acts_keep (Expire number timer) w draws done w' none (told, k)) at stands));
       }
@@ -185,7 +173,7 @@ module _ (d : DocumentState) (playable : IsPlayable d) (events : List Timed) (ne
       by : AreCapableSoon net events next → ExchangesAreOver pace next w
       by (inl capable) = omega (arith, capable, delay)
       by (inr (none, some)) =
-          let l = (starting.first at stands).link in
+          let l = (starting.first at stands).is.link in
           let (v, there, same) = alike (link_after events) channel_wire net.links w.net.channels
           (sym keeps.stands.links) at.link l.channel l.here in
           absurd (none at.link v there (subst (IsUsed net.systems events) (sym same)
@@ -208,7 +196,7 @@ module _ (d : DocumentState) (playable : IsPlayable d) (events : List Timed) (ne
       untold_since pace w begun_world starting.quiet.untold starting.first next soon_news over
       (varies_little d events w keeps vary)
 
--- ---- what stood before an event
+-- ---- an event of time 0
 
 module _ {F : Type 0} (answers : Bounds → ℕ → F → Option ℕ → F → Type 0) (d : DocumentState)
     (playable : IsPlayable d) (made : List Timed) (event : Timed) (fate fate_after : F) (w w' : WorldState)
@@ -238,81 +226,6 @@ module _ {F : Type 0} (answers : Bounds → ℕ → F → Option ℕ → F → T
   world' : IsWorld p w'
   world' = after.claim.world
 
-  -- an event that takes up no link, brings no system to life and sets no bounds
-  module _ (wires : (v : LinkSpec) → (link_after more v).up ≡ true → link_after more v ≡ link_after made v)
-      (lives : (m : SystemSpec) → (system_after more m).live ≡ true → (system_after made m).live ≡ true) where
-    live_before : (place number : ℕ) → StationIsLiveAt place number w' → StationIsLiveAt place number then
-    live_before place number x =
-        let stays = acts_stay event.act then k.draws done w' world.sound.wired.setups k.acts in
-        let old = stays.stations place x.station x.here in
-        let now = member_at n more w' after.stands place x.station x.here in
-        let was = member_at n made then before.stands place old.old old.here in
-        let one : was.member ≡ now.member =
-        same_there n.systems place was.member now.member was.there now.there in
-        record {
-          station = old.old;
-          here = old.here;
-          live = sym (lives_as n made then before.stands place old.old was)
-              ∙ ap (λ (m : SystemSpec). (system_after made m).live) one
-              ∙ lives now.member (lives_as n more w' after.stands place x.station now ∙ x.live);
-          named = sym old.same.named ∙ x.named;
-        }
-
-    same_params : (place number : ℕ) (x : StationIsLiveAt place number w')
-        → (live_before place number x).station.setup.params ≡ x.station.setup.params
-    same_params place number x =
-        let old = live_before place number x in
-        (world.known.set place old.station old.here).starts.params
-        ∙ sym (world'.known.set place x.station x.here).starts.params
-
-    stood_then : (at : LinkPlace) → LinkStandsAt at w' → LinkStandsAt at then
-    stood_then at stands =
-        let (v, there, same) = alike (link_after more) channel_wire n.links w'.net.channels (sym after.stands.links)
-        at.link stands.channel stands.here in
-        let (old, here, was) =
-        alike channel_wire (link_after made) then.net.channels n.links before.stands.links at.link
-        v there in
-        let wire : channel_wire old ≡ channel_wire stands.channel =
-        was ∙ sym (wires v (ap (λ (x : LinkSpec). x.up) same ∙ stands.up)) ∙ same in
-        let asking = live_before at.asking (sender at.direction stands.channel).clock stands.asking in
-        let answering = live_before at.answering (receiver at.direction stands.channel).clock stands.answering in
-        let asks = same_params at.asking (sender at.direction stands.channel).clock stands.asking in
-        let answered = same_params at.answering (receiver at.direction stands.channel).clock stands.answering in
-        record {
-          channel = old;
-          here = here;
-          up = ap (λ (x : LinkSpec). x.up) wire ∙ stands.up;
-          lossless = ap (λ (x : LinkSpec). x.bounds.loss) wire ∙ stands.lossless;
-          asking = record {
-            station = asking.station;
-            here = asking.here;
-            live = asking.live;
-            named = asking.named ∙ sym (sender_wire at.direction old stands.channel wire);
-          };
-          answering = record {
-            station = answering.station;
-            here = answering.here;
-            live = answering.live;
-            named = answering.named ∙ sym (receiver_wire at.direction old stands.channel wire);
-          };
-          apart = stands.apart;
-          good = subst (λ (x : LinkSpec). IsGoodBetween x.bounds.max asking.station.setup.params
-              answering.station.setup.params) (sym wire)
-              (subst (IsGoodBetween stands.channel.bounds.max asking.station.setup.params) (sym answered)
-              (subst (λ (x : Params). IsGoodBetween stands.channel.bounds.max x
-              stands.answering.station.setup.params) (sym asks) stands.good));
-        }
-      where
-        sender_wire : (direction : Direction) (c e : Channel) → channel_wire c ≡ channel_wire e
-            → (sender direction c).clock ≡ (sender direction e).clock
-        sender_wire FromA c e same = ap (λ (x : LinkSpec). x.a.clock) same
-        sender_wire FromB c e same = ap (λ (x : LinkSpec). x.b.clock) same
-
-        receiver_wire : (direction : Direction) (c e : Channel) → channel_wire c ≡ channel_wire e
-            → (receiver direction c).clock ≡ (receiver direction e).clock
-        receiver_wire FromA c e same = ap (λ (x : LinkSpec). x.b.clock) same
-        receiver_wire FromB c e same = ap (λ (x : LinkSpec). x.a.clock) same
-
   -- ---- each link in use was first asked over at time 0
 
   module _ (now : event.at ≡ 0) (yet : IsStarting then) where
@@ -321,116 +234,42 @@ module _ {F : Type 0} (answers : Bounds → ℕ → F → Option ℕ → F → T
         subst (λ c. Acts (Changing c) then k.draws done w') same
         (subst (λ act. Acts act then k.draws done w') is.act k.acts)
 
-    links_by : (change : Change) → is.change ≡ change → (v : LinkSpec)
-        → link_after more v ≡ link_changed change (link_after made v)
-    links_by change same v =
-        link_behind made event v ∙ ap (λ a. link_acted a (link_after made v)) (is.act ∙ ap Changing same)
-
-    systems_by : (change : Change) → is.change ≡ change → (m : SystemSpec)
-        → system_after more m ≡ system_changed change (clock_of m.identity) (system_after made m)
-    systems_by change same m =
-        system_behind made event (clock_of m.identity) (standing m)
-        ∙ ap (λ a. system_acted a (clock_of m.identity) (system_after made m)) (is.act ∙ ap Changing same)
-
     abbrev FirstSo : Type 0
-    FirstSo = (at : LinkPlace) → LinkStandsAt at w' → IsFirstAt 0 at w'
+    FirstSo = (at : LinkPlace) → LinkStandsAt at w' → IsMeasuringAt 0 0 at w'
 
     first_down : (number port : ℕ) → is.change ≡ LinkDown number port → FirstSo
     first_down number port same at stands =
-        first_goes_through at 0 (Changing (LinkDown number port)) then w' k.draws done world.sound
-        before.claim.measured other (came_so (LinkDown number port) same)
-        (yet.first at (stood_then wires lives at stands))
-      where
-        wires : (v : LinkSpec) → (link_after more v).up ≡ true → link_after more v ≡ link_after made v
-        wires v up =
-            let is_now = links_by (LinkDown number port) same v in
-            is_now
-            ∙ (down_still number port (link_after made v) (ap (λ (x : LinkSpec). x.up) (sym is_now) ∙ up)).1
-
-        lives : (m : SystemSpec) → (system_after more m).live ≡ true → (system_after made m).live ≡ true
-        lives m live = ap (λ s. s.live) (sym (systems_by (LinkDown number port) same m)) ∙ live
-
-        other : IsOtherLink at (port_id number port) then
-        other place channel at_port same_link =
-            let (v, there, wire) = alike (link_after more) channel_wire n.links w'.net.channels
-            (sym after.stands.links) at.link stands.channel stands.here in
-            let (old, here, was) = alike channel_wire (link_after made) then.net.channels n.links before.stands.links
-            at.link v there in
-            let one : channel ≡ old =
-            same_there then.net.channels at.link channel old
-            (subst (λ i. slice_get then.net.channels i ≡ Some channel) same_link at_port.here) here in
-            let is_now = links_by (LinkDown number port) same v in
-            let up : (link_after more v).up ≡ true = ap (λ (x : LinkSpec). x.up) wire ∙ stands.up in
-            let off = (down_still number port (link_after made v)
-            (ap (λ (x : LinkSpec). x.up) (sym is_now) ∙ up)).0 in
-            let joined : IsEnd (port_id number port) (channel_wire channel) = at_port.joined in
-            let on = at_end number port (link_after made v)
-            (subst (IsEnd (port_id number port)) (ap channel_wire one ∙ was) joined) in
-            let both : true ≡ false = sym on ∙ off in
-            cc
+        let (old, alone) = stood_down p n made event then w' k.draws done before.stands after.stands world world' k.acts
+        number port (is.act ∙ ap Changing same) at stands in
+        first_goes_through at 0 0 (Changing (LinkDown number port)) then w' k.draws done world.sound
+        before.claim.measured alone (came_so (LinkDown number port) same) (yet.first at old)
 
     first_fail : (number : ℕ) → is.change ≡ Fail number → FirstSo
     first_fail number same at stands =
-        first_goes_through at 0 (Changing (Fail number)) then w' k.draws done world.sound before.claim.measured
-        (λ place station at_place. (
-          λ same_place. not_it at.asking (sender at.direction stands.channel).clock stands.asking station
-              (subst (λ i. IsStation number i then station) same_place at_place),
-          λ same_place. not_it at.answering (receiver at.direction stands.channel).clock stands.answering station
-              (subst (λ i. IsStation number i then station) same_place at_place),
-        ))
-        (came_so (Fail number) same)
-        (yet.first at (stood_then wires lives at stands))
-      where
-        wires : (v : LinkSpec) → (link_after more v).up ≡ true → link_after more v ≡ link_after made v
-        wires v up = links_by (Fail number) same v
-
-        still : (m : SystemSpec) → (system_after more m).live ≡ true
-            → ((number == clock_of m.identity) ≡ false) × ((system_after made m).live ≡ true)
-        still m live =
-            fail_still number (clock_of m.identity) made m
-            (ap (λ s. s.live) (sym (systems_by (Fail number) same m)) ∙ live)
-
-        lives : (m : SystemSpec) → (system_after more m).live ≡ true → (system_after made m).live ≡ true
-        lives m live = (still m live).1
-
-        not_it : (place clock_there : ℕ) → StationIsLiveAt place clock_there w' → (station : Station)
-            → IsStation number place then station → ⊥
-        not_it place clock_there x station at_place =
-            let of = member_at n more w' after.stands place x.station x.here in
-            let was = member_at n made then before.stands place station at_place.here in
-            let one : was.member ≡ of.member =
-            same_there n.systems place was.member of.member was.there of.there in
-            let off = (still of.member (lives_as n more w' after.stands place x.station of ∙ x.live)).0 in
-            let named : clock_of of.member.identity ≡ number =
-            ap (λ (m : SystemSpec). clock_of m.identity) (sym one)
-            ∙ named_as n made then before.stands world.sound place number station at_place was in
-            let on = eq-eqb number (clock_of of.member.identity) (sym named) in
-            let both : true ≡ false = sym on ∙ off in
-            cc
+        let (old, alone) = stood_fail p n made event then w' k.draws done before.stands after.stands world world' k.acts
+        number (is.act ∙ ap Changing same) at stands in
+        first_goes_through at 0 0 (Changing (Fail number)) then w' k.draws done world.sound before.claim.measured alone
+        (came_so (Fail number) same) (yet.first at old)
 
     first_set : (number value : ℕ) → is.change ≡ Priority1 number value → FirstSo
     first_set number value same at stands =
-        first_goes_through at 0 (Changing (Priority1 number value)) then w' k.draws done world.sound
-        before.claim.measured tt (came_so (Priority1 number value) same)
-        (yet.first at
-        (stood_then (λ v up. links_by (Priority1 number value) same v)
-        (λ m live.
-        sym (set_still number (clock_of m.identity) value made m)
-        ∙ ap (λ s. s.live) (sym (systems_by (Priority1 number value) same m)) ∙ live)
-        at stands))
+        let (old, alone) = stood_set p n made event then w' k.draws done before.stands after.stands world world' k.acts
+        number value (is.act ∙ ap Changing same) at stands in
+        first_goes_through at 0 0 (Changing (Priority1 number value)) then w' k.draws done world.sound
+        before.claim.measured alone (came_so (Priority1 number value) same) (yet.first at old)
 
     up_first_at : (number port : ℕ) → Acts (Changing (LinkUp number port)) then k.draws done w' → FirstSo
     up_first_at number port came at stands =
         by came.1.channel.up refl came.1.so
       where
-        goes : LinkStandsAt at then → IsFirstAt 0 at w'
+        goes : LinkStandsAt at then → IsMeasuringAt 0 0 at w'
         goes old =
-            first_goes_through at 0 (Changing (LinkUp number port)) then w' k.draws done world.sound
+            first_goes_through at 0 0 (Changing (LinkUp number port)) then w' k.draws done world.sound
             before.claim.measured tt came (yet.first at old)
 
         by : (up : Bool) → came.1.channel.up ≡ up
             → ComesUpIf up came.1.place came.1.channel (record then { last_change = then.time }) k.draws w'
-            → IsFirstAt 0 at w'
+            → IsMeasuringAt 0 0 at w'
         by true on (none, is_same) =
             goes (stood_in at w' then stands (ap (λ (v : WorldState). v.stations) is_same)
             (ap (λ (v : WorldState). slice_get v.net.channels at.link) (sym is_same) ∙ stands.here))
@@ -442,7 +281,7 @@ module _ {F : Type 0} (answers : Bounds → ℕ → F → Option ℕ → F → T
             in
             elim (same_place at.link came.1.place) [
               | inl here ↦
-                  subst (λ first. IsFirstAt first at w') now
+                  subst (λ first. IsMeasuringAt first first at w') now
                   (up_first p number port then k.draws done w' before.claim.pace world before.claim.measured came down
                   at here brought)
               | inr apart ↦

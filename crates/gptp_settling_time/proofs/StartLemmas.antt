@@ -30,7 +30,7 @@ use Rattle.gptp_invariants.specs.ChoiceSettled.{Settled}
 use Rattle.gptp_invariants.specs.ChoiceSettlesAsMachine.{IsWorld}
 use Rattle.gptp_invariants.specs.ChoiceView.{frame_view, held_view, lane_place, lane_view, says_announce, span_at, station_view, view}
 use Rattle.gptp_invariants.specs.DelayLinkView.{LinkPlace, link_frame_view, other_direction, pair, progress_view}
-use Rattle.gptp_invariants.specs.DelayFirstAt.{IsFirstAt}
+use Rattle.gptp_invariants.specs.DelayFirstAt.{IsMeasuringAt}
 use Rattle.gptp_invariants.specs.DelayMeasured.{LinkIsMeasured, LinkStandsAt}
 use Rattle.gptp_invariants.specs.WorldBounded.{IsBoundedWorld}
 use Rattle.gptp_invariants.specs.WorldNews.{AreSilentBy, IsNews}
@@ -39,6 +39,7 @@ use Rattle.gptp_invariants.specs.WorldStanding.{snapshot_of}
 use Rattle.gptp_invariants.proofs.ChoiceCalmKeptLemmas.{KeepsNetwork, acts_keep, delay_kept, keeps_on}
 use Rattle.gptp_invariants.proofs.ChoicePlaceLemmas.{port_from, station_from, station_there}
 use Rattle.gptp_invariants.proofs.ChoiceSeenLaneLemmas.{lane_there}
+use Rattle.gptp_invariants.proofs.DelayFirstAtLemmas.{first_exactly}
 use Rattle.gptp_invariants.proofs.DelayStartFirstLemmas.{start_first}
 use Rattle.gptp_invariants.proofs.WorldBoundedLemmas.{bounded_by}
 use Rattle.gptp_invariants.proofs.WorldClaimLemmas.{claim_begins}
@@ -89,10 +90,10 @@ not_answered (progresses.Answered request response) sequence source t1 t2 t4 non
 
 -- a world in which nothing is measured or told, and each of whose links in use was first asked over at time 0
 module _ (p : SettlingParams) (w : WorldState) (world : IsWorld p w) (untold : IsUntold w)
-    (first : (at : LinkPlace) → LinkStandsAt at w → IsFirstAt 0 at w) where
+    (first : (at : LinkPlace) → LinkStandsAt at w → IsMeasuringAt 0 0 at w) where
   untold_timely : (at : LinkPlace) → LinkStandsAt at w → IsOrderedAt 0 at w
   untold_timely at stands =
-      let one = first at stands in
+      let one = (first at stands).is in
       let l = one.link in
       let e = l.asking in
       let un = unmeasured at one.link in
@@ -103,7 +104,7 @@ module _ (p : SettlingParams) (w : WorldState) (world : IsWorld p w) (untold : I
           link = l;
           short = one.short;
           facts = one.facts;
-          inv = one.inv;
+          inv = first_exactly at 0 w (first at stands);
           before = record {
             answered = λ sequence source t1 t2 t4 progress.
                 absurd (not_answered e.state.peer.progress sequence source t1 t2 t4 un.1 progress);
@@ -182,7 +183,7 @@ module _ (p : SettlingParams) (w : WorldState) (world : IsWorld p w) (untold : I
       news_begin p start w pace world measured silent untold_sound
       (λ at stands.
       let soon = over at stands in
-      first_ready p start 0 w world at (omega (arith, soon)) (first at stands)) early
+      first_ready p start 0 w world at (omega (arith, soon)) (first at stands).is) early
 
   pub untold_since : (start : ℕ) → IsNews p start w
       → ((at : LinkPlace) → LinkStandsAt at w → ExchangesAreOver p start w) → DelaysVaryLittle w

@@ -17,6 +17,7 @@ use Rattle.gptp_invariants.specs.WorldEncodableLaws.{SetsAnOctet}
 use Rattle.gptp_invariants.specs.WorldNews.{IsNews}
 use Rattle.gptp_invariants.specs.ChoiceSeenLaws.{IsNoChange}
 use Rattle.gptp_invariants.specs.ChoiceSettled.{Settled}
+use Rattle.gptp_invariants.specs.ChoiceSettlesAsMachine.{IsWorld}
 use Rattle.gptp_invariants.specs.WorldStanding.{live_stations, snapshot_of}
 use Rattle.gptp_invariants.specs.SyncTimed.{AllMeasureRight, CarriesTime, IsSettledFrom}
 use Rattle.gptp_invariants.proofs.WorldBoundedLemmas.{bounded_by}
@@ -28,8 +29,8 @@ use Rattle.gptp_invariants.proofs.SyncFollowWorldLemmas.{done_carries, used_with
 use Rattle.gptp_invariants.proofs.ChoiceSettlesAsMachineLemmas.{kept_back}
 use Rattle.gptp_invariants.proofs.WorldNewsLemmas.{news_above, news_above_in_turn, news_worlds_settle, news_worlds_settle_in_turn}
 use Rattle.gptp_settling_time.specs.Exactly.{SettlesBy}
-use Rattle.gptp_settling_time.proofs.NewsMeasuredLemmas.{news_measured}
-use Rattle.gptp_settling_time.proofs.NewsSoonLemmas.{IsNewsFrom, from_done, from_later, from_world, news_now}
+use Rattle.gptp_settling_time.proofs.MeasuringLemmas.{AreMeasuredSoon, measured_links, soon_acts, soon_time}
+use Rattle.gptp_settling_time.proofs.NewsSoonLemmas.{IsNewsFrom, from_done, from_later, from_measured, from_world, news_now}
 use Rattle.gptp_invariants.proofs.ChoiceSettledLemmas.{choice_stands}
 
 -- ---- delays
@@ -137,26 +138,29 @@ module _ (p : SettlingParams) (m start settled : ℕ) where
         limit = news.pace.params.ranges.threshold;
       }
 
-  pub right_from : (w : WorldState) → IsNewsFrom p start w → CanSettle p m start settled w → IsOldBy p settled w
-      → whole ≤ w.time → w.time ≤ 10 ^ 18 → AllMeasureRight p.params w
-  right_from w from can old on shown =
+  pub right_from : (w : WorldState) → IsNewsFrom p start w → AreMeasuredSoon p start w → CanSettle p m start settled w
+      → IsOldBy p settled w → whole ≤ w.time → w.time ≤ 10 ^ 18 → AllMeasureRight p.params w
+  right_from w from measures can old on shown =
       let before = starts_before p m start settled w can in
       measured_right p whole p.params.threshold w (settled_from w from can old on shown)
-      (news_measured p start w (news_then w from can (omega (arith, on))) can.quiet (omega (arith, before, on)))
+      (measured_links p start w (from_world p start w from) measures can.quiet (omega (arith, before, on)))
 
-  -- what is kept: the news, and that time is carried right from then on
+  -- what is kept: the news, that ports measure by the least delays in force, and that time is carried right
   pub record IsTimed (w : WorldState) : Type 0 where
     pub news : IsNewsFrom p start w
+    pub measures : AreMeasuredSoon p start w
     pub carries : CanSettle p m start settled w → IsOldBy p settled w → whole ≤ w.time → w.time ≤ 10 ^ 18
         → CarriesTime p.params whole p.params.threshold w
 
-  pub timed_begins : (w : WorldState) → IsNewsFrom p start w → w.time < settled → IsTimed w
-  timed_begins w news early = record { news = news; carries = λ can old on shown. absurd (omega (arith, early, on)) }
+  pub timed_begins : (w : WorldState) → IsNewsFrom p start w → AreMeasuredSoon p start w → w.time < settled → IsTimed w
+  timed_begins w news measures early =
+      record { news = news; measures = measures; carries = λ can old on shown. absurd (omega (arith, early, on)) }
 
   pub timed_later : (w : WorldState) (time : ℕ) → w.time ≤ time → NothingBefore time w.net.pending → IsTimed w
       → IsTimed (at time w)
   timed_later w time later first is = record {
     news = after;
+    measures = soon_time p start time w (from_world p start w is.news).sound later first is.measures;
     carries = λ can old on shown. by can old on shown (cases_lt w.time whole);
   }
     where
@@ -185,6 +189,19 @@ module _ (p : SettlingParams) (m start settled : ℕ) where
     from_after : IsNewsFrom p start w'
     from_after = from_done p start answers timed fate fate_after w w' done none octet k is.news
 
+    world : IsWorld p moved
+    world = from_world p start moved from_then
+
+    measures_then : AreMeasuredSoon p start moved
+    measures_then =
+        soon_time p start timed.at w (from_world p start w is.news).sound k.ready.timely.now k.ready.timely.first
+        is.measures
+
+    measures_after : AreMeasuredSoon p start w'
+    measures_after =
+        soon_acts p start timed.act moved k.draws done w' none k.acts world (from_world p start w' from_after)
+        (from_measured p start moved from_then) measures_then
+
     carries_after : CanSettle p m start settled w' → IsOldBy p settled w' → whole ≤ w'.time → w'.time ≤ 10 ^ 18
         → CarriesTime p.params whole p.params.threshold w'
     carries_after can old on shown =
@@ -200,10 +217,10 @@ module _ (p : SettlingParams) (m start settled : ℕ) where
         (from_world p start w is.news).known
         (known_arrive p whole w (from_world p start w is.news).known (omega (arith, old_then)))
         (settled_from moved from_then can_then old_then on_then shown_then)
-        (right_from moved from_then can_then old_then on_then shown_then)
+        (right_from moved from_then measures_then can_then old_then on_then shown_then)
         (settled_from w' from_after can old on shown)
         (λ already. is.carries (can_earlier p m start settled w timed.at can_then) old_then already
         (omega (arith, now, shown_then)))
 
     pub timed_act : IsTimed w'
-    timed_act = record { news = from_after; carries = carries_after }
+    timed_act = record { news = from_after; measures = measures_after; carries = carries_after }

@@ -10,7 +10,6 @@ use Rattle.gptp_graph.proofs.ExistenceLemmas.{distance_exists}
 use Rattle.gptp_graph.proofs.PathBoundLemmas.{IsDistance-within}
 use Rattle.gptp_links.specs.Fate.{Draw}
 use Rattle.gptp_scenario.specs.Calm.{NothingLapses}
-use Rattle.gptp_scenario.specs.SettlingTime.{window_span}
 use Rattle.gptp_scenario.specs.declared.change.Act.{Act}
 use Rattle.gptp_setup.specs.SettlingParams.{SettlingParams}
 use Rattle.gptp_system.specs.State.{clock}
@@ -36,7 +35,6 @@ use Rattle.gptp_invariants.specs.ChoiceSeenLaws.{IsNoChange}
 use Rattle.gptp_invariants.specs.ChoiceSettled.{Settled}
 use Rattle.gptp_invariants.specs.ChoiceSettlesAsMachine.{IsWorld}
 use Rattle.gptp_invariants.specs.ChoiceView.{says_announce, station_view, view}
-use Rattle.gptp_invariants.specs.DelayMeasuredLinks.{HaveMeasuredLinks}
 use Rattle.gptp_invariants.specs.WorldBounded.{IsBoundedWorld}
 use Rattle.gptp_invariants.specs.WorldEncodableLaws.{SetsAnOctet}
 use Rattle.gptp_invariants.specs.WorldStanding.{snapshot_of}
@@ -46,8 +44,7 @@ use Rattle.gptp_invariants.proofs.WorldStandsLemmas.{stands_well}
 use Rattle.gptp_settling_time.proofs.AlwaysClaimedLemmas.{IsStanding}
 use Rattle.gptp_settling_time.proofs.FallAlwaysLemmas.{fallen_by, falls_within, settles_by, settles_later}
 use Rattle.gptp_settling_time.proofs.GoesOnLemmas.{GoesOn, after_on, calm_now, dark_on, goes_acts, goes_later, late_on, past_on, quiet_before, same_on}
-use Rattle.gptp_settling_time.proofs.LeftClaimedLemmas.{HaveAskedLong, asked_ready, left_network}
-use Rattle.gptp_settling_time.proofs.NewsMeasuredLemmas.{ready_measures}
+use Rattle.gptp_settling_time.proofs.LeftClaimedLemmas.{HaveAskedLong, left_network}
 use Rattle.gptp_settling_time.proofs.SeenSettledLemmas.{near_settle}
 
 -- ---- times
@@ -238,10 +235,3 @@ module _ (p : SettlingParams) (g : Snapshot) (silent start : ℕ) (w : WorldStat
 
   pub turned_tree_settles : Settled w × IsBoundedWorld w
   turned_tree_settles = (settled, bounded_by p w world settled above)
-
--- its ports have measured their links
-pub turned_tree_measured : (p : SettlingParams) (g : Snapshot) (silent start : ℕ) (w : WorldState)
-    → IsTurnedTreeAlways p g silent start w → HaveQuietLinks p.params w
-    → w.last_change + window_span p.params ≤ w.time → HaveMeasuredLinks w
-turned_tree_measured p g silent start w is quiet =
-    ready_measures p w.last_change w is.standing.world (asked_ready p w is.asked) quiet

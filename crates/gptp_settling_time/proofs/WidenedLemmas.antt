@@ -1,18 +1,13 @@
 -- A link in use whose delays get wider: in a world that has settled all stands as it did, and claims are made of all
 -- links always.
-use Rattle.std.proofs.Common.{◌≡◌, ◌≢◌, ◌<◌, ◌≤◌, ◌+◌, ◌-◌, ◌*◌, ◌/◌, ◌%◌, ℕ, zero, suc, true, List, [], ◌∷◌, map, Some, slice_get, slice_set, refl, sym, ap, subst, ◌∙◌, inl, inr, arith}
-use Rattle.std.specs.Prelude.{if◌then◌else◌}
-use Rattle.std.proofs.lemmas.Nat.{div-add-mod', mod_below}
-use Rattle.std.proofs.lemmas.Option.{same_Some}
+use Rattle.std.proofs.Common.{◌≡◌, ◌≢◌, ◌⊎◌, ◌<◌, ◌≤◌, ◌+◌, ◌*◌, ℕ, min, true, List, map, Some, slice_get, refl, sym, ap, subst, ◌∙◌, inl, inr, arith}
+use Rattle.std.proofs.lemmas.Bool.{cases_lt}
 use Rattle.gptp_lists.specs.Members.{In}
 use Rattle.gptp_lists.proofs.MappedLemmas.{same_there}
 use Rattle.gptp_lists.proofs.PlaceLemmas.{get-set_other, get-set_same, same_place}
 use Rattle.gptp_graph.specs.PathBound.{BoundsPaths}
-use Rattle.gptp_graph.specs.Snapshot.{System}
 use Rattle.gptp_vector.specs.declared.port.PortId.{PortId}
 use Rattle.gptp_links.specs.declared.bounds.Bounds.{Bounds}
-use Rattle.gptp_links.specs.declared.link.Direction.{Direction}
-use Rattle.gptp_links.specs.declared.link.Direction.TheVariants.{FromA, FromB}
 use Rattle.gptp_links.specs.Fate.{Draw}
 use Rattle.gptp_links.specs.Queue.{Frame}
 use Rattle.gptp_pdelay.specs.GoodLink.{IsGoodLink}
@@ -21,17 +16,16 @@ use Rattle.gptp_scenario.specs.Params.{KeepPace}
 use Rattle.gptp_scenario.specs.declared.change.Act.TheVariants.{Change as Changing}
 use Rattle.gptp_scenario.specs.declared.change.Change.TheVariants.{LinkSet}
 use Rattle.gptp_setup.specs.declared.setup.Params.{Params}
-use Rattle.gptp_setup.specs.declared.setup.Setup.{Setup}
 use Rattle.gptp_setup.specs.Intervals.{interval_of}
 use Rattle.gptp_setup.specs.SettlingParams.{SettlingParams}
 use Rattle.gptp_setup.specs.Stamping.{blur_of}
-use Rattle.gptp_system.specs.Measures.{Part, measure_at}
+use Rattle.gptp_system.specs.Measures.{measure_at}
 use Rattle.gptp_model.specs.Acts.{Acts, set_to}
 use Rattle.gptp_model.specs.Changing.{with_bounds}
 use Rattle.gptp_model.specs.declared.done.Done.{Done}
-use Rattle.gptp_model.specs.World.{Channel, WorldState, receiver, sender, world_queue}
+use Rattle.gptp_model.specs.World.{Channel, WorldState, receiver, sender}
 use Rattle.gptp_pdelay_machine.specs.Facts.{Facts}
-use Rattle.gptp_pdelay_machine.specs.First.{InvFirst}
+use Rattle.gptp_pdelay_machine.specs.First.{InvFirst, MeasuresBy}
 use Rattle.gptp_pdelay_machine.specs.FirstLaws.{exchange_span}
 use Rattle.gptp_pdelay_machine.specs.Meter.{Meter}
 use Rattle.gptp_pdelay_machine.specs.Setting.{Setting}
@@ -44,14 +38,14 @@ use Rattle.gptp_bmca_machine.proofs.SoundEverywhereLemmas.{on_links}
 use Rattle.gptp_bmca_machine.proofs.SoundLemmas.{received_fits}
 use Rattle.gptp_invariants.specs.ChoiceCalm.{HaveQuietLinks, paths_with}
 use Rattle.gptp_invariants.specs.ChoiceSettlesAsMachine.{IsWorld}
-use Rattle.gptp_invariants.specs.ChoiceView.{lane_view, lanes_view, says_announce, station_view, view}
-use Rattle.gptp_invariants.specs.DelayFirstAt.{IsFirstBy}
-use Rattle.gptp_invariants.specs.DelayLinkView.{IsLinkOf, LinkPlace, least_delay, link_setting, meter, pair, pair_view, reads_as_reply, reads_as_request, setting_view, kept_view}
+use Rattle.gptp_invariants.specs.ChoiceView.{says_announce, station_view, view}
+use Rattle.gptp_invariants.specs.DelayFirstAt.{IsFirstAt, IsFirstBy, IsMeasuringAt, IsMeasuringBefore}
+use Rattle.gptp_invariants.specs.DelayLinkView.{IsLinkOf, LinkPlace, least_delay, link_setting, meter, pair, reads_as_reply, reads_as_request, kept_view}
 use Rattle.gptp_invariants.specs.DelayMeasured.{LinkIsMeasured, LinkStandsAt}
 use Rattle.gptp_invariants.specs.FailedUnanswered.{IsFailedAmong, IsLastAnswered, IsOff, StandsUnanswered}
 use Rattle.gptp_invariants.specs.WorldNews.{AreReadyBy, AreSilentBy, IsNews, IsReadyBy, news_network}
 use Rattle.gptp_invariants.specs.WorldSound.{IsSoundWorld}
-use Rattle.gptp_invariants.specs.WorldStanding.{channel_is_used, live_stations, snapshot_of, standing_link, used_channels}
+use Rattle.gptp_invariants.specs.WorldStanding.{channel_is_used, live_stations, snapshot_of}
 use Rattle.gptp_invariants.proofs.DelayEndLemmas.{renamed}
 use Rattle.gptp_invariants.proofs.DelayLinkLemmas.{good_between}
 use Rattle.gptp_invariants.proofs.DelayUsedLinkLemmas.{receiver_lives}
@@ -61,15 +55,16 @@ use Rattle.gptp_settling_time.proofs.AlwaysClaimedLemmas.{AreHeard, IsClaimedAlw
 use Rattle.gptp_settling_time.proofs.HeardLemmas.{period_is}
 use Rattle.gptp_settling_time.proofs.LinkStoodLemmas.{stood_in}
 use Rattle.gptp_settling_time.proofs.LinkUpLemmas.{lane_set}
-use Rattle.gptp_settling_time.proofs.SameLinkLemmas.{StaysSameLink, ready_same}
+use Rattle.gptp_settling_time.proofs.MeasuringLemmas.{AreMeasuredOr, IsMeasuredOr, has_begun, measured_for}
+use Rattle.gptp_settling_time.proofs.SameLinkLemmas.{StaysSameLink, measured_same, ready_same}
 use Rattle.gptp_settling_time.proofs.SettledSeenLemmas.{HasSettledSeen, IsSettledSeen, stage_settled}
+use Rattle.gptp_settling_time.proofs.SetBoundsLemmas.{lanes_set, links_set, pair_set, queue_set, receiver_set, sender_set, setting_set}
 use Rattle.gptp_settling_time.proofs.StandsLikeLemmas.{none_short}
-use Rattle.gptp_settling_time.proofs.WiderLinkLemmas.{facts_wide, first_wide}
-use Rattle.gptp_settling_time.proofs.WillAskLemmas.{first_since, watched_later}
+use Rattle.gptp_settling_time.proofs.WiderLinkLemmas.{facts_wide, first_wide, measures_wide}
+use Rattle.gptp_settling_time.proofs.WillAskLemmas.{first_from, first_since, watched_later}
 
--- the second bounds are wider than the first, the greatest delay by so much at most
+-- the greatest delay of the second bounds is larger than that of the first, by so much at most
 pub record AreWiderBy (by : ℕ) (old new : Bounds) : Type 0 where
-  pub least : new.min ≤ old.min
   pub most : old.max ≤ new.max
   pub more : new.max ≤ old.max + by
   pub lossless_before : old.loss ≡ 0
@@ -88,15 +83,10 @@ module _ (p : SettlingParams) (start : ℕ) (w : WorldState) (is : IsWorld p w) 
       let period = period_is p at w is x.link in
       let short = x.good.short in
       let beyond : calm ≤ asked = omega (arith, timer, period, late, past) in
-      let n = (asked - calm) / k.period in
-      let first = calm + (asked - calm) % k.period in
-      let parts = div-add-mod' (asked - calm) k.period in
-      let within : first < calm + k.period =
-      let below = mod_below (asked - calm) k.period (omega (arith, short)) in omega (arith, below) in (
+      let (first, from, within, since) = first_from calm asked k.period (omega (arith, short)) beyond in (
         first,
         (
-          first_since gone first at w (watched_later gone calm first at w (omega arith) x)
-              (n, omega (arith, parts, beyond)),
+          first_since gone first at w (watched_later gone calm first at w from x) since,
           omega (arith, short, period, late, within),
         ),
       )
@@ -106,58 +96,6 @@ module _ (p : SettlingParams) (start : ℕ) (w : WorldState) (is : IsWorld p w) 
   ready_heard ready at stands =
       let (first, by) = ready_first at (ready at stands) in
       inr (inr (inr (first, start, record { is = by; late = past })))
-
--- ---- what doesn't look at delays
-
-sender_set : (direction : Direction) (c : Channel) (b : Bounds)
-    → sender direction (record c { bounds = b }) ≡ sender direction c
-sender_set FromA c b = refl
-sender_set FromB c b = refl
-
-receiver_set : (direction : Direction) (c : Channel) (b : Bounds)
-    → receiver direction (record c { bounds = b }) ≡ receiver direction c
-receiver_set FromA c b = refl
-receiver_set FromB c b = refl
-
-queue_set : (direction : Direction) (c : Channel) (b : Bounds)
-    → world_queue direction (record c { bounds = b }) ≡ world_queue direction c
-queue_set FromA c b = refl
-queue_set FromB c b = refl
-
-pair_set : (time period : ℕ) (direction : Direction) (c : Channel) (b : Bounds) (x y : Part)
-    → pair_view time period direction (record c { bounds = b }) x y ≡ pair_view time period direction c x y
-pair_set time period FromA c b x y = refl
-pair_set time period FromB c b x y = refl
-
-setting_set : (direction : Direction) (c : Channel) (b : Bounds) (x y : Setup)
-    → setting_view direction (record c { bounds = b }) x y ≡ record (setting_view direction c x y) { most = b.max }
-setting_set FromA c b x y = refl
-setting_set FromB c b x y = refl
-
-lane_view_set : (direction : Direction) (c : Channel) (b : Bounds) → b.loss ≡ c.bounds.loss
-    → lane_view direction (record c { bounds = b }) ≡ lane_view direction c
-lane_view_set FromA c b same = ap (λ loss. record (lane_view FromA c) { loss = loss }) same
-lane_view_set FromB c b same = ap (λ loss. record (lane_view FromB c) { loss = loss }) same
-
-lanes_set : (channels : List Channel) (i : ℕ) (c : Channel) (b : Bounds) → slice_get channels i ≡ Some c
-    → b.loss ≡ c.bounds.loss → lanes_view (slice_set channels i (record c { bounds = b })) ≡ lanes_view channels
-lanes_set [] i c b here same = refl
-lanes_set (first ∷ channels) zero c b here same =
-    (λ i. lane_view_set FromA c b same i ∷ lane_view_set FromB c b same i ∷ lanes_view channels)
-    ∙ ap (λ (x : Channel). lane_view FromA x ∷ lane_view FromB x ∷ lanes_view channels) (sym (same_Some first c here))
-lanes_set (first ∷ channels) (suc i) c b here same =
-    ap (λ rest. lane_view FromA first ∷ lane_view FromB first ∷ rest) (lanes_set channels i c b here same)
-
-links_set : (systems : List System) (channels : List Channel) (i : ℕ) (c : Channel) (b : Bounds)
-    → slice_get channels i ≡ Some c
-    → used_channels systems (slice_set channels i (record c { bounds = b })) ≡ used_channels systems channels
-links_set systems [] i c b here = refl
-links_set systems (first ∷ channels) zero c b here =
-    ap (λ (x : Channel). if channel_is_used systems x then standing_link x ∷ used_channels systems channels
-    else used_channels systems channels) (sym (same_Some first c here))
-links_set systems (first ∷ channels) (suc i) c b here =
-    ap (λ rest. if channel_is_used systems first then standing_link first ∷ rest else rest)
-    (links_set systems channels i c b here)
 
 -- ---- the link gets wider
 
@@ -306,45 +244,119 @@ module _ (p : SettlingParams) (start next by place : ℕ) (w : WorldState) (is :
         let bounds : l.channel.bounds.max ≡ channel.bounds.max = ap (λ (c : Channel). c.bounds.max) channel_is in
         omega (arith, more, bounds)
 
-    sooner : b.min ≤ least_delay at w l
-    sooner =
-        let least = wider.least in
-        let bounds : l.channel.bounds.min ≡ channel.bounds.min = ap (λ (c : Channel). c.bounds.min) channel_is in
-        omega (arith, least, bounds)
-
-  module _ (pace : KeepPace p) (is' : IsWorld p widened) (later : start + 2 * by ≤ next) (past : next ≤ w.time) where
-    -- two intervals between requests and an exchange are over
-    first_widened : (at : LinkPlace) → at.link ≡ place → LinkStandsAt at widened → (first : ℕ)
-        → IsFirstBy first start at w → IsFirstBy first next at widened
-    first_widened at same s first (x, soon) =
+  module _ (pace : KeepPace p) where
+    -- exchanges go on as they did
+    first_at_widened : (at : LinkPlace) → at.link ≡ place → LinkStandsAt at widened → (first : ℕ) → IsFirstAt first at w
+        → IsFirstAt first at widened
+    first_at_widened at same s first x =
         let l = x.link in
         let k = link_setting at w l in
         let settled_is = settled at same s l in
         let seen_is = seen at same s l in
         let long = longer at same s l in
-        let most = within at same s l in
-        let quick = sooner at same s l in
+        let less : ℕ = min x.less b.min in
+        let quick : less ≤ x.less = omega arith in
         let is_good = good at same s l in
         let period = period_is p at w is l in
         let turnaround : k.turnaround ≡ p.params.turnaround =
         ap (λ (y : Params). y.turnaround) (answers_by at same s l) in
         let answered = pace.params.answered in
-        let here_then = after at same s l in (
+        let here_then = after at same s l in
+        record {
+          link = here_then;
+          short = subst (λ (y : Setting). exchange_span y < y.period) (sym settled_is)
+              (omega (arith, is_good, period, turnaround, answered));
+          facts = subst (λ (y : Setting). Facts y first (pair at widened here_then)) (sym settled_is)
+              (subst (λ (m : Meter). Facts (record k { most = b.max }) first m.pair) (sym seen_is)
+              (facts_wide k b.max x.less less long quick reads_as_request reads_as_reply first (pair at w l) x.facts));
+          less = less;
+          within = omega arith;
+          inv = subst (λ (y : Setting). InvFirst y less reads_as_request reads_as_reply first
+              (meter at widened here_then)) (sym settled_is)
+              (subst (λ (m : Meter). InvFirst (record k { most = b.max }) less reads_as_request reads_as_reply first m)
+              (sym seen_is)
+              (first_wide k b.max x.less less long quick reads_as_request reads_as_reply first (meter at w l) x.inv));
+        }
+
+    -- Where the least delay doesn't rise they measure by it as they did.
+    module _ (at : LinkPlace) (same : at.link ≡ place) (s : LinkStandsAt at widened) where
+      measuring_at_widened : (first since : ℕ) → b.min ≤ channel.bounds.min → IsMeasuringAt first since at w
+          → IsMeasuringAt first since at widened
+      unfolding first_at_widened
+      measuring_at_widened first since falls x =
+          let l = x.is.link in
+          let k = link_setting at w l in
+          let bounds : l.channel.bounds.min ≡ channel.bounds.min =
+          ap (λ (c : Channel). c.bounds.min) (channel_is at same s l) in
+          let quick : b.min ≤ least_delay at w l = omega (arith, falls, bounds) in
           record {
-            link = here_then;
-            short = subst (λ (y : Setting). exchange_span y < y.period) (sym settled_is)
-                (omega (arith, is_good, period, turnaround, answered));
-            facts = subst (λ (y : Setting). Facts y first (pair at widened here_then)) (sym settled_is)
-                (subst (λ (m : Meter). Facts (record k { most = b.max }) first m.pair) (sym seen_is)
-                (facts_wide k b.max (least_delay at w l) b.min long quick reads_as_request reads_as_reply first
-                (pair at w l) x.facts));
-            inv = subst (λ (y : Setting). InvFirst y b.min reads_as_request reads_as_reply first
-                (meter at widened here_then)) (sym settled_is)
-                (subst (λ (m : Meter). InvFirst (record k { most = b.max }) b.min reads_as_request reads_as_reply first
-                m) (sym seen_is)
-                (first_wide k b.max (least_delay at w l) b.min long quick reads_as_request reads_as_reply first
-                (meter at w l) x.inv));
-          },
+            is = first_at_widened at same s first x.is;
+            measures = subst (λ (y : Setting). MeasuresBy y b.min reads_as_request reads_as_reply first since
+                (meter at widened (after at same s l))) (sym (settled at same s l))
+                (subst (λ (m : Meter). MeasuresBy (record k { most = b.max }) b.min reads_as_request reads_as_reply
+                first since m) (sym (seen at same s l))
+                (measures_wide k b.max (least_delay at w l) b.min (longer at same s l) quick reads_as_request
+                reads_as_reply first since (meter at w l) x.measures));
+          }
+
+      before_widened : (first since : ℕ) → start + 2 * by ≤ next → b.min ≤ channel.bounds.min
+          → IsMeasuringBefore first since start at w → IsMeasuringBefore first since next at widened
+      unfolding first_at_widened measuring_at_widened
+      before_widened first since later falls (x, over) =
+          let settled_is = settled at same s x.is.link in
+          let most = within at same s x.is.link in (
+            measuring_at_widened first since falls x,
+            subst (λ (y : Setting). since + y.period + exchange_span y < next) (sym settled_is)
+                (omega (arith, over, most, later)),
+          )
+
+    -- Where it rises the next request finds nothing old, and exchanges since then take the least delay in force.
+    module _ (is' : IsWorld p widened) (later : start + 2 * by ≤ next) (past : start ≤ w.time)
+        (Asks Others : ℕ → Type 0) (others : (time : ℕ) → Asks time → Others time)
+        (anew : channel.bounds.min < b.min → Others (w.time + interval_of p.params.pdelay)) where
+      risen : (at : LinkPlace) → at.link ≡ place → LinkStandsAt at widened → channel.bounds.min < b.min → (first : ℕ)
+          → IsFirstAt first at w → IsMeasuredOr p next Others at widened
+      risen at same s rises first x =
+          let one = first_at_widened at same s first x in
+          let asked = one.facts.asked in
+          let period = period_is p at widened is' one.link in
+          inr (
+            w.time + interval_of p.params.pdelay,
+            anew rises,
+            first,
+            record { is = one; measures = inl (omega (arith, asked, period)) },
+          )
+
+      link_widened : (at : LinkPlace) → at.link ≡ place → LinkStandsAt at widened → IsMeasuredOr p start Asks at w
+          → (channel.bounds.min < b.min) ⊎ (b.min ≤ channel.bounds.min) → IsMeasuredOr p next Others at widened
+      link_widened at same s (inl x) (inl rises) =
+          let (first, since, (one, over)) = has_begun p start at w is past x in
+          risen at same s rises first one.is
+      link_widened at same s (inl x) (inr falls) =
+          let (first, since, one) = has_begun p start at w is past x in
+          inl (inl (inl (first, since, before_widened at same s first since later falls one)))
+      link_widened at same s (inr (time, asks, first, x)) (inl rises) = risen at same s rises first x.is
+      link_widened at same s (inr (time, asks, first, x)) (inr falls) =
+          inr (time, others time asks, first, measuring_at_widened at same s first time falls x)
+
+      measures_widened : AreMeasuredOr p start Asks w → AreMeasuredOr p next Others widened
+      measures_widened measures at s = elim (same_place at.link place) [
+        | inl same ↦
+            link_widened at same s (measures at (stood at s)) (cases_lt channel.bounds.min b.min)
+        | inr apart ↦
+            measured_for p start Asks at next Others widened (omega (arith, later)) others
+            (measured_same p start Asks at w widened (other_link at apart) (measures at (stood at s)))
+      ]
+
+  module _ (pace : KeepPace p) (is' : IsWorld p widened) (later : start + 2 * by ≤ next) (past : next ≤ w.time) where
+    -- two intervals between requests and an exchange are over
+    first_widened : (at : LinkPlace) → at.link ≡ place → LinkStandsAt at widened → (first : ℕ)
+        → IsFirstBy first start at w → IsFirstBy first next at widened
+    unfolding first_at_widened
+    first_widened at same s first (x, soon) =
+        let settled_is = settled at same s x.link in
+        let most = within at same s x.link in (
+          first_at_widened pace at same s first x,
           subst (λ (y : Setting). first + y.period + exchange_span y < next) (sym settled_is)
               (omega (arith, soon, most, later)),
         )
@@ -519,3 +531,22 @@ module _ (p : SettlingParams) (start next by number port least most : ℕ) (w : 
       (widened_always p start next by k.place w is k.channel b k.is.here used wider quiet pace
       (subst (IsWorld p) same is') later past off (subst LinkIsMeasured same measured')
       (subst IsSoundWorld same sound') ready silent settled)
+
+-- from when ports measure by the least delays in force
+module _ (p : SettlingParams) (start next by number port least most : ℕ) (w : WorldState) (draws : List Draw)
+    (done : Done)
+    (w' : WorldState) (pace : KeepPace p) (is : IsWorld p w) (is' : IsWorld p w') (quiet : HaveQuietLinks p.params w)
+    (acts : Acts (Changing (LinkSet number port least most 0)) w draws done w')
+    (used : channel_is_used (live_stations w.stations) acts.1.channel ≡ true)
+    (wider : AreWiderBy by acts.1.channel.bounds (set_to least most 0 acts.1.channel)) where
+  pub widened_measures : start + 2 * by ≤ next → start ≤ w.time → (Asks Others : ℕ → Type 0)
+      → ((time : ℕ) → Asks time → Others time)
+      → (acts.1.channel.bounds.min < least → Others (w.time + interval_of p.params.pdelay))
+      → AreMeasuredOr p start Asks w → AreMeasuredOr p next Others w'
+  widened_measures later past Asks Others others anew measures =
+      let k = acts.1 in
+      let b : Bounds = set_to least most 0 k.channel in
+      let same : w' ≡ record w { last_change = w.time; net = with_bounds b k.place k.channel w.net } = k.so.1 in
+      subst (AreMeasuredOr p next Others) (sym same)
+      (measures_widened p start next by k.place w is k.channel b k.is.here used wider quiet pace
+      (subst (IsWorld p) same is') later past Asks Others others anew measures)

@@ -1,13 +1,13 @@
 -- A link whose delays get wider: exchanges that were in their phases are so by the wider delays, and what was measured
 -- was.
-use Rattle.std.proofs.Common.{◌≤◌, ◌+◌, ℕ, zero, suc, List, [], ◌∷◌, Option, refl, arith}
+use Rattle.std.proofs.Common.{◌≤◌, ◌+◌, ℕ, zero, suc, List, [], ◌∷◌, Option, refl, inl, inr, arith}
 use Rattle.gptp_pdelay.specs.Measured.{IsCarried, Moments}
 use Rattle.gptp_pdelay.specs.declared.exchange.Measurement.{Measurement}
 use Rattle.gptp_pdelay.specs.declared.exchange.Times.{Times}
 use Rattle.gptp_pdelay_machine.specs.Answerer.{Waiting}
 use Rattle.gptp_pdelay_machine.specs.Asker.{Asker}
 use Rattle.gptp_pdelay_machine.specs.Facts.{Facts, IsDueInTime}
-use Rattle.gptp_pdelay_machine.specs.First.{InvFirst}
+use Rattle.gptp_pdelay_machine.specs.First.{InvFirst, MeasuresBy}
 use Rattle.gptp_pdelay_machine.specs.Invariant.{IsClean}
 use Rattle.gptp_pdelay_machine.specs.Lanes.{AreMute, LaneFrame}
 use Rattle.gptp_pdelay_machine.specs.Measured.{Chain, HasMeasured, MeasuredSince}
@@ -154,3 +154,8 @@ module _ (k : Setting) (most least less : ℕ) (longer : k.most ≤ most) (soone
     clean = clean_wide first m.pair.asker m.pair.waits m.pair.out m.pair.back is.clean;
     measured = since_wide first m.pair.asker m.kept is.measured;
   }
+
+  pub measures_wide : (first by : ℕ) (m : Meter) → MeasuresBy k least asks replies first by m
+      → MeasuresBy wide less asks replies first by m
+  measures_wide first by m (inl due) = inl due
+  measures_wide first by m (inr (since, from, until, is)) = inr (since, from, until, first_wide since m is)

@@ -1,5 +1,6 @@
 -- A port at a good link that asks again soon: nothing old is in flight then, and the exchanges that count begin.
-use Rattle.std.proofs.Common.{◌≡◌, ◌⊎◌, ◌<◌, ◌≤◌, ◌+◌, ℕ, List, refl, sym, ap, subst, inl, inr, arith}
+use Rattle.std.proofs.Common.{◌≡◌, ◌⊎◌, ◌<◌, ◌≤◌, ◌+◌, ◌-◌, ◌*◌, ◌/◌, ◌%◌, ℕ, List, refl, sym, ap, subst, inl, inr, arith}
+use Rattle.std.proofs.lemmas.Nat.{div-add-mod', mod_below}
 use Rattle.gptp_links.specs.declared.bounds.Bounds.{Bounds}
 use Rattle.gptp_links.specs.Fate.{Draw}
 use Rattle.gptp_scenario.specs.declared.change.Act.{Act}
@@ -22,7 +23,7 @@ use Rattle.gptp_pdelay_machine.specs.Setting.{Setting}
 use Rattle.gptp_pdelay_machine.proofs.FactLemmas.{facts_kept, facts_later}
 use Rattle.gptp_pdelay_machine.proofs.MeasuredLemmas.{meter_kept, meter_later}
 use Rattle.gptp_invariants.specs.DelayElsewhereLaws.{LeavesAlone}
-use Rattle.gptp_invariants.specs.DelayFirstAt.{IsFirstAt, IsFirstBy}
+use Rattle.gptp_invariants.specs.DelayFirstAt.{IsFirstAt, IsFirstBy, IsMeasuringAt}
 use Rattle.gptp_invariants.specs.DelayLinkActs.{IsOneAct}
 use Rattle.gptp_invariants.specs.DelayLinkView.{IsLinkOf, LinkPlace, least_delay, link_setting, meter, pair, reads_as_reply, reads_as_request}
 use Rattle.gptp_invariants.specs.DelayMeasured.{LinkIsMeasured}
@@ -118,12 +119,30 @@ first_since gone calm at w x asked =
         back = λ f member.
             due_since (link_setting at w x.link) gone calm (pair at w x.link) f late (x.facts.back f member);
       };
+      less = least_delay at w x.link;
+      within = omega arith;
       inv = record {
         since = asked;
         clean = x.inv.phases.clean since;
         measured = x.inv.measured since;
       };
     }
+
+-- Since then the link is measured by the least delay in force.
+abbrev pub measuring_since : (gone calm : ℕ) (at : LinkPlace) (w : WorldState) (x : IsWatched gone calm at w)
+    → HasAsked (link_setting at w x.link) calm (pair at w x.link).asker.asked → IsMeasuringAt calm calm at w
+measuring_since gone calm at w x asked =
+    let is = first_since gone calm at w x asked in
+    record { is = is; measures = inr (calm, omega arith, omega arith, is.inv) }
+
+-- the first of requests that are a period apart, one of which was sent at this time, from a time on
+pub first_from : (calm asked period : ℕ) → 0 < period → calm ≤ asked
+    → (first : ℕ) × (calm ≤ first) × (first < calm + period) × ((n : ℕ) × (asked ≡ first + n * period))
+first_from calm asked period some beyond =
+    let parts = div-add-mod' (asked - calm) period in
+    let below = mod_below (asked - calm) period some in
+    let first = calm + (asked - calm) % period in
+    (first, omega arith, omega (arith, below), ((asked - calm) / period, omega (arith, parts, beyond)))
 
 -- ---- each act keeps it
 

@@ -11,6 +11,7 @@ use Rattle.gptp_network.specs.Snapshot.{events_by}
 use Rattle.gptp_report.specs.Transitions.{ActTrace, Unfolds}
 use Rattle.gptp_invariants.specs.WorldStanding.{snapshot_of}
 use Rattle.gptp_theorem.specs.PlayedLaws.{IsPlayable}
+use Rattle.gptp_settling_time.specs.Measuring.{AreMeasuredBefore}
 use Rattle.gptp_settling_time.specs.ChoiceAlone.{ChoiceStandsAs}
 use Rattle.gptp_settling_time.specs.Documents.{IsSettledAs}
 use Rattle.gptp_settling_time.specs.Arrivals.{arrived_by}
@@ -42,7 +43,7 @@ ChoiceAloneBoundsHold {F} answers = (d : DocumentState) (time choice next until 
 
 -- Each act of a run leaves offsets that are exact, once a Sync has had the time to come down a way since a time that is
 -- later than another by more than a bound of its choice alone, and before the next event. What was in flight as a link
--- was last set has arrived by then.
+-- was last set has arrived by then, and a link whose least delay wider delays raise is measured by it.
 abbrev pub ChoiceBoundsAreExact : {F : Type 0} → (Bounds → ℕ → F → Option ℕ → F → Type 0) → Type 0
 ChoiceBoundsAreExact {F} answers = (d : DocumentState) (time choice next settled most until : ℕ) (fate : F)
     (first w : WorldState) (ts : List ActTrace) (t : ActTrace)
@@ -51,5 +52,6 @@ ChoiceBoundsAreExact {F} answers = (d : DocumentState) (time choice next settled
     → time + choice < settled
     → HasDelaysWithin d.network (events_by time d.events) most
     → arrived_by most (events_by time d.events) ≤ settled
+    → AreMeasuredBefore d.network (events_by time d.events) settled
     → t.told.timed.at < next
     → AreExactFrom (pace_of d.network) settled t.before t.told.timed.at t.after t.told.done

@@ -111,16 +111,14 @@ pub record LeavesSettled (n : NetworkState) (before : List Timed) (event : Timed
   pub off : NothingLapses n.params
   pub since : next + pred (sync_paths n before).systems * (sync_paths n before).delay ≡ event.at
 
--- the link is in use after these events, and its delays are between these, the greatest of which is larger by so much
--- at most
-pub record IsWithin (n : NetworkState) (events : List Timed) (min max by : ℕ) (v : LinkSpec) : Type 0 where
+-- the link is in use after these events, and its greatest delay is at most this one, which is larger by so much at most
+pub record IsWithin (n : NetworkState) (events : List Timed) (max by : ℕ) (v : LinkSpec) : Type 0 where
   pub used : IsUsed n.systems events v
-  pub least : min ≤ v.bounds.min
   pub most : v.bounds.max ≤ max
   pub more : max ≤ v.bounds.max + by
 
--- After these events this one sets the delays of a link in use. They get wider, the greatest by so much at most, and it
--- loses nothing.
+-- After these events this one sets the delays of a link in use. The greatest gets no smaller, and larger by so much at
+-- most; it loses nothing. The least may be any: what ports have measured is another matter.
 pub record WidensLink (n : NetworkState) (before : List Timed) (event : Timed) (by : ℕ) : Type 0 where
   pub clock : ℕ
   pub port : ℕ
@@ -129,7 +127,7 @@ pub record WidensLink (n : NetworkState) (before : List Timed) (event : Timed) (
   pub act : event.act ≡ Changing (LinkSet clock port min max 0)
   pub within : (place : ℕ) (v : LinkSpec) → slice_get n.links place ≡ Some v
       → IsEnd (port_id clock port) (link_after before v)
-      → IsWithin n before min max by (link_after before v)
+      → IsWithin n before max by (link_after before v)
 
 -- It does so in a calm network where nothing lapses for want of Sync. Ports were capable from a start on, and are so
 -- from the next, which is later by what two more messages may take, and no later than the event.

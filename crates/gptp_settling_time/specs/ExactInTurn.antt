@@ -13,10 +13,12 @@ use Rattle.gptp_settling_time.specs.Arrivals.{arrived_by}
 use Rattle.gptp_settling_time.specs.Exactly.{AreExactFrom}
 use Rattle.gptp_settling_time.specs.Gains.{HasDelaysWithin}
 use Rattle.gptp_settling_time.specs.InTurn.{ChoosesByEvents}
+use Rattle.gptp_settling_time.specs.Measuring.{AreMeasuredBefore}
 
 -- Each act of a run leaves offsets that are exact, once a Sync has had the time to come down a way since the choice
 -- stands by the events up to the act, one after another: from later than the last of them, and no sooner than what was
--- in flight as a link was last set has arrived.
+-- in flight as a link was last set has arrived. Where wider delays raise the least of a link it is no sooner, either,
+-- than that link is measured by it.
 abbrev pub ActsAreExactInTurn : {F : Type 0} → (Bounds → ℕ → F → Option ℕ → F → Type 0) → Type 0
 ActsAreExactInTurn {F} answers = (d : DocumentState) (until settled most : ℕ) (fate : F) (first w : WorldState)
     (ts : List ActTrace) (t : ActTrace)
@@ -25,4 +27,5 @@ ActsAreExactInTurn {F} answers = (d : DocumentState) (until settled most : ℕ) 
     → last_change (events_by t.told.timed.at d.events) < settled
     → HasDelaysWithin d.network (events_by t.told.timed.at d.events) most
     → arrived_by most (events_by t.told.timed.at d.events) ≤ settled
+    → AreMeasuredBefore d.network (events_by t.told.timed.at d.events) settled
     → AreExactFrom (pace_of d.network) settled t.before t.told.timed.at t.after t.told.done

@@ -40,6 +40,7 @@ use Rattle.gptp_invariants.specs.WorldSound.{IsGain, IsSoundWorld}
 use Rattle.gptp_invariants.specs.WorldStanding.{snapshot_of}
 use Rattle.gptp_invariants.specs.FailedUnanswered.{StandsUnanswered}
 use Rattle.gptp_theorem.specs.Headline.{WorldIsCalm, LeavesOffset}
+use Rattle.gptp_settling_time.specs.Measuring.{AreMeasuredFrom}
 
 -- ---- times
 
@@ -72,12 +73,12 @@ AreExactFrom p settled w time w' done = (steps number error : ℕ) (offset ahead
 
 -- ---- laws
 
--- A world since news whose ports are capable from a start on, and in which nothing is changed: each act in it that is
--- done once it has settled.
+-- A world since news whose ports are capable from a start on, and measure by the least delays in force since then, and
+-- in which nothing is changed: each act in it that is done once it has settled.
 abbrev pub NewsAreExact : {F : Type 0} → (Bounds → ℕ → F → Option ℕ → F → Type 0) → Type 0
 NewsAreExact {F} answers = (p : SettlingParams) (start settled until m : ℕ) (told : List Told) (timed : Timed)
     (fate drawn fate_after : F) (w now w' : WorldState) (done : Done)
-    → IsNews p start w → w.time < settled → Advances answers until told fate drawn w now
+    → IsNews p start w → AreMeasuredFrom p start w → w.time < settled → Advances answers until told fate drawn w now
     → WasDone answers timed drawn fate_after now w' done → timed.at ≤ 10 ^ 18
     → WorldIsCalm p now → IsSettledBy p m start settled now
     → AreExactFrom p settled now timed.at w' done

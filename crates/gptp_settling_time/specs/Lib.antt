@@ -1,6 +1,7 @@
 pub mod Exactly
 pub mod Gains
 pub mod Arrivals
+pub mod Measuring
 pub mod Documents
 pub mod Idle
 pub mod Losses

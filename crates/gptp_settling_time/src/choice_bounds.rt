@@ -21,7 +21,8 @@ pub fn choice_alone_bounds_hold<F: Fate>()
 
 /// Once a Sync has had the time to come down a way since a time that is later than a choice bound of a document, each
 /// Follow_Up that the near system at its end uses leaves an offset within the time error of that way of its clock less
-/// what the best tells, before the next event. What was in flight as a link was last set has arrived by then.
+/// what the best tells, before the next event. What was in flight as a link was last set has arrived by then, and links
+/// whose least delay wider delays raise are measured by it.
 pub fn choice_bounds_are_exact<F: Fate>()
     ensures { ChoiceBoundsAreExact F.answers }
 {}

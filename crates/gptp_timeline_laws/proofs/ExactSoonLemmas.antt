@@ -14,7 +14,7 @@ use Rattle.gptp_how_soon.specs.declared.bounds.Settling.{Settling}
 use Rattle.gptp_how_soon_laws.specs.Exact.{IsExact}
 use Rattle.gptp_how_soon_laws.proofs.ChoiceLemmas.{time_so}
 use Rattle.gptp_how_soon_laws.proofs.FirstTimeLemmas.{IsSo}
-use Rattle.gptp_how_soon_laws.proofs.ExactLemmas.{carried_from, carried_then, come, come_from, exact_then, kept_then, stands_then, told_later}
+use Rattle.gptp_how_soon_laws.proofs.ExactLemmas.{IsBoundBy, carried_from, carried_then, come, come_from, exact_then, kept_then, stands_then, told_bound, told_later}
 use Rattle.gptp_how_soon_laws.proofs.StepLemmas.{IsKept}
 use Rattle.gptp_how_soon.specs.Links.{longest_delay}
 use Rattle.gptp_invariants.specs.ChoiceSettled.{ChoiceStands, HasSettledChoice}
@@ -41,7 +41,7 @@ use Rattle.gptp_scenario.specs.Network.{pace_of}
 use Rattle.gptp_scenario.specs.SyncWait.{sync_paths}
 use Rattle.gptp_scenario.specs.declared.change.Timed.{Timed}
 use Rattle.gptp_settling_time.specs.Arrivals.{arrived_by}
-use Rattle.gptp_settling_time.specs.HowSoon.{IsChoiceAloneBound, NoneBetween}
+use Rattle.gptp_settling_time.specs.HowSoon.{NoneBetween}
 use Rattle.gptp_settling_time.proofs.ChoiceBoundLemmas.{choice_alone_bounds_hold}
 use Rattle.gptp_settling_time.proofs.CutLemmas.{acts_by}
 use Rattle.gptp_settling_time.proofs.ExactInTurnLemmas.{IsCarried}
@@ -70,6 +70,7 @@ use Rattle.gptp_timeline.proofs.WayLemmas.{way_there}
 use Rattle.gptp_timeline.proofs.WithinLemmas.{best_apart, has_bound, HasBound, has_error, shown_by, size_within}
 use Rattle.gptp_timeline_laws.specs.ExactSoon.{TimelinesAreExactSoon}
 use Rattle.gptp_timeline_laws.proofs.HeldLemmas.{received_name, uses_follow_up}
+use Rattle.gptp_settling_time.specs.Measuring.{AreMeasuredBefore}
 use Rattle.gptp_timeline_laws.proofs.ShortenedLemmas.{playable_by, short_alone, shortened}
 use Rattle.gptp_timeline_laws.proofs.SoonLemmas.{told_time as settling_told, unfolds}
 use Rattle.gptp_timeline_laws.proofs.StretchRunLemmas.{ends_on, RunsTo, runs_to}
@@ -180,8 +181,8 @@ module _ {F : Type 0} (answers : Bounds → ℕ → F → Option ℕ → F → T
     (until : ℕ) (p : StretchTrace) (fate started : F) (start : WorldState)
     (begun : Begun answers d.network fate started start)
     (run : RunsTo answers p 0 (events_by until d.events) started start) (due : p.from ≤ until) (on : p.from ≤ p.to)
-    (time choice exact : ℕ) (past : PastBy time (events_by p.from d.events)) (le : time ≤ p.from)
-    (bounds : IsChoiceAloneBound d time choice) (told : come_from d time choice ≤ exact) (later : time < exact)
+    (time span exact : ℕ) (past : PastBy time (events_by p.from d.events)) (le : time ≤ p.from)
+    (bounds : IsBoundBy d time span) (told : come_from d time span ≤ exact) (later : time < exact)
     (a : ActTrace) (member : In a p.acts) (late : exact ≤ at_of a) where
   abbrev events : List Timed
   events = events_by p.from d.events
@@ -201,8 +202,14 @@ module _ {F : Type 0} (answers : Bounds → ℕ → F → Option ℕ → F → T
       let soon : event.at ≤ time = each_there (λ (e : Timed). e.at ≤ time) events past place event there in
       absurd (omega (arith, soon, behind))
 
-  pub bounded : IsChoiceAloneBound short time choice
-  bounded = short_alone d p.from time choice le bounds
+  pub bounded : IsBoundBy short time span
+  bounded = record {
+    choice = bounds.choice;
+    bound = short_alone d p.from time bounds.choice le bounds.bound;
+    longer = bounds.longer;
+    again = subst (λ es. AreMeasuredBefore d.network es (suc (time + span))) (sym (by_sooner time p.from d.events le))
+        bounds.again;
+  }
 
   pub soon : at_of a ≤ p.to
   soon = acts_by answers short p.to fate start p.after run.ts runs a (run.among a member)
@@ -210,9 +217,9 @@ module _ {F : Type 0} (answers : Bounds → ℕ → F → Option ℕ → F → T
   pub early : at_of a < suc p.to
   early = let is = soon in omega (arith, is)
 
-  pub told_short : come_from short time choice ≤ exact
+  pub told_short : come_from short time span ≤ exact
   told_short =
-      subst (λ es. max (time + choice) (arrived_by (longest_delay d.network es) es)
+      subst (λ es. max (time + span) (arrived_by (longest_delay d.network es) es)
       + window_span d.network.params
       + (sync_paths d.network es).systems * (d.network.params.threshold + d.network.params.residence)
       ≤ exact) (sym (by_sooner time p.from d.events le)) told
@@ -223,31 +230,31 @@ module _ {F : Type 0} (answers : Bounds → ℕ → F → Option ℕ → F → T
   pub kept : IsKept short events a
   kept =
       subst (λ es. IsKept short es a) (now_all time events past)
-      (kept_then answers short time choice exact (suc p.to) p.to fate start p.after run.ts a fit runs
+      (kept_then answers short time span exact (suc p.to) p.to fate start p.after run.ts a fit runs
       (run.among a member) bounded none told_short behind late early)
 
   module _ (names : List ℕ) (g : Snapshot) (name from bound : ℕ)
       (has : HasBound answers d playable names events g name from bound) where
     pub stands : ChoiceStands a.after
     stands =
-        let passed = stands_then answers short time choice exact (suc p.to) p.to fate start p.after run.ts a fit runs
+        let passed = stands_then answers short time span exact (suc p.to) p.to fate start p.after run.ts a fit runs
         (run.among a member) bounded none told_short behind late early has.steps name bound
         (way answers d playable names events events g name from bound has a kept) in
-        (choice_alone_bounds_hold answers short time choice (suc p.to) p.to fate start p.after run.ts a fit runs
-        (run.among a member) bounded none passed early).0.choice
+        (choice_alone_bounds_hold answers short time bounds.choice (suc p.to) p.to fate start p.after run.ts a fit runs
+        (run.among a member) bounded.bound none passed early).0.choice
 
     -- time is carried right since a Sync may have come down the way
     pub carried : p.to ≤ 10 ^ 18
-        → IsCarried answers (pace_of d.network) (carried_from short time choice + 1) a
-        × (carried_from short time choice + 1 + window_span d.network.params
+        → IsCarried answers (pace_of d.network) (carried_from short time span + 1) a
+        × (carried_from short time span + 1 + window_span d.network.params
         + suc has.steps * (d.network.params.threshold + d.network.params.residence)
         ≤ at_of a)
     carried ends =
         let by = soon in
-        let down = come answers short time choice exact (suc p.to) p.to fate start p.after run.ts a fit runs
+        let down = come answers short time span exact (suc p.to) p.to fate start p.after run.ts a fit runs
         (run.among a member) bounded none told_short behind late early has.steps name bound
         (way answers d playable names events events g name from bound has a kept) in (
-          carried_then answers short time choice exact (suc p.to) p.to fate start p.after run.ts a fit runs
+          carried_then answers short time span exact (suc p.to) p.to fate start p.after run.ts a fit runs
               (run.among a member) bounded none told_short behind late early (omega (arith, by, ends))
               (omega (arith, down)),
           down,
@@ -257,7 +264,7 @@ module _ {F : Type 0} (answers : Bounds → ℕ → F → Option ℕ → F → T
     stretch_within ends error from_then own is =
         let by = soon in
         act_within answers d playable names events events g name from bound has a kept stands
-        (exact_then answers short time choice exact (suc p.to) p.to fate start p.after run.ts a fit runs
+        (exact_then answers short time span exact (suc p.to) p.to fate start p.after run.ts a fit runs
         (run.among a member) bounded none told_short behind late early (omega (arith, by, ends)))
         error own is
 
@@ -265,9 +272,9 @@ module _ {F : Type 0} (answers : Bounds → ℕ → F → Option ℕ → F → T
 
 -- From a time on errors hold of a document as it is at another: by a bound of the choice of its last change.
 pub record IsTold (d : DocumentState) (at from : ℕ) : Type 0 where
-  pub choice : ℕ
-  pub bounds : IsChoiceAloneBound d (last_change (events_by at d.events)) choice
-  pub told : come_from d (last_change (events_by at d.events)) choice ≤ from
+  pub span : ℕ
+  pub bounds : IsBoundBy d (last_change (events_by at d.events)) span
+  pub told : come_from d (last_change (events_by at d.events)) span ≤ from
 
 -- the settling from which a time is told
 told_exact : (settling : Option Settling) (from : ℕ) → option_map (λ (s : Settling). s.exact_from) settling ≡ Some from
@@ -282,9 +289,10 @@ is_told d at from playable is =
     let (time, among, at_is, told) = settling_told (settling_times d) last s settling in
     let (earlier, so_then) = time_so d playable time s among told in
     let so : IsSo d playable earlier last s = subst (λ at. IsSo d playable earlier at s) at_is so_then in record {
-      choice = s.choice;
-      bounds = (earlier, so.choice);
-      told = subst (λ e. come_from d last s.choice ≤ e) exact_is (told_later d playable earlier last s so);
+      span = max s.choice so.asked;
+      bounds = told_bound d playable earlier last s so;
+      told = subst (λ e. come_from d last (max s.choice so.asked) ≤ e) exact_is
+          (told_later d playable earlier last s so);
     }
 
 -- Where errors are said of a system, a path has two systems at least, so that is later than the last change.
@@ -352,7 +360,7 @@ timelines_are_exact_soon answers d until options fate lines exceeded t playable 
     (last_by p.from d.events) in
     let each : (act : ActTrace) → In act p.acts → ErrorIsWithin name from bound act = λ act here error late.
     stretch_within answers d playable until p fate t.started t.start t.begun run (omega (arith, begins_at, due))
-    (omega (arith, begins_at, to_is, over)) last it.choice from past (last_by p.from d.events) it.bounds it.told later
+    (omega (arith, begins_at, to_is, over)) last it.span from past (last_by p.from d.events) it.bounds it.told later
     act here late names say.snapshot name
     (exact_by_span d.network (events_by p.from d.events) say.snapshot) bound has (omega (arith, ends, shown))
     error late in

@@ -218,9 +218,10 @@ over_by d at from it above begun =
     let by = last_by at d.events in
     let same : last ≡ at = omega (arith, by, begun) in
     let told = it.told in
-    let choice : it.choice ≡ span_at d at =
-    subst (λ x. it.choice ≡ span_at d x) same (choice_is d last it.choice above it.bounds) in
-    omega (arith, told, choice, same)
+    let longer = it.bounds.longer in
+    let choice : it.bounds.choice ≡ span_at d at =
+    subst (λ x. it.bounds.choice ≡ span_at d x) same (choice_is d last it.bounds.choice above it.bounds.bound) in
+    omega (arith, told, choice, longer, same)
 
 -- a system of an `accuracy` line gets time
 pub gets_time : (d : DocumentState) (at bound : ℕ) (errors : TimeErrors) (say : AreTimeErrors d at errors) (name : ℕ)

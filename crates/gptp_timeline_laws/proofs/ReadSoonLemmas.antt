@@ -173,16 +173,16 @@ module _ {F : Type 0} (answers : Bounds → ℕ → F → Option ℕ → F → T
           let begun : p.from ≤ until = omega (arith, begins_at, due) in
           let goes_on : p.from ≤ p.to = omega (arith, begins_at, to_is, over) in
           let (is_carried, down) = carried answers d playable until p fate t.started t.start t.begun run begun goes_on
-          last told.choice from past (last_by p.from d.events) told.bounds told.told later a member late names
+          last told.span from past (last_by p.from d.events) told.bounds told.told later a member late names
           say.snapshot name span_from bound h (omega (arith, ends, shown)) in
           carried_is_right answers d playable names (events_by p.from d.events) (events_by p.from d.events)
           say.snapshot name span_from bound h a
-          (kept answers d playable until p fate t.started t.start t.begun run begun goes_on last told.choice from past
+          (kept answers d playable until p fate t.started t.start t.begun run begun goes_on last told.span from past
           (last_by p.from d.events) told.bounds told.told later a member late)
-          (stands answers d playable until p fate t.started t.start t.begun run begun goes_on last told.choice from
+          (stands answers d playable until p fate t.started t.start t.begun run begun goes_on last told.span from
           past (last_by p.from d.events) told.bounds told.told later a member late names say.snapshot name span_from
           bound h)
-          (carried_from (shortened p.from d) last told.choice + 1) is_carried down
+          (carried_from (shortened p.from d) last told.span + 1) is_carried down
 
   pub acts_right : (error_then : ℕ → ℕ)
       × ((a : ActTrace) → In a p.acts → from ≤ at_of a → IsRight name error_then a a.before)
